@@ -1,0 +1,6 @@
+pub mod Cases
+pub mod Numbers
+pub mod Comparison
+pub mod Lookup
+pub mod Zeros
+pub mod Moves

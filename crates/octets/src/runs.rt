@@ -1,0 +1,56 @@
+// Runs of zeros, and moves within a slice.
+ghost use mathlib.Core.Path.{_≡_};
+ghost use mathlib.Core.List.{_++_};
+ghost use Prim.Native.Nat.{_-_, _≤_};
+ghost use lib.ListN.{length, take, drop, replicate};
+ghost use Rattle.octets.specs.Runs.{allZero};
+
+// Whether every byte is zero. Looks at all of them, without a branch for each.
+pub fn is_zero(s: &[u8]) -> bool
+    ensures { λ r. ⌜ r ≡ allZero (now (s .entry)) ⌝ }
+{
+    let mut any: u8 = 0;
+    let mut i = 0;
+    while i < s.len() {
+        any = any | s[i];
+        i += 1;
+    }
+    any == 0
+}
+
+// Sets every byte to zero.
+pub fn clear(s: &mut [u8])
+    ensures { λ _. ⌜ now (s .exit) ≡ replicate (length (now (s .entry))) 0 ⌝ }
+{
+    let mut j = 0;
+    while j < s.len() {
+        s[j] = 0;
+        j += 1;
+    }
+}
+
+// Moves the bytes up by w. The first w stay, and the last w are lost.
+pub fn shift_up(s: &mut [u8], w: usize)
+    requires { ⌜ w ≤ length (now s) ⌝ }
+    ensures { λ _. ⌜ now (s .exit) ≡ take w (now (s .entry)) ++ take (length (now (s .entry)) - w) (now (s .entry)) ⌝ }
+{
+    let mut j = s.len();
+    while w < j {
+        j -= 1;
+        s[j] = s[j - w];
+    }
+}
+
+// Moves the bytes down by w. The first w are lost, and w zeros come last.
+pub fn shift_down(s: &mut [u8], w: usize)
+    requires { ⌜ w ≤ length (now s) ⌝ }
+    ensures { λ _. ⌜ now (s .exit) ≡ drop w (now (s .entry)) ++ replicate w 0 ⌝ }
+{
+    let e = s.len() - w;
+    let mut j = 0;
+    while j < e {
+        s[j] = s[j + w];
+        j += 1;
+    }
+    clear(&mut s[e..]);
+}

@@ -1,0 +1,76 @@
+-- A counted table in bytes (document 01, 'The register': "Used places come first, strictly ascending in byte order (of the record alone for records);
+-- the rest is zero"). A place has w bytes, of which the first k are its key. w, k and the count are arguments: one layer serves every table.
+use Prim.Native.Nat.{ℕ, zero, suc, _+_, _*_, _-_}
+use mathlib.Core.Bool.{Bool, true, false, cond, _&&_, _||_}
+use mathlib.Core.List.{List, [], _∷_, _++_}
+use lib.ListN.{length, take, drop, replicate}
+use Rattle.octets.specs.Order.{isBefore, same}
+use Rattle.octets.specs.Runs.{allZero}
+
+-- ---- bytes and places
+
+-- the first n places
+unfoldable pub places : ℕ → ℕ → List ℕ → List (List ℕ)
+places w zero t = []
+places w (suc n) t = take w t ∷ places w n (drop w t)
+
+-- the bytes of places, one place after another
+unfoldable pub flat : List (List ℕ) → List ℕ
+flat [] = []
+flat (p ∷ ps) = p ++ flat ps
+
+-- the bytes of a table with room for cap places
+abbrev pub tableOf : ℕ → ℕ → List (List ℕ) → List ℕ
+tableOf w cap ps = flat ps ++ replicate ((cap - length ps) * w) 0
+
+-- the key of place i
+abbrev pub keyAt : ℕ → ℕ → ℕ → List ℕ → List ℕ
+keyAt k w i t = take k (drop (i * w) t)
+
+-- ---- order
+
+-- the keys ascend strictly, from one that comes before them all
+unfoldable pub ascendingFrom : ℕ → List ℕ → List (List ℕ) → Bool
+ascendingFrom k key [] = true
+ascendingFrom k key (p ∷ ps) = isBefore key (take k p) && ascendingFrom k (take k p) ps
+
+-- the keys ascend strictly
+unfoldable pub ascending : ℕ → List (List ℕ) → Bool
+ascending k [] = true
+ascending k (p ∷ ps) = ascendingFrom k (take k p) ps
+
+-- n places whose keys ascend strictly, and then zeros
+abbrev pub isTable : ℕ → ℕ → ℕ → List ℕ → Bool
+isTable k w n t = ascending k (places w n t) && allZero (drop (n * w) t)
+
+-- how many places, from the first, come before a key
+unfoldable pub rank : ℕ → List ℕ → List (List ℕ) → ℕ
+rank k key [] = 0
+rank k key (p ∷ ps) = cond (isBefore (take k p) key) (suc (rank k key ps)) 0
+
+-- some place has this key
+unfoldable pub holds : ℕ → List ℕ → List (List ℕ) → Bool
+holds k key [] = false
+holds k key (p ∷ ps) = same (take k p) key || holds k key ps
+
+-- what follows the key in the first place that has it; nothing where none has
+unfoldable pub lookup : ℕ → List ℕ → List (List ℕ) → List ℕ
+lookup k key [] = []
+lookup k key (p ∷ ps) = cond (same (take k p) key) (drop k p) (lookup k key ps)
+
+-- ---- moves
+
+-- x put in at a byte; as many bytes at the end are lost
+abbrev pub insertedAt : ℕ → List ℕ → List ℕ → List ℕ
+insertedAt at x t = take at t ++ (x ++ take (length t - at - length x) (drop at t))
+
+-- w bytes taken out at a byte; as many zeros come last
+abbrev pub removedAt : ℕ → ℕ → List ℕ → List ℕ
+removedAt at w t = take at t ++ (drop w (drop at t) ++ replicate w 0)
+
+-- a place put in before place i, place i taken out, and place i put anew
+abbrev pub withPlace : ℕ → List ℕ → List (List ℕ) → List (List ℕ)
+withPlace i x ps = take i ps ++ (x ∷ drop i ps)
+
+abbrev pub withoutPlace : ℕ → List (List ℕ) → List (List ℕ)
+withoutPlace i ps = take i ps ++ drop (i + 1) ps

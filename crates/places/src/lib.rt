@@ -1,0 +1,100 @@
+// A counted table in lent bytes: n places of w bytes each, one after another, ordered by the first
+// k bytes of each, its key; what follows the n places is zero. The register's summaries (36 bytes,
+// the key is all of them) and records (226 bytes, a key of 222) are such tables.
+//
+// A caller keeps the count, and shows that n places lie within the slice and that a key is no wider
+// than its place.
+ghost use mathlib.Core.Path.{_≡_};
+ghost use mathlib.Core.Bool.{_&&_};
+ghost use mathlib.Core.List.{_++_};
+ghost use Prim.Native.Nat.{_+_, _*_, _-_, _<_, _≤_};
+ghost use lib.ListN.{length, take, drop, replicate};
+ghost use lib.Dec.{ltb};
+ghost use Rattle.places.specs.Places.{places, ascending, isTable, rank, keyAt, insertedAt, removedAt};
+ghost use Rattle.octets.specs.Order.{same};
+
+// Whether the keys of the first n places ascend strictly.
+pub fn ascends(t: &[u8], n: usize, w: usize, k: usize) -> bool
+    requires { ⌜ n * w ≤ length (now t) ⌝ }
+    requires { ⌜ k ≤ w ⌝ }
+    ensures { λ r. ⌜ r ≡ ascending k (places w n (now (t .entry))) ⌝ }
+{
+    if n == 0 {
+        return true;
+    }
+    let mut i = 1;
+    let mut at = 0;
+    while i < n {
+        let e = at + k;
+        let next = at + w;
+        let f = next + k;
+        if !octets::order::precedes(&t[at..e], &t[next..f]) {
+            return false;
+        }
+        at = next;
+        i += 1;
+    }
+    true
+}
+
+// Whether t holds a table of n places: their keys ascend strictly, and the rest is zero.
+pub fn is_table(t: &[u8], n: usize, w: usize, k: usize) -> bool
+    requires { ⌜ n * w ≤ length (now t) ⌝ }
+    requires { ⌜ k ≤ w ⌝ }
+    ensures { λ r. ⌜ r ≡ isTable k w n (now (t .entry)) ⌝ }
+{
+    if !ascends(t, n, w, k) {
+        return false;
+    }
+    let used = n * w;
+    octets::runs::is_zero(&t[used..])
+}
+
+// How many of the first n places come before a key: where it stands, or where it would go in.
+pub fn position(t: &[u8], n: usize, w: usize, k: usize, key: &[u8]) -> usize
+    requires { ⌜ n * w ≤ length (now t) ⌝ }
+    requires { ⌜ k ≤ w ⌝ }
+    ensures { λ r. ⌜ r ≡ rank k (now (key .entry)) (places w n (now (t .entry))) ⌝ }
+{
+    let mut i = 0;
+    let mut at = 0;
+    while i < n {
+        let e = at + k;
+        if !octets::order::precedes(&t[at..e], key) {
+            return i;
+        }
+        at = at + w;
+        i += 1;
+    }
+    i
+}
+
+// Whether place i has this very key.
+pub fn has_key(t: &[u8], i: usize, w: usize, k: usize, key: &[u8]) -> bool
+    requires { ⌜ i * w + k ≤ length (now t) ⌝ }
+    ensures { λ r. ⌜ r ≡ same (keyAt k w i (now (t .entry))) (now (key .entry)) ⌝ }
+{
+    let at = i * w;
+    let e = at + k;
+    if octets::order::precedes(&t[at..e], key) {
+        return false;
+    }
+    !octets::order::precedes(key, &t[at..e])
+}
+
+// Puts x in at a byte, before what stands there. As many bytes at the end are lost.
+pub fn insert(t: &mut [u8], at: usize, x: &[u8])
+    requires { ⌜ at + length (now x) ≤ length (now t) ⌝ }
+    ensures { λ _. ⌜ now (t .exit) ≡ insertedAt at (now (x .entry)) (now (t .entry)) ⌝ }
+{
+    octets::runs::shift_up(&mut t[at..], x.len());
+    bytes::copy(x, &mut t[at..]);
+}
+
+// Takes the w bytes at a place out. What follows moves down, and as many zeros come last.
+pub fn remove(t: &mut [u8], at: usize, w: usize)
+    requires { ⌜ at + w ≤ length (now t) ⌝ }
+    ensures { λ _. ⌜ now (t .exit) ≡ removedAt at w (now (t .entry)) ⌝ }
+{
+    octets::runs::shift_down(&mut t[at..], w);
+}

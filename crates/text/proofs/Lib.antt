@@ -1,0 +1,4 @@
+pub mod Writing
+pub mod Shapes
+pub mod Signs
+pub mod Readback

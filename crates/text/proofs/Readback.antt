@@ -1,0 +1,98 @@
+-- What the text of a number says: its digits read back as the number, it has no leading zero and no '-0', and its width is bounded.
+use mathlib.Core.Path.{_≡_, refl, sym, ap, _∙_}
+use mathlib.Core.Bool.{Bool, true, false, cond}
+use mathlib.Core.List.{List, [], _∷_, _++_}
+use Prim.Native.Nat.{ℕ, zero, suc, _+_, _-_, _*_, _/_, _%_, _^_, _≤_, _<_}
+use native.Mathlib.Omega.{arith}
+use native.Mathlib.Nat.{pow-suc, div-lt-iff-lt-mul}
+use borrow.Author.Tests.{lt-ltb, le-ltb, ltb-true, ltb-false}
+use lib.Dec.{ltb}
+use lib.IntN.{ℤ, pos, negsuc}
+use lib.ListN.{length, getD, length-append, List·getD-append}
+use Rattle.octets.proofs.Cases.{by}
+use Rattle.text.specs.Numbers.{digits, decimal, signed, hex, hexDigit, decimalValue, hexValue, hexDigitValue}
+use Rattle.text.specs.Heights.{metres}
+use Rattle.text.proofs.Shapes.{digits-one}
+
+-- ---- decimal
+
+value-snoc : (a : ℕ) (t : List ℕ) (d : ℕ) → decimalValue a (t ++ (d ∷ [])) ≡ decimalValue a t * 10 + (d - 48)
+unfolding decimalValue
+value-snoc a [] d = refl
+value-snoc a (x ∷ t) d = value-snoc (a * 10 + (x - 48)) t d
+
+pub digits-value : (k n : ℕ) → n < 10 ^ suc k → decimalValue 0 (digits k n) ≡ n
+unfolding digits decimalValue
+digits-value zero n h = omega arith
+digits-value (suc k) n h =
+    by (ltb n 10)
+    (λ p. let l = ltb-true n 10 p in rw p (omega arith))
+    (λ p. let r = digits-value k (n / 10) (div-lt-iff-lt-mul (omega arith) .1 (rw (pow-suc 10 (suc k)) at h)) in rw p (value-snoc 0 (digits k (n / 10)) (48 + n % 10) ∙ omega arith))
+
+pub digits-width : (k n : ℕ) → (1 ≤ length (digits k n)) × (length (digits k n) ≤ suc k)
+unfolding digits
+digits-width zero n = (omega arith, omega arith)
+digits-width (suc k) n =
+    let ih = digits-width k (n / 10) in
+    by (ltb n 10) (λ p. rw p (omega arith, omega arith)) (λ p. rw (p, length-append) (omega arith, omega arith))
+
+-- the first digit of a number that is not zero is not '0'
+pub no-leading-zero : (k n : ℕ) → n < 10 ^ suc k → 0 < n → getD (digits k n) 0 0 ≡ 48 → ⊥
+unfolding digits
+no-leading-zero zero n h p e = omega arith
+no-leading-zero (suc k) n h p e =
+    by (ltb n 10)
+    (λ b. let l = ltb-true n 10 b in one (rw b at e) l)
+    (λ b. let l = ltb-false n 10 b in
+    no-leading-zero k (n / 10) (div-lt-iff-lt-mul (omega arith) .1 (rw (pow-suc 10 (suc k)) at h)) (omega arith)
+    (sym (List·getD-append (digits k (n / 10)) ((48 + n % 10) ∷ []) 0 0 (digits-width k (n / 10) .0)) ∙ (rw b at e)))
+  where
+    one : 48 + n % 10 ≡ 48 → n < 10 → ⊥
+    one e l = omega arith
+
+-- zero is one digit, and a minus stands only before a number that is not zero: there is no '-0'
+pub zero-text : (k : ℕ) → digits k 0 ≡ 48 ∷ []
+zero-text k = digits-one k 0 (omega arith)
+
+pub no-minus-zero : (n : ℕ) → suc n < 10 ^ 10 → signed (negsuc n) ≡ 45 ∷ 48 ∷ [] → ⊥
+unfolding signed
+no-minus-zero n h e = no-leading-zero 9 (suc n) h (omega arith) (ap (λ (t : List ℕ). getD t 1 0) e)
+
+-- ---- hexadecimal
+
+hex-snoc : (a : ℕ) (t : List ℕ) (d : ℕ) → hexValue a (t ++ (d ∷ [])) ≡ hexValue a t * 16 + hexDigitValue d
+unfolding hexValue
+hex-snoc a [] d = refl
+hex-snoc a (x ∷ t) d = hex-snoc (a * 16 + hexDigitValue x) t d
+
+hex-digit-value : (d : ℕ) → d < 16 → hexDigitValue (hexDigit d) ≡ d
+hex-digit-value d h =
+    by (ltb d 10)
+    (λ b. let l = ltb-true d 10 b in rw (b, lt-ltb (48 + d) 97 (omega arith)) (omega arith))
+    (λ b. let l = ltb-false d 10 b in rw (b, le-ltb (87 + d) 97 (omega arith)) (omega arith))
+
+pub hex-value : (k n : ℕ) → n < 16 ^ k → hexValue 0 (hex k n) ≡ n
+unfolding hex
+hex-value zero n h = unfold hexValue in omega arith
+hex-value (suc k) n h =
+    let r = hex-value k (n / 16) (omega (arith, pow-suc 16 k)) in
+    hex-snoc 0 (hex k (n / 16)) (hexDigit (n % 16)) ∙ rw (hex-digit-value (n % 16) (omega arith)) (omega arith)
+
+pub hex-width : (k n : ℕ) → length (hex k n) ≡ k
+unfolding hex
+hex-width zero n = refl
+hex-width (suc k) n = rw (length-append, hex-width k (n / 16)) (omega arith)
+
+-- ---- heights: position 5 of document 01, and the least height
+
+pub position-5 :
+    (signed (metres (pos 499)) ≡ 48 ∷ [])
+    × (signed (metres (pos 500)) ≡ 49 ∷ [])
+    × (signed (metres (negsuc 499)) ≡ 45 ∷ 49 ∷ [])
+unfolding signed digits
+position-5 = (refl, refl, refl)
+
+-- -2,147,483,648 mm is -2147484
+pub least-height : signed (metres (negsuc 0x7fff_ffff)) ≡ 45 ∷ 50 ∷ 49 ∷ 52 ∷ 55 ∷ 52 ∷ 56 ∷ 52 ∷ []
+unfolding signed digits
+least-height = refl
