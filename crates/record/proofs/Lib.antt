@@ -1,2 +1,4 @@
 pub mod Merging
 pub mod Parts
+pub mod Laws
+pub mod Whole
