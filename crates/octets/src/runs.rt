@@ -1,7 +1,7 @@
 // Runs of zeros, and moves within a slice.
 ghost use mathlib.Core.Path.{_≡_};
 ghost use mathlib.Core.List.{_++_};
-ghost use Prim.Native.Nat.{_-_, _≤_};
+ghost use Prim.Native.Nat.{_+_, _-_, _≤_};
 ghost use lib.ListN.{length, take, drop, replicate};
 ghost use Rattle.octets.specs.Runs.{allZero};
 
@@ -53,4 +53,17 @@ pub fn shift_down(s: &mut [u8], w: usize)
         j += 1;
     }
     clear(&mut s[e..]);
+}
+
+// Copies the w bytes at `from` down to `to`.
+pub fn copy_down(s: &mut [u8], from: usize, to: usize, w: usize)
+    requires { ⌜ to ≤ from ⌝ }
+    requires { ⌜ from + w ≤ length (now s) ⌝ }
+    ensures { λ _. ⌜ now (s .exit) ≡ take to (now (s .entry)) ++ (take w (drop from (now (s .entry))) ++ drop (to + w) (now (s .entry))) ⌝ }
+{
+    let mut k = 0;
+    while k < w {
+        s[to + k] = s[from + k];
+        k += 1;
+    }
 }

@@ -21,44 +21,44 @@ or-false false = refl
 
 -- ---- one place and those after it
 
-holds-none : (k : ℕ) (key : List ℕ) → holds k key [] ≡ false
+pub holds-none : (k : ℕ) (key : List ℕ) → holds k key [] ≡ false
 unfolding holds
 holds-none k key = refl
 
 module _ (k : ℕ) (key p : List ℕ) (ps : List (List ℕ)) where
-  from-head : ascendingFrom k key (p ∷ ps) ≡ true → isBefore key (take k p) ≡ true
+  pub from-head : ascendingFrom k key (p ∷ ps) ≡ true → isBefore key (take k p) ≡ true
   unfolding ascendingFrom
   from-head h = and-left (isBefore key (take k p)) (ascendingFrom k (take k p) ps) h
 
-  from-tail : ascendingFrom k key (p ∷ ps) ≡ true → ascendingFrom k (take k p) ps ≡ true
+  pub from-tail : ascendingFrom k key (p ∷ ps) ≡ true → ascendingFrom k (take k p) ps ≡ true
   unfolding ascendingFrom
   from-tail h = and-right (isBefore key (take k p)) (ascendingFrom k (take k p) ps) h
 
-  from-cons : isBefore key (take k p) ≡ true → ascendingFrom k (take k p) ps ≡ true → ascendingFrom k key (p ∷ ps) ≡ true
+  pub from-cons : isBefore key (take k p) ≡ true → ascendingFrom k (take k p) ps ≡ true → ascendingFrom k key (p ∷ ps) ≡ true
   unfolding ascendingFrom
   from-cons g h = and-both (isBefore key (take k p)) (ascendingFrom k (take k p) ps) g h
 
-  rank-more : isBefore (take k p) key ≡ true → rank k key (p ∷ ps) ≡ suc (rank k key ps)
+  pub rank-more : isBefore (take k p) key ≡ true → rank k key (p ∷ ps) ≡ suc (rank k key ps)
   unfolding rank
   rank-more h = rw h refl
 
-  rank-here : isBefore (take k p) key ≡ false → rank k key (p ∷ ps) ≡ 0
+  pub rank-here : isBefore (take k p) key ≡ false → rank k key (p ∷ ps) ≡ 0
   unfolding rank
   rank-here h = rw h refl
 
-  holds-here : same (take k p) key ≡ true → holds k key (p ∷ ps) ≡ true
+  pub holds-here : same (take k p) key ≡ true → holds k key (p ∷ ps) ≡ true
   unfolding holds
   holds-here h = rw h refl
 
-  holds-later : same (take k p) key ≡ false → holds k key (p ∷ ps) ≡ holds k key ps
+  pub holds-later : same (take k p) key ≡ false → holds k key (p ∷ ps) ≡ holds k key ps
   unfolding holds
   holds-later h = rw h refl
 
-  lookup-here : same (take k p) key ≡ true → lookup k key (p ∷ ps) ≡ drop k p
+  pub lookup-here : same (take k p) key ≡ true → lookup k key (p ∷ ps) ≡ drop k p
   unfolding lookup
   lookup-here h = rw h refl
 
-  lookup-later : same (take k p) key ≡ false → lookup k key (p ∷ ps) ≡ lookup k key ps
+  pub lookup-later : same (take k p) key ≡ false → lookup k key (p ∷ ps) ≡ lookup k key ps
   unfolding lookup
   lookup-later h = rw h refl
 
@@ -70,16 +70,16 @@ none-below k key from (p ∷ ps) g h =
     holds-later k key p ps (more-same (take k p) key l) ∙ none-below k key (take k p) ps (before-asym key (take k p) l) (from-tail k from p ps h)
 
 -- a lower start does as well
-from-weaken : (k : ℕ) (a b : List ℕ) (ps : List (List ℕ)) → isBefore a b ≡ true → ascendingFrom k b ps ≡ true → ascendingFrom k a ps ≡ true
+pub from-weaken : (k : ℕ) (a b : List ℕ) (ps : List (List ℕ)) → isBefore a b ≡ true → ascendingFrom k b ps ≡ true → ascendingFrom k a ps ≡ true
 from-weaken k a b [] g h = unfold ascendingFrom in refl
 from-weaken k a b (p ∷ ps) g h = from-cons k a p ps (before-trans a b (take k p) g (from-head k b p ps h)) (from-tail k b p ps h)
 
-ascending-from : (k : ℕ) (p : List ℕ) (ps : List (List ℕ)) → ascending k (p ∷ ps) ≡ ascendingFrom k (take k p) ps
+pub ascending-from : (k : ℕ) (p : List ℕ) (ps : List (List ℕ)) → ascending k (p ∷ ps) ≡ ascendingFrom k (take k p) ps
 unfolding ascending
 ascending-from k p ps = refl
 
 -- what ascends from a key ascends
-from-ascending : (k : ℕ) (from : List ℕ) (ps : List (List ℕ)) → ascendingFrom k from ps ≡ true → ascending k ps ≡ true
+pub from-ascending : (k : ℕ) (from : List ℕ) (ps : List (List ℕ)) → ascendingFrom k from ps ≡ true → ascending k ps ≡ true
 from-ascending k from [] h = unfold ascending in refl
 from-ascending k from (p ∷ ps) h = ascending-from k p ps ∙ from-tail k from p ps h
 
@@ -146,7 +146,7 @@ holds-at-rank k key (p ∷ ps) h =
 -- ---- insertion and removal keep the order
 
 -- a place that does not come before a key that is not held comes after it
-comes-after : (k : ℕ) (key p : List ℕ) (ps : List (List ℕ)) → holds k key (p ∷ ps) ≡ false → isBefore (take k p) key ≡ false → isBefore key (take k p) ≡ true
+pub comes-after : (k : ℕ) (key p : List ℕ) (ps : List (List ℕ)) → holds k key (p ∷ ps) ≡ false → isBefore (take k p) key ≡ false → isBefore key (take k p) ≡ true
 comes-after k key p ps n b =
     ⊎-elim (λ l. l)
     (⊎-elim (λ e. absurd (true≢false (sym (holds-here k key p ps (rw e (same-refl (take k p)))) ∙ n))) (λ l. absurd (false≢true (sym b ∙ l))))

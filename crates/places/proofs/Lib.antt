@@ -1,2 +1,4 @@
 pub mod Tables
 pub mod Keys
+pub mod Putting
+pub mod Keeping

@@ -74,3 +74,22 @@ withPlace i x ps = take i ps ++ (x ∷ drop i ps)
 
 abbrev pub withoutPlace : ℕ → List (List ℕ) → List (List ℕ)
 withoutPlace i ps = take i ps ++ drop (i + 1) ps
+
+-- ---- a table as a map from keys to what follows them
+
+-- what follows a key is changed by f, where nothing stood at a key that was not held
+unfoldable pub putPlace : ℕ → (List ℕ → List ℕ) → List ℕ → List (List ℕ) → List (List ℕ)
+putPlace k f key [] = (key ++ f []) ∷ []
+putPlace k f key (p ∷ ps) =
+    cond (isBefore (take k p) key) (p ∷ putPlace k f key ps)
+    (cond (isBefore key (take k p)) ((key ++ f []) ∷ (p ∷ ps)) ((take k p ++ f (drop k p)) ∷ ps))
+
+-- the places that pass a test, what follows their keys changed by f
+unfoldable pub keptPlaces : ℕ → (List ℕ → Bool) → (List ℕ → List ℕ) → List (List ℕ) → List (List ℕ)
+keptPlaces k test f [] = []
+keptPlaces k test f (p ∷ ps) = cond (test p) ((take k p ++ f (drop k p)) ∷ keptPlaces k test f ps) (keptPlaces k test f ps)
+
+-- every place passes a test
+unfoldable pub allPlaces : (List ℕ → Bool) → List (List ℕ) → Bool
+allPlaces test [] = true
+allPlaces test (p ∷ ps) = test p && allPlaces test ps
