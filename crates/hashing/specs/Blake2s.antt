@@ -1,0 +1,155 @@
+-- BLAKE2s-256 without a key, written from RFC 7693 (the sections are named at each part), on numbers and lists of them. A word is a number below 2 ^ 32, a byte one below 256.
+use Prim.Native.Nat.{ℕ, zero, suc, _+_, _-_, _*_, _/_, _%_, _^_}
+use mathlib.Core.List.{List, [], _∷_, _++_}
+use lib.ListN.{length, getD, set, take, drop, replicate}
+use lib.Bits.{bitXor}
+use Rattle.octets.specs.Words.{wordAt, wordBytes}
+
+-- l[i]
+abbrev pub at : List ℕ → ℕ → ℕ
+at l i = getD l i 0
+
+-- 2.1: the rotations R1 to R4 of the mixing function, for words of w = 32 bits
+abbrev pub r₁ : ℕ
+r₁ = 16
+
+abbrev pub r₂ : ℕ
+r₂ = 12
+
+abbrev pub r₃ : ℕ
+r₃ = 8
+
+abbrev pub r₄ : ℕ
+r₄ = 7
+
+-- 2.1: the bytes of a block, bb, and of the hash, nn
+abbrev pub blockBytes : ℕ
+blockBytes = 64
+
+abbrev pub hashBytes : ℕ
+hashBytes = 32
+
+-- 2.3: w >>> n, which is (w >> n) ^ (w << (32 - n))
+unfoldable pub rotated : ℕ → ℕ → ℕ
+rotated w n = bitXor (w / 2 ^ n) (w * 2 ^ (32 - n) % 2 ^ 32)
+
+-- 2.6: the initialization vector IV
+unfoldable pub iv : List ℕ
+iv = 0x6a09e667 ∷ 0xbb67ae85 ∷ 0x3c6ef372 ∷ 0xa54ff53a ∷ 0x510e527f ∷ 0x9b05688c ∷ 0x1f83d9ab ∷ 0x5be0cd19 ∷ []
+
+-- 2.7: the message schedule SIGMA, a row for each round
+unfoldable pub sigma : List (List ℕ)
+sigma =
+    (0 ∷ 1 ∷ 2 ∷ 3 ∷ 4 ∷ 5 ∷ 6 ∷ 7 ∷ 8 ∷ 9 ∷ 10 ∷ 11 ∷ 12 ∷ 13 ∷ 14 ∷ 15 ∷ [])
+    ∷ (14 ∷ 10 ∷ 4 ∷ 8 ∷ 9 ∷ 15 ∷ 13 ∷ 6 ∷ 1 ∷ 12 ∷ 0 ∷ 2 ∷ 11 ∷ 7 ∷ 5 ∷ 3 ∷ [])
+    ∷ (11 ∷ 8 ∷ 12 ∷ 0 ∷ 5 ∷ 2 ∷ 15 ∷ 13 ∷ 10 ∷ 14 ∷ 3 ∷ 6 ∷ 7 ∷ 1 ∷ 9 ∷ 4 ∷ [])
+    ∷ (7 ∷ 9 ∷ 3 ∷ 1 ∷ 13 ∷ 12 ∷ 11 ∷ 14 ∷ 2 ∷ 6 ∷ 5 ∷ 10 ∷ 4 ∷ 0 ∷ 15 ∷ 8 ∷ [])
+    ∷ (9 ∷ 0 ∷ 5 ∷ 7 ∷ 2 ∷ 4 ∷ 10 ∷ 15 ∷ 14 ∷ 1 ∷ 11 ∷ 12 ∷ 6 ∷ 8 ∷ 3 ∷ 13 ∷ [])
+    ∷ (2 ∷ 12 ∷ 6 ∷ 10 ∷ 0 ∷ 11 ∷ 8 ∷ 3 ∷ 4 ∷ 13 ∷ 7 ∷ 5 ∷ 15 ∷ 14 ∷ 1 ∷ 9 ∷ [])
+    ∷ (12 ∷ 5 ∷ 1 ∷ 15 ∷ 14 ∷ 13 ∷ 4 ∷ 10 ∷ 0 ∷ 7 ∷ 6 ∷ 3 ∷ 9 ∷ 2 ∷ 8 ∷ 11 ∷ [])
+    ∷ (13 ∷ 11 ∷ 7 ∷ 14 ∷ 12 ∷ 1 ∷ 3 ∷ 9 ∷ 5 ∷ 0 ∷ 15 ∷ 4 ∷ 8 ∷ 6 ∷ 2 ∷ 10 ∷ [])
+    ∷ (6 ∷ 15 ∷ 14 ∷ 9 ∷ 11 ∷ 3 ∷ 0 ∷ 8 ∷ 12 ∷ 2 ∷ 13 ∷ 7 ∷ 1 ∷ 4 ∷ 10 ∷ 5 ∷ [])
+    ∷ (10 ∷ 2 ∷ 8 ∷ 4 ∷ 7 ∷ 6 ∷ 1 ∷ 5 ∷ 15 ∷ 11 ∷ 9 ∷ 14 ∷ 3 ∷ 12 ∷ 13 ∷ 0 ∷ [])
+    ∷ []
+
+-- 3.1: the statements of the mixing function: v[i] := (v[i] + v[j] + x) mod 2 ** w, and v[i] := (v[i] ^ v[j]) >>> n
+unfoldable pub added : List ℕ → ℕ → ℕ → ℕ → List ℕ
+added v i j x = set v i ((at v i + at v j + x) % 2 ^ 32)
+
+unfoldable pub turned : List ℕ → ℕ → ℕ → ℕ → List ℕ
+turned v i j n = set v i (rotated (bitXor (at v i) (at v j)) n)
+
+-- 3.1: four of the eight statements of the mixing function, with the word x and the rotations r and s
+unfoldable pub halfMixed : List ℕ → ℕ → ℕ → ℕ → ℕ → ℕ → ℕ → ℕ → List ℕ
+halfMixed v a b c d x r s =
+    let v₁ = added v a b x in
+    let v₂ = turned v₁ d a r in
+    let v₃ = added v₂ c d 0 in
+    turned v₃ b c s
+
+-- 3.1: the mixing function G
+unfoldable pub mixed : List ℕ → ℕ → ℕ → ℕ → ℕ → ℕ → ℕ → List ℕ
+mixed v a b c d x y = halfMixed (halfMixed v a b c d x r₁ r₂) a b c d y r₃ r₄
+
+-- 3.2, the two halves of a round: the columns of the state, then its diagonals, with the words of m that s₀ to s₇ name
+unfoldable pub columns : List ℕ → List ℕ → ℕ → ℕ → ℕ → ℕ → ℕ → ℕ → ℕ → ℕ → List ℕ
+columns v m s₀ s₁ s₂ s₃ s₄ s₅ s₆ s₇ =
+    let v₁ = mixed v 0 4 8 12 (at m s₀) (at m s₁) in
+    let v₂ = mixed v₁ 1 5 9 13 (at m s₂) (at m s₃) in
+    let v₃ = mixed v₂ 2 6 10 14 (at m s₄) (at m s₅) in
+    mixed v₃ 3 7 11 15 (at m s₆) (at m s₇)
+
+unfoldable pub diagonals : List ℕ → List ℕ → ℕ → ℕ → ℕ → ℕ → ℕ → ℕ → ℕ → ℕ → List ℕ
+diagonals v m s₀ s₁ s₂ s₃ s₄ s₅ s₆ s₇ =
+    let v₁ = mixed v 0 5 10 15 (at m s₀) (at m s₁) in
+    let v₂ = mixed v₁ 1 6 11 12 (at m s₂) (at m s₃) in
+    let v₃ = mixed v₂ 2 7 8 13 (at m s₄) (at m s₅) in
+    mixed v₃ 3 4 9 14 (at m s₆) (at m s₇)
+
+-- 3.2: the round whose row of SIGMA is s
+unfoldable pub rounded : List ℕ → List ℕ → List ℕ → List ℕ
+rounded s m v =
+    diagonals (columns v m (at s 0) (at s 1) (at s 2) (at s 3) (at s 4) (at s 5) (at s 6) (at s 7))
+    m (at s 8) (at s 9) (at s 10) (at s 11) (at s 12) (at s 13) (at s 14) (at s 15)
+
+-- 3.2: the first n rounds
+unfoldable pub rounds : ℕ → List ℕ → List ℕ → List ℕ
+rounds zero m v = v
+rounds (suc n) m v = rounded (getD sigma n []) m (rounds n m v)
+
+-- 3.2: the state that a block starts from. t is the offset, f all ones in the last block and 0 in the others
+unfoldable pub started : List ℕ → ℕ → ℕ → List ℕ
+started h t f =
+    at h 0 ∷ at h 1 ∷ at h 2 ∷ at h 3 ∷ at h 4 ∷ at h 5 ∷ at h 6 ∷ at h 7
+    ∷ at iv 0 ∷ at iv 1 ∷ at iv 2 ∷ at iv 3
+    ∷ bitXor (at iv 4) (t % 2 ^ 32) ∷ bitXor (at iv 5) (t / 2 ^ 32) ∷ bitXor (at iv 6) f ∷ at iv 7 ∷ []
+
+-- 3.2: h[i] ^ v[i] ^ v[i + 8], and all eight
+abbrev pub xored : List ℕ → List ℕ → ℕ → ℕ
+xored h v i = bitXor (bitXor (at h i) (at v i)) (at v (i + 8))
+
+abbrev pub folded : List ℕ → List ℕ → List ℕ
+folded h v = xored h v 0 ∷ xored h v 1 ∷ xored h v 2 ∷ xored h v 3 ∷ xored h v 4 ∷ xored h v 5 ∷ xored h v 6 ∷ xored h v 7 ∷ []
+
+-- 3.2: the compression function F, with the ten rounds of 2.1
+unfoldable pub compressed : List ℕ → List ℕ → ℕ → ℕ → List ℕ
+compressed h m t f = folded h (rounds 10 m (started h t f))
+
+-- 2.4: the sixteen little-endian words of a block
+unfoldable pub wordsOf : List ℕ → List ℕ
+wordsOf b =
+    wordAt 4 0 b ∷ wordAt 4 4 b ∷ wordAt 4 8 b ∷ wordAt 4 12 b ∷ wordAt 4 16 b ∷ wordAt 4 20 b ∷ wordAt 4 24 b ∷ wordAt 4 28 b
+    ∷ wordAt 4 32 b ∷ wordAt 4 36 b ∷ wordAt 4 40 b ∷ wordAt 4 44 b ∷ wordAt 4 48 b ∷ wordAt 4 52 b ∷ wordAt 4 56 b ∷ wordAt 4 60 b ∷ []
+
+-- 3.3: filled up with zeros to a whole block
+unfoldable pub padded : List ℕ → List ℕ
+padded s = s ++ replicate (blockBytes - length s) 0
+
+-- 3.3: the words of block d[i] of the input s
+abbrev pub block : List ℕ → ℕ → List ℕ
+block s i = wordsOf (padded (take blockBytes (drop (i * blockBytes) s)))
+
+-- 2.5 and 3.3: IV with the first word of the parameter block, 0x0101kknn with no key (kk = 0), xored into h[0]
+unfoldable pub first : List ℕ
+first = set iv 0 (bitXor (at iv 0) (0x01010000 + hashBytes))
+
+-- 3.3: the state after the first n blocks of s, of which none is the last
+unfoldable pub chained : ℕ → List ℕ → List ℕ
+chained zero s = first
+chained (suc n) s = compressed (chained n s) (block s n) (suc n * blockBytes) 0
+
+-- 3.3: the number of blocks before the last. The last has 1 to 64 bytes, or none where the input is empty
+abbrev pub before : List ℕ → ℕ
+before s = (length s - 1) / blockBytes
+
+-- 3.3: the eight words at the end
+unfoldable pub hashWords : List ℕ → List ℕ
+hashWords s = compressed (chained (before s) s) (block s (before s)) (length s) 0xffff_ffff
+
+-- 2.4 and 3.3: words as bytes, lowest first
+unfoldable pub bytesOf : List ℕ → List ℕ
+bytesOf [] = []
+bytesOf (w ∷ ws) = wordBytes 4 w ++ bytesOf ws
+
+unfoldable pub blake2s256 : List ℕ → List ℕ
+blake2s256 s = bytesOf (hashWords s)
