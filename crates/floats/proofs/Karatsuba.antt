@@ -3,7 +3,7 @@
 use mathlib.Core.Path.{_≡_, refl, sym, ap, _∙_, subst}
 use mathlib.Core.Logic.{_⊎_, inl, inr}
 use Prim.Native.Nat.{ℕ, zero, suc, _+_, _-_, _*_, _/_, _%_, _^_, _≤_, _<_}
-use native.Mathlib.Nat.{le-trans, lt-of-lt-of-le, lt-of-not-le, lt-irrefl, le-antisymm, le-of-suc-le-suc, eq-or-lt-of-le, mul-add, add-mul, mul-comm, mul-assoc, mul-left-comm, mul-le-mul-right, div-add-mod', mod-lt}
+use native.Mathlib.Nat.{le-trans, lt-of-lt-of-le, lt-of-not-le, lt-irrefl, le-antisymm, le-of-suc-le-suc, eq-or-lt-of-le, mul-add, add-mul, mul-comm, mul-assoc, mul-left-comm, mul-le-mul-right}
 use native.Mathlib.Omega.{arith}
 use borrow.Author.Tests.{eq-eqb, ne-eqb}
 use lib.Ieee.Nearest.{closest}
@@ -59,63 +59,57 @@ quarter-more r = closest-half (r * 2 + 1) (λ (e : (r * 2 + 1) % 8 ≡ 4). absur
 square-of : (s q : ℕ) → (s * 0x800_0000 + q) * (s * 0x800_0000 + q) ≡ 0x40_0000_0000_0000 * (s * s) + 0x1000_0000 * (s * q) + q * q
 square-of s q = simp (mul-add, add-mul, mul-assoc, mul-comm, mul-left-comm) (omega arith)
 
--- what the root s of 4 m leaves, with 27 places more; its quotient and remainder by 2 s; and the longer root
+-- what the root s of 4 m leaves, with 27 places more; what the digits q leave of that, with as many; and the longer root
 abbrev pub left : ℕ → ℕ → ℕ
 left m s = (m * 4 - s * s) * 0x800_0000
 
-abbrev pub lower : ℕ → ℕ → ℕ
-lower m s = left m s / (s * 2)
-
-abbrev pub over : ℕ → ℕ → ℕ
-over m s = left m s % (s * 2) * 0x800_0000
+abbrev pub over : ℕ → ℕ → ℕ → ℕ
+over m s q = (left m s - q * (s * 2)) * 0x800_0000
 
 abbrev pub longer : ℕ → ℕ → ℕ
-longer m s = s * 0x800_0000 + lower m s
+longer s q = s * 0x800_0000 + q
 
-pub record Step (m s : ℕ) : Type 0 where
-  pub some : 0 < s * 2
-  pub rest-under : left m s % (s * 2) < s * 2
-  pub lower-to : lower m s ≤ 2 ^ 27
-  pub square-to : lower m s * lower m s ≤ 2 ^ 54
-  pub less : over m s < lower m s * lower m s → (longer m s + 1) / 4 ≡ closest (digitsOf m) 8
-  pub not-less : lower m s * lower m s ≤ over m s → (longer m s + 2) / 4 ≡ closest (digitsOf m) 8
+pub record Step (m s q : ℕ) : Type 0 where
+  pub lower-to : q ≤ 2 ^ 27
+  pub square-to : q * q ≤ 2 ^ 54
+  pub less : over m s q < q * q → (longer s q + 1) / 4 ≡ closest (digitsOf m) 8
+  pub not-less : q * q ≤ over m s q → (longer s q + 2) / 4 ≡ closest (digitsOf m) 8
 
-module _ (m s : ℕ) (from : 2 ^ 52 ≤ m) (under : m < 2 ^ 54) (low : s * s ≤ m * 4) (high : m * 4 ≤ s * s + 2 * s) where
-  abbrev q : ℕ
-  q = lower m s
-
-  abbrev u : ℕ
-  u = left m s % (s * 2)
-
-  abbrev root : ℕ
-  root = longer m s
-
-  abbrev n : ℕ
-  n = m * 4 ^ 28
-
-  s-from : 2 ^ 27 ≤ s
+module _ (m s : ℕ) (from : 2 ^ 52 ≤ m) (low : s * s ≤ m * 4) (high : m * 4 ≤ s * s + 2 * s) where
+  pub s-from : 2 ^ 27 ≤ s
   s-from = le-of-suc-le-suc (lt-of-not-le (λ (h : suc s ≤ 2 ^ 27).
       let l : s + 1 ≤ 2 ^ 27 = omega arith in
       absurd (omega (arith, next-sq s, sq-le (s + 1) (2 ^ 27) l))))
 
-  some : 0 < s * 2
-  some = omega (arith, s-from)
+module _ (m s q : ℕ) (from : 2 ^ 52 ≤ m) (under : m < 2 ^ 54) (low : s * s ≤ m * 4) (high : m * 4 ≤ s * s + 2 * s)
+    (within : q * (s * 2) ≤ left m s) (next : left m s < q * (s * 2) + s * 2) where
+  abbrev u : ℕ
+  u = left m s - q * (s * 2)
+
+  abbrev root : ℕ
+  root = longer s q
+
+  abbrev n : ℕ
+  n = m * 4 ^ 28
+
+  far : 2 ^ 27 ≤ s
+  far = s-from m s from low high
 
   split : q * (s * 2) + u ≡ left m s
-  split = div-add-mod' (left m s) (s * 2)
+  split = omega arith
 
   u-under : u < s * 2
-  u-under = mod-lt (left m s) some
+  u-under = omega arith
 
   q-to : q ≤ 2 ^ 27
-  q-to = le-of-suc-le-suc (lt-of-not-le (λ (h : suc (2 ^ 27) ≤ q). absurd (omega (arith, mul-le-mul-right (s * 2) h, split, s-from, high))))
+  q-to = le-of-suc-le-suc (lt-of-not-le (λ (h : suc (2 ^ 27) ≤ q). absurd (omega (arith, mul-le-mul-right (s * 2) h, far))))
 
   square-to : q * q ≤ 2 ^ 54
   square-to = sq-le q (2 ^ 27) q-to
 
   apart : root * root + u * 0x800_0000 ≡ n + q * q
   apart =
-      let e : q * (s * 2) ≡ 2 * (s * q) = simp (mul-assoc, mul-comm) in
+      let e : q * (s * 2) ≡ 2 * (s * q) = mul-left-comm q s 2 ∙ ap (λ (z : ℕ). s * z) (mul-comm q 2) ∙ mul-left-comm s 2 q in
       omega (arith, square-of s q, split, e, low)
 
   is-root : q * q ≤ u * 0x800_0000 → Whole n root
@@ -127,13 +121,13 @@ module _ (m s : ℕ) (from : 2 ^ 52 ≤ m) (under : m < 2 ^ 54) (low : s * s ≤
     p = root - 1
 
     p-is : root ≡ p + 1
-    p-is = omega (arith, s-from)
+    p-is = omega (arith, far)
 
     square-is : root * root ≡ p * p + 2 * p + 1
     square-is = ap (λ (z : ℕ). z * z) p-is ∙ next-sq p
 
     strict : p * p < n
-    strict = omega (arith, square-is, apart, square-to, s-from)
+    strict = omega (arith, square-is, apart, square-to, far)
 
     is-one-less : Whole n p
     is-one-less = record { low = omega (arith, strict); high = omega (arith, apart, square-is, next-sq p) }
@@ -145,7 +139,7 @@ module _ (m s : ℕ) (from : 2 ^ 52 ≤ m) (under : m < 2 ^ 54) (low : s * s ≤
   unfolding digitsOf
   digits-less h =
       rw (isqrt-is (p h) (is-one-less h), ne-eqb (p h * p h) n (λ (e : p h * p h ≡ n). lt-irrefl n (subst (λ (z : ℕ). z < n) e (strict h))))
-      (omega (arith, s-from))
+      (omega (arith, far))
 
   digits-same : u * 0x800_0000 ≡ q * q → digitsOf m ≡ root * 2
   unfolding digitsOf
@@ -159,7 +153,7 @@ module _ (m s : ℕ) (from : 2 ^ 52 ≤ m) (under : m < 2 ^ 54) (low : s * s ≤
       rw (isqrt-is root (is-root (omega arith)), ne-eqb (root * root) n (λ (e : root * root ≡ n). absurd (omega (arith, apart)))) (omega arith)
 
   less : u * 0x800_0000 < q * q → (root + 1) / 4 ≡ closest (digitsOf m) 8
-  less h = rw (digits-less h) (sym (quarter-less root (omega (arith, s-from))))
+  less h = rw (digits-less h) (sym (quarter-less root (omega (arith, far))))
 
   not-less : q * q ≤ u * 0x800_0000 → (root + 2) / 4 ≡ closest (digitsOf m) 8
   not-less h = go (eq-or-lt-of-le h)
@@ -171,5 +165,5 @@ module _ (m s : ℕ) (from : 2 ^ 52 ≤ m) (under : m < 2 ^ 54) (low : s * s ≤
           rw (digits-same (sym e)) (sym (quarter-same root (fours root z)))
       go (inr l) = rw (digits-more l) (sym (quarter-more root))
 
-  pub step : Step m s
-  step = record { some = some; rest-under = u-under; lower-to = q-to; square-to = square-to; less = less; not-less = not-less }
+  pub step : Step m s q
+  step = record { lower-to = q-to; square-to = square-to; less = less; not-less = not-less }

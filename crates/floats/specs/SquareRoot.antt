@@ -1,6 +1,6 @@
 -- What IEEE 754-2019 asks of squareRoot on binary64, with roundTiesToEven: a relation between an operand x and a result r.
 -- It says which r is right and not how to find it. proofs/Ieee754 proves that it holds of `root` at every binary64 value,
--- and that at most one r stands in it to an x.
+-- and of no other result. `fits binary64 x` says that x is a binary64 value (lib.Ieee).
 --
 -- From the standard:
 --   5.4.1  squareRoot(x) computes √x. It has a positive sign for every operand from 0 on, but squareRoot(−0) is −0.
@@ -27,17 +27,18 @@ units nan = 0
 units (inf s) = 0
 units (fin s m e) = m * up e * 2 ^ 1074 / down e
 
--- |r − √x| < |y − √x|, in squares. r is of R units and above zero, y of Y units and below zero where s is true, and √x is √S units.
+-- |r − √x| < |y − √x|, in squares. r is above zero and of R units, y is of Y units, its sign is the Bool, and √x is √S units.
 -- Of two different values r and y, r is the nearer to √x where √x lies on r's side of their middle, (r + y) / 2:
---   y above r:           √x < (r + y) / 2,  which is  4 S < (R + Y)²
---   y from 0 to below r: (r + y) / 2 < √x,  which is  (R + Y)² < 4 S
---   y negative:          (r + y) / 2 < √x,  which is  (R − Y)² < 4 S,  with R − Y = 0 where the sum is negative
+--   y above r:            √x < (r + y) / 2,  which is  4 S < (R + Y)²
+--   y from +0 to below r: (r + y) / 2 < √x,  which is  (R + Y)² < 4 S
+--   y from −0 down:       (r + y) / 2 < √x,  which is  (R − Y)² < 4 S,  where R − Y is 0 if Y is more than R
+-- Of y = r nothing is asked.
 abbrev pub Nearer : ℕ → ℕ → Bool → ℕ → Type 0
 Nearer S R false Y = (R < Y → 4 * S < (R + Y) * (R + Y)) × (Y < R → (R + Y) * (R + Y) < 4 * S)
 Nearer S R true Y = (R - Y) * (R - Y) < 4 * S
 
--- r is binary64's, finite and above zero, and nearer to √S units than any other finite value of binary64. As it is strictly nearer there
--- is no tie to settle.
+-- r is binary64's, finite and above zero, and nearer to √S units than any other finite value of binary64 is. It is strictly nearer:
+-- there is no tie to settle.
 pub record Nearest (S : ℕ) (r : Float) : Type 0 where
   pub held : T (fits binary64 r)
   pub above-zero : T (positive r)

@@ -42,7 +42,7 @@ fn product(a: u64, b: u64) -> u64 {
 
 // About 2 ^ 58 / √m, and not above it, for an m from 2 ^ 52 and below 2 ^ 54. With t for m / 2 ^ 54, of which 16 binary places are
 // taken: the polynomial of the fourth degree nearest to 1 / 2√t, within 0.0022 of it, and a turn of Newton's iteration.
-// Nothing rests on how near this is: it saves turns of the loops in `not_above` and `whole_root`.
+// Nothing rests on how near this and the next two are: they save turns of the loops in `not_above` and `whole_root`, and a division.
 fn inverse(m: u64) -> u64 {
     let t = m / 0x40_0000_0000;
     let t2 = product(t, t) / 0x1_0000;
@@ -53,12 +53,18 @@ fn inverse(m: u64) -> u64 {
     product(y, std::num::wrapping_sub_u64(0x5fff_fff0, square)) / 0x4000
 }
 
-// About 2√m, and not above it: m times its inverse root, and what the square of that leaves times the inverse root.
-fn guess(m: u64) -> u64 {
-    let y = inverse(m);
+// About 2√m, and not above it, for y about 2 ^ 58 / √m: their product, and what the square of that leaves times y.
+fn guess(m: u64, y: u64) -> u64 {
     let s = product(m / 0x40_0000, y) / 0x8_0000_0000;
     let rest = std::num::wrapping_sub_u64(m, product(s, s) / 4);
     s + product(rest / 0x400, y) / 0x1_0000_0000_0000
+}
+
+// About n * 2 ^ 27 / d, for y about 2 ^ 60 / d: a turn of Newton's iteration for the inverse, and its product with n.
+fn ratio(n: u64, d: u64, y: u64) -> u64 {
+    let off = std::num::wrapping_sub_u64(0x1000_0000_0000_0000, product(d, y));
+    let nearer = y % 0x1_0000_0000 + product(off / 0x1_0000, y) / 0x1000_0000_0000 + 1;
+    product(n, nearer) / 0x2_0000_0000
 }
 
 // The first number from guess down whose square is within n.
@@ -85,6 +91,20 @@ fn whole_root(n: u64, guess: u64) -> u64
     s
 }
 
+// The whole part of n / d, whatever the guess is. A division takes longer than to see that the guess is right.
+fn quotient(n: u64, d: u64, guess: u64) -> u64
+    requires { ⌜ (0 < d) × (d < 2 ^ 32) ⌝ }
+    ensures { λ r. ⌜ (r * d ≤ n) × (n < r * d + d) ⌝ }
+{
+    let q = guess % 0x1_0000_0000;
+    if q * d <= n {
+        if n - q * d < d {
+            return q;
+        }
+    }
+    n / d
+}
+
 // The root of m * 2 ^ 52 to the nearest whole number. Zimmermann's step goes from the root s of 4 * m, and what that leaves, to
 // the root of 4 * m * 2 ^ 54, which has 27 binary digits more: they are the quotient, or one less where its square is more than is
 // left. Two of the digits are then rounded off, and are never half way.
@@ -92,11 +112,13 @@ fn rounded(m: u64) -> u64
     requires { ⌜ (2 ^ 52 ≤ m) × (m < 2 ^ 54) ⌝ }
     ensures { λ r. ⌜ (r ≡ closest (Root.digitsOf m) 8) × (r ≤ 2 ^ 53) ⌝ }
 {
-    let s = whole_root(m * 4, guess(m));
-    let left = (m * 4 - s * s) * 0x800_0000;
-    let lower = left / (s * 2);
+    let y = inverse(m);
+    let s = whole_root(m * 4, guess(m, y));
+    let rest = m * 4 - s * s;
+    let left = rest * 0x800_0000;
+    let lower = quotient(left, s * 2, ratio(rest, s * 2, y));
     let longer = s * 0x800_0000 + lower;
-    if left % (s * 2) * 0x800_0000 < lower * lower {
+    if (left - lower * (s * 2)) * 0x800_0000 < lower * lower {
         return (longer + 1) / 4;
     }
     (longer + 2) / 4
