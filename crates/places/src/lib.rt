@@ -12,6 +12,7 @@ ghost use lib.ListN.{length, take, drop, replicate};
 ghost use lib.Dec.{ltb};
 ghost use Rattle.places.specs.Places.{places, ascending, isTable, rank, keyAt, insertedAt, removedAt};
 ghost use Rattle.octets.specs.Order.{same};
+ghost use Rattle.places.specs.Put.{putting, tried};
 
 // Whether the keys of the first n places ascend strictly.
 pub fn ascends(t: &[u8], n: usize, w: usize, k: usize) -> bool
@@ -80,6 +81,48 @@ pub fn has_key(t: &[u8], i: usize, w: usize, k: usize, key: &[u8]) -> bool
         return false;
     }
     !octets::order::precedes(key, &t[at..e])
+}
+
+// What became of a place that was to be put in by its key.
+pub enum Put {
+    // A place has the key already: its number.
+    Held(usize),
+    // No place has it, and there is no room for one more.
+    Full,
+    // It was put in.
+    New,
+}
+
+// Whether place i is one of n and has this very key.
+fn stands_at(t: &[u8], n: usize, i: usize, w: usize, k: usize, key: &[u8]) -> bool
+    requires { ⌜ n * w ≤ length (now t) ⌝ }
+    requires { ⌜ k ≤ w ⌝ }
+    ensures { λ r. ⌜ r ≡ (ltb i n && same (keyAt k w i (now (t .entry))) (now (key .entry))) ⌝ }
+{
+    if n <= i {
+        return false;
+    }
+    has_key(t, i, w, k, key)
+}
+
+// Puts a place in by its key, which is its first k bytes, unless the key is held or the table, which
+// has room for cap places, is full.
+pub fn put_by_key(t: &mut [u8], n: usize, cap: usize, w: usize, k: usize, x: &[u8]) -> Put
+    requires { ⌜ n * w ≤ length (now t) ⌝ }
+    requires { ⌜ k ≤ w ⌝ }
+    requires { ⌜ length (now x) ≡ w ⌝ }
+    requires { ⌜ length (now t) ≡ cap * w ⌝ }
+    ensures { λ r. ⌜ putting r (now (t .exit)) ≡ tried n cap w k (now (x .entry)) (now (t .entry)) ⌝ }
+{
+    let i = position(t, n, w, k, &x[..k]);
+    if stands_at(t, n, i, w, k, &x[..k]) {
+        return Put::Held(i);
+    }
+    if cap <= n {
+        return Put::Full;
+    }
+    insert(t, i * w, x);
+    Put::New
 }
 
 // Puts x in at a byte, before what stands there. As many bytes at the end are lost.
