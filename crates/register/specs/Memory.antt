@@ -1,0 +1,83 @@
+-- A register in memory (document 01, 'The register (30,920 bytes)'): which bytes are one, the register that bytes are, its bytes, and an operation on bytes.
+use Prim.Native.Nat.{ℕ, _+_, _*_}
+use mathlib.Core.Bool.{Bool, true, false, cond, not, _&&_}
+use mathlib.Core.List.{List, _++_}
+use lib.Bits.{bitAnd}
+use lib.Dec.{leb, eqb}
+use lib.ListN.{length, take, drop, replicate}
+use Rattle.octets.specs.Masks.{bit}
+use Rattle.octets.specs.Words.{wordAt, wordBytes}
+use Rattle.places.specs.Places.{places, tableOf, isTable, allPlaces}
+use Rattle.record.specs.Layout.{recordSize, maxModel}
+use Rattle.record.specs.Formed as R
+use Rattle.models.specs.Summary.{summarySize, engineOf, modelOf}
+use Rattle.register.specs.Layout as L
+use Rattle.register.specs.Register.{Register, After, after, signersIn}
+
+-- ---- the parts of the bytes
+
+abbrev pub convictedIn : List ℕ → ℕ
+convictedIn m = wordAt 4 L.convictedAt m
+
+abbrev pub summaryCount : List ℕ → ℕ
+summaryCount m = wordAt 2 L.summaryCountAt m
+
+abbrev pub recordCount : List ℕ → ℕ
+recordCount m = wordAt 2 L.recordCountAt m
+
+abbrev pub summaryBytes : List ℕ → List ℕ
+summaryBytes m = take (L.maxSummaries * summarySize) (drop L.summariesAt m)
+
+abbrev pub recordBytes : List ℕ → List ℕ
+recordBytes m = drop L.recordsAt m
+
+abbrev pub summariesIn : List ℕ → List (List ℕ)
+summariesIn m = places summarySize (summaryCount m) (summaryBytes m)
+
+abbrev pub recordsIn : List ℕ → List (List ℕ)
+recordsIn m = places L.placeSize (recordCount m) (recordBytes m)
+
+-- ---- which bytes are a register
+
+-- a summary within the limits, of an engine that is not convicted
+abbrev pub summaryFormed : ℕ → List ℕ → Bool
+summaryFormed c p = leb (engineOf p) L.maxEngine && (leb (modelOf p) maxModel && not (bit c (engineOf p)))
+
+-- a record that is one, with signers, none of them convicted
+abbrev pub placeFormed : ℕ → List ℕ → Bool
+placeFormed c p = R.wellFormed (take recordSize p) && (not (eqb (signersIn p) 0) && eqb (bitAnd (signersIn p) c) 0)
+
+unfoldable pub wellFormed : List ℕ → Bool
+wellFormed m =
+    eqb (length m) L.registerSize
+    && (leb (summaryCount m) L.maxSummaries
+    && (leb (recordCount m) L.maxRecords
+    && (isTable summarySize summarySize (summaryCount m) (summaryBytes m)
+    && (allPlaces (summaryFormed (convictedIn m)) (summariesIn m)
+    && (isTable recordSize L.placeSize (recordCount m) (recordBytes m)
+    && allPlaces (placeFormed (convictedIn m)) (recordsIn m))))))
+
+-- ---- bytes and registers
+
+unfoldable pub decode : List ℕ → Register
+decode m = record { convicted = convictedIn m; summaries = summariesIn m; records = recordsIn m }
+
+unfoldable pub encode : Register → List ℕ
+encode s =
+    wordBytes 4 (s .convicted)
+    ++ (wordBytes 2 (length (s .summaries))
+    ++ (wordBytes 2 (length (s .records))
+    ++ (tableOf summarySize L.maxSummaries (s .summaries) ++ tableOf L.placeSize L.maxRecords (s .records))))
+
+-- "Fresh is all zero."
+abbrev pub fresh : List ℕ
+fresh = replicate L.registerSize 0
+
+-- ---- an operation on bytes
+
+-- "1: memory not a well-formed register." "A refusal returns its number and changes no lent byte."
+unfoldable pub onMemory : (Register → After Register) → List ℕ → After (List ℕ)
+onMemory f m =
+    cond (wellFormed m)
+    (cond (eqb (f (decode m) .answer) 0) (after 0 (encode (f (decode m) .left))) (after (f (decode m) .answer) m))
+    (after 1 m)

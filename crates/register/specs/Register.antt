@@ -1,0 +1,77 @@
+-- What a register holds, and what its operations do to it (document 01, 'Answers and refusals, operation by operation' and 'The register').
+use Prim.Native.Nat.{ℕ}
+use mathlib.Core.Bool.{Bool, true, false, cond, not, _&&_, _||_}
+use mathlib.Core.List.{List, []}
+use lib.Dec.{ltb, leb, eqb}
+use lib.ListN.{length, drop}
+use Rattle.octets.specs.Masks.{bit, withBit, withoutBit}
+use Rattle.octets.specs.Words.{word, wordBytes}
+use Rattle.places.specs.Places.{holds, putPlace, keptPlaces}
+use Rattle.record.specs.Layout.{recordSize, maxModel}
+use Rattle.record.specs.Formed.{wellFormed}
+use Rattle.models.specs.Summary.{summarySize, inputsSize, engineOf, summaryOf}
+use Rattle.register.specs.Layout.{maxEngine, maxSummaries, maxRecords}
+
+-- The convicted engines, bit n for engine n; the summaries, each its 36 bytes; the records, each its 222 bytes and 4 of signers. Both ascend.
+pub record Register : Type 0 where
+  pub convicted : ℕ
+  pub summaries : List (List ℕ)
+  pub records : List (List ℕ)
+
+-- what an operation answers, and what it leaves
+pub record After (A : Type 0) : Type 0 where
+  pub answer : ℕ
+  pub left : A
+
+abbrev pub after : {A : Type 0} → ℕ → A → After A
+after a x = record { answer = a; left = x }
+
+-- the signers of a record's place
+abbrev pub signersIn : List ℕ → ℕ
+signersIn p = word (drop recordSize p)
+
+-- signers with an engine, and without
+abbrev pub signedBy : ℕ → List ℕ → List ℕ
+signedBy e v = wordBytes 4 (withBit (word v) e)
+
+abbrev pub unsignedBy : ℕ → List ℕ → List ℕ
+unsignedBy e v = wordBytes 4 (withoutBit (word v) e)
+
+-- nothing follows a summary's key, which is all of it
+abbrev pub nothing : List ℕ → List ℕ
+nothing v = []
+
+-- "2: engine over 31. 3: record malformed. 4: engine convicted. 5: record not yet held and 96 are held. Else 0." "A repeated record only gains a signer."
+abbrev pub reported : ℕ → List ℕ → Register → After Register
+reported e r s =
+    cond (ltb maxEngine e) (after 2 s)
+    (cond (not (wellFormed r)) (after 3 s)
+    (cond (bit (s .convicted) e) (after 4 s)
+    (cond (not (holds recordSize r (s .records)) && leb maxRecords (length (s .records))) (after 5 s)
+    (after 0 (record { convicted = s .convicted; summaries = s .summaries; records = putPlace recordSize (signedBy e) r (s .records) })))))
+
+-- "2; 9: model over 63, or inputs not of 32 bytes; 4; 5: this summary not yet held and 256 are. Else 0."
+abbrev pub summarized : ℕ → ℕ → ℕ → List ℕ → Register → After Register
+summarized e model spec inputs s =
+    cond (ltb maxEngine e) (after 2 s)
+    (cond (ltb maxModel model || not (eqb (length inputs) inputsSize)) (after 9 s)
+    (cond (bit (s .convicted) e) (after 4 s)
+    (cond (not (holds summarySize (summaryOf e model spec inputs) (s .summaries)) && leb maxSummaries (length (s .summaries))) (after 5 s)
+    (after 0 (record { convicted = s .convicted; summaries = putPlace summarySize nothing (summaryOf e model spec inputs) (s .summaries); records = s .records })))))
+
+-- a summary of another engine, and a record with another signer
+abbrev pub ofAnother : ℕ → List ℕ → Bool
+ofAnother e p = not (eqb (engineOf p) e)
+
+abbrev pub signedByAnother : ℕ → List ℕ → Bool
+signedByAnother e p = not (eqb (withoutBit (signersIn p) e) 0)
+
+-- "2. Else 0, also when repeated." "A conviction removes the engine's summaries, its signer bit, and records left without signers."
+abbrev pub convictedOf : ℕ → Register → After Register
+convictedOf e s =
+    cond (ltb maxEngine e) (after 2 s)
+    (after 0 (record {
+      convicted = withBit (s .convicted) e;
+      summaries = keptPlaces summarySize (ofAnother e) nothing (s .summaries);
+      records = keptPlaces recordSize (signedByAnother e) (unsignedBy e) (s .records);
+    }))
