@@ -1,12 +1,12 @@
 -- Laws of the blocks of an input: which bytes of the memory they are, and that the last one, filled up, has 64.
-use Prim.Native.Nat.{ℕ, zero, suc, _+_, _-_, _*_, _/_, _≤_}
-use mathlib.Core.Path.{_≡_, refl, sym, ap, _∙_}
-use mathlib.Core.List.{List, [], _∷_, _++_, append-nil}
+use Prim.Native.Nat.{ℕ, zero, suc, _+_, _-_, _*_, _≤_}
+use mathlib.Core.Path.{_≡_, sym, _∙_}
+use mathlib.Core.List.{List, _++_, append-nil}
 use native.Mathlib.Omega.{arith}
 use native.Mathlib.Nat.{le-of-eq, sub-zero, zero-sub, suc-sub-suc}
 use native.Mathlib.Numerals.{add-one}
 use lib.ListN.{length, take, drop, replicate, length-append, length-replicate, length-drop, length-take}
-use lib.Seq.{take-all, take-length, length-take-le}
+use lib.Seq.{take-all, take-length}
 use Rattle.hashing.specs.Blake2s.{padded, wordsOf, block, before, compressed, chained, hashWords}
 
 drop-replicate : (n m a : ℕ) → drop n (replicate m a) ≡ replicate (m - n) a

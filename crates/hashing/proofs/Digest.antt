@@ -1,10 +1,10 @@
 -- Laws of the hash as bytes: it has 32, each below 256, for every input. And how eight words are laid out one after the other.
-use Prim.Native.Nat.{ℕ, zero, suc, _+_, _-_, _*_, _≤_, _<_}
+use Prim.Native.Nat.{ℕ, _+_, _*_, _≤_, _<_}
 use mathlib.Core.Path.{_≡_, refl, sym, ap, _∙_}
 use mathlib.Core.List.{List, [], _∷_, _++_, append-nil, append-assoc}
 use native.Mathlib.Omega.{arith}
 use native.Mathlib.Numerals.{add-one}
-use lib.ListN.{length, getD, take, drop, length-append, drop-of-length-le}
+use lib.ListN.{length, take, drop, length-append, drop-of-length-le}
 use lib.Seq.{take-all, take-suc, take-at, drop-append-add, drop-drop, length-take-le}
 use Rattle.octets.specs.Words.{wordBytes, putWord}
 use Rattle.octets.proofs.Numbers.{Bytes, bytes-append, bytes-word-bytes, length-word-bytes}

@@ -1,3 +1,4 @@
 pub mod Blocks
 pub mod Digest
 pub mod Vectors
+pub mod Words

@@ -1,4 +1,4 @@
--- BLAKE2s-256 without a key, written from RFC 7693 (the sections are named at each part), on numbers and lists of them. A word is a number below 2 ^ 32, a byte one below 256.
+-- BLAKE2s-256 without a key, written from RFC 7693 on numbers and lists of them; the section stands at each part. A word is a number below 2 ^ 32, a byte one below 256. The RFC speaks of inputs of fewer than 2 ** 64 bytes, as any memory has.
 use Prim.Native.Nat.{ℕ, zero, suc, _+_, _-_, _*_, _/_, _%_, _^_}
 use mathlib.Core.List.{List, [], _∷_, _++_}
 use lib.ListN.{length, getD, set, take, drop, replicate}
@@ -22,9 +22,12 @@ r₃ = 8
 abbrev pub r₄ : ℕ
 r₄ = 7
 
--- 2.1: the bytes of a block, bb, and of the hash, nn
+-- 2.1: the bytes of a block, bb, of the key, kk, and of the hash, nn
 abbrev pub blockBytes : ℕ
 blockBytes = 64
+
+abbrev pub keyBytes : ℕ
+keyBytes = 0
 
 abbrev pub hashBytes : ℕ
 hashBytes = 32
@@ -86,18 +89,25 @@ diagonals v m s₀ s₁ s₂ s₃ s₄ s₅ s₆ s₇ =
     let v₃ = mixed v₂ 2 7 8 13 (at m s₄) (at m s₅) in
     mixed v₃ 3 4 9 14 (at m s₆) (at m s₇)
 
--- 3.2: the round whose row of SIGMA is s
-unfoldable pub rounded : List ℕ → List ℕ → List ℕ → List ℕ
-rounded s m v =
+-- 3.2: a round with the row s of SIGMA
+unfoldable pub roundBy : List ℕ → List ℕ → List ℕ → List ℕ
+roundBy s m v =
     diagonals (columns v m (at s 0) (at s 1) (at s 2) (at s 3) (at s 4) (at s 5) (at s 6) (at s 7))
     m (at s 8) (at s 9) (at s 10) (at s 11) (at s 12) (at s 13) (at s 14) (at s 15)
 
--- 3.2: the first n rounds
+-- 3.2: round i, and the first n rounds
+abbrev pub round : ℕ → List ℕ → List ℕ → List ℕ
+round i m v = roundBy (getD sigma i []) m v
+
 unfoldable pub rounds : ℕ → List ℕ → List ℕ → List ℕ
 rounds zero m v = v
-rounds (suc n) m v = rounded (getD sigma n []) m (rounds n m v)
+rounds (suc n) m v = round n m (rounds n m v)
 
--- 3.2: the state that a block starts from. t is the offset, f all ones in the last block and 0 in the others
+-- 3.2: the flag f of the last block; it is 0 in the others
+abbrev pub allOnes : ℕ
+allOnes = 0xffff_ffff
+
+-- 3.2: the state that a block starts from. t is the offset, and xoring with f inverts v[14] in the last block
 unfoldable pub started : List ℕ → ℕ → ℕ → List ℕ
 started h t f =
     at h 0 ∷ at h 1 ∷ at h 2 ∷ at h 3 ∷ at h 4 ∷ at h 5 ∷ at h 6 ∷ at h 7
@@ -129,9 +139,9 @@ padded s = s ++ replicate (blockBytes - length s) 0
 abbrev pub block : List ℕ → ℕ → List ℕ
 block s i = wordsOf (padded (take blockBytes (drop (i * blockBytes) s)))
 
--- 2.5 and 3.3: IV with the first word of the parameter block, 0x0101kknn with no key (kk = 0), xored into h[0]
+-- 2.5 and 3.3: the first state, h[0] := IV[0] ^ 0x01010000 ^ (kk << 8) ^ nn, where the first word of the parameter block is all that is not zero
 unfoldable pub first : List ℕ
-first = set iv 0 (bitXor (at iv 0) (0x01010000 + hashBytes))
+first = set iv 0 (bitXor (bitXor (bitXor (at iv 0) 0x01010000) (keyBytes * 2 ^ 8)) hashBytes)
 
 -- 3.3: the state after the first n blocks of s, of which none is the last
 unfoldable pub chained : ℕ → List ℕ → List ℕ
@@ -144,9 +154,9 @@ before s = (length s - 1) / blockBytes
 
 -- 3.3: the eight words at the end
 unfoldable pub hashWords : List ℕ → List ℕ
-hashWords s = compressed (chained (before s) s) (block s (before s)) (length s) 0xffff_ffff
+hashWords s = compressed (chained (before s) s) (block s (before s)) (length s) allOnes
 
--- 2.4 and 3.3: words as bytes, lowest first
+-- 2.4 and 3.3: words as bytes, lowest first. All 32 bytes of the eight words are the hash
 unfoldable pub bytesOf : List ℕ → List ℕ
 bytesOf [] = []
 bytesOf (w ∷ ws) = wordBytes 4 w ++ bytesOf ws

@@ -1,14 +1,12 @@
 // The ten rounds (RFC 7693, 3.2), with the rows of SIGMA (2.7) as literal indices: a table would be
 // built anew on the stack in each call that reads it.
 ghost use mathlib.Core.Path.{_≡_};
-ghost use mathlib.Core.List.{[]};
-ghost use lib.ListN.{getD};
-ghost use Rattle.hashing.specs.Blake2s.{sigma, rounded, rounds};
+ghost use Rattle.hashing.specs.Blake2s.{round, rounds};
 use crate::mixing::columns;
 use crate::mixing::diagonals;
 
 fn rounds_0_1(start: [u32; 16], m: &[u32; 16]) -> [u32; 16]
-    ensures { λ r. ⌜ r ≡ rounded (getD sigma 1 []) (now (m .entry)) (rounded (getD sigma 0 []) (now (m .entry)) start) ⌝ }
+    ensures { λ r. ⌜ r ≡ round 1 (now (m .entry)) (round 0 (now (m .entry)) start) ⌝ }
 {
     let mut v = start;
     columns(&mut v, m, 0, 1, 2, 3, 4, 5, 6, 7);
@@ -19,7 +17,7 @@ fn rounds_0_1(start: [u32; 16], m: &[u32; 16]) -> [u32; 16]
 }
 
 fn rounds_2_3(start: [u32; 16], m: &[u32; 16]) -> [u32; 16]
-    ensures { λ r. ⌜ r ≡ rounded (getD sigma 3 []) (now (m .entry)) (rounded (getD sigma 2 []) (now (m .entry)) start) ⌝ }
+    ensures { λ r. ⌜ r ≡ round 3 (now (m .entry)) (round 2 (now (m .entry)) start) ⌝ }
 {
     let mut v = start;
     columns(&mut v, m, 11, 8, 12, 0, 5, 2, 15, 13);
@@ -30,7 +28,7 @@ fn rounds_2_3(start: [u32; 16], m: &[u32; 16]) -> [u32; 16]
 }
 
 fn rounds_4_5(start: [u32; 16], m: &[u32; 16]) -> [u32; 16]
-    ensures { λ r. ⌜ r ≡ rounded (getD sigma 5 []) (now (m .entry)) (rounded (getD sigma 4 []) (now (m .entry)) start) ⌝ }
+    ensures { λ r. ⌜ r ≡ round 5 (now (m .entry)) (round 4 (now (m .entry)) start) ⌝ }
 {
     let mut v = start;
     columns(&mut v, m, 9, 0, 5, 7, 2, 4, 10, 15);
@@ -41,7 +39,7 @@ fn rounds_4_5(start: [u32; 16], m: &[u32; 16]) -> [u32; 16]
 }
 
 fn rounds_6_7(start: [u32; 16], m: &[u32; 16]) -> [u32; 16]
-    ensures { λ r. ⌜ r ≡ rounded (getD sigma 7 []) (now (m .entry)) (rounded (getD sigma 6 []) (now (m .entry)) start) ⌝ }
+    ensures { λ r. ⌜ r ≡ round 7 (now (m .entry)) (round 6 (now (m .entry)) start) ⌝ }
 {
     let mut v = start;
     columns(&mut v, m, 12, 5, 1, 15, 14, 13, 4, 10);
@@ -52,7 +50,7 @@ fn rounds_6_7(start: [u32; 16], m: &[u32; 16]) -> [u32; 16]
 }
 
 fn rounds_8_9(start: [u32; 16], m: &[u32; 16]) -> [u32; 16]
-    ensures { λ r. ⌜ r ≡ rounded (getD sigma 9 []) (now (m .entry)) (rounded (getD sigma 8 []) (now (m .entry)) start) ⌝ }
+    ensures { λ r. ⌜ r ≡ round 9 (now (m .entry)) (round 8 (now (m .entry)) start) ⌝ }
 {
     let mut v = start;
     columns(&mut v, m, 6, 15, 14, 9, 11, 3, 0, 8);

@@ -2,3 +2,4 @@ pub mod Tables
 pub mod Keys
 pub mod Putting
 pub mod Keeping
+pub mod Trying

@@ -1,3 +1,4 @@
+-- The whole hash.
 use borrow.Author.Needs.{needs}
 use Rattle.hashing.specs.Blake2s.{blake2s256}
 use Rattle.hashing.proofs.blake2s256.Statement.{statement}

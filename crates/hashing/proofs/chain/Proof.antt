@@ -1,7 +1,8 @@
+-- The state after each block that is not the last: the loop goes as the recursion of `chained` does.
 use borrow.Author.Needs.{needs}
 use Rattle.hashing.proofs.Blocks.{length-part, chain-more}
 use Rattle.hashing.specs.Blake2s.{chained, first, iv}
-use mathlib.Core.Path.{_≡_, refl, _∙_}
+use mathlib.Core.Path.{_≡_, refl}
 use Prim.Native.Nat.{_-_, _≤_}
 use native.Mathlib.Omega.{arith}
 use Rattle.hashing.proofs.chain.Statement.{statement}

@@ -1,3 +1,4 @@
+-- The last block ends the hash.
 use borrow.Author.Needs.{needs}
 use Rattle.hashing.proofs.Blocks.{hash-last}
 use Rattle.hashing.proofs.hash_words.Statement.{statement}

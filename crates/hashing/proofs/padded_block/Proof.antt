@@ -1,3 +1,4 @@
+-- A copy into zeros is the padding of the definition.
 use borrow.Author.Needs.{needs}
 use Rattle.hashing.proofs.Blocks.{zero-filled}
 use mathlib.Core.Path.{_∙_}

@@ -1,12 +1,13 @@
+-- Each turn writes one more word after those before it.
 use borrow.Author.Needs.{needs}
 use Rattle.hashing.proofs.Digest.{written, all-written}
 use Rattle.octets.specs.Words.{putWord}
 use Rattle.octets.proofs.Numbers.{length-put}
 use Rattle.hashing.specs.Blake2s.{bytesOf}
 use lib.ListN.{length, getD, take, drop, replicate}
-use mathlib.Core.List.{List, _++_}
-use mathlib.Core.Path.{_≡_, refl, sym, ap, _∙_}
-use Prim.Native.Nat.{ℕ, _-_, _*_, _≤_}
+use mathlib.Core.List.{_++_}
+use mathlib.Core.Path.{_≡_, refl, ap, _∙_}
+use Prim.Native.Nat.{_-_, _*_, _≤_}
 use native.Mathlib.Omega.{arith}
 use Rattle.hashing.proofs.word_bytes.Statement.{statement}
 use Rattle.hashing.proofs.word_bytes.Tie as tie

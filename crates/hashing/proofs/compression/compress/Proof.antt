@@ -1,3 +1,4 @@
+-- `compress` is the compression function F.
 use borrow.Author.Needs.{needs}
 use Rattle.hashing.specs.Blake2s.{compressed}
 use Rattle.hashing.proofs.compression.compress.Statement.{statement}

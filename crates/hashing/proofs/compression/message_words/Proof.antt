@@ -1,3 +1,4 @@
+-- The words read from a block are those of the definition.
 use borrow.Author.Needs.{needs}
 use Rattle.hashing.specs.Blake2s.{wordsOf}
 use Rattle.hashing.proofs.compression.message_words.Statement.{statement}

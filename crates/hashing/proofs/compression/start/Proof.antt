@@ -1,3 +1,4 @@
+-- The state that a block starts from.
 use borrow.Author.Needs.{needs}
 use Rattle.hashing.specs.Blake2s.{started, iv}
 use Rattle.hashing.proofs.compression.start.Statement.{statement}

@@ -1,3 +1,4 @@
+-- `add` is the definition's `added`: the code wraps twice, the definition once, which is the same (`mod-add-mod`).
 use borrow.Author.Needs.{needs}
 use native.Mathlib.Nat.{mod-add-mod}
 use Rattle.hashing.specs.Blake2s.{added}

@@ -1,3 +1,4 @@
+-- `columns` is the first half of a round.
 use borrow.Author.Needs.{needs}
 use Rattle.hashing.specs.Blake2s.{columns}
 use Rattle.hashing.proofs.mixing.columns.Statement.{statement}

@@ -1,3 +1,4 @@
+-- `diagonals` is the second half of a round.
 use borrow.Author.Needs.{needs}
 use Rattle.hashing.specs.Blake2s.{diagonals}
 use Rattle.hashing.proofs.mixing.diagonals.Statement.{statement}

@@ -1,3 +1,4 @@
+-- `half_mix` is half of the mixing function.
 use borrow.Author.Needs.{needs}
 use Rattle.hashing.specs.Blake2s.{halfMixed}
 use Rattle.hashing.proofs.mixing.half_mix.Statement.{statement}

@@ -1,3 +1,4 @@
+-- `mix` is the mixing function G, with the rotations of RFC 7693.
 use borrow.Author.Needs.{needs}
 use Rattle.hashing.specs.Blake2s.{mixed}
 use Rattle.hashing.proofs.mixing.mix.Statement.{statement}

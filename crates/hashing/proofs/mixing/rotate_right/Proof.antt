@@ -1,3 +1,4 @@
+-- `rotate_right` is the rotation of the definition.
 use borrow.Author.Needs.{needs}
 use Rattle.hashing.specs.Blake2s.{rotated}
 use Rattle.hashing.proofs.mixing.rotate_right.Statement.{statement}

@@ -1,3 +1,4 @@
+-- `turn` is the definition's `turned`.
 use borrow.Author.Needs.{needs}
 use Rattle.hashing.specs.Blake2s.{turned}
 use Rattle.hashing.proofs.mixing.turn.Statement.{statement}

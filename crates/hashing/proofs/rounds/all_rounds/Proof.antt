@@ -1,3 +1,4 @@
+-- The five pairs of rounds are the ten.
 use borrow.Author.Needs.{needs}
 use Rattle.hashing.specs.Blake2s.{rounds}
 use Rattle.hashing.proofs.rounds.all_rounds.Statement.{statement}

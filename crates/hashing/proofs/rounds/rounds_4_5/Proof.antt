@@ -1,5 +1,6 @@
+-- The literal indices are rows 4 and 5 of SIGMA.
 use borrow.Author.Needs.{needs}
-use Rattle.hashing.specs.Blake2s.{rounded, sigma}
+use Rattle.hashing.specs.Blake2s.{roundBy, sigma}
 use Rattle.hashing.proofs.rounds.rounds_4_5.Statement.{statement}
 use Rattle.hashing.proofs.rounds.rounds_4_5.Tie as tie
 
@@ -16,7 +17,7 @@ diagonals-requires-2 : tie.Need-diagonals-requires-2
 diagonals-requires-2 c κs = search needs
 
 returns : tie.Need-returns
-unfolding rounded sigma
+unfolding roundBy sigma
 returns c = rw (
   c .diagonals2 .ensures,
   c .before .before .columns2 .ensures,

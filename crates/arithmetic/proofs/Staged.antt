@@ -1,0 +1,158 @@
+-- The two stages together are the definition: the same operations on the same values. The laws of a table of prepared fixes.
+use mathlib.Core.Path.{_≡_, refl, sym, ap, _∙_}
+use Prim.Native.Nat.{ℕ, _+_, _-_, _*_, _≤_, _<_}
+use mathlib.Core.Bool.{Bool, true, false, cond, _&&_}
+use mathlib.Core.List.{List, [], _∷_, _++_, append-nil, append-assoc}
+use native.Mathlib.Omega.{arith}
+use native.Mathlib.Decide.{decLt}
+use lib.ListN.{length, take, drop, drop-of-length-le, length-append, length-drop, take-append-drop}
+use lib.Seq.{sets, sets-eq, drop-drop, drop-at, take-at, length-take-le, drop-append-le, take-append-le, drop-append-add}
+use lib.Ieee.{Float}
+use Rattle.floats.specs.Root.{root}
+use Rattle.arithmetic.specs.Numbers.{_⊕_, _⊖_, _⊗_, _⊘_, notAbove}
+use Rattle.arithmetic.specs.Geodesy.{toEcef}
+use Rattle.arithmetic.specs.Linalg.{less, rowsBelow, columns, choleskyOf, forwards, forward, backwards, backward, solveOf, plus}
+use Rattle.arithmetic.specs.Agree.{geodeticOf, matrixOf, lengthUnder, chiSquareOf, differenceOf, agreementOf}
+use Rattle.arithmetic.specs.Stages.{noFactor, factorOf, flatLength, fullLength, measuredOf, enuOf, partsOf, judgedOf, coordinates, numbersOf, preparedOf, flagAt, partsIn, comparedOf, preparedSize, entryOf, entered}
+use Rattle.arithmetic.specs.declared.geodesy.Vec3.{Vec3}
+use Rattle.arithmetic.specs.declared.stages.Prepared.{Prepared}
+use Rattle.arithmetic.specs.declared.standing.Covariance.{Covariance}
+use Rattle.arithmetic.specs.declared.standing.Claimed.{Claimed}
+use Rattle.arithmetic.proofs.Comparing.{by, flag-back}
+
+-- ---- the linear algebra at two rows and at three
+
+module _ (c : Covariance) (v : Vec3) where
+  abbrev l10 : Float
+  l10 = c .xy ⊘ root (c .xx)
+
+  abbrev l20 : Float
+  l20 = c .xz ⊘ root (c .xx)
+
+  abbrev d1 : Float
+  d1 = c .yy ⊖ l10 ⊗ l10
+
+  abbrev l21 : Float
+  l21 = (c .yz ⊖ l20 ⊗ l10) ⊘ root d1
+
+  abbrev d2 : Float
+  d2 = c .zz ⊖ l20 ⊗ l20 ⊖ l21 ⊗ l21
+
+  flat-is : chiSquareOf false c (coordinates v) ≡ flatLength (factorOf c) v
+  unfolding chiSquareOf lengthUnder matrixOf choleskyOf columns rowsBelow less solveOf forward forwards backward backwards plus noFactor factorOf flatLength
+  flat-is =
+      by (notAbove (c .xx))
+      (λ e. rw e)
+      (λ e. by (notAbove d1) (λ f. rw (e, f)) (λ f. by (notAbove d2) (λ g. rw (e, f, g)) (λ g. rw (e, f, g))))
+
+  full-is : chiSquareOf true c (coordinates v) ≡ fullLength (factorOf c) v
+  unfolding chiSquareOf lengthUnder matrixOf choleskyOf columns rowsBelow less solveOf forward forwards backward backwards plus noFactor factorOf fullLength
+  full-is =
+      by (notAbove (c .xx))
+      (λ e. rw e)
+      (λ e. by (notAbove d1) (λ f. rw (e, f)) (λ f. by (notAbove d2) (λ g. rw (e, f, g)) (λ g. rw (e, f, g))))
+
+pub chi-is : (three : Bool) (c : Covariance) (v : Vec3) → chiSquareOf three c (coordinates v) ≡ cond three (fullLength (factorOf c) v) (flatLength (factorOf c) v)
+chi-is true c v = full-is c v
+chi-is false c v = flat-is c v
+
+-- ---- the two stages
+
+pub judged-is : (a b : Claimed) → judgedOf (partsOf a) (toEcef (geodeticOf b)) (b .«has_height») ≡ agreementOf a b
+unfolding judgedOf partsOf measuredOf enuOf agreementOf differenceOf
+judged-is a b = rw (← chi-is)
+
+-- the numbers of a prepared fix read back
+pub parts-back : (p : Prepared) → partsIn (numbersOf p) ≡ p
+unfolding numbersOf
+parts-back p = rw (flag-back (p .factor .flat), flag-back (p .factor .full), flag-back (p .«has_height»))
+
+compared-parts : (p q : Prepared) → comparedOf (numbersOf p) (numbersOf q) ≡ judgedOf p (q .ecef) (q .«has_height»)
+unfolding comparedOf numbersOf
+compared-parts p q =
+    ap (λ (r : Prepared). judgedOf r (q .ecef) (flagAt (numbersOf q) 20)) (parts-back p)
+    ∙ ap (judgedOf p (q .ecef)) (flag-back (q .«has_height»))
+
+-- a comparison of two prepared fixes is the agreement of their claims
+pub staged : (smaller larger : Claimed) → comparedOf (preparedOf smaller) (preparedOf larger) ≡ agreementOf smaller larger
+unfolding preparedOf partsOf
+staged smaller larger = compared-parts (partsOf smaller) (partsOf larger) ∙ judged-is smaller larger
+
+-- ---- as many stores as a list has places leave what was stored
+
+pub all-set : (p ns : List Float) → length ns ≡ length p → sets p 0 ns ≡ ns
+all-set p ns e =
+    let room : 0 + length ns ≤ length p = omega arith in
+    let past : length p ≤ 0 + length ns = omega arith in
+    sets-eq ns p 0 room
+    ∙ ap (λ (r : List Float). ns ++ r) (drop-of-length-le p {i = 0 + length ns} past)
+    ∙ append-nil ns
+
+-- ---- a table of prepared fixes
+
+-- a part from a to a + 21
+pub width : (a : ℕ) → a + preparedSize - a ≡ preparedSize
+width a = omega arith
+
+pub entered-is : (t : List Float) (i : ℕ) (p : List Float)
+    → take (i * preparedSize) t ++ (p ++ drop preparedSize (drop (i * preparedSize) t)) ≡ entered t i p
+entered-is t i p =
+    sym (append-assoc (take (i * preparedSize) t) p (drop preparedSize (drop (i * preparedSize) t)))
+    ∙ ap (λ (r : List Float). take (i * preparedSize) t ++ p ++ r) (drop-drop preparedSize (i * preparedSize) t)
+
+-- k elements from index b on, of two lists that begin alike
+front : (x r s : List Float) (b k : ℕ) → b + k ≤ length x → take k (drop b (x ++ r)) ≡ take k (drop b (x ++ s))
+front x r s b k h =
+    let l : b ≤ length x = omega arith in
+    let m : k ≤ length (drop b x) = rw (length-drop b x) (omega arith) in
+    rw (drop-append-le b x r l, drop-append-le b x s l, take-append-le k (drop b x) r m, take-append-le k (drop b x) s m)
+
+module _ (t : List Float) (i : ℕ) (p : List Float) (size : length p ≡ preparedSize) (room : i * preparedSize + preparedSize ≤ length t) where
+  from : length (take (i * preparedSize) t) ≡ i * preparedSize
+  from = length-take-le (i * preparedSize) t (omega arith)
+
+  end : length (take (i * preparedSize) t ++ p) ≡ i * preparedSize + preparedSize
+  end = rw (length-append (take (i * preparedSize) t) p, from, size)
+
+  pub length-entered : length (entered t i p) ≡ length t
+  length-entered =
+      rw (length-append (take (i * preparedSize) t ++ p) (drop (i * preparedSize + preparedSize) t), end, length-drop (i * preparedSize + preparedSize) t)
+      (omega arith)
+
+  -- the fix that was entered
+  pub entry-here : entryOf (entered t i p) i ≡ p
+  entry-here =
+      rw (
+        append-assoc (take (i * preparedSize) t) p (drop (i * preparedSize + preparedSize) t),
+        drop-at (take (i * preparedSize) t) (p ++ drop (i * preparedSize + preparedSize) t) (i * preparedSize) from,
+      )
+      (take-at p (drop (i * preparedSize + preparedSize) t) preparedSize size)
+
+  -- and every other
+  entry-before : (j : ℕ) → j < i → entryOf (entered t i p) j ≡ entryOf t j
+  entry-before j l =
+      let h : j * preparedSize + preparedSize ≤ length (take (i * preparedSize) t) = rw from (omega arith) in
+      rw (append-assoc (take (i * preparedSize) t) p (drop (i * preparedSize + preparedSize) t))
+      (front (take (i * preparedSize) t) (p ++ drop (i * preparedSize + preparedSize) t) (drop (i * preparedSize) t) (j * preparedSize) preparedSize h
+      ∙ ap (λ (x : List Float). take preparedSize (drop (j * preparedSize) x)) (take-append-drop (i * preparedSize) t))
+
+  entry-after : (j : ℕ) → i < j → entryOf (entered t i p) j ≡ entryOf t j
+  entry-after j l =
+      let e = i * preparedSize + preparedSize in
+      let m = j * preparedSize - e in
+      let w : length (take (i * preparedSize) t ++ p) + m ≡ j * preparedSize = rw end (omega arith) in
+      let u : e + m ≡ j * preparedSize = omega arith in
+      ap (λ (k : ℕ). take preparedSize (drop k (entered t i p))) (sym w)
+      ∙ ap (take preparedSize) (drop-append-add (take (i * preparedSize) t ++ p) (drop e t) m ∙ drop-drop m e t)
+      ∙ ap (λ (k : ℕ). take preparedSize (drop k t)) u
+
+  pub entry-other : (j : ℕ) → (j ≡ i → ⊥) → entryOf (entered t i p) j ≡ entryOf t j
+  entry-other j d = go (decLt j i)
+    where
+      go : Dec (j < i) → entryOf (entered t i p) j ≡ entryOf t j
+      go (yes l) = entry-before j l
+      go (no l) = entry-after j (omega arith)
+
+pub length-prepared : (claim : Claimed) → length (preparedOf claim) ≡ preparedSize
+unfolding preparedOf numbersOf
+length-prepared claim = refl

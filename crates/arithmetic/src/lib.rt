@@ -1,0 +1,67 @@
+// Whether two fixes of one transmission agree: geodesy, the Cholesky factor of a covariance and a solve with it, in f64, each
+// operation in one fixed order.
+ghost use mathlib.Core.Path.{_≡_};
+ghost use Prim.Native.Nat.{_+_, _*_, _≤_};
+ghost use lib.ListN.{length};
+ghost use Rattle.arithmetic.specs.Agree.{agreementOf, agreesOf, sigmaOf};
+ghost use Rattle.arithmetic.specs.Stages.{preparedSize, preparedOf, comparedOf, entryOf, entered};
+
+pub mod angles;
+pub mod geodesy;
+mod linalg;
+mod stages;
+pub mod standing;
+
+use standing::Agreement;
+use standing::Claimed;
+use standing::Covariance;
+
+// How many numbers a prepared fix has.
+pub const PREPARED: usize = 21;
+
+pub fn agreement(smaller: Claimed, larger: Claimed) -> Agreement
+    ensures { λ r. ⌜ r ≡ agreementOf smaller larger ⌝ }
+{
+    let from = stages::parts(smaller);
+    let to = geodesy::to_ecef(stages::geodetic(larger));
+    stages::judged(from, to, larger.has_height)
+}
+
+pub fn agrees(a: Agreement) -> bool
+    ensures { λ r. ⌜ r ≡ agreesOf a ⌝ }
+{
+    a.chi2 <= a.limit
+}
+
+pub fn horizontal_sigma_m(c: Covariance) -> f64
+    ensures { λ r. ⌜ r ≡ sigmaOf c ⌝ }
+{
+    let mean = 0.5 * (c.xx + c.yy);
+    if mean > 0.0 {
+        return floats::root(mean);
+    }
+    floats::root(0.0)
+}
+
+// Fix i of a table of prepared fixes.
+pub fn prepare(claim: Claimed, table: &mut [f64], i: usize)
+    requires { ⌜ i * preparedSize + preparedSize ≤ length (now table) ⌝ }
+    ensures { λ _. ⌜ now (table .exit) ≡ entered (now (table .entry)) i (preparedOf claim) ⌝ }
+{
+    let parts = stages::parts(claim);
+    let from = i * PREPARED;
+    let end = from + PREPARED;
+    stages::put(&mut table[from..end], parts);
+}
+
+// The agreement of two prepared fixes of a table, with no root and no sine or cosine.
+pub fn compare(table: &[f64], smaller: usize, larger: usize) -> Agreement
+    requires { ⌜ (smaller * preparedSize + preparedSize ≤ length (now table)) × (larger * preparedSize + preparedSize ≤ length (now table)) ⌝ }
+    ensures { λ r. ⌜ r ≡ comparedOf (entryOf (now (table .entry)) smaller) (entryOf (now (table .entry)) larger) ⌝ }
+{
+    let a = smaller * PREPARED;
+    let b = larger * PREPARED;
+    let a_end = a + PREPARED;
+    let b_end = b + PREPARED;
+    stages::compared(&table[a..a_end], &table[b..b_end])
+}

@@ -1,0 +1,31 @@
+// What a fix claims, and how another stands to it.
+
+// A fix's covariance, square metres, in east (x), north (y) and up (z).
+pub struct Covariance {
+    pub xx: f64,
+    pub xy: f64,
+    pub xz: f64,
+    pub yy: f64,
+    pub yz: f64,
+    pub zz: f64,
+}
+
+// What a fix claims: 1e-7 degree, millimetres above the ellipsoid where it has a height, and how sure.
+pub struct Claimed {
+    pub lat: i32,
+    pub lon: i32,
+    pub has_height: bool,
+    pub height: i32,
+    pub covariance: Covariance,
+}
+
+// The squared length of a difference under the smaller fix's covariance, and the most that agrees.
+pub struct Agreement {
+    pub chi2: f64,
+    pub limit: f64,
+}
+
+// The most that a chi-square may be and agree: three degrees of freedom at 0.999, and two where either fix has no height.
+pub const AGREE_CHI2: f64 = 16.266;
+
+pub const AGREE_CHI2_2D: f64 = 13.81551;
