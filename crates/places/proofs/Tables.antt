@@ -115,7 +115,7 @@ pub record Split (w cap : ℕ) (ps : List (List ℕ)) (k : ℕ) : Type 0 where
   pub own : length (getD ps k []) ≡ w
   pub is : tableOf w cap ps ≡ flat (take k ps) ++ (getD ps k [] ++ (flat (drop (k + 1) ps) ++ replicate ((cap - length ps) * w) 0))
 
-wide-at : (w k : ℕ) (ps : List (List ℕ)) → wide w ps → k < length ps → length (getD ps k []) ≡ w
+pub wide-at : (w k : ℕ) (ps : List (List ℕ)) → wide w ps → k < length ps → length (getD ps k []) ≡ w
 wide-at w k [] h l = absurd (not-suc-le-zero l)
 wide-at w zero (p ∷ ps) h l = h .0
 wide-at w (suc k) (p ∷ ps) h l = wide-at w k ps (h .1) (le-of-suc-le-suc l)

@@ -1,1 +1,5 @@
 pub mod Walks
+pub mod Frames
+pub mod Opened
+pub mod Signing
+pub mod Answers

@@ -1,3 +1,4 @@
 pub mod Layout
 pub mod Register
 pub mod Memory
+pub mod Strikes

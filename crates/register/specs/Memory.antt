@@ -75,9 +75,10 @@ fresh = replicate L.registerSize 0
 
 -- ---- an operation on bytes
 
--- "1: memory not a well-formed register." "A refusal returns its number and changes no lent byte."
+-- "A refusal returns its number and changes no lent byte."
+abbrev pub settled : List ℕ → After Register → After (List ℕ)
+settled m a = cond (eqb (a .answer) 0) (after 0 (encode (a .left))) (after (a .answer) m)
+
+-- "1: memory not a well-formed register."
 unfoldable pub onMemory : (Register → After Register) → List ℕ → After (List ℕ)
-onMemory f m =
-    cond (wellFormed m)
-    (cond (eqb (f (decode m) .answer) 0) (after 0 (encode (f (decode m) .left))) (after (f (decode m) .answer) m))
-    (after 1 m)
+onMemory f m = cond (wellFormed m) (settled m (f (decode m))) (after 1 m)

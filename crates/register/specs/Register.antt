@@ -41,23 +41,31 @@ unsignedBy e v = wordBytes 4 (withoutBit (word v) e)
 abbrev pub nothing : List ℕ → List ℕ
 nothing v = []
 
--- "2: engine over 31. 3: record malformed. 4: engine convicted. 5: record not yet held and 96 are held. Else 0." "A repeated record only gains a signer."
+-- a record that is one, of an engine that may report: "5: record not yet held and 96 are held. Else 0." "A repeated record only gains a signer."
+abbrev pub signedInto : ℕ → List ℕ → Register → After Register
+signedInto e r s =
+    cond (not (holds recordSize r (s .records)) && leb maxRecords (length (s .records))) (after 5 s)
+    (after 0 (record { convicted = s .convicted; summaries = s .summaries; records = putPlace recordSize (signedBy e) r (s .records) }))
+
+-- "2: engine over 31. 3: record malformed. 4: engine convicted."
 abbrev pub reported : ℕ → List ℕ → Register → After Register
 reported e r s =
     cond (ltb maxEngine e) (after 2 s)
     (cond (not (wellFormed r)) (after 3 s)
-    (cond (bit (s .convicted) e) (after 4 s)
-    (cond (not (holds recordSize r (s .records)) && leb maxRecords (length (s .records))) (after 5 s)
-    (after 0 (record { convicted = s .convicted; summaries = s .summaries; records = putPlace recordSize (signedBy e) r (s .records) })))))
+    (cond (bit (s .convicted) e) (after 4 s) (signedInto e r s)))
 
--- "2; 9: model over 63, or inputs not of 32 bytes; 4; 5: this summary not yet held and 256 are. Else 0."
+-- a summary of an engine that may give one: "5: this summary not yet held and 256 are. Else 0."
+abbrev pub heldInto : List ℕ → Register → After Register
+heldInto p s =
+    cond (not (holds summarySize p (s .summaries)) && leb maxSummaries (length (s .summaries))) (after 5 s)
+    (after 0 (record { convicted = s .convicted; summaries = putPlace summarySize nothing p (s .summaries); records = s .records }))
+
+-- "2; 9: model over 63, or inputs not of 32 bytes; 4"
 abbrev pub summarized : ℕ → ℕ → ℕ → List ℕ → Register → After Register
 summarized e model spec inputs s =
     cond (ltb maxEngine e) (after 2 s)
     (cond (ltb maxModel model || not (eqb (length inputs) inputsSize)) (after 9 s)
-    (cond (bit (s .convicted) e) (after 4 s)
-    (cond (not (holds summarySize (summaryOf e model spec inputs) (s .summaries)) && leb maxSummaries (length (s .summaries))) (after 5 s)
-    (after 0 (record { convicted = s .convicted; summaries = putPlace summarySize nothing (summaryOf e model spec inputs) (s .summaries); records = s .records })))))
+    (cond (bit (s .convicted) e) (after 4 s) (heldInto (summaryOf e model spec inputs) s)))
 
 -- a summary of another engine, and a record with another signer
 abbrev pub ofAnother : ℕ → List ℕ → Bool
@@ -66,12 +74,15 @@ ofAnother e p = not (eqb (engineOf p) e)
 abbrev pub signedByAnother : ℕ → List ℕ → Bool
 signedByAnother e p = not (eqb (withoutBit (signersIn p) e) 0)
 
--- "2. Else 0, also when repeated." "A conviction removes the engine's summaries, its signer bit, and records left without signers."
-abbrev pub convictedOf : ℕ → Register → After Register
-convictedOf e s =
-    cond (ltb maxEngine e) (after 2 s)
-    (after 0 (record {
+-- "A conviction removes the engine's summaries, its signer bit, and records left without signers."
+abbrev pub struck : ℕ → Register → Register
+struck e s =
+    record {
       convicted = withBit (s .convicted) e;
       summaries = keptPlaces summarySize (ofAnother e) nothing (s .summaries);
       records = keptPlaces recordSize (signedByAnother e) (unsignedBy e) (s .records);
-    }))
+    }
+
+-- "2. Else 0, also when repeated."
+abbrev pub convictedOf : ℕ → Register → After Register
+convictedOf e s = cond (ltb maxEngine e) (after 2 s) (after 0 (struck e s))

@@ -1,0 +1,70 @@
+-- The answers of the operations, one for each way through them, on bytes.
+use Prim.Native.Nat.{ℕ, _≤_, _<_}
+use mathlib.Core.Path.{_≡_, refl, sym, ap, _∙_}
+use mathlib.Core.Bool.{Bool, true, false, cond, not, _&&_, _||_}
+use mathlib.Core.List.{List}
+use lib.Dec.{ltb, leb, eqb}
+use lib.ListN.{length}
+use borrow.Author.Tests.{lt-ltb, le-ltb, eq-eqb, ne-eqb}
+use Rattle.octets.specs.Masks.{bit}
+use Rattle.record.specs.Formed as R
+use Rattle.models.specs.Summary.{summaryOf}
+use Rattle.register.specs.Register.{Register, After, after, reported, signedInto, summarized, heldInto, convictedOf, struck}
+use Rattle.register.specs.Memory.{wellFormed, convictedIn, decode, encode, settled, onMemory}
+
+module _ (f : Register → After Register) (m : List ℕ) where
+  pub no-register : wellFormed m ≡ false → after 1 m ≡ onMemory f m
+  unfolding onMemory
+  no-register h = rw h refl
+
+  pub on-register : wellFormed m ≡ true → (a : After (List ℕ)) → a ≡ settled m (f (decode m)) → a ≡ onMemory f m
+  unfolding onMemory
+  on-register h a q = rw h q
+
+  -- a refusal
+  pub refused : wellFormed m ≡ true → (n : ℕ) → eqb n 0 ≡ false → f (decode m) ≡ after n (decode m) → after n m ≡ onMemory f m
+  refused h n z q = on-register h (after n m) (rw (q, z) refl)
+
+module _ (e : ℕ) (r : List ℕ) (s : Register) where
+  pub report-2 : 31 < e → reported e r s ≡ after 2 s
+  report-2 h = rw (lt-ltb 31 e h) refl
+
+  module _ (a : e ≤ 31) where
+    pub report-3 : R.wellFormed r ≡ false → reported e r s ≡ after 3 s
+    report-3 h = rw (le-ltb 31 e a, h) refl
+
+    pub report-4 : R.wellFormed r ≡ true → bit (s .convicted) e ≡ true → reported e r s ≡ after 4 s
+    report-4 h c = rw (le-ltb 31 e a, h, c) refl
+
+    pub report-rest : R.wellFormed r ≡ true → bit (s .convicted) e ≡ false → reported e r s ≡ signedInto e r s
+    report-rest h c = rw (le-ltb 31 e a, h, c) refl
+
+module _ (e model spec : ℕ) (inputs : List ℕ) (s : Register) where
+  pub summary-2 : 31 < e → summarized e model spec inputs s ≡ after 2 s
+  summary-2 h = rw (lt-ltb 31 e h) refl
+
+  module _ (a : e ≤ 31) where
+    pub summary-9-model : 63 < model → summarized e model spec inputs s ≡ after 9 s
+    summary-9-model h = rw (le-ltb 31 e a, lt-ltb 63 model h) refl
+
+    pub summary-9-inputs : model ≤ 63 → (length inputs ≡ 32 → ⊥) → summarized e model spec inputs s ≡ after 9 s
+    summary-9-inputs h g = rw (le-ltb 31 e a, le-ltb 63 model h, ne-eqb (length inputs) 32 g) refl
+
+    module _ (h : model ≤ 63) (g : length inputs ≡ 32) where
+      pub summary-4 : bit (s .convicted) e ≡ true → summarized e model spec inputs s ≡ after 4 s
+      summary-4 c = rw (le-ltb 31 e a, le-ltb 63 model h, g, c) refl
+
+      pub summary-rest : bit (s .convicted) e ≡ false → summarized e model spec inputs s ≡ heldInto (summaryOf e model spec inputs) s
+      summary-rest c = rw (le-ltb 31 e a, le-ltb 63 model h, g, c) refl
+
+module _ (e : ℕ) (s : Register) where
+  pub conviction-2 : 31 < e → convictedOf e s ≡ after 2 s
+  conviction-2 h = rw (lt-ltb 31 e h) refl
+
+  pub conviction-0 : e ≤ 31 → convictedOf e s ≡ after 0 (struck e s)
+  conviction-0 h = rw (le-ltb 31 e h) refl
+
+-- the convicted engines of what the bytes hold
+pub decoded-convicted : (m : List ℕ) → decode m .convicted ≡ convictedIn m
+unfolding decode
+decoded-convicted m = refl

@@ -1,0 +1,258 @@
+-- What putting a record or a summary into a register's bytes leaves: the bytes of the register with it.
+use Prim.Native.Nat.{ℕ, suc, _+_, _*_, _-_, _≤_, _<_}
+use mathlib.Core.Path.{_≡_, refl, sym, ap, ap₂, _∙_}
+use mathlib.Core.Bool.{Bool, true, false, cond, not, _&&_, true≢false, false≢true}
+use mathlib.Core.Logic.{_⊎_, inl, inr, ⊎-elim}
+use mathlib.Core.List.{List, [], _∷_, _++_, append-assoc, append-nil}
+use native.Mathlib.Omega.{arith}
+use native.Mathlib.Nat.{mul-le-mul-right, suc-mul}
+use lib.Dec.{ltb, leb, eqb}
+use lib.ListN.{length, getD, take, drop, set, length-append, length-take, length-drop, length-set, take-append-drop}
+use lib.Seq.{set-getD, take-at, drop-at, take-add, take-take, drop-drop, take-all, length-take-le}
+use borrow.Author.Tests.{ltb-true, leb-true, leb-false}
+use Rattle.octets.specs.Masks.{withBit}
+use Rattle.octets.specs.Order.{same}
+use Rattle.octets.specs.Words.{word, wordBytes, wordAt, putWord}
+use Rattle.octets.proofs.Cases.{by, and-left, and-right}
+use Rattle.octets.proofs.Comparison.{same-eq}
+use Rattle.octets.proofs.Moves.{tail-back, tail-lent}
+use Rattle.octets.proofs.Numbers.{Bytes, length-word-bytes}
+use Rattle.places.specs.Places.{places, tableOf, ascending, rank, holds, withPlace, putPlace}
+use Rattle.places.specs.Put.{Putting, putting, tried}
+use Rattle.places.specs.declared.Put.{Put}
+use Rattle.places.specs.declared.Put.the-variants.{Held, Full, New}
+use Rattle.places.proofs.Tables.{wide, wide-at, table-length, place-at, replace-table}
+use Rattle.places.proofs.Keys.{hasKey, rank-le, holds-at-rank}
+use Rattle.places.proofs.Putting.{put-new, put-held, put-length-held}
+use Rattle.places.proofs.Trying.{tried-table}
+use Rattle.register.specs.Register.{Register, After, after, signedBy, signedInto, heldInto, nothing}
+use Rattle.register.specs.Memory.{wellFormed, convictedIn, summaryCount, recordCount, summaryBytes, recordBytes, summariesIn, recordsIn, decode, encode, settled}
+use Rattle.register.proofs.Frames.{frame, put-summary-count, put-record-count, frame-summaries, frame-records, frame-records-back, frame-summaries-back, put-in-records}
+use Rattle.register.proofs.Opened.{Opened, summaries-length, records-length, summaries-wide, records-wide, summaries-ascend, records-ascend, summaries-are, records-are, framed}
+
+-- ---- which way a place went
+
+pub data Way (h full : Bool) (i : ℕ) (t t₁ : List ℕ) (a : Put) (t′ : List ℕ) : Type 0 where
+  held : h ≡ true → a ≡ Held i → t′ ≡ t → Way h full i t t₁ a t′
+  none : h ≡ false → full ≡ true → a ≡ Full → t′ ≡ t → Way h full i t t₁ a t′
+  new : h ≡ false → full ≡ false → a ≡ New → t′ ≡ t₁ → Way h full i t t₁ a t′
+
+pub way : (h full : Bool) (i : ℕ) (t t₁ : List ℕ) (a : Put) (t′ : List ℕ) → putting a t′ ≡ cond h (putting (Held i) t) (cond full (putting Full t) (putting New t₁)) → Way h full i t t₁ a t′
+way true full i t t₁ a t′ e = held refl (ap (λ (p : Putting). p .answer) e) (ap (λ (p : Putting). p .left) e)
+way false true i t t₁ a t′ e = none refl refl (ap (λ (p : Putting). p .answer) e) (ap (λ (p : Putting). p .left) e)
+way false false i t t₁ a t′ e = new refl refl (ap (λ (p : Putting). p .answer) e) (ap (λ (p : Putting). p .left) e)
+
+-- the answers differ
+pub held-not-full : {a : Put} {i : ℕ} → a ≡ Held i → a ≡ Full → ⊥
+held-not-full p q = let v : _≡_ {A = ℕ} 0 1 = cc in omega arith
+
+pub held-not-new : {a : Put} {i : ℕ} → a ≡ Held i → a ≡ New → ⊥
+held-not-new p q = let v : _≡_ {A = ℕ} 0 1 = cc in omega arith
+
+pub full-not-new : {a : Put} → a ≡ Full → a ≡ New → ⊥
+full-not-new p q = let v : _≡_ {A = ℕ} 0 1 = cc in omega arith
+
+-- a place that is held
+pub held-index : {h full : Bool} {i : ℕ} {t t₁ : List ℕ} {a : Put} {t′ : List ℕ} → Way h full i t t₁ a t′ → (j : ℕ) → a ≡ Held j → (j ≡ i) × ((h ≡ true) × (t′ ≡ t))
+held-index (held h q z) j p = (cc, (h, z))
+held-index (none h g q z) j p = absurd (held-not-full p q)
+held-index (new h g q z) j p = absurd (held-not-new p q)
+
+-- a key that is held stands at its position
+pub held-at : (k : ℕ) (key : List ℕ) (ps : List (List ℕ)) → ascending k ps ≡ true → holds k key ps ≡ true → (rank k key ps < length ps) × (take k (getD ps (rank k key ps) []) ≡ key)
+held-at k key ps a h =
+    let e : hasKey k key ps (rank k key ps) ≡ true = sym (holds-at-rank k key ps a) ∙ h in
+    (ltb-true (rank k key ps) (length ps) (and-left (ltb (rank k key ps) (length ps)) (same (take k (getD ps (rank k key ps) [])) key) e),
+      same-eq (take k (getD ps (rank k key ps) [])) key (and-right (ltb (rank k key ps) (length ps)) (same (take k (getD ps (rank k key ps) [])) key) e))
+
+new-length : (k : ℕ) (f : List ℕ → List ℕ) (key : List ℕ) (ps : List (List ℕ)) → holds k key ps ≡ false → length (putPlace k f key ps) ≡ length ps + 1
+new-length k f key ps h =
+    let r = rank-le k key ps in
+    ap length (put-new k f key ps h) ∙ simp (length-append, length-take, length-drop) (omega arith)
+
+-- ---- a number put into place i of a table
+
+-- a place's bytes with the 4 behind the key put anew
+word-in-place : (w cap : ℕ) (ps : List (List ℕ)) (k i x : ℕ) → wide w ps → k + 4 ≡ w → i < length ps → length ps ≤ cap
+    → putWord 4 (i * w + k) x (tableOf w cap ps) ≡ tableOf w cap (set ps i (take k (getD ps i []) ++ wordBytes 4 x))
+word-in-place w cap ps k i x wd e h few =
+    let t = tableOf w cap ps in
+    let p = getD ps i [] in
+    let pl : length p ≡ w = wide-at w i ps wd h in
+    let a : take (i * w + k) t ≡ take (i * w) t ++ take k p =
+        take-add (i * w) k t ∙ ap (λ (y : List ℕ). take (i * w) t ++ y) (sym (take-take k w (drop (i * w) t) (omega arith)) ∙ ap (take k) (place-at w cap ps i wd h)) in
+    let d : drop (i * w + k + 4) t ≡ drop w (drop (i * w) t) = ap (λ (n : ℕ). drop n t) (add3 (i * w) k e) ∙ sym (drop-drop w (i * w) t) in
+    let y = take k p ++ wordBytes 4 x in
+    let yl : length y ≡ w = rw (length-append, length-take-le k p (omega arith), length-word-bytes 4 x) e in
+    rw (a, d) (append-assoc (take (i * w) t) (take k p) (wordBytes 4 x ++ drop w (drop (i * w) t))
+      ∙ ap (λ (z : List ℕ). take (i * w) t ++ z) (sym (append-assoc (take k p) (wordBytes 4 x) (drop w (drop (i * w) t)))))
+    ∙ replace-table w cap ps i y wd yl h
+  where
+    add3 : (u k : ℕ) → k + 4 ≡ w → u + k + 4 ≡ u + w
+    add3 u k e = omega arith
+
+-- the 4 bytes behind the key of place i
+word-of-place : (w cap : ℕ) (ps : List (List ℕ)) (k i : ℕ) → wide w ps → k + 4 ≡ w → i < length ps → wordAt 4 (i * w + k) (tableOf w cap ps) ≡ word (drop k (getD ps i []))
+word-of-place w cap ps k i wd e h =
+    let t = tableOf w cap ps in
+    let p = getD ps i [] in
+    let pl : length p ≡ w = wide-at w i ps wd h in
+    let q : p ≡ take w (drop (i * w) t) = sym (place-at w cap ps i wd h) in
+    let s : drop (i * w + k) t ≡ drop k (drop (i * w) t) = sym (drop-drop k (i * w) t) in
+    let u : take 4 (drop k (drop (i * w) t)) ≡ drop k (take w (drop (i * w) t)) = sym (drop-take k 4 w (drop (i * w) t) e (rw (← q, pl) refl)) in
+    ap word (ap (take 4) s ∙ u ∙ ap (drop k) (sym q))
+  where
+    drop-take : (k n w : ℕ) (l : List ℕ) → k + n ≡ w → length (take w l) ≡ w → drop k (take w l) ≡ take n (drop k l)
+    drop-take k n w l e f =
+        let g : length (take k l) ≡ k = length-take-le k l (fits k w l e f) in
+        ap (λ (x : ℕ). drop k (take x l)) (sym e) ∙ ap (drop k) (take-add k n l) ∙ drop-at (take k l) (take n (drop k l)) k g
+      where
+        fits : (k w : ℕ) (l : List ℕ) → k + n ≡ w → length (take w l) ≡ w → k ≤ length l
+        fits k w l e f = let z : w ≤ length l = omega (arith, sym f ∙ length-take w l) in omega arith
+
+-- ---- a record
+
+module _ (m : List ℕ) (o : Opened m) (b : Bytes m) (e : ℕ) (r : List ℕ) (lr : length r ≡ 222) where
+  abbrev ps : List (List ℕ)
+  ps = recordsIn m
+
+  abbrev put : List (List ℕ)
+  put = putPlace 222 (signedBy e) r ps
+
+  few : length ps ≤ 96
+  few = rw (records-length m o) (o .few-records)
+
+  pub place-length : length (r ++ signedBy e []) ≡ 226
+  place-length = rw (length-append, lr, length-word-bytes 4 (withBit (word []) e)) refl
+
+  lent : take (length m - 9224) (drop 9224 m) ≡ tableOf 226 96 ps
+  lent = tail-lent m 9224 ∙ records-are m o
+
+  -- what was tried, in terms of the records held
+  pub record-way : (n : ℕ) (p : List ℕ) (a : Put) (t′ : List ℕ) → n ≡ recordCount m → p ≡ r ++ signedBy e [] → putting a t′ ≡ tried n 96 226 222 p (take (length m - 9224) (drop 9224 m))
+      → Way (holds 222 r ps) (leb 96 (length ps)) (rank 222 r ps) (tableOf 226 96 ps) (tableOf 226 96 put) a t′
+  record-way n p a t′ en ep q =
+      way (holds 222 r ps) (leb 96 (length ps)) (rank 222 r ps) (tableOf 226 96 ps) (tableOf 226 96 put) a t′
+      (q ∙ ap₂ (λ (x : ℕ) (y : List ℕ). tried x 96 226 222 y (take (length m - 9224) (drop 9224 m))) (en ∙ sym (records-length m o)) ep
+        ∙ ap (tried (length ps) 96 226 222 (r ++ signedBy e [])) lent
+        ∙ tried-table 96 226 222 (signedBy e) r ps lr (omega arith) place-length (records-wide m o) (records-ascend m o) few)
+
+  s-length : length (tableOf 36 256 (summariesIn m)) ≡ 9216
+  s-length = table-length 36 256 (summariesIn m) (summaries-wide m o) (rw (summaries-length m o) (o .few-summaries))
+
+  abbrev with-records : Register
+  with-records = record { convicted = convictedIn m; summaries = summariesIn m; records = put }
+
+  back : (t′ : List ℕ) → take 9224 m ++ (t′ ++ drop (length m - 9224) (drop 9224 m)) ≡ frame (convictedIn m) (length (summariesIn m)) (length ps) (tableOf 36 256 (summariesIn m)) t′
+  back t′ =
+      tail-back m t′ 9224 ∙ ap (λ (x : List ℕ). take 9224 x ++ t′) (framed m o b)
+      ∙ frame-records-back (convictedIn m) (length (summariesIn m)) (length ps) (tableOf 36 256 (summariesIn m)) (tableOf 226 96 ps) s-length t′
+
+  -- nothing was written
+  pub back-same : (t′ : List ℕ) → t′ ≡ tableOf 226 96 ps → take 9224 m ++ (t′ ++ drop (length m - 9224) (drop 9224 m)) ≡ m
+  back-same t′ q = back t′ ∙ ap (frame (convictedIn m) (length (summariesIn m)) (length ps) (tableOf 36 256 (summariesIn m))) q ∙ sym (framed m o b)
+
+  pub record-new : (t′ x : List ℕ) (n : ℕ) → n ≡ recordCount m → holds 222 r ps ≡ false → leb 96 (length ps) ≡ false → t′ ≡ tableOf 226 96 put
+      → x ≡ putWord 2 6 (n + 1) (take 9224 m ++ (t′ ++ drop (length m - 9224) (drop 9224 m))) → after 0 x ≡ settled m (signedInto e r (decode m))
+  unfolding decode encode
+  record-new t′ x n en h f q z =
+      let l : n + 1 ≡ length put = ap (λ (i : ℕ). i + 1) (en ∙ sym (records-length m o)) ∙ sym (new-length 222 (signedBy e) r ps h) in
+      rw (h, f) (ap (after 0)
+        (z ∙ ap (putWord 2 6 (n + 1)) (back t′)
+        ∙ put-record-count (convictedIn m) (length (summariesIn m)) (length ps) (tableOf 36 256 (summariesIn m)) t′ (n + 1)
+        ∙ ap₂ (λ (i : ℕ) (y : List ℕ). frame (convictedIn m) (length (summariesIn m)) i (tableOf 36 256 (summariesIn m)) y) l q))
+
+  pub record-full : (t′ : List ℕ) → holds 222 r ps ≡ false → leb 96 (length ps) ≡ true → t′ ≡ tableOf 226 96 ps
+      → after 5 (take 9224 m ++ (t′ ++ drop (length m - 9224) (drop 9224 m))) ≡ settled m (signedInto e r (decode m))
+  unfolding decode
+  record-full t′ h f q = rw (h, f) (ap (after 5) (back-same t′ q))
+
+  pub record-again : (x : List ℕ) (i : ℕ) → i ≡ rank 222 r ps → holds 222 r ps ≡ true → x ≡ putWord 4 (9224 + i * 226 + 222) (withBit (wordAt 4 (9224 + i * 226 + 222) m) e) m
+      → after 0 x ≡ settled m (signedInto e r (decode m))
+  unfolding decode encode
+  record-again x i ei h z =
+      let at = held-at 222 r ps (records-ascend m o) h in
+      let il : i < length ps = rw ei (at .0) in
+      let c = convictedIn m in
+      let s = tableOf 36 256 (summariesIn m) in
+      let t = tableOf 226 96 ps in
+      let n₁ = length (summariesIn m) in
+      let n₂ = length ps in
+      let j : 9224 + i * 226 + 222 ≡ 9224 + (i * 226 + 222) = omega arith in
+      let v = withBit (wordAt 4 (9224 + i * 226 + 222) m) e in
+      let f : m ≡ frame c n₁ n₂ s t = framed m o b in
+      let rd : wordAt 4 (9224 + i * 226 + 222) m ≡ word (drop 222 (getD ps i [])) =
+          ap (λ (a : ℕ). wordAt 4 a m) j ∙ ap word (ap (take 4) (sym (drop-drop (i * 226 + 222) 9224 m))) ∙ ap (λ (y : List ℕ). wordAt 4 (i * 226 + 222) y) (records-are m o)
+          ∙ word-of-place 226 96 ps 222 i (records-wide m o) refl il in
+      let g : putWord 4 (9224 + i * 226 + 222) v m ≡ frame c n₁ n₂ s (putWord 4 (i * 226 + 222) v t) =
+          ap (λ (a : ℕ). putWord 4 a v m) j ∙ ap (putWord 4 (9224 + (i * 226 + 222)) v) f ∙ put-in-records c n₁ n₂ s t s-length 4 (i * 226 + 222) v in
+      let w : putWord 4 (i * 226 + 222) v t ≡ tableOf 226 96 put =
+          word-in-place 226 96 ps 222 i v (records-wide m o) refl il few
+          ∙ ap (λ (y : ℕ). tableOf 226 96 (set ps i (take 222 (getD ps i []) ++ wordBytes 4 (withBit y e)))) rd
+          ∙ ap (λ (k : ℕ). tableOf 226 96 (set ps k (take 222 (getD ps k []) ++ signedBy e (drop 222 (getD ps k []))))) ei
+          ∙ ap (tableOf 226 96) (sym (put-held 222 (signedBy e) r ps (at .0) (at .1))) in
+      let l : n₂ ≡ length put = sym (put-length-held 222 (signedBy e) r lr ps (records-ascend m o) h) in
+      rw h (ap (after 0) (z ∙ g ∙ ap₂ (λ (k : ℕ) (y : List ℕ). frame c n₁ k s y) l w))
+
+-- ---- a summary
+
+module _ (m : List ℕ) (o : Opened m) (b : Bytes m) (p : List ℕ) (lp : length p ≡ 36) where
+  abbrev ss : List (List ℕ)
+  ss = summariesIn m
+
+  abbrev put-summary : List (List ℕ)
+  put-summary = putPlace 36 nothing p ss
+
+  few-ss : length ss ≤ 256
+  few-ss = rw (summaries-length m o) (o .few-summaries)
+
+  whole-place : p ++ nothing [] ≡ p
+  whole-place = append-nil p
+
+  -- what was tried, in terms of the summaries held
+  pub summary-way : (n : ℕ) (a : Put) (t′ : List ℕ) → n ≡ summaryCount m → putting a t′ ≡ tried n 256 36 36 p (take 9216 (drop 8 m))
+      → Way (holds 36 p ss) (leb 256 (length ss)) (rank 36 p ss) (tableOf 36 256 ss) (tableOf 36 256 put-summary) a t′
+  summary-way n a t′ en q =
+      way (holds 36 p ss) (leb 256 (length ss)) (rank 36 p ss) (tableOf 36 256 ss) (tableOf 36 256 put-summary) a t′
+      (q ∙ ap₂ (λ (x : ℕ) (y : List ℕ). tried x 256 36 36 y (take 9216 (drop 8 m))) (en ∙ sym (summaries-length m o)) (sym whole-place)
+        ∙ ap (tried (length ss) 256 36 36 (p ++ nothing [])) (summaries-are m o)
+        ∙ tried-table 256 36 36 nothing p ss lp (omega arith) (ap length whole-place ∙ lp) (summaries-wide m o) (summaries-ascend m o) few-ss)
+
+  ss-length : length (tableOf 36 256 ss) ≡ 9216
+  ss-length = table-length 36 256 ss (summaries-wide m o) few-ss
+
+  summary-back : (t′ : List ℕ) → take 8 m ++ (t′ ++ drop 9216 (drop 8 m)) ≡ frame (convictedIn m) (length ss) (length (recordsIn m)) t′ (tableOf 226 96 (recordsIn m))
+  summary-back t′ =
+      ap (λ (x : List ℕ). take 8 x ++ (t′ ++ drop 9216 (drop 8 x))) (framed m o b)
+      ∙ frame-summaries-back (convictedIn m) (length ss) (length (recordsIn m)) (tableOf 36 256 ss) (tableOf 226 96 (recordsIn m)) ss-length t′
+
+  pub summary-same : (t′ : List ℕ) → t′ ≡ tableOf 36 256 ss → take 8 m ++ (t′ ++ drop 9216 (drop 8 m)) ≡ m
+  summary-same t′ q = summary-back t′ ∙ ap (λ (x : List ℕ). frame (convictedIn m) (length ss) (length (recordsIn m)) x (tableOf 226 96 (recordsIn m))) q ∙ sym (framed m o b)
+
+  -- a summary that is held changes nothing
+  same-put : holds 36 p ss ≡ true → put-summary ≡ ss
+  same-put h =
+      let at = held-at 36 p ss (summaries-ascend m o) h in
+      let i = rank 36 p ss in
+      let l : length (getD ss i []) ≡ 36 = wide-at 36 i ss (summaries-wide m o) (at .0) in
+      put-held 36 nothing p ss (at .0) (at .1) ∙ ap (set ss i) (append-nil (take 36 (getD ss i [])) ∙ take-all 36 (getD ss i []) (omega arith)) ∙ set-getD ss i []
+
+  pub summary-held : (t′ : List ℕ) → holds 36 p ss ≡ true → t′ ≡ tableOf 36 256 ss → after 0 (take 8 m ++ (t′ ++ drop 9216 (drop 8 m))) ≡ settled m (heldInto p (decode m))
+  unfolding decode encode
+  summary-held t′ h q =
+      rw h (ap (after 0) (summary-same t′ q ∙ framed m o b ∙ ap (λ (x : List (List ℕ)). frame (convictedIn m) (length x) (length (recordsIn m)) (tableOf 36 256 x) (tableOf 226 96 (recordsIn m))) (sym (same-put h))))
+
+  pub summary-full : (t′ : List ℕ) → holds 36 p ss ≡ false → leb 256 (length ss) ≡ true → t′ ≡ tableOf 36 256 ss
+      → after 5 (take 8 m ++ (t′ ++ drop 9216 (drop 8 m))) ≡ settled m (heldInto p (decode m))
+  unfolding decode
+  summary-full t′ h f q = rw (h, f) (ap (after 5) (summary-same t′ q))
+
+  pub summary-new : (t′ x : List ℕ) (n : ℕ) → n ≡ summaryCount m → holds 36 p ss ≡ false → leb 256 (length ss) ≡ false → t′ ≡ tableOf 36 256 put-summary
+      → x ≡ putWord 2 4 (n + 1) (take 8 m ++ (t′ ++ drop 9216 (drop 8 m))) → after 0 x ≡ settled m (heldInto p (decode m))
+  unfolding decode encode
+  summary-new t′ x n en h f q z =
+      let l : n + 1 ≡ length put-summary = ap (λ (i : ℕ). i + 1) (en ∙ sym (summaries-length m o)) ∙ sym (new-length 36 nothing p ss h) in
+      rw (h, f) (ap (after 0)
+        (z ∙ ap (putWord 2 4 (n + 1)) (summary-back t′)
+        ∙ put-summary-count (convictedIn m) (length ss) (length (recordsIn m)) t′ (tableOf 226 96 (recordsIn m)) (n + 1)
+        ∙ ap₂ (λ (i : ℕ) (y : List ℕ). frame (convictedIn m) i (length (recordsIn m)) y (tableOf 226 96 (recordsIn m))) l q))

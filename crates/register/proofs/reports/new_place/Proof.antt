@@ -1,0 +1,53 @@
+use Prim.Native.Nat.{ℕ, _+_, _-_, _*_, _≤_, _<_}
+use mathlib.Core.Path.{_≡_, refl, sym, ap, ap₂, _∙_}
+use mathlib.Core.Bool.{Bool, true, false, cond, not, _&&_, true≢false, false≢true}
+use mathlib.Core.List.{List, [], _∷_, _++_, append-nil}
+use native.Mathlib.Omega.{arith}
+use lib.Dec.{ltb, leb, eqb}
+use lib.ListN.{length, getD, take, drop, set, replicate, length-append, length-take, length-drop, length-replicate, drop-of-length-le}
+use lib.Seq.{take-at, drop-at, take-length, length-take-le}
+use borrow.Author.Tests.{lt-ltb, le-ltb, le-leb, lt-leb, eq-eqb, ne-eqb, not-true, not-false, leb-false, ltb-true}
+use Rattle.octets.specs.Words.{word, wordBytes, putWord}
+use Rattle.octets.specs.Masks.{withBit}
+use Rattle.register.specs.Register.{signedBy}
+use borrow.Author.Needs.{needs}
+use Rattle.register.proofs.reports.new_place.Statement.{statement}
+use Rattle.register.proofs.reports.new_place.Tie as tie
+
+made : (r : List ℕ) (e : ℕ) → length r ≡ 222 → putWord 4 222 (withBit 0 e) (take (length r) r ++ drop (length r) (replicate 226 0)) ≡ r ++ signedBy e []
+unfolding word
+made r e l =
+    let d : List ℕ = drop (length r) (replicate 226 0) in
+    let k : length (r ++ d) ≤ 226 = rw (length-append, length-drop, length-replicate, l) (omega arith) in
+    rw (take-length r, take-at r d 222 l, drop-of-length-le (r ++ d) k, append-nil) refl
+
+slice-aggregate-copy : tie.Need-slice-aggregate-copy
+slice-aggregate-copy c = search needs
+
+copy-requires : tie.Need-copy-requires
+copy-requires c κs = search needs
+
+slice-aggregate-put-u32 : tie.Need-slice-aggregate-put-u32
+slice-aggregate-put-u32 c = search needs
+
+with-u32-requires : tie.Need-with-u32-requires
+with-u32-requires c κs = search needs
+
+put-u32-requires : tie.Need-put-u32-requires
+put-u32-requires c κs = search needs
+
+returns : tie.Need-returns
+returns c =
+    let s = c .before .before .before .before .before .before .before .before in
+    rw (c .before .put-u32 .ensures, c .before .before .before .before .before .copy .ensures .1, c .before .before .with-u32 .ensures) (made (s .args .r .now) (s .args .engine) (s .pre .0))
+
+pub new-place-spec : {M : Type 1} → statement M
+new-place-spec =
+    tie.close
+    (tie.spec
+    slice-aggregate-copy
+    copy-requires
+    slice-aggregate-put-u32
+    with-u32-requires
+    put-u32-requires
+    returns)

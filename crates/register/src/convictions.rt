@@ -1,0 +1,75 @@
+// A conviction in a register.
+use crate::formed;
+use crate::layout;
+use models::layout::SUMMARY_SIZE;
+use record::layout::RECORD_SIZE;
+
+ghost use mathlib.Core.Path.{_≡_};
+ghost use mathlib.Core.Bool.{true};
+ghost use mathlib.Core.List.{_++_};
+ghost use Prim.Native.Nat.{_+_, _*_, _-_, _<_, _≤_};
+ghost use lib.ListN.{length, replicate};
+ghost use Rattle.models.specs.Summary.{summarySize};
+ghost use Rattle.places.specs.Places.{places, flat, keptPlaces};
+ghost use Rattle.record.specs.Layout.{recordSize};
+ghost use Rattle.register.specs.Layout.{placeSize};
+ghost use Rattle.register.specs.Register.{after, nothing, ofAnother, unsignedBy, signedByAnother, struck, convictedOf};
+ghost use Rattle.register.specs.Memory.{wellFormed, decode, encode, onMemory};
+ghost use Rattle.register.specs.Strikes.{Struck};
+
+// Takes an engine's summaries out of the first n of a table, and returns how many are left.
+fn strike_summaries(t: &mut [u8], n: usize, engine: u8) -> usize
+    requires { ⌜ n * summarySize ≤ length (now t) ⌝ }
+    ensures { λ r. ⌜ Struck summarySize (keptPlaces summarySize (ofAnother engine) nothing (places summarySize n (now (t .entry)))) (now (t .entry)) r (now (t .exit)) ⌝ }
+{
+    let mut i = 0;
+    let mut j = 0;
+    while i < n {
+        let at = i * SUMMARY_SIZE;
+        if t[at] == engine {
+            i += 1;
+            continue;
+        }
+        octets::runs::copy_down(t, at, j * SUMMARY_SIZE, SUMMARY_SIZE);
+        i += 1;
+        j += 1;
+    }
+    let end = j * SUMMARY_SIZE;
+    octets::runs::clear(&mut t[end..]);
+    j
+}
+
+// Copies the record at one byte down to another, with these signers.
+fn keep_place(t: &mut [u8], from: usize, to: usize, signers: u32)
+    requires { ⌜ to ≤ from ⌝ }
+    requires { ⌜ from + placeSize ≤ length (now t) ⌝ }
+    ensures { λ _. ⌜ now (t .exit) ≡ Rattle.register.specs.Strikes.keptAt from to signers (now (t .entry)) ⌝ }
+{
+    octets::runs::copy_down(t, from, to, layout::PLACE_SIZE);
+    octets::words::put_u32(t, to + RECORD_SIZE, signers);
+}
+
+// Takes an engine's signature off the first n records of a table, and those left without one out, and
+// returns how many are left.
+fn strike_records(t: &mut [u8], n: usize, engine: u32) -> usize
+    requires { ⌜ n * placeSize ≤ length (now t) ⌝ }
+    requires { ⌜ engine < 32 ⌝ }
+    ensures { λ r. ⌜ Struck placeSize (keptPlaces recordSize (signedByAnother engine) (unsignedBy engine) (places placeSize n (now (t .entry)))) (now (t .entry)) r (now (t .exit)) ⌝ }
+{
+    let mut i = 0;
+    let mut j = 0;
+    while i < n {
+        let at = i * layout::PLACE_SIZE;
+        let signers = octets::masks::without_u32(octets::words::u32_at(t, at + RECORD_SIZE), engine);
+        if signers == 0 {
+            i += 1;
+            continue;
+        }
+        keep_place(t, at, j * layout::PLACE_SIZE, signers);
+        i += 1;
+        j += 1;
+    }
+    let end = j * layout::PLACE_SIZE;
+    octets::runs::clear(&mut t[end..]);
+    j
+}
