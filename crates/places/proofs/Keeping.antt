@@ -109,17 +109,17 @@ module _ (k : ℕ) (test : List ℕ → Bool) (f : List ℕ → List ℕ) where
         let ih = holds-kept key ps (x .1) (from-ascending k (take k p) ps t) in
         by (same (take k p) key)
         (λ s.
-          let e = same-eq (take k p) key s in
-          let n : holds k key (keptPlaces k test f ps) ≡ false = none-below k key (take k p) (keptPlaces k test f ps) (rw e (before-irrefl key)) (kept-from (take k p) ps (x .1) t) in
-          let q : key ++ lookup k key (p ∷ ps) ≡ p = ap₂ (λ (u v : List ℕ). u ++ v) (sym e) (lookup-here k key p ps s) ∙ take-append-drop k p in
-          rw (holds-here k key p ps s, q)
-          (by (test p)
-            (λ b. rw b (ap (holds k key) (kept-stays p ps b) ∙ holds-here k key (changed p) (keptPlaces k test f ps) (rw (changed-key p (x .0)) s)))
-            (λ b. rw b (ap (holds k key) (kept-gone p ps b) ∙ n))))
+        let e = same-eq (take k p) key s in
+        let n : holds k key (keptPlaces k test f ps) ≡ false = none-below k key (take k p) (keptPlaces k test f ps) (rw e (before-irrefl key)) (kept-from (take k p) ps (x .1) t) in
+        let q : key ++ lookup k key (p ∷ ps) ≡ p = ap₂ (λ (u v : List ℕ). u ++ v) (sym e) (lookup-here k key p ps s) ∙ take-append-drop k p in
+        rw (holds-here k key p ps s, q)
+        (by (test p)
+        (λ b. rw b (ap (holds k key) (kept-stays p ps b) ∙ holds-here k key (changed p) (keptPlaces k test f ps) (rw (changed-key p (x .0)) s)))
+        (λ b. rw b (ap (holds k key) (kept-gone p ps b) ∙ n))))
         (λ s. rw (holds-later k key p ps s, lookup-later k key p ps s)
-          (by (test p)
-            (λ b. ap (holds k key) (kept-stays p ps b) ∙ holds-later k key (changed p) (keptPlaces k test f ps) (rw (changed-key p (x .0)) s) ∙ ih)
-            (λ b. ap (holds k key) (kept-gone p ps b) ∙ ih)))
+        (by (test p)
+        (λ b. ap (holds k key) (kept-stays p ps b) ∙ holds-later k key (changed p) (keptPlaces k test f ps) (rw (changed-key p (x .0)) s) ∙ ih)
+        (λ b. ap (holds k key) (kept-gone p ps b) ∙ ih)))
 
     -- and what follows it is changed
     pub lookup-kept : (key : List ℕ) (ps : List (List ℕ)) → wide w ps → ascending k ps ≡ true
@@ -130,17 +130,17 @@ module _ (k : ℕ) (test : List ℕ → Bool) (f : List ℕ → List ℕ) where
         let ih = lookup-kept key ps (x .1) (from-ascending k (take k p) ps t) in
         by (same (take k p) key)
         (λ s.
-          let e = same-eq (take k p) key s in
-          let n : holds k key (keptPlaces k test f ps) ≡ false = none-below k key (take k p) (keptPlaces k test f ps) (rw e (before-irrefl key)) (kept-from (take k p) ps (x .1) t) in
-          let q : key ++ lookup k key (p ∷ ps) ≡ p = ap₂ (λ (u v : List ℕ). u ++ v) (sym e) (lookup-here k key p ps s) ∙ take-append-drop k p in
-          rw (holds-here k key p ps s, q, lookup-here k key p ps s)
-          (by (test p)
-            (λ b. rw b (ap (lookup k key) (kept-stays p ps b) ∙ lookup-here k key (changed p) (keptPlaces k test f ps) (rw (changed-key p (x .0)) s) ∙ changed-rest p (x .0)))
-            (λ b. rw b (ap (lookup k key) (kept-gone p ps b) ∙ absent k key (keptPlaces k test f ps) n))))
+        let e = same-eq (take k p) key s in
+        let n : holds k key (keptPlaces k test f ps) ≡ false = none-below k key (take k p) (keptPlaces k test f ps) (rw e (before-irrefl key)) (kept-from (take k p) ps (x .1) t) in
+        let q : key ++ lookup k key (p ∷ ps) ≡ p = ap₂ (λ (u v : List ℕ). u ++ v) (sym e) (lookup-here k key p ps s) ∙ take-append-drop k p in
+        rw (holds-here k key p ps s, q, lookup-here k key p ps s)
+        (by (test p)
+        (λ b. rw b (ap (lookup k key) (kept-stays p ps b) ∙ lookup-here k key (changed p) (keptPlaces k test f ps) (rw (changed-key p (x .0)) s) ∙ changed-rest p (x .0)))
+        (λ b. rw b (ap (lookup k key) (kept-gone p ps b) ∙ absent k key (keptPlaces k test f ps) n))))
         (λ s. rw (holds-later k key p ps s, lookup-later k key p ps s)
-          (by (test p)
-            (λ b. ap (lookup k key) (kept-stays p ps b) ∙ lookup-later k key (changed p) (keptPlaces k test f ps) (rw (changed-key p (x .0)) s) ∙ ih)
-            (λ b. ap (lookup k key) (kept-gone p ps b) ∙ ih)))
+        (by (test p)
+        (λ b. ap (lookup k key) (kept-stays p ps b) ∙ lookup-later k key (changed p) (keptPlaces k test f ps) (rw (changed-key p (x .0)) s) ∙ ih)
+        (λ b. ap (lookup k key) (kept-gone p ps b) ∙ ih)))
 
     -- ---- the loop: i places of t₀ are seen, and the j that stay stand in front
 
@@ -179,7 +179,7 @@ module _ (k : ℕ) (test : List ℕ → Bool) (f : List ℕ → List ℕ) where
       pub compact-gone : test (getD ps i []) ≡ false → Compacted ps t₀ t (i + 1) j
       compact-gone b =
           let e : keptPlaces k test f (take (i + 1) ps) ≡ keptPlaces k test f (take i ps) =
-              ap (keptPlaces k test f) next ∙ kept-append (take i ps) (getD ps i [] ∷ []) ∙ ap (λ (l : List (List ℕ)). keptPlaces k test f (take i ps) ++ l) (kept-gone (getD ps i []) [] b ∙ kept-none) ∙ append-nil (keptPlaces k test f (take i ps)) in
+          ap (keptPlaces k test f) next ∙ kept-append (take i ps) (getD ps i [] ∷ []) ∙ ap (λ (l : List (List ℕ)). keptPlaces k test f (take i ps) ++ l) (kept-gone (getD ps i []) [] b ∙ kept-none) ∙ append-nil (keptPlaces k test f (take i ps)) in
           let fw = c .few in
           record { done = c .done ∙ ap flat (sym e); count = c .count ∙ ap length (sym e); rest = further; few = omega arith; size = c .size }
 
@@ -196,24 +196,25 @@ module _ (k : ℕ) (test : List ℕ → Bool) (f : List ℕ → List ℕ) where
           let pl : length p ≡ (j + 1) * w = rw (length-append, front, l) (sym jw) in
           let q′ : t′ ≡ p ++ drop (j * w + w) t = q ∙ sym (append-assoc (take (j * w) t) y (drop (j * w + w) t)) in
           let e : keptPlaces k test f (take (i + 1) ps) ≡ keptPlaces k test f (take i ps) ++ (y ∷ []) =
-              ap (keptPlaces k test f) next ∙ kept-append (take i ps) (getD ps i [] ∷ []) ∙ ap (λ (l : List (List ℕ)). keptPlaces k test f (take i ps) ++ l) (kept-stays (getD ps i []) [] b ∙ ap (λ (l : List (List ℕ)). y ∷ l) kept-none) in
+          ap (keptPlaces k test f) next ∙ kept-append (take i ps) (getD ps i [] ∷ []) ∙ ap (λ (l : List (List ℕ)). keptPlaces k test f (take i ps) ++ l) (kept-stays (getD ps i []) [] b ∙ ap (λ (l : List (List ℕ)). y ∷ l) kept-none) in
           let z : (i + 1) * w ≡ (j + 1) * w + ((i + 1) * w - (j + 1) * w) = omega arith in
           record {
             done = ap (take ((j + 1) * w)) q′ ∙ take-at p (drop (j * w + w) t) ((j + 1) * w) pl
-              ∙ ap (λ (x : List ℕ). x ++ y) (c .done)
-              ∙ sym (ap flat e ∙ flat-append (keptPlaces k test f (take i ps)) (y ∷ []) ∙ ap (λ (x : List ℕ). flat (keptPlaces k test f (take i ps)) ++ x) (single y));
+                ∙ ap (λ (x : List ℕ). x ++ y) (c .done)
+                ∙ sym (ap flat e ∙ flat-append (keptPlaces k test f (take i ps)) (y ∷ []) ∙ ap (λ (x : List ℕ). flat (keptPlaces k test f (take i ps)) ++ x) (single y));
             count = ap (λ (n : ℕ). n + 1) (c .count) ∙ sym (ap length e ∙ length-append (keptPlaces k test f (take i ps)) (y ∷ []));
             rest = ap (drop ((i + 1) * w)) q′
-              ∙ ap (λ (n : ℕ). drop n (p ++ drop (j * w + w) t)) z
-              ∙ sym (drop-drop ((i + 1) * w - (j + 1) * w) ((j + 1) * w) (p ++ drop (j * w + w) t))
-              ∙ ap (drop ((i + 1) * w - (j + 1) * w)) (drop-at p (drop (j * w + w) t) ((j + 1) * w) pl ∙ ap (λ (n : ℕ). drop n t) (sym jw))
-              ∙ drop-drop ((i + 1) * w - (j + 1) * w) ((j + 1) * w) t ∙ ap (λ (n : ℕ). drop n t) (sym z) ∙ further;
+                ∙ ap (λ (n : ℕ). drop n (p ++ drop (j * w + w) t)) z
+                ∙ sym (drop-drop ((i + 1) * w - (j + 1) * w) ((j + 1) * w) (p ++ drop (j * w + w) t))
+                ∙ ap (drop ((i + 1) * w - (j + 1) * w)) (drop-at p (drop (j * w + w) t) ((j + 1) * w) pl ∙ ap (λ (n : ℕ). drop n t) (sym jw))
+                ∙ drop-drop ((i + 1) * w - (j + 1) * w) ((j + 1) * w) t ∙ ap (λ (n : ℕ). drop n t) (sym z) ∙ further;
             few = omega arith;
             size = ap length q′ ∙ length-append p (drop (j * w + w) t) ∙ rw (pl, length-drop) (omega arith) ∙ c .size;
           }
         where
           one : (w : ℕ) → 1 * w ≡ w
           one w = omega arith
+
           single : (y : List ℕ) → flat (y ∷ []) ≡ y
           single y = unfold flat in append-nil y
 

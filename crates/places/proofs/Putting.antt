@@ -39,7 +39,7 @@ put-new k f key [] h = unfold putPlace rank in refl
 put-new k f key (p ∷ ps) h =
     by (isBefore (take k p) key)
     (λ b. put-past k f key p ps b ∙ ap (λ (l : List (List ℕ)). p ∷ l) (put-new k f key ps (sym (holds-later k key p ps (less-same (take k p) key b)) ∙ h))
-      ∙ ap (λ (n : ℕ). withPlace n (key ++ f []) (p ∷ ps)) (sym (rank-more k key p ps b)))
+    ∙ ap (λ (n : ℕ). withPlace n (key ++ f []) (p ∷ ps)) (sym (rank-more k key p ps b)))
     (λ b. put-here k f key p ps (comes-after k key p ps h b) ∙ ap (λ (n : ℕ). withPlace n (key ++ f []) (p ∷ ps)) (sym (rank-here k key p ps b)))
 
 -- one that stands at its position is changed there
@@ -52,10 +52,10 @@ put-held k f key [] h e = absurd (none (unfold rank in h))
 put-held k f key (p ∷ ps) h e =
     by (isBefore (take k p) key)
     (λ b. put-past k f key p ps b
-      ∙ ap (λ (l : List (List ℕ)). p ∷ l) (put-held k f key ps (less (rank k key ps) (rw (rank-more k key p ps b) at h)) (rw (rank-more k key p ps b) at e))
-      ∙ ap (λ (n : ℕ). set (p ∷ ps) n (take k (getD (p ∷ ps) n []) ++ f (drop k (getD (p ∷ ps) n [])))) (sym (rank-more k key p ps b)))
+    ∙ ap (λ (l : List (List ℕ)). p ∷ l) (put-held k f key ps (less (rank k key ps) (rw (rank-more k key p ps b) at h)) (rw (rank-more k key p ps b) at e))
+    ∙ ap (λ (n : ℕ). set (p ∷ ps) n (take k (getD (p ∷ ps) n []) ++ f (drop k (getD (p ∷ ps) n [])))) (sym (rank-more k key p ps b)))
     (λ b. put-again k f key p ps (rw (rank-here k key p ps b) at e)
-      ∙ ap (λ (n : ℕ). set (p ∷ ps) n (take k (getD (p ∷ ps) n []) ++ f (drop k (getD (p ∷ ps) n [])))) (sym (rank-here k key p ps b)))
+    ∙ ap (λ (n : ℕ). set (p ∷ ps) n (take k (getD (p ∷ ps) n []) ++ f (drop k (getD (p ∷ ps) n [])))) (sym (rank-here k key p ps b)))
   where
     less : (r : ℕ) → suc r < suc (length ps) → r < length ps
     less r h = omega arith
@@ -83,18 +83,18 @@ module _ (k : ℕ) (f : List ℕ → List ℕ) (key : List ℕ) (l : length key 
   holds-put q (p ∷ ps) =
       ⊎-elim
       (λ h. ap (holds k q) (put-past k f key p ps h)
-        ∙ by (same (take k p) q)
-        (λ s. holds-here k q p (putPlace k f key ps) s ∙ sym (rw (holds-here k q p ps s) (or-true (same key q))))
-        (λ s. holds-later k q p (putPlace k f key ps) s ∙ holds-put q ps ∙ ap (λ (b : Bool). same key q || b) (sym (holds-later k q p ps s))))
+      ∙ by (same (take k p) q)
+      (λ s. holds-here k q p (putPlace k f key ps) s ∙ sym (rw (holds-here k q p ps s) (or-true (same key q))))
+      (λ s. holds-later k q p (putPlace k f key ps) s ∙ holds-put q ps ∙ ap (λ (b : Bool). same key q || b) (sym (holds-later k q p ps s))))
       (⊎-elim
       (λ e. ap (holds k q) (put-again k f key p ps e)
-        ∙ by (same key q)
-        (λ s. rw s (holds-here k q (take k p ++ f (drop k p)) ps (rw (again-key p e) s)))
-        (λ s. rw s (holds-later k q (take k p ++ f (drop k p)) ps (rw (again-key p e) s) ∙ sym (holds-later k q p ps (rw e s)))))
+      ∙ by (same key q)
+      (λ s. rw s (holds-here k q (take k p ++ f (drop k p)) ps (rw (again-key p e) s)))
+      (λ s. rw s (holds-later k q (take k p ++ f (drop k p)) ps (rw (again-key p e) s) ∙ sym (holds-later k q p ps (rw e s)))))
       (λ h. ap (holds k q) (put-here k f key p ps h)
-        ∙ by (same key q)
-        (λ s. rw s (holds-here k q (key ++ f []) (p ∷ ps) (rw new-key s)))
-        (λ s. rw s (holds-later k q (key ++ f []) (p ∷ ps) (rw new-key s)))))
+      ∙ by (same key q)
+      (λ s. rw s (holds-here k q (key ++ f []) (p ∷ ps) (rw new-key s)))
+      (λ s. rw s (holds-later k q (key ++ f []) (p ∷ ps) (rw new-key s)))))
       (tri (take k p) key)
     where
       or-true : (b : Bool) → (b || true) ≡ true
@@ -111,10 +111,10 @@ module _ (k : ℕ) (f : List ℕ → List ℕ) (key : List ℕ) (l : length key 
       (λ h. let s = less-same (take k p) key h in ap (lookup k key) (put-past k f key p ps h) ∙ lookup-later k key p (putPlace k f key ps) s ∙ ih ∙ ap f (sym (lookup-later k key p ps s)))
       (⊎-elim
       (λ e. let s : same (take k p) key ≡ true = rw e (same-refl key) in
-        ap (lookup k key) (put-again k f key p ps e) ∙ lookup-here k key (take k p ++ f (drop k p)) ps (rw (again-key p e) (same-refl key)) ∙ again-rest p e ∙ ap f (sym (lookup-here k key p ps s)))
+      ap (lookup k key) (put-again k f key p ps e) ∙ lookup-here k key (take k p ++ f (drop k p)) ps (rw (again-key p e) (same-refl key)) ∙ again-rest p e ∙ ap f (sym (lookup-here k key p ps s)))
       (λ h. let n = none-below k key (take k p) ps (before-asym key (take k p) h) t in
-        ap (lookup k key) (put-here k f key p ps h) ∙ lookup-here k key (key ++ f []) (p ∷ ps) (rw new-key (same-refl key)) ∙ new-rest
-        ∙ ap f (sym (absent k key (p ∷ ps) (holds-later k key p ps (more-same (take k p) key h) ∙ n)))))
+      ap (lookup k key) (put-here k f key p ps h) ∙ lookup-here k key (key ++ f []) (p ∷ ps) (rw new-key (same-refl key)) ∙ new-rest
+      ∙ ap f (sym (absent k key (p ∷ ps) (holds-later k key p ps (more-same (take k p) key h) ∙ n)))))
       (tri (take k p) key)
 
   -- what follows another key is not
@@ -124,7 +124,7 @@ module _ (k : ℕ) (f : List ℕ → List ℕ) (key : List ℕ) (l : length key 
       let ih = lookup-put-other q ps s in
       ⊎-elim
       (λ h. ap (lookup k q) (put-past k f key p ps h)
-        ∙ by (same (take k p) q) (λ z. lookup-here k q p (putPlace k f key ps) z ∙ sym (lookup-here k q p ps z)) (λ z. lookup-later k q p (putPlace k f key ps) z ∙ ih ∙ sym (lookup-later k q p ps z)))
+      ∙ by (same (take k p) q) (λ z. lookup-here k q p (putPlace k f key ps) z ∙ sym (lookup-here k q p ps z)) (λ z. lookup-later k q p (putPlace k f key ps) z ∙ ih ∙ sym (lookup-later k q p ps z)))
       (⊎-elim
       (λ e. ap (lookup k q) (put-again k f key p ps e) ∙ lookup-later k q (take k p ++ f (drop k p)) ps (rw (again-key p e) s) ∙ sym (lookup-later k q p ps (rw e s)))
       (λ h. ap (lookup k q) (put-here k f key p ps h) ∙ lookup-later k q (key ++ f []) (p ∷ ps) (rw new-key s)))
@@ -196,6 +196,7 @@ put-all k f key test [] g h a = ap (allPlaces test) (put-none k f key) ∙ all-c
   where
     all-none : (test : List ℕ → Bool) → allPlaces test [] ≡ true
     all-none test = unfold allPlaces in refl
+
     all-cons : (test : List ℕ → Bool) (p : List ℕ) (ps : List (List ℕ)) → test p ≡ true → allPlaces test ps ≡ true → allPlaces test (p ∷ ps) ≡ true
     all-cons test p ps x y = unfold allPlaces in and-both (test p) (allPlaces test ps) x y
 put-all k f key test (p ∷ ps) g h a =
@@ -209,7 +210,9 @@ put-all k f key test (p ∷ ps) g h a =
   where
     all-cons : (test : List ℕ → Bool) (p : List ℕ) (ps : List (List ℕ)) → test p ≡ true → allPlaces test ps ≡ true → allPlaces test (p ∷ ps) ≡ true
     all-cons test p ps x y = unfold allPlaces in and-both (test p) (allPlaces test ps) x y
+
     all-head : (test : List ℕ → Bool) (p : List ℕ) (ps : List (List ℕ)) → allPlaces test (p ∷ ps) ≡ true → test p ≡ true
     all-head test p ps a = and-left (test p) (allPlaces test ps) (unfold allPlaces in a)
+
     all-tail : (test : List ℕ → Bool) (p : List ℕ) (ps : List (List ℕ)) → allPlaces test (p ∷ ps) ≡ true → allPlaces test ps ≡ true
     all-tail test p ps a = and-right (test p) (allPlaces test ps) (unfold allPlaces in a)

@@ -30,12 +30,12 @@ module _ (cap w k : ℕ) (f : List ℕ → List ℕ) (key : List ℕ) (ps : List
   stands =
       by (ltb (rank k key ps) (length ps))
       (λ h. let e : keyAt k w (rank k key ps) table ≡ take k (getD ps (rank k key ps) []) =
-            sym (take-take k w (drop (rank k key ps * w) table) m) ∙ ap (take k) (place-at w cap ps (rank k key ps) wd (ltb-true (rank k key ps) (length ps) h)) in
-        ap (λ (y : List ℕ). ltb (rank k key ps) (length ps) && same y key) e ∙ sym (holds-at-rank k key ps a))
+      sym (take-take k w (drop (rank k key ps * w) table) m) ∙ ap (take k) (place-at w cap ps (rank k key ps) wd (ltb-true (rank k key ps) (length ps) h)) in
+      ap (λ (y : List ℕ). ltb (rank k key ps) (length ps) && same y key) e ∙ sym (holds-at-rank k key ps a))
       (λ h.
-        let z : (ltb (rank k key ps) (length ps) && same (keyAt k w (rank k key ps) table) key) ≡ false = rw h refl in
-        let y : hasKey k key ps (rank k key ps) ≡ false = rw h refl in
-        z ∙ sym (holds-at-rank k key ps a ∙ y))
+      let z : (ltb (rank k key ps) (length ps) && same (keyAt k w (rank k key ps) table) key) ≡ false = rw h refl in
+      let y : hasKey k key ps (rank k key ps) ≡ false = rw h refl in
+      z ∙ sym (holds-at-rank k key ps a ∙ y))
 
   pub tried-table : tried (length ps) cap w k (key ++ f []) table
       ≡ cond (holds k key ps) (putting (Held (rank k key ps)) table) (cond (leb cap (length ps)) (putting Full table) (putting New (tableOf w cap (putPlace k f key ps))))
@@ -44,4 +44,4 @@ module _ (cap w k : ℕ) (f : List ℕ → List ℕ) (key : List ℕ) (ps : List
       rw (key-of, places-of-table w cap ps wd, stands)
       (by (holds k key ps) (λ h. rw h refl)
       (λ h. rw h (by (leb cap (length ps)) (λ g. rw g refl)
-        (λ g. rw g (ap (putting New) (insert-table w cap ps (rank k key ps) (key ++ f []) wd x (rank-le k key ps) (leb-false cap (length ps) g) ∙ ap (tableOf w cap) (sym (put-new k f key ps h))))))))
+      (λ g. rw g (ap (putting New) (insert-table w cap ps (rank k key ps) (key ++ f []) wd x (rank-le k key ps) (leb-false cap (length ps) g) ∙ ap (tableOf w cap) (sym (put-new k f key ps h))))))))

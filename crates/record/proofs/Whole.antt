@@ -40,11 +40,11 @@ signed-inj : (x y : ℕ) → x < 2 ^ 32 → y < 2 ^ 32 → signedOf x ≡ signed
 signed-inj x y h k e =
     by (ltb x 0x8000_0000)
     (λ p. by (ltb y 0x8000_0000)
-      (λ q. let e₁ : pos x ≡ pos y = rw (p, q) at e in cc)
-      (λ q. let e₁ : pos x ≡ negsuc (0xffff_ffff - y) = rw (p, q) at e in absurd (pos-ne-negsuc x (0xffff_ffff - y) e₁)))
+    (λ q. let e₁ : pos x ≡ pos y = rw (p, q) at e in cc)
+    (λ q. let e₁ : pos x ≡ negsuc (0xffff_ffff - y) = rw (p, q) at e in absurd (pos-ne-negsuc x (0xffff_ffff - y) e₁)))
     (λ p. by (ltb y 0x8000_0000)
-      (λ q. let e₁ : negsuc (0xffff_ffff - x) ≡ pos y = rw (p, q) at e in absurd (pos-ne-negsuc y (0xffff_ffff - x) (sym e₁)))
-      (λ q. let e₁ : negsuc (0xffff_ffff - x) ≡ negsuc (0xffff_ffff - y) = rw (p, q) at e in let e₂ : 0xffff_ffff - x ≡ 0xffff_ffff - y = cc in omega arith))
+    (λ q. let e₁ : negsuc (0xffff_ffff - x) ≡ pos y = rw (p, q) at e in absurd (pos-ne-negsuc y (0xffff_ffff - x) (sym e₁)))
+    (λ q. let e₁ : negsuc (0xffff_ffff - x) ≡ negsuc (0xffff_ffff - y) = rw (p, q) at e in let e₂ : 0xffff_ffff - x ≡ 0xffff_ffff - y = cc in omega arith))
 
 -- ---- piece by piece, from the end
 

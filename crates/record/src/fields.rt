@@ -1,6 +1,5 @@
 // The fields of a record.
 use crate::layout;
-
 ghost use mathlib.Core.Path.{_≡_};
 ghost use Prim.Native.Nat.{_<_, _≤_};
 ghost use lib.ListN.{length};

@@ -1,7 +1,6 @@
 // Which bytes are a record.
 use crate::fields;
 use crate::layout;
-
 ghost use mathlib.Core.Path.{_≡_};
 ghost use Prim.Native.Nat.{_<_, _≤_};
 ghost use lib.ListN.{length};

@@ -1,7 +1,6 @@
 // How two records relate. Tags ascend, so two records' tags are gone through together, once.
 use crate::fields;
 use crate::layout;
-
 ghost use mathlib.Core.Path.{_≡_};
 ghost use mathlib.Core.Bool.{true};
 ghost use Rattle.record.specs.Fields.{tags};

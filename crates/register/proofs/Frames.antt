@@ -103,7 +103,7 @@ module _ (c n k : ℕ) (s r : List ℕ) where
     put-in-records w′ at x =
         let e : take (9224 + at) (head ++ r) ≡ head ++ take at r = ap (λ (i : ℕ). take (i + at) (head ++ r)) (sym head-9224) ∙ take-append-add head r at in
         let f : drop (9224 + at + w′) (head ++ r) ≡ drop (at + w′) r =
-            ap (λ (i : ℕ). drop i (head ++ r)) (shift at w′) ∙ ap (λ (i : ℕ). drop (i + (at + w′)) (head ++ r)) (sym head-9224) ∙ drop-append-add head r (at + w′) in
+        ap (λ (i : ℕ). drop i (head ++ r)) (shift at w′) ∙ ap (λ (i : ℕ). drop (i + (at + w′)) (head ++ r)) (sym head-9224) ∙ drop-append-add head r (at + w′) in
         ap (putWord w′ (9224 + at) x) at-9224 ∙ rw (e, f) (append-assoc head (take at r) (wordBytes w′ x ++ drop (at + w′) r)) ∙ back (putWord w′ at x r)
       where
         shift : (at w : ℕ) → 9224 + at + w ≡ 9224 + (at + w)

@@ -97,9 +97,9 @@ module _ (m : List ℕ) (o : Opened m) where
     framed =
         let p₀ : drop 0 m ≡ wordBytes 4 (convictedIn m) ++ drop 4 m = cut 0 4 ∙ ap (λ (t : List ℕ). t ++ drop 4 m) (word-part 0 4 (omega arith)) in
         let p₁ : drop 4 m ≡ wordBytes 2 (length (summariesIn m)) ++ drop 6 m =
-            cut 4 2 ∙ ap (λ (t : List ℕ). t ++ drop 6 m) (word-part 4 2 (omega arith) ∙ ap (wordBytes 2) (sym summaries-length)) in
+        cut 4 2 ∙ ap (λ (t : List ℕ). t ++ drop 6 m) (word-part 4 2 (omega arith) ∙ ap (wordBytes 2) (sym summaries-length)) in
         let p₂ : drop 6 m ≡ wordBytes 2 (length (recordsIn m)) ++ drop 8 m =
-            cut 6 2 ∙ ap (λ (t : List ℕ). t ++ drop 8 m) (word-part 6 2 (omega arith) ∙ ap (wordBytes 2) (sym records-length)) in
+        cut 6 2 ∙ ap (λ (t : List ℕ). t ++ drop 8 m) (word-part 6 2 (omega arith) ∙ ap (wordBytes 2) (sym records-length)) in
         let p₃ : drop 8 m ≡ tableOf 36 256 (summariesIn m) ++ tableOf 226 96 (recordsIn m) = cut 8 9216 ∙ ap₂ (λ (x y : List ℕ). x ++ y) summaries-are records-are in
         p₀ ∙ ap (λ (t : List ℕ). wordBytes 4 (convictedIn m) ++ t) (p₁ ∙ ap (λ (t : List ℕ). wordBytes 2 (length (summariesIn m)) ++ t) (p₂ ∙ ap (λ (t : List ℕ). wordBytes 2 (length (recordsIn m)) ++ t) p₃))
 

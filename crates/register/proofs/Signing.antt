@@ -61,9 +61,10 @@ held-index (new h g q z) j p = absurd (held-not-new p q)
 -- a key that is held stands at its position
 pub held-at : (k : ℕ) (key : List ℕ) (ps : List (List ℕ)) → ascending k ps ≡ true → holds k key ps ≡ true → (rank k key ps < length ps) × (take k (getD ps (rank k key ps) []) ≡ key)
 held-at k key ps a h =
-    let e : hasKey k key ps (rank k key ps) ≡ true = sym (holds-at-rank k key ps a) ∙ h in
-    (ltb-true (rank k key ps) (length ps) (and-left (ltb (rank k key ps) (length ps)) (same (take k (getD ps (rank k key ps) [])) key) e),
-      same-eq (take k (getD ps (rank k key ps) [])) key (and-right (ltb (rank k key ps) (length ps)) (same (take k (getD ps (rank k key ps) [])) key) e))
+    let e : hasKey k key ps (rank k key ps) ≡ true = sym (holds-at-rank k key ps a) ∙ h in (
+      ltb-true (rank k key ps) (length ps) (and-left (ltb (rank k key ps) (length ps)) (same (take k (getD ps (rank k key ps) [])) key) e),
+      same-eq (take k (getD ps (rank k key ps) [])) key (and-right (ltb (rank k key ps) (length ps)) (same (take k (getD ps (rank k key ps) [])) key) e),
+    )
 
 new-length : (k : ℕ) (f : List ℕ → List ℕ) (key : List ℕ) (ps : List (List ℕ)) → holds k key ps ≡ false → length (putPlace k f key ps) ≡ length ps + 1
 new-length k f key ps h =
@@ -80,12 +81,12 @@ word-in-place w cap ps k i x wd e h few =
     let p = getD ps i [] in
     let pl : length p ≡ w = wide-at w i ps wd h in
     let a : take (i * w + k) t ≡ take (i * w) t ++ take k p =
-        take-add (i * w) k t ∙ ap (λ (y : List ℕ). take (i * w) t ++ y) (sym (take-take k w (drop (i * w) t) (omega arith)) ∙ ap (take k) (place-at w cap ps i wd h)) in
+    take-add (i * w) k t ∙ ap (λ (y : List ℕ). take (i * w) t ++ y) (sym (take-take k w (drop (i * w) t) (omega arith)) ∙ ap (take k) (place-at w cap ps i wd h)) in
     let d : drop (i * w + k + 4) t ≡ drop w (drop (i * w) t) = ap (λ (n : ℕ). drop n t) (add3 (i * w) k e) ∙ sym (drop-drop w (i * w) t) in
     let y = take k p ++ wordBytes 4 x in
     let yl : length y ≡ w = rw (length-append, length-take-le k p (omega arith), length-word-bytes 4 x) e in
     rw (a, d) (append-assoc (take (i * w) t) (take k p) (wordBytes 4 x ++ drop w (drop (i * w) t))
-      ∙ ap (λ (z : List ℕ). take (i * w) t ++ z) (sym (append-assoc (take k p) (wordBytes 4 x) (drop w (drop (i * w) t)))))
+    ∙ ap (λ (z : List ℕ). take (i * w) t ++ z) (sym (append-assoc (take k p) (wordBytes 4 x) (drop w (drop (i * w) t)))))
     ∙ replace-table w cap ps i y wd yl h
   where
     add3 : (u k : ℕ) → k + 4 ≡ w → u + k + 4 ≡ u + w
@@ -134,8 +135,8 @@ module _ (m : List ℕ) (o : Opened m) (b : Bytes m) (e : ℕ) (r : List ℕ) (l
   record-way n p a t′ en ep q =
       way (holds 222 r ps) (leb 96 (length ps)) (rank 222 r ps) (tableOf 226 96 ps) (tableOf 226 96 put) a t′
       (q ∙ ap₂ (λ (x : ℕ) (y : List ℕ). tried x 96 226 222 y (take (length m - 9224) (drop 9224 m))) (en ∙ sym (records-length m o)) ep
-        ∙ ap (tried (length ps) 96 226 222 (r ++ signedBy e [])) lent
-        ∙ tried-table 96 226 222 (signedBy e) r ps lr (omega arith) place-length (records-wide m o) (records-ascend m o) few)
+      ∙ ap (tried (length ps) 96 226 222 (r ++ signedBy e [])) lent
+      ∙ tried-table 96 226 222 (signedBy e) r ps lr (omega arith) place-length (records-wide m o) (records-ascend m o) few)
 
   s-length : length (tableOf 36 256 (summariesIn m)) ≡ 9216
   s-length = table-length 36 256 (summariesIn m) (summaries-wide m o) (rw (summaries-length m o) (o .few-summaries))
@@ -158,9 +159,9 @@ module _ (m : List ℕ) (o : Opened m) (b : Bytes m) (e : ℕ) (r : List ℕ) (l
   record-new t′ x n en h f q z =
       let l : n + 1 ≡ length put = ap (λ (i : ℕ). i + 1) (en ∙ sym (records-length m o)) ∙ sym (new-length 222 (signedBy e) r ps h) in
       rw (h, f) (ap (after 0)
-        (z ∙ ap (putWord 2 6 (n + 1)) (back t′)
-        ∙ put-record-count (convictedIn m) (length (summariesIn m)) (length ps) (tableOf 36 256 (summariesIn m)) t′ (n + 1)
-        ∙ ap₂ (λ (i : ℕ) (y : List ℕ). frame (convictedIn m) (length (summariesIn m)) i (tableOf 36 256 (summariesIn m)) y) l q))
+      (z ∙ ap (putWord 2 6 (n + 1)) (back t′)
+      ∙ put-record-count (convictedIn m) (length (summariesIn m)) (length ps) (tableOf 36 256 (summariesIn m)) t′ (n + 1)
+      ∙ ap₂ (λ (i : ℕ) (y : List ℕ). frame (convictedIn m) (length (summariesIn m)) i (tableOf 36 256 (summariesIn m)) y) l q))
 
   pub record-full : (t′ : List ℕ) → holds 222 r ps ≡ false → leb 96 (length ps) ≡ true → t′ ≡ tableOf 226 96 ps
       → after 5 (take 9224 m ++ (t′ ++ drop (length m - 9224) (drop 9224 m))) ≡ settled m (signedInto e r (decode m))
@@ -182,15 +183,15 @@ module _ (m : List ℕ) (o : Opened m) (b : Bytes m) (e : ℕ) (r : List ℕ) (l
       let v = withBit (wordAt 4 (9224 + i * 226 + 222) m) e in
       let f : m ≡ frame c n₁ n₂ s t = framed m o b in
       let rd : wordAt 4 (9224 + i * 226 + 222) m ≡ word (drop 222 (getD ps i [])) =
-          ap (λ (a : ℕ). wordAt 4 a m) j ∙ ap word (ap (take 4) (sym (drop-drop (i * 226 + 222) 9224 m))) ∙ ap (λ (y : List ℕ). wordAt 4 (i * 226 + 222) y) (records-are m o)
-          ∙ word-of-place 226 96 ps 222 i (records-wide m o) refl il in
+      ap (λ (a : ℕ). wordAt 4 a m) j ∙ ap word (ap (take 4) (sym (drop-drop (i * 226 + 222) 9224 m))) ∙ ap (λ (y : List ℕ). wordAt 4 (i * 226 + 222) y) (records-are m o)
+      ∙ word-of-place 226 96 ps 222 i (records-wide m o) refl il in
       let g : putWord 4 (9224 + i * 226 + 222) v m ≡ frame c n₁ n₂ s (putWord 4 (i * 226 + 222) v t) =
-          ap (λ (a : ℕ). putWord 4 a v m) j ∙ ap (putWord 4 (9224 + (i * 226 + 222)) v) f ∙ put-in-records c n₁ n₂ s t s-length 4 (i * 226 + 222) v in
+      ap (λ (a : ℕ). putWord 4 a v m) j ∙ ap (putWord 4 (9224 + (i * 226 + 222)) v) f ∙ put-in-records c n₁ n₂ s t s-length 4 (i * 226 + 222) v in
       let w : putWord 4 (i * 226 + 222) v t ≡ tableOf 226 96 put =
-          word-in-place 226 96 ps 222 i v (records-wide m o) refl il few
-          ∙ ap (λ (y : ℕ). tableOf 226 96 (set ps i (take 222 (getD ps i []) ++ wordBytes 4 (withBit y e)))) rd
-          ∙ ap (λ (k : ℕ). tableOf 226 96 (set ps k (take 222 (getD ps k []) ++ signedBy e (drop 222 (getD ps k []))))) ei
-          ∙ ap (tableOf 226 96) (sym (put-held 222 (signedBy e) r ps (at .0) (at .1))) in
+      word-in-place 226 96 ps 222 i v (records-wide m o) refl il few
+      ∙ ap (λ (y : ℕ). tableOf 226 96 (set ps i (take 222 (getD ps i []) ++ wordBytes 4 (withBit y e)))) rd
+      ∙ ap (λ (k : ℕ). tableOf 226 96 (set ps k (take 222 (getD ps k []) ++ signedBy e (drop 222 (getD ps k []))))) ei
+      ∙ ap (tableOf 226 96) (sym (put-held 222 (signedBy e) r ps (at .0) (at .1))) in
       let l : n₂ ≡ length put = sym (put-length-held 222 (signedBy e) r lr ps (records-ascend m o) h) in
       rw h (ap (after 0) (z ∙ g ∙ ap₂ (λ (k : ℕ) (y : List ℕ). frame c n₁ k s y) l w))
 
@@ -215,8 +216,8 @@ module _ (m : List ℕ) (o : Opened m) (b : Bytes m) (p : List ℕ) (lp : length
   summary-way n a t′ en q =
       way (holds 36 p ss) (leb 256 (length ss)) (rank 36 p ss) (tableOf 36 256 ss) (tableOf 36 256 put-summary) a t′
       (q ∙ ap₂ (λ (x : ℕ) (y : List ℕ). tried x 256 36 36 y (take 9216 (drop 8 m))) (en ∙ sym (summaries-length m o)) (sym whole-place)
-        ∙ ap (tried (length ss) 256 36 36 (p ++ nothing [])) (summaries-are m o)
-        ∙ tried-table 256 36 36 nothing p ss lp (omega arith) (ap length whole-place ∙ lp) (summaries-wide m o) (summaries-ascend m o) few-ss)
+      ∙ ap (tried (length ss) 256 36 36 (p ++ nothing [])) (summaries-are m o)
+      ∙ tried-table 256 36 36 nothing p ss lp (omega arith) (ap length whole-place ∙ lp) (summaries-wide m o) (summaries-ascend m o) few-ss)
 
   ss-length : length (tableOf 36 256 ss) ≡ 9216
   ss-length = table-length 36 256 ss (summaries-wide m o) few-ss
@@ -253,6 +254,6 @@ module _ (m : List ℕ) (o : Opened m) (b : Bytes m) (p : List ℕ) (lp : length
   summary-new t′ x n en h f q z =
       let l : n + 1 ≡ length put-summary = ap (λ (i : ℕ). i + 1) (en ∙ sym (summaries-length m o)) ∙ sym (new-length 36 nothing p ss h) in
       rw (h, f) (ap (after 0)
-        (z ∙ ap (putWord 2 4 (n + 1)) (summary-back t′)
-        ∙ put-summary-count (convictedIn m) (length ss) (length (recordsIn m)) t′ (tableOf 226 96 (recordsIn m)) (n + 1)
-        ∙ ap₂ (λ (i : ℕ) (y : List ℕ). frame (convictedIn m) i (length (recordsIn m)) y (tableOf 226 96 (recordsIn m))) l q))
+      (z ∙ ap (putWord 2 4 (n + 1)) (summary-back t′)
+      ∙ put-summary-count (convictedIn m) (length ss) (length (recordsIn m)) t′ (tableOf 226 96 (recordsIn m)) (n + 1)
+      ∙ ap₂ (λ (i : ℕ) (y : List ℕ). frame (convictedIn m) i (length (recordsIn m)) y (tableOf 226 96 (recordsIn m))) l q))

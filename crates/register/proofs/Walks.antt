@@ -17,6 +17,9 @@ room i n w h = le-trans (le-of-eq (sym (suc-mul i w))) (mul-le-mul-right w h)
 pub step-at : (i w at : ℕ) → at ≡ i * w → at + w ≡ (i + 1) * w
 step-at i w at e = ap (λ (x : ℕ). x + w) e ∙ sym (suc-mul i w) ∙ ap (λ (x : ℕ). x * w) (sym (add-one i))
 
+pub next-room : (i w l : ℕ) → i * w + w ≤ l → (i + 1) * w ≤ l
+next-room i w l h = le-trans (le-of-eq (ap (λ (x : ℕ). x * w) (add-one i) ∙ suc-mul i w)) h
+
 module _ (test : List ℕ → Bool) (w n i at : ℕ) (t : List ℕ) where
   pub walk-next : i < n → allPlaces test (places w (n - i) (drop at t)) ≡ (test (take (at + w - at) (drop at t)) && allPlaces test (places w (n - (i + 1)) (drop (at + w) t)))
   unfolding allPlaces places

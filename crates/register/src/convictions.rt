@@ -3,7 +3,6 @@ use crate::formed;
 use crate::layout;
 use models::layout::SUMMARY_SIZE;
 use record::layout::RECORD_SIZE;
-
 ghost use mathlib.Core.Path.{_≡_};
 ghost use mathlib.Core.Bool.{true};
 ghost use mathlib.Core.List.{_++_};
@@ -12,7 +11,8 @@ ghost use lib.ListN.{length, replicate};
 ghost use Rattle.models.specs.Summary.{summarySize};
 ghost use Rattle.places.specs.Places.{places, flat, keptPlaces};
 ghost use Rattle.record.specs.Layout.{recordSize};
-ghost use Rattle.register.specs.Layout.{placeSize};
+ghost use Rattle.octets.specs.Words.{putWord};
+ghost use Rattle.register.specs.Layout.{placeSize, convictedAt, summaryCountAt, recordCountAt, summariesAt as layoutEnd};
 ghost use Rattle.register.specs.Register.{after, nothing, ofAnother, unsignedBy, signedByAnother, struck, convictedOf};
 ghost use Rattle.register.specs.Memory.{wellFormed, decode, encode, onMemory};
 ghost use Rattle.register.specs.Strikes.{Struck};
@@ -60,7 +60,10 @@ fn strike_records(t: &mut [u8], n: usize, engine: u32) -> usize
     let mut j = 0;
     while i < n {
         let at = i * layout::PLACE_SIZE;
-        let signers = octets::masks::without_u32(octets::words::u32_at(t, at + RECORD_SIZE), engine);
+        let signers = octets::masks::without_u32(
+            octets::words::u32_at(t, at + RECORD_SIZE),
+            engine,
+        );
         if signers == 0 {
             i += 1;
             continue;
@@ -72,4 +75,51 @@ fn strike_records(t: &mut [u8], n: usize, engine: u32) -> usize
     let end = j * layout::PLACE_SIZE;
     octets::runs::clear(&mut t[end..]);
     j
+}
+
+// Writes the convicted engines and both counts.
+fn put_header(memory: &mut [u8], convicted: u32, summaries: u16, records: u16)
+    requires { ⌜ layoutEnd ≤ length (now memory) ⌝ }
+    ensures { λ _. ⌜ now (memory .exit) ≡ putWord 2 recordCountAt records (putWord 2 summaryCountAt summaries (putWord 4 convictedAt convicted (now (memory .entry)))) ⌝ }
+{
+    octets::words::put_u32(memory, layout::CONVICTED_AT, convicted);
+    octets::words::put_u16(memory, layout::SUMMARY_COUNT_AT, summaries);
+    octets::words::put_u16(memory, layout::RECORD_COUNT_AT, records);
+}
+
+// Strikes an engine from a register.
+fn strike(memory: &mut [u8], engine: u32)
+    requires { ⌜ wellFormed (now memory) ≡ true ⌝ }
+    requires { ⌜ engine < 32 ⌝ }
+    ensures { λ _. ⌜ now (memory .exit) ≡ encode (struck engine (decode (now (memory .entry)))) ⌝ }
+{
+    let convicted = octets::words::u32_at(memory, layout::CONVICTED_AT);
+    let n = octets::words::u16_at(memory, layout::SUMMARY_COUNT_AT) as usize;
+    let k = octets::words::u16_at(memory, layout::RECORD_COUNT_AT) as usize;
+    let summaries = strike_summaries(
+        &mut memory[layout::SUMMARIES_AT..layout::RECORDS_AT],
+        n,
+        engine as u8,
+    );
+    let records = strike_records(&mut memory[layout::RECORDS_AT..], k, engine);
+    put_header(
+        memory,
+        octets::masks::with_u32(convicted, engine),
+        summaries as u16,
+        records as u16,
+    );
+}
+
+// Convicts an engine.
+pub fn conviction(memory: &mut [u8], engine: u32) -> u32
+    ensures { λ a. ⌜ after a (now (memory .exit)) ≡ onMemory (convictedOf engine) (now (memory .entry)) ⌝ }
+{
+    if !formed::well_formed(memory) {
+        return 1;
+    }
+    if layout::MAX_ENGINE < engine {
+        return 2;
+    }
+    strike(memory, engine);
+    0
 }

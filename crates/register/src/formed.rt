@@ -2,7 +2,6 @@
 use crate::layout;
 use models::layout::SUMMARY_SIZE;
 use record::layout::RECORD_SIZE;
-
 ghost use mathlib.Core.Path.{_≡_};
 ghost use Prim.Native.Nat.{_*_, _≤_};
 ghost use lib.ListN.{length};
@@ -94,7 +93,12 @@ pub fn well_formed(m: &[u8]) -> bool
     if layout::MAX_RECORDS < k {
         return false;
     }
-    if !places::is_table(&m[layout::SUMMARIES_AT..layout::RECORDS_AT], n, SUMMARY_SIZE, SUMMARY_SIZE) {
+    if !places::is_table(
+        &m[layout::SUMMARIES_AT..layout::RECORDS_AT],
+        n,
+        SUMMARY_SIZE,
+        SUMMARY_SIZE,
+    ) {
         return false;
     }
     if !summaries_formed(&m[layout::SUMMARIES_AT..layout::RECORDS_AT], n, convicted) {

@@ -3,7 +3,6 @@ use crate::formed;
 use crate::layout;
 use places::Put;
 use record::layout::RECORD_SIZE;
-
 ghost use mathlib.Core.Path.{_≡_};
 ghost use mathlib.Core.Bool.{true};
 ghost use mathlib.Core.List.{[], _++_};
@@ -58,7 +57,11 @@ fn sign(memory: &mut [u8], engine: u32, r: &[u8]) -> u32
     );
     match tried {
         Put::Held(i) => {
-            add_signer(memory, layout::RECORDS_AT + i * layout::PLACE_SIZE + RECORD_SIZE, engine);
+            add_signer(
+                memory,
+                layout::RECORDS_AT + i * layout::PLACE_SIZE + RECORD_SIZE,
+                engine,
+            );
             0
         }
         Put::Full => 5,

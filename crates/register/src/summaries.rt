@@ -3,7 +3,6 @@ use crate::formed;
 use crate::layout;
 use models::layout::SUMMARY_SIZE;
 use places::Put;
-
 ghost use mathlib.Core.Path.{_≡_};
 ghost use mathlib.Core.Bool.{true};
 ghost use Prim.Native.Nat.{_<_, _≤_};

@@ -42,8 +42,8 @@ module _ (s : List ℕ) (from to w : ℕ) (h : to ≤ from) (l : from + w ≤ le
       let m = moved-length in
       let e : from + k ≡ to + k + (from - to) = omega arith in
       let v : getD (take (to + k) (moved s from to w) ++ drop (to + k) s) (from + k) 0 ≡ getD (moved s from to w) (to + k) 0 =
-          ap (λ (n : ℕ). getD (take (to + k) (moved s from to w) ++ drop (to + k) s) n 0) e
-          ∙ read-high (moved s from to w) s (to + k) (from - to) (omega arith) ∙ ap (λ (n : ℕ). getD s n 0) (sym e) ∙ sym (moved-at k g) in
+      ap (λ (n : ℕ). getD (take (to + k) (moved s from to w) ++ drop (to + k) s) n 0) e
+      ∙ read-high (moved s from to w) s (to + k) (from - to) (omega arith) ∙ ap (λ (n : ℕ). getD s n 0) (sym e) ∙ sym (moved-at k g) in
       rw (v, ← add-assoc to k 1) (up (moved s from to w) s (to + k) (omega arith) (omega arith))
 
   finish : take (to + w) (moved s from to w) ++ drop (to + w) s ≡ moved s from to w

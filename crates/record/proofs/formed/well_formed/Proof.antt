@@ -64,7 +64,7 @@ returns-5 : tie.Need-returns-5
 returns-5 c =
     let r = c .before .before .before .before .before .before .before .before .before .args .r .now in
     c .models-formed .ensures ∙ sym (last r (c .before .before .before .before .before .before .before .if1 .left) (sym (c .before .before .before .before .before .before .height-formed .ensures) ∙ not-false _ (c .before .before .before .before .before .if2 .left))
-      (sym (c .before .before .before .before .message-formed .ensures) ∙ not-false _ (c .before .before .before .if3 .left)) (sym (c .before .before .tags-formed .ensures) ∙ not-false _ (c .before .if4 .left)))
+    (sym (c .before .before .before .before .message-formed .ensures) ∙ not-false _ (c .before .before .before .if3 .left)) (sym (c .before .before .tags-formed .ensures) ∙ not-false _ (c .before .if4 .left)))
 
 pub well-formed-spec : {M : Type 1} → statement M
 well-formed-spec =

@@ -58,7 +58,7 @@ returns-2 c =
     let l = c .before .before .before .before .before in
     let s = l .before .before .before .before .before in
     sym (l .loop .inv .6 ∙ contained-less (s .args .a .now) (s .args .b .now) _ _ (l .loop .i) (l .loop .j) (omega arith) (omega arith) (l .loop .inv .4) (l .loop .inv .5)
-      (rw (c .before .before .tag .ensures, c .before .tag2 .ensures) at (c .if2 .taken)))
+    (rw (c .before .before .tag .ensures, c .before .tag2 .ensures) at (c .if2 .taken)))
 
 add-j : tie.Need-add-j Inv-loop μ-loop
 add-j c = omega arith
@@ -71,10 +71,16 @@ loop-again c =
     let l = c .before .before .before .before .before .before in
     let s = l .before .before .before .before .before in
     let a = s .args .a .now in
-    let b = s .args .b .now in
-    (omega arith, omega arith, l .loop .inv .2, l .loop .inv .3, l .loop .inv .4, next-ascends b _ (l .loop .j) (omega arith) (l .loop .inv .5),
+    let b = s .args .b .now in (
+      omega arith,
+      omega arith,
+      l .loop .inv .2,
+      l .loop .inv .3,
+      l .loop .inv .4,
+      next-ascends b _ (l .loop .j) (omega arith) (l .loop .inv .5),
       l .loop .inv .6 ∙ contained-skip a b _ _ (l .loop .i) (l .loop .j) (omega arith) (omega arith) (l .loop .inv .4) (l .loop .inv .5)
-      (rw (c .before .before .before .tag .ensures, c .before .before .tag2 .ensures) at (c .if3 .taken)))
+          (rw (c .before .before .before .tag .ensures, c .before .before .tag2 .ensures) at (c .if3 .taken)),
+    )
 
 add-i : tie.Need-add-i Inv-loop μ-loop
 add-i c = omega arith
@@ -88,10 +94,16 @@ loop-again-2 c =
     let s = l .before .before .before .before .before in
     let a = s .args .a .now in
     let b = s .args .b .now in
-    let e : c .before .before .before .tag .result ≡ c .before .before .tag2 .result = omega arith in
-    (omega arith, omega arith, l .loop .inv .2, l .loop .inv .3, next-ascends a _ (l .loop .i) (omega arith) (l .loop .inv .4), next-ascends b _ (l .loop .j) (omega arith) (l .loop .inv .5),
+    let e : c .before .before .before .tag .result ≡ c .before .before .tag2 .result = omega arith in (
+      omega arith,
+      omega arith,
+      l .loop .inv .2,
+      l .loop .inv .3,
+      next-ascends a _ (l .loop .i) (omega arith) (l .loop .inv .4),
+      next-ascends b _ (l .loop .j) (omega arith) (l .loop .inv .5),
       l .loop .inv .6 ∙ contained-both a b _ _ (l .loop .i) (l .loop .j) (omega arith) (omega arith) (l .loop .inv .4) (l .loop .inv .5)
-      (sym (c .before .before .before .tag .ensures) ∙ e ∙ c .before .before .tag2 .ensures))
+          (sym (c .before .before .before .tag .ensures) ∙ e ∙ c .before .before .tag2 .ensures),
+    )
 
 returns-3 : tie.Need-returns-3 Inv-loop μ-loop
 returns-3 c =

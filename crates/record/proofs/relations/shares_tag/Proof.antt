@@ -66,10 +66,16 @@ loop-again c =
     let l = c .before .before .before .before .before in
     let s = l .before .before .before .before .before in
     let a = s .args .a .now in
-    let b = s .args .b .now in
-    (omega arith, omega arith, l .loop .inv .2, l .loop .inv .3, next-ascends a _ (l .loop .i) (omega arith) (l .loop .inv .4), l .loop .inv .5,
+    let b = s .args .b .now in (
+      omega arith,
+      omega arith,
+      l .loop .inv .2,
+      l .loop .inv .3,
+      next-ascends a _ (l .loop .i) (omega arith) (l .loop .inv .4),
+      l .loop .inv .5,
       l .loop .inv .6 ∙ shared-less a b _ _ (l .loop .i) (l .loop .j) (omega arith) (omega arith) (l .loop .inv .4) (l .loop .inv .5)
-      (rw (c .before .before .tag .ensures, c .before .tag2 .ensures) at (c .if2 .taken)))
+          (rw (c .before .before .tag .ensures, c .before .tag2 .ensures) at (c .if2 .taken)),
+    )
 
 add-j : tie.Need-add-j Inv-loop μ-loop
 add-j c = omega arith
@@ -82,10 +88,16 @@ loop-again-2 c =
     let l = c .before .before .before .before .before .before in
     let s = l .before .before .before .before .before in
     let a = s .args .a .now in
-    let b = s .args .b .now in
-    (omega arith, omega arith, l .loop .inv .2, l .loop .inv .3, l .loop .inv .4, next-ascends b _ (l .loop .j) (omega arith) (l .loop .inv .5),
+    let b = s .args .b .now in (
+      omega arith,
+      omega arith,
+      l .loop .inv .2,
+      l .loop .inv .3,
+      l .loop .inv .4,
+      next-ascends b _ (l .loop .j) (omega arith) (l .loop .inv .5),
       l .loop .inv .6 ∙ shared-skip a b _ _ (l .loop .i) (l .loop .j) (omega arith) (omega arith) (l .loop .inv .4) (l .loop .inv .5)
-      (rw (c .before .before .before .tag .ensures, c .before .before .tag2 .ensures) at (c .if3 .taken)))
+          (rw (c .before .before .before .tag .ensures, c .before .before .tag2 .ensures) at (c .if3 .taken)),
+    )
 
 returns-2 : tie.Need-returns-2 Inv-loop μ-loop
 returns-2 c =
@@ -93,7 +105,7 @@ returns-2 c =
     let s = l .before .before .before .before .before in
     let e : c .before .before .before .tag .result ≡ c .before .before .tag2 .result = omega arith in
     sym (unshared _ _ ∙ l .loop .inv .6 ∙ shared-both (s .args .a .now) (s .args .b .now) _ _ (l .loop .i) (l .loop .j) (omega arith) (omega arith) (l .loop .inv .4) (l .loop .inv .5)
-      (sym (c .before .before .before .tag .ensures) ∙ e ∙ c .before .before .tag2 .ensures))
+    (sym (c .before .before .before .tag .ensures) ∙ e ∙ c .before .before .tag2 .ensures))
 
 returns-3 : tie.Need-returns-3 Inv-loop μ-loop
 returns-3 c =

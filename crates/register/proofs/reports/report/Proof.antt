@@ -63,7 +63,7 @@ returns-5 c =
     let m = s .args .memory .now in
     on-register (reported (s .args .engine) (s .args .r .now)) m (sym (c .before .before .before .before .before .before .before .before .before .before .before .before .well-formed .ensures) ∙ not-false _ (c .before .before .before .before .before .before .before .before .before .before .before .if1 .left)) _
     (c .before .before .sign .ensures ∙ ap (settled m) (sym (report-rest (s .args .engine) (s .args .r .now) (decode m) (c .before .before .before .before .before .before .before .before .before .before .if2 .left) (sym (c .before .before .before .before .before .before .before .before .before .well-formed2 .ensures) ∙ not-false _ (c .before .before .before .before .before .before .before .before .if3 .left))
-      (ap (λ (x : ℕ). bit x (s .args .engine)) (decoded-convicted m ∙ sym (c .before .before .before .before .before .before .u32-at .ensures)) ∙ sym (c .before .before .before .before .before .has-u32 .ensures) ∙ c .before .before .before .before .if4 .left))))
+    (ap (λ (x : ℕ). bit x (s .args .engine)) (decoded-convicted m ∙ sym (c .before .before .before .before .before .before .u32-at .ensures)) ∙ sym (c .before .before .before .before .before .has-u32 .ensures) ∙ c .before .before .before .before .if4 .left))))
 
 pub report-spec : {M : Type 1} → statement M
 report-spec =

@@ -92,7 +92,7 @@ mul-add-signer c =
     let y = all-bytes m (λ i. c .before .before .before .before .before .before .before .before .before .before .before .before .before .slice-known .given i .fits) in
     let l = formed r (s .pre .1 .1) .size in
     let w = record-way m o y (s .args .engine) r l (c .before .before .before .before .before .before .before .before .before .before .u16-at .result) (c .before .before .before .before .before .before .before .before .before .new-place .result) (c .before .before .before .before .before .before .put-by-key .result) (c .before .before .before .before .before .before .put-by-key .last .0)
-        (c .before .before .before .before .before .before .before .before .before .before .u16-at .ensures) (c .before .before .before .before .before .before .before .before .before .new-place .ensures) (c .before .before .before .before .before .before .put-by-key .ensures) in
+    (c .before .before .before .before .before .before .before .before .before .before .u16-at .ensures) (c .before .before .before .before .before .before .before .before .before .new-place .ensures) (c .before .before .before .before .before .before .put-by-key .ensures) in
     let i = c .before .before .tried .given .0 .0 in
     let q = within m o y (s .args .engine) r l w i (c .before .before .tried .given .1) in
     omega arith
@@ -106,7 +106,7 @@ add-add-signer c =
     let y = all-bytes m (λ i. c .before .before .before .before .before .before .before .before .before .before .before .before .before .slice-known .given i .fits) in
     let l = formed r (s .pre .1 .1) .size in
     let w = record-way m o y (s .args .engine) r l (c .before .before .before .before .before .before .before .before .before .before .u16-at .result) (c .before .before .before .before .before .before .before .before .before .new-place .result) (c .before .before .before .before .before .before .put-by-key .result) (c .before .before .before .before .before .before .put-by-key .last .0)
-        (c .before .before .before .before .before .before .before .before .before .before .u16-at .ensures) (c .before .before .before .before .before .before .before .before .before .new-place .ensures) (c .before .before .before .before .before .before .put-by-key .ensures) in
+    (c .before .before .before .before .before .before .before .before .before .before .u16-at .ensures) (c .before .before .before .before .before .before .before .before .before .new-place .ensures) (c .before .before .before .before .before .before .put-by-key .ensures) in
     let i = c .before .before .tried .given .0 .0 in
     let q = within m o y (s .args .engine) r l w i (c .before .before .tried .given .1) in
     omega arith
@@ -120,7 +120,7 @@ add-add-signer-2 c =
     let y = all-bytes m (λ i. c .before .before .before .before .before .before .before .before .before .before .before .before .before .slice-known .given i .fits) in
     let l = formed r (s .pre .1 .1) .size in
     let w = record-way m o y (s .args .engine) r l (c .before .before .before .before .before .before .before .before .before .before .u16-at .result) (c .before .before .before .before .before .before .before .before .before .new-place .result) (c .before .before .before .before .before .before .put-by-key .result) (c .before .before .before .before .before .before .put-by-key .last .0)
-        (c .before .before .before .before .before .before .before .before .before .before .u16-at .ensures) (c .before .before .before .before .before .before .before .before .before .new-place .ensures) (c .before .before .before .before .before .before .put-by-key .ensures) in
+    (c .before .before .before .before .before .before .before .before .before .before .u16-at .ensures) (c .before .before .before .before .before .before .before .before .before .new-place .ensures) (c .before .before .before .before .before .before .put-by-key .ensures) in
     let i = c .before .before .tried .given .0 .0 in
     let q = within m o y (s .args .engine) r l w i (c .before .before .tried .given .1) in
     omega arith
@@ -134,7 +134,7 @@ add-signer-requires c κs =
     let y = all-bytes m (λ i. c .before .before .before .before .before .before .before .before .before .before .before .before .before .slice-known .given i .fits) in
     let l = formed r (s .pre .1 .1) .size in
     let w = record-way m o y (s .args .engine) r l (c .before .before .before .before .before .before .before .before .before .before .u16-at .result) (c .before .before .before .before .before .before .before .before .before .new-place .result) (c .before .before .before .before .before .before .put-by-key .result) (c .before .before .before .before .before .before .put-by-key .last .0)
-        (c .before .before .before .before .before .before .before .before .before .before .u16-at .ensures) (c .before .before .before .before .before .before .before .before .before .new-place .ensures) (c .before .before .before .before .before .before .put-by-key .ensures) in
+    (c .before .before .before .before .before .before .before .before .before .before .u16-at .ensures) (c .before .before .before .before .before .before .before .before .before .new-place .ensures) (c .before .before .before .before .before .before .put-by-key .ensures) in
     let i = c .before .before .tried .given .0 .0 in
     let q = within m o y (s .args .engine) r l w i (c .before .before .tried .given .1) in
     let z = unwritten m o y (s .args .engine) r l w i (c .before .before .tried .given .1) in
@@ -164,7 +164,7 @@ returns c =
     let y = all-bytes m (λ i. c .before .before .before .before .before .before .before .before .before .before .before .before .before .before .before .before .slice-known .given i .fits) in
     let l = formed r (s .pre .1 .1) .size in
     let w = record-way m o y (s .args .engine) r l (c .before .before .before .before .before .before .before .before .before .before .before .before .before .u16-at .result) (c .before .before .before .before .before .before .before .before .before .before .before .before .new-place .result) (c .before .before .before .before .before .before .before .before .before .put-by-key .result) (c .before .before .before .before .before .before .before .before .before .put-by-key .last .0)
-        (c .before .before .before .before .before .before .before .before .before .before .before .before .before .u16-at .ensures) (c .before .before .before .before .before .before .before .before .before .before .before .before .new-place .ensures) (c .before .before .before .before .before .before .before .before .before .put-by-key .ensures) in
+    (c .before .before .before .before .before .before .before .before .before .before .before .before .before .u16-at .ensures) (c .before .before .before .before .before .before .before .before .before .before .before .before .new-place .ensures) (c .before .before .before .before .before .before .before .before .before .put-by-key .ensures) in
     let i = c .before .before .before .before .before .tried .given .0 .0 in
     let h = c .before .before .before .before .before .tried .given .1 in
     let v = held-index w i h in
@@ -184,7 +184,7 @@ returns-2 c =
     let y = all-bytes m (λ i. c .before .before .before .before .before .before .before .before .before .before .before .slice-known .given i .fits) in
     let l = formed r (s .pre .1 .1) .size in
     let w = record-way m o y (s .args .engine) r l (c .before .before .before .before .before .before .before .before .u16-at .result) (c .before .before .before .before .before .before .before .new-place .result) (c .before .before .before .before .put-by-key .result) (c .before .before .before .before .put-by-key .last .0)
-        (c .before .before .before .before .before .before .before .before .u16-at .ensures) (c .before .before .before .before .before .before .before .new-place .ensures) (c .before .before .before .before .put-by-key .ensures) in
+    (c .before .before .before .before .before .before .before .before .u16-at .ensures) (c .before .before .before .before .before .before .before .new-place .ensures) (c .before .before .before .before .put-by-key .ensures) in
     full m o y (s .args .engine) r l (c .before .before .before .before .put-by-key .last .0) w (c .enum-told .given .1)
 
 same-length-3 : tie.Need-same-length-3
@@ -199,7 +199,7 @@ returns-3 c =
     let y = all-bytes m (λ i. c .before .before .before .before .before .before .before .before .before .before .before .before .before .before .before .slice-known .given i .fits) in
     let l = formed r (s .pre .1 .1) .size in
     let w = record-way m o y (s .args .engine) r l (c .before .before .before .before .before .before .before .before .before .before .before .before .u16-at .result) (c .before .before .before .before .before .before .before .before .before .before .before .new-place .result) (c .before .before .before .before .before .before .before .before .put-by-key .result) (c .before .before .before .before .before .before .before .before .put-by-key .last .0)
-        (c .before .before .before .before .before .before .before .before .before .before .before .before .u16-at .ensures) (c .before .before .before .before .before .before .before .before .before .before .before .new-place .ensures) (c .before .before .before .before .before .before .before .before .put-by-key .ensures) in
+    (c .before .before .before .before .before .before .before .before .before .before .before .before .u16-at .ensures) (c .before .before .before .before .before .before .before .before .before .before .before .new-place .ensures) (c .before .before .before .before .before .before .before .before .put-by-key .ensures) in
     fresh m o y (s .args .engine) r l (c .before .before .before .before .before .before .before .before .put-by-key .last .0) (c .before .before .put-u16 .last .0) (c .before .before .before .before .before .before .before .before .before .before .before .before .u16-at .result) (c .before .before .before .before .before .before .before .before .before .before .before .before .u16-at .ensures) w (c .before .before .before .before .enum-told2 .given .1) (c .before .before .put-u16 .ensures)
 
 pub sign-spec : {M : Type 1} → statement M

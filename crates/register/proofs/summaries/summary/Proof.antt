@@ -86,8 +86,8 @@ returns-6 c =
     let m = s .args .memory .now in
     on-register (summarized (s .args .engine) (s .args .model) (s .args .spec) (s .args .inputs .now)) m (sym (c .before .before .before .before .before .before .before .before .before .before .before .before .before .before .well-formed .ensures) ∙ not-false _ (c .before .before .before .before .before .before .before .before .before .before .before .before .before .if1 .left)) _
     (c .before .before .hold .ensures ∙ ap (λ (p : List ℕ). settled m (heldInto p (decode m))) (c .before .before .before .before .before .new-summary .ensures)
-      ∙ ap (settled m) (sym (summary-rest (s .args .engine) (s .args .model) (s .args .spec) (s .args .inputs .now) (decode m) (c .before .before .before .before .before .before .before .before .before .before .before .before .if2 .left) (c .before .before .before .before .before .before .before .before .before .before .before .if3 .left) (c .before .before .before .before .before .before .before .before .before .before .if4 .left)
-      (ap (λ (x : ℕ). bit x (s .args .engine)) (decoded-convicted m ∙ sym (c .before .before .before .before .before .before .before .before .u32-at .ensures)) ∙ sym (c .before .before .before .before .before .before .before .has-u32 .ensures) ∙ c .before .before .before .before .before .before .if5 .left))))
+    ∙ ap (settled m) (sym (summary-rest (s .args .engine) (s .args .model) (s .args .spec) (s .args .inputs .now) (decode m) (c .before .before .before .before .before .before .before .before .before .before .before .before .if2 .left) (c .before .before .before .before .before .before .before .before .before .before .before .if3 .left) (c .before .before .before .before .before .before .before .before .before .before .if4 .left)
+    (ap (λ (x : ℕ). bit x (s .args .engine)) (decoded-convicted m ∙ sym (c .before .before .before .before .before .before .before .before .u32-at .ensures)) ∙ sym (c .before .before .before .before .before .before .before .has-u32 .ensures) ∙ c .before .before .before .before .before .before .if5 .left))))
 
 pub summary-spec : {M : Type 1} → statement M
 summary-spec =

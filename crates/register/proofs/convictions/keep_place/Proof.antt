@@ -1,0 +1,52 @@
+use Prim.Native.Nat.{ℕ, _+_, _-_, _*_, _≤_, _<_}
+use mathlib.Core.Path.{_≡_, refl, sym, ap, ap₂, _∙_}
+use mathlib.Core.List.{List, [], _∷_, _++_, append-assoc}
+use native.Mathlib.Omega.{arith}
+use native.Mathlib.Nat.{add-assoc, mul-le-mul-right}
+use lib.ListN.{length, getD, take, drop, length-append, length-take, length-drop}
+use lib.Seq.{take-at, drop-at, take-add, take-take, drop-drop, length-take-le}
+use borrow.Rule.Slice.PartMut.{same-len-mid}
+use Rattle.octets.specs.Words.{wordBytes, putWord}
+use Rattle.register.specs.Strikes.{keptAt}
+use Rattle.register.proofs.Frames.{mid-put}
+use borrow.Author.Needs.{needs}
+use Rattle.register.proofs.convictions.keep_place.Statement.{statement}
+use Rattle.register.proofs.convictions.keep_place.Tie as tie
+
+kept : (t : List ℕ) (from to v : ℕ) → to ≤ from → from + 226 ≤ length t
+    → putWord 4 (to + 222) v (take to t ++ (take 226 (drop from t) ++ drop (to + 226) t)) ≡ keptAt from to v t
+kept t from to v h l =
+    let a = take to t in
+    let p = take 222 (drop from t) in
+    let q = take 4 (drop 222 (drop from t)) in
+    let z = drop (to + 226) t in
+    let al : length a ≡ to = length-take-le to t (omega arith) in
+    let pl : length p ≡ 222 = length-take-le 222 (drop from t) (rw length-drop (omega arith)) in
+    let ql : length q ≡ 4 = length-take-le 4 (drop 222 (drop from t)) (rw (length-drop, length-drop) (omega arith)) in
+    let e : a ++ (take 226 (drop from t) ++ z) ≡ (a ++ p) ++ (q ++ z) =
+    ap (λ (x : List ℕ). a ++ (x ++ z)) (take-add 222 4 (drop from t)) ∙ ap (λ (x : List ℕ). a ++ x) (append-assoc p q z) ∙ sym (append-assoc a p (q ++ z)) in
+    let apl : length (a ++ p) ≡ to + 222 = length-append a p ∙ ap₂ (λ (x y : ℕ). x + y) al pl in
+    ap (putWord 4 (to + 222) v) e ∙ mid-put (a ++ p) q z (to + 222) 4 apl ql v
+    ∙ append-assoc a p (wordBytes 4 v ++ z) ∙ ap (λ (x : List ℕ). a ++ x) (sym (append-assoc p (wordBytes 4 v) z))
+
+copy-down-requires : tie.Need-copy-down-requires
+copy-down-requires c κs = search needs
+
+add-put-u32 : tie.Need-add-put-u32
+add-put-u32 c = search needs
+
+put-u32-requires : tie.Need-put-u32-requires
+put-u32-requires c κs = search needs
+
+same-length : tie.Need-same-length
+same-length c = search needs
+
+returns : tie.Need-returns
+returns c =
+    let s = c .before .before .before .before .before .before .before .before .before in
+    let a = s .args in
+    rw (c .before .before .put-u32 .ensures, c .before .before .before .before .before .before .copy-down .ensures) (kept (a .t .now) (a .from) (a .to) (a .signers) (s .pre .0) (s .pre .1))
+
+pub keep-place-spec : {M : Type 1} → statement M
+keep-place-spec =
+    tie.close (tie.spec copy-down-requires add-put-u32 put-u32-requires same-length returns)
