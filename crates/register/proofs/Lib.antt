@@ -5,3 +5,6 @@ pub mod Signing
 pub mod Answers
 pub mod Striking
 pub mod Struck
+pub mod Valid
+pub mod Steps
+pub mod History

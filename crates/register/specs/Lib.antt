@@ -2,3 +2,4 @@ pub mod Layout
 pub mod Register
 pub mod Memory
 pub mod Strikes
+pub mod Calls

@@ -1,0 +1,329 @@
+-- What each operation does to a valid register: it stays valid, and which engines sign a record afterwards.
+use Prim.Native.Nat.{ℕ, suc, _+_, _*_, _^_, _≤_, _<_}
+use mathlib.Core.Path.{_≡_, refl, sym, ap, ap₂, subst, _∙_}
+use mathlib.Core.Bool.{Bool, true, false, cond, not, _&&_, _||_, true≢false, false≢true, and-false}
+use mathlib.Core.List.{List, [], _∷_, _++_, append-nil}
+use native.Mathlib.Omega.{arith}
+use native.Mathlib.Nat.{le-trans, lt-of-le-of-lt}
+use lib.Bits.{bitAnd}
+use lib.Dec.{ltb, leb, eqb}
+use lib.ListN.{length, getD, take, drop, length-append, take-append-drop, drop-of-length-le}
+use lib.Seq.{take-at, drop-at, length-take-le}
+use borrow.Author.Tests.{eq-eqb, ne-eqb, eqb-true, eqb-false, not-true, le-leb, leb-false}
+use Rattle.octets.specs.Masks.{bit, withBit, withoutBit}
+use Rattle.octets.specs.Order.{same}
+use Rattle.octets.specs.Words.{word, wordBytes}
+use Rattle.octets.proofs.Cases.{by, and-left, and-right, and-both}
+use Rattle.octets.proofs.Comparison.{same-refl, same-eq}
+use Rattle.octets.proofs.Lookup.{bit-set, bit-clear, bit-zero, bit-and, bit-ext, with-lt, without-le}
+use Rattle.octets.proofs.Numbers.{length-word-bytes, word-of-bytes, bytes-word-bytes, word-lt}
+use Rattle.places.specs.Places.{ascending, allPlaces, holds, lookup, putPlace, keptPlaces}
+use Rattle.places.proofs.Tables.{wide}
+use Rattle.places.proofs.Keys.{holds-none, holds-here, holds-later, lookup-here, lookup-later, absent}
+use Rattle.places.proofs.Putting.{lookup-put, lookup-put-other, put-ascending, put-length, put-length-held, put-wide, put-all}
+use Rattle.places.proofs.Keeping.{changed, kept-length, kept-wide, kept-ascending, kept-all, lookup-kept}
+use Rattle.record.specs.Formed as R
+use Rattle.models.specs.Summary.{engineOf, modelOf, summaryOf}
+use Rattle.register.specs.Register.{Register, signersIn, signedBy, unsignedBy, nothing, ofAnother, signedByAnother, struck}
+use Rattle.register.specs.Memory.{summaryFormed, placeFormed}
+use Rattle.register.proofs.Striking.{all-of, none-more, key-of, signers-wide}
+use Rattle.register.proofs.Valid.{Valid, placeHeld, all-weaken}
+
+-- ---- masks without a common bit
+
+apart : (m c k : ℕ) → eqb (bitAnd m c) 0 ≡ true → (bit m k && bit c k) ≡ false
+apart m c k h = sym (bit-and m c k) ∙ ap (λ (n : ℕ). bit n k) (eqb-true (bitAnd m c) 0 h) ∙ bit-zero k
+
+disjoint : (m c : ℕ) → ((k : ℕ) → (bit m k && bit c k) ≡ false) → eqb (bitAnd m c) 0 ≡ true
+disjoint m c h = eq-eqb (bitAnd m c) 0 (bit-ext (bitAnd m c) 0 (λ k. bit-and m c k ∙ h k ∙ sym (bit-zero k)))
+
+nothing-apart : (c : ℕ) → eqb (bitAnd 0 c) 0 ≡ true
+nothing-apart c = disjoint 0 c (λ k. rw (bit-zero k) refl)
+
+with-apart : (m c e : ℕ) → eqb (bitAnd m c) 0 ≡ true → bit c e ≡ false → eqb (bitAnd (withBit m e) c) 0 ≡ true
+with-apart m c e h z =
+    disjoint (withBit m e) c (λ k. rw (bit-set m e k) (one (eqb e k) (bit m k) (bit c k) (apart m c k h) (λ q. ap (bit c) (sym (eqb-true e k q)) ∙ z)))
+  where
+    one : (q a b : Bool) → (a && b) ≡ false → (q ≡ true → b ≡ false) → ((q || a) && b) ≡ false
+    one true a b h f = f refl
+    one false a b h f = h
+
+without-apart : (m c e : ℕ) → eqb (bitAnd m c) 0 ≡ true → eqb (bitAnd (withoutBit m e) (withBit c e)) 0 ≡ true
+without-apart m c e h =
+    disjoint (withoutBit m e) (withBit c e) (λ k. rw (bit-clear m e k, bit-set c e k) (one (eqb e k) (bit m k) (bit c k) (apart m c k h)))
+  where
+    one : (q a b : Bool) → (a && b) ≡ false → ((not q && a) && (q || b)) ≡ false
+    one true a b h = refl
+    one false a b h = h
+
+with-some : (m e : ℕ) → eqb (withBit m e) 0 ≡ false
+with-some m e =
+    ne-eqb (withBit m e) 0 (λ z. true≢false (sym (bit-set m e e ∙ rw (eq-eqb e e refl) refl) ∙ ap (λ (n : ℕ). bit n e) z ∙ bit-zero e))
+
+-- ---- a record's place
+
+no-word : word [] ≡ 0
+unfolding word
+no-word = refl
+
+module _ (r : List ℕ) (l : length r ≡ 222) (x : ℕ) (b : x < 256 ^ 4) where
+  signers-of : signersIn (r ++ wordBytes 4 x) ≡ x
+  signers-of = ap word (drop-at r (wordBytes 4 x) 222 l) ∙ word-of-bytes 4 x b
+
+  -- a record with signers that are some, none of them convicted
+  held-place : (c : ℕ) → R.wellFormed r ≡ true → eqb x 0 ≡ false → eqb (bitAnd x c) 0 ≡ true → placeHeld c (r ++ wordBytes 4 x) ≡ true
+  held-place c w n a = rw (signers-of, take-at r (wordBytes 4 x) 222 l, drop-at r (wordBytes 4 x) 222 l, w, n, a) (same-refl (wordBytes 4 x))
+
+pub record-length : (r : List ℕ) → R.wellFormed r ≡ true → length r ≡ 222
+unfolding R.wellFormed
+record-length r h = eqb-true (length r) 222 (and-left (eqb (length r) 222) _ h)
+
+pub record Place (c : ℕ) (p : List ℕ) : Type 0 where
+  pub formed : R.wellFormed (take 222 p) ≡ true
+  pub some : eqb (signersIn p) 0 ≡ false
+  pub free : eqb (bitAnd (signersIn p) c) 0 ≡ true
+  pub bytes : drop 222 p ≡ wordBytes 4 (signersIn p)
+
+pub place : (c : ℕ) (p : List ℕ) → placeHeld c p ≡ true → Place c p
+place c p h =
+    let a = R.wellFormed (take 222 p) in
+    let b = not (eqb (signersIn p) 0) in
+    let d = eqb (bitAnd (signersIn p) c) 0 in
+    let q = same (wordBytes 4 (signersIn p)) (drop 222 p) in
+    let f : (a && (b && d)) ≡ true = and-left (a && (b && d)) q h in
+    record {
+      formed = and-left a (b && d) f;
+      some = not-true (eqb (signersIn p) 0) (and-left b d (and-right a (b && d) f));
+      free = and-right b d (and-right a (b && d) f);
+      bytes = sym (same-eq (wordBytes 4 (signersIn p)) (drop 222 p) (and-right (a && (b && d)) q h));
+    }
+
+place-small : (c : ℕ) (p : List ℕ) → Place c p → signersIn p < 256 ^ 4
+place-small c p h =
+    let b = word-lt (wordBytes 4 (signersIn p)) (bytes-word-bytes 4 (signersIn p)) in
+    let l = length-word-bytes 4 (signersIn p) in
+    let w : signersIn p ≡ word (wordBytes 4 (signersIn p)) = ap word (h .bytes) in
+    subst (λ (n : ℕ). n < 256 ^ 4) (sym w) (subst (λ (n : ℕ). word (wordBytes 4 (signersIn p)) < 256 ^ n) l b)
+
+-- ---- what is looked up
+
+module _ (test : List ℕ → Bool) (p : List ℕ) (ps : List (List ℕ)) (a : allPlaces test (p ∷ ps) ≡ true) where
+  all-head : test p ≡ true
+  unfolding allPlaces
+  all-head = and-left (test p) (allPlaces test ps) a
+
+  all-tail : allPlaces test ps ≡ true
+  unfolding allPlaces
+  all-tail = and-right (test p) (allPlaces test ps) a
+
+-- a place that is held passes the test that all pass
+held-passes : (k : ℕ) (key : List ℕ) (test : List ℕ → Bool) (ps : List (List ℕ)) → allPlaces test ps ≡ true → holds k key ps ≡ true → test (key ++ lookup k key ps) ≡ true
+held-passes k key test [] a h = absurd (false≢true (sym (holds-none k key) ∙ h))
+held-passes k key test (p ∷ ps) a h =
+    by (same (take k p) key)
+    (λ s. ap test (ap₂ (λ (x y : List ℕ). x ++ y) (sym (same-eq (take k p) key s)) (lookup-here k key p ps s) ∙ take-append-drop k p) ∙ all-head test p ps a)
+    (λ s. ap (λ (x : List ℕ). test (key ++ x)) (lookup-later k key p ps s) ∙ held-passes k key test ps (all-tail test p ps a) (sym (holds-later k key p ps s) ∙ h))
+
+-- a key that is held is as long as keys are
+held-long : (k w : ℕ) (key : List ℕ) (ps : List (List ℕ)) → k ≤ w → wide w ps → holds k key ps ≡ true → length key ≡ k
+held-long k w key [] m x h = absurd (false≢true (sym (holds-none k key) ∙ h))
+held-long k w key (p ∷ ps) m x h =
+    by (same (take k p) key)
+    (λ s. ap length (sym (same-eq (take k p) key s)) ∙ length-take-le k p (rw (x .0) m))
+    (λ s. held-long k w key ps m (x .1) (sym (holds-later k key p ps s) ∙ h))
+
+-- the signers of a record: none where it is not held
+abbrev pub signersOf : List ℕ → Register → ℕ
+signersOf r s = word (lookup 222 r (s .records))
+
+module _ (s : Register) (v : Valid s) (r : List ℕ) where
+  pub unheld : holds 222 r (s .records) ≡ false → lookup 222 r (s .records) ≡ []
+  unheld h = absent 222 r (s .records) h
+
+  pub unsigned : holds 222 r (s .records) ≡ false → signersOf r s ≡ 0
+  unsigned h = ap word (unheld h) ∙ no-word
+
+  module _ (h : holds 222 r (s .records) ≡ true) where
+    long : length r ≡ 222
+    long = held-long 222 226 r (s .records) key-of (v .records-wide) h
+
+    rest : drop 222 (r ++ lookup 222 r (s .records)) ≡ lookup 222 r (s .records)
+    rest = drop-at r (lookup 222 r (s .records)) 222 long
+
+    pub held-is : Place (s .convicted) (r ++ lookup 222 r (s .records))
+    held-is = place (s .convicted) (r ++ lookup 222 r (s .records)) (held-passes 222 r (placeHeld (s .convicted)) (s .records) (v .records-held) h)
+
+    pub signed : eqb (signersOf r s) 0 ≡ false
+    signed = ap (λ (x : List ℕ). eqb (word x) 0) (sym rest) ∙ held-is .some
+
+    pub held-bytes : lookup 222 r (s .records) ≡ wordBytes 4 (signersOf r s)
+    held-bytes = sym rest ∙ held-is .bytes ∙ ap (λ (x : List ℕ). wordBytes 4 (word x)) rest
+
+    held-small : signersOf r s < 256 ^ 4
+    held-small = subst (λ (x : List ℕ). word x < 256 ^ 4) rest (place-small (s .convicted) (r ++ lookup 222 r (s .records)) held-is)
+
+  pub signers-small : signersOf r s < 256 ^ 4
+  signers-small = by (holds 222 r (s .records)) held-small (λ h. rw (unsigned h) (omega arith))
+
+  -- a record is held exactly when it has signers
+  pub held-signed : holds 222 r (s .records) ≡ not (eqb (signersOf r s) 0)
+  held-signed = by (holds 222 r (s .records)) (λ h. h ∙ sym (ap not (signed h))) (λ h. h ∙ sym (ap (λ (n : ℕ). not (eqb n 0)) (unsigned h)))
+
+  -- and what follows it is told by them
+  pub lookup-signed : lookup 222 r (s .records) ≡ cond (eqb (signersOf r s) 0) [] (wordBytes 4 (signersOf r s))
+  lookup-signed =
+      by (holds 222 r (s .records))
+      (λ h. held-bytes h ∙ sym (ap (λ (b : Bool). cond b [] (wordBytes 4 (signersOf r s))) (signed h)))
+      (λ h. unheld h ∙ sym (ap (λ (n : ℕ). cond (eqb n 0) [] (wordBytes 4 (signersOf r s))) (unsigned h)))
+
+-- ---- a report
+
+-- signers with one more
+with-small : (x e : ℕ) → e ≤ 31 → x < 256 ^ 4 → withBit x e < 256 ^ 4
+with-small x e h b = with-lt 32 x e (omega arith) b
+
+without-small : (x e : ℕ) → x < 256 ^ 4 → withoutBit x e < 256 ^ 4
+without-small x e b = lt-of-le-of-lt (without-le x e) b
+
+module _ (s : Register) (v : Valid s) (e : ℕ) (q : List ℕ) (a : e ≤ 31) (w : R.wellFormed q ≡ true) where
+  abbrev pub reported-records : List (List ℕ)
+  reported-records = putPlace 222 (signedBy e) q (s .records)
+
+  abbrev pub with-report : Register
+  with-report = record { convicted = s .convicted; summaries = s .summaries; records = reported-records }
+
+  -- the record has the engine for a signer, and else nothing changes
+  pub report-signers : (r : List ℕ) → signersOf r with-report ≡ cond (same q r) (withBit (signersOf r s) e) (signersOf r s)
+  report-signers r =
+      by (same q r)
+      (λ h. ap (λ (x : List ℕ). word (lookup 222 x reported-records)) (sym (same-eq q r h)) ∙ ap word (lookup-put 222 (signedBy e) q (record-length q w) (s .records) (v .records-ascend))
+      ∙ word-of-bytes 4 (withBit (signersOf q s) e) (with-small (signersOf q s) e a (signers-small s v q))
+      ∙ ap (λ (x : List ℕ). withBit (signersOf x s) e) (same-eq q r h) ∙ sym (ap (λ (b : Bool). cond b (withBit (signersOf r s) e) (signersOf r s)) h))
+      (λ h. ap word (lookup-put-other 222 (signedBy e) q (record-length q w) r (s .records) h) ∙ sym (ap (λ (b : Bool). cond b (withBit (signersOf r s) e) (signersOf r s)) h))
+
+  new-held : bit (s .convicted) e ≡ false → placeHeld (s .convicted) (q ++ signedBy e []) ≡ true
+  new-held z =
+      held-place q (record-length q w) (withBit (word []) e) (with-small (word []) e a (rw no-word (omega arith))) (s .convicted) w (with-some (word []) e)
+      (with-apart (word []) (s .convicted) e (rw no-word (nothing-apart (s .convicted))) z)
+
+  again-held : bit (s .convicted) e ≡ false → (p : List ℕ) → take 222 p ≡ q → placeHeld (s .convicted) p ≡ true → placeHeld (s .convicted) (take 222 p ++ signedBy e (drop 222 p)) ≡ true
+  again-held z p k h =
+      let o = place (s .convicted) p h in
+      rw k (held-place q (record-length q w) (withBit (signersIn p) e) (with-small (signersIn p) e a (place-small (s .convicted) p o)) (s .convicted) w (with-some (signersIn p) e)
+      (with-apart (signersIn p) (s .convicted) e (o .free) z))
+
+  pub report-valid : bit (s .convicted) e ≡ false → (not (holds 222 q (s .records)) && leb 96 (length (s .records))) ≡ false → Valid with-report
+  report-valid z f = record {
+    small = v .small;
+    few-summaries = v .few-summaries;
+    few-records = few;
+    summaries-wide = v .summaries-wide;
+    records-wide = put-wide 222 (signedBy e) q (record-length q w) 226 (λ x l. wide-signed x) (λ x l. wide-signed x) (s .records) key-of (v .records-wide);
+    summaries-ascend = v .summaries-ascend;
+    records-ascend = put-ascending 222 (signedBy e) q (record-length q w) (s .records) (v .records-ascend);
+    summaries-formed = v .summaries-formed;
+    records-held = put-all 222 (signedBy e) q (placeHeld (s .convicted)) (s .records) (new-held z) (again-held z) (v .records-held);
+  }
+    where
+      wide-signed : (x : List ℕ) → 222 + length (signedBy e x) ≡ 226
+      wide-signed x = ap (λ (n : ℕ). 222 + n) (length-word-bytes 4 (withBit (word x) e))
+
+      few : length reported-records ≤ 96
+      few =
+          by (holds 222 q (s .records))
+          (λ h. rw (put-length-held 222 (signedBy e) q (record-length q w) (s .records) (v .records-ascend) h) (v .few-records))
+          (λ h. let n = leb-false 96 (length (s .records)) (sym (rw h refl) ∙ f) in let m = put-length 222 (signedBy e) q (record-length q w) (s .records) in omega arith)
+
+-- ---- a summary
+
+pub summary-length : (e model spec : ℕ) (inputs : List ℕ) → length inputs ≡ 32 → length (summaryOf e model spec inputs) ≡ 36
+summary-length e model spec inputs h = rw (length-append, length-word-bytes 2 spec, h) refl
+
+pub summary-longer : (e model spec : ℕ) (inputs : List ℕ) → length (summaryOf e model spec inputs) ≡ 4 + length inputs
+summary-longer e model spec inputs = rw (length-append, length-word-bytes 2 spec) (omega arith)
+
+-- nothing follows a summary
+pub nothing-follows : (p : List ℕ) (ps : List (List ℕ)) → wide 36 ps → lookup 36 p ps ≡ []
+nothing-follows p [] x = absent 36 p [] (holds-none 36 p)
+nothing-follows p (q ∷ ps) x =
+    by (same (take 36 q) p)
+    (λ s. lookup-here 36 p q ps s ∙ drop-of-length-le q (le-of-eq (x .0)))
+    (λ s. lookup-later 36 p q ps s ∙ nothing-follows p ps (x .1))
+  where
+    le-of-eq : {a b : ℕ} → a ≡ b → a ≤ b
+    le-of-eq h = omega arith
+
+module _ (s : Register) (v : Valid s) (p : List ℕ) (l : length p ≡ 36) (g : summaryFormed (s .convicted) p ≡ true) where
+  abbrev pub with-summary : Register
+  with-summary = record { convicted = s .convicted; summaries = putPlace 36 nothing p (s .summaries); records = s .records }
+
+  pub summary-valid : (not (holds 36 p (s .summaries)) && leb 256 (length (s .summaries))) ≡ false → Valid with-summary
+  summary-valid f = record {
+    small = v .small;
+    few-summaries = few;
+    few-records = v .few-records;
+    summaries-wide = put-wide 36 nothing p l 36 (λ x h. refl) (λ x h. refl) (s .summaries) all-of (v .summaries-wide);
+    records-wide = v .records-wide;
+    summaries-ascend = put-ascending 36 nothing p l (s .summaries) (v .summaries-ascend);
+    records-ascend = v .records-ascend;
+    summaries-formed = put-all 36 nothing p (summaryFormed (s .convicted)) (s .summaries) (rw (append-nil p) g) (λ x h k. rw (h, append-nil p) g) (v .summaries-formed);
+    records-held = v .records-held;
+  }
+    where
+      few : length (putPlace 36 nothing p (s .summaries)) ≤ 256
+      few =
+          by (holds 36 p (s .summaries))
+          (λ h. rw (put-length-held 36 nothing p l (s .summaries) (v .summaries-ascend) h) (v .few-summaries))
+          (λ h. let n = leb-false 256 (length (s .summaries)) (sym (rw h refl) ∙ f) in let m = put-length 36 nothing p l (s .summaries) in omega arith)
+
+-- ---- a conviction
+
+engine-kept : (p : List ℕ) → engineOf (take 36 p ++ []) ≡ engineOf p
+engine-kept [] = refl
+engine-kept (x ∷ p) = refl
+
+model-kept : (p : List ℕ) → modelOf (take 36 p ++ []) ≡ modelOf p
+model-kept [] = refl
+model-kept (x ∷ []) = refl
+model-kept (x ∷ (y ∷ p)) = refl
+
+module _ (s : Register) (v : Valid s) (e : ℕ) (a : e ≤ 31) where
+  abbrev struck-records : List (List ℕ)
+  struck-records = keptPlaces 222 (signedByAnother e) (unsignedBy e) (s .records)
+
+  pub struck-signers : (r : List ℕ) → signersOf r (struck e s) ≡ withoutBit (signersOf r s) e
+  struck-signers r =
+      ap word (lookup-kept 222 (signedByAnother e) (unsignedBy e) 226 key-of (signers-wide e) r (s .records) (v .records-wide) (v .records-ascend))
+      ∙ by (holds 222 r (s .records))
+      (λ h. by (eqb (withoutBit (signersOf r s) e) 0)
+      (λ z. rw (h, ap word (rest s v r h), z, no-word) (sym (eqb-true (withoutBit (signersOf r s) e) 0 z)))
+      (λ z. rw (h, ap word (rest s v r h), z) (word-of-bytes 4 (withoutBit (signersOf r s) e) (without-small (signersOf r s) e (signers-small s v r)))))
+      (λ h. rw (h, no-word, unsigned s v r h) (sym (clear-zero e)))
+    where
+      clear-zero : (e : ℕ) → withoutBit 0 e ≡ 0
+      clear-zero e = let h = without-le 0 e in omega arith
+
+  kept-summary : (p : List ℕ) → summaryFormed (s .convicted) p ≡ true → ofAnother e p ≡ true → summaryFormed (withBit (s .convicted) e) (changed 36 (ofAnother e) nothing p) ≡ true
+  kept-summary p h o =
+      let x = engineOf p in
+      let n : eqb e x ≡ false = ne-eqb e x (λ z. eqb-false x e (not-true (eqb x e) o) (sym z)) in
+      rw (engine-kept p, model-kept p, bit-set (s .convicted) e x, n) h
+
+  kept-record : (p : List ℕ) → placeHeld (s .convicted) p ≡ true → signedByAnother e p ≡ true → placeHeld (withBit (s .convicted) e) (changed 222 (signedByAnother e) (unsignedBy e) p) ≡ true
+  kept-record p h o =
+      let u = place (s .convicted) p h in
+      held-place (take 222 p) (record-length (take 222 p) (u .formed)) (withoutBit (signersIn p) e) (without-small (signersIn p) e (place-small (s .convicted) p u))
+      (withBit (s .convicted) e) (u .formed) (not-true (eqb (withoutBit (signersIn p) e) 0) o) (without-apart (signersIn p) (s .convicted) e (u .free))
+
+  pub struck-valid : Valid (struck e s)
+  struck-valid = record {
+    small = with-small (s .convicted) e a (v .small);
+    few-summaries = le-trans (kept-length 36 (ofAnother e) nothing (s .summaries)) (v .few-summaries);
+    few-records = le-trans (kept-length 222 (signedByAnother e) (unsignedBy e) (s .records)) (v .few-records);
+    summaries-wide = kept-wide 36 (ofAnother e) nothing 36 all-of none-more (s .summaries) (v .summaries-wide);
+    records-wide = kept-wide 222 (signedByAnother e) (unsignedBy e) 226 key-of (signers-wide e) (s .records) (v .records-wide);
+    summaries-ascend = kept-ascending 36 (ofAnother e) nothing 36 all-of none-more (s .summaries) (v .summaries-wide) (v .summaries-ascend);
+    records-ascend = kept-ascending 222 (signedByAnother e) (unsignedBy e) 226 key-of (signers-wide e) (s .records) (v .records-wide) (v .records-ascend);
+    summaries-formed = kept-all 36 (ofAnother e) nothing (summaryFormed (s .convicted)) (summaryFormed (withBit (s .convicted) e)) kept-summary (s .summaries) (v .summaries-formed);
+    records-held = kept-all 222 (signedByAnother e) (unsignedBy e) (placeHeld (s .convicted)) (placeHeld (withBit (s .convicted) e)) kept-record (s .records) (v .records-held);
+  }

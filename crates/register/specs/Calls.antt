@@ -1,0 +1,111 @@
+-- Lists of calls from a fresh register, what remains of them, and when a call is refused as full (document 01, 'The register'). The claims about whole
+-- lists are stated with these and with the definitions that the contracts cite.
+use Prim.Native.Nat.{ℕ}
+use mathlib.Core.Bool.{Bool, true, false, cond, not, _&&_, _||_}
+use mathlib.Core.List.{List, [], _∷_}
+use lib.Dec.{leb, eqb}
+use lib.ListN.{length}
+use Rattle.octets.specs.Order.{same}
+use Rattle.record.specs.Layout.{maxModel}
+use Rattle.record.specs.Formed.{wellFormed}
+use Rattle.models.specs.Summary.{inputsSize, summaryOf}
+use Rattle.register.specs.Layout.{maxEngine, maxSummaries, maxRecords}
+use Rattle.register.specs.Register.{Register, After, reported, summarized, convictedOf}
+use Rattle.register.specs.Memory.{onMemory}
+
+-- report(engine, record), summary(engine, model, spec, inputs), conviction(engine)
+pub data Call : Type 0 where
+  report : ℕ → List ℕ → Call
+  summary : ℕ → ℕ → ℕ → List ℕ → Call
+  conviction : ℕ → Call
+
+abbrev pub act : Call → Register → After Register
+act (report e r) = reported e r
+act (summary e model spec inputs) = summarized e model spec inputs
+act (conviction e) = convictedOf e
+
+-- the bytes after the calls of a list, first to last
+unfoldable pub runs : List ℕ → List Call → List ℕ
+runs m [] = m
+runs m (c ∷ cs) = runs (onMemory (act c) m .left) cs
+
+-- no call of the list is answered 5
+unfoldable pub noneFull : List ℕ → List Call → Bool
+noneFull m [] = true
+noneFull m (c ∷ cs) = not (eqb (onMemory (act c) m .answer) 5) && noneFull (onMemory (act c) m .left) cs
+
+-- ---- what remains
+
+abbrev pub callEngine : Call → ℕ
+callEngine (report e r) = e
+callEngine (summary e model spec inputs) = e
+callEngine (conviction e) = e
+
+-- not malformed
+abbrev pub sound : Call → Bool
+sound (report e r) = leb e maxEngine && wellFormed r
+sound (summary e model spec inputs) = leb e maxEngine && (leb model maxModel && eqb (length inputs) inputsSize)
+sound (conviction e) = leb e maxEngine
+
+-- an engine is convicted somewhere in the list
+unfoldable pub convicts : List Call → ℕ → Bool
+convicts [] e = false
+convicts (report k r ∷ cs) e = convicts cs e
+convicts (summary k model spec inputs ∷ cs) e = convicts cs e
+convicts (conviction k ∷ cs) e = leb k maxEngine && eqb k e || convicts cs e
+
+-- the calls that are not malformed, of engines that are not struck
+unfoldable pub keep : (ℕ → Bool) → List Call → List Call
+keep struck [] = []
+keep struck (c ∷ cs) = cond (sound c && not (struck (callEngine c))) (c ∷ keep struck cs) (keep struck cs)
+
+-- "what remains once malformed calls and calls of engines convicted anywhere in the list are struck"
+abbrev pub remaining : List Call → List Call
+remaining cs = keep (convicts cs) cs
+
+-- ---- what a list has
+
+-- a report of a record by an engine
+unfoldable pub reports : List Call → ℕ → List ℕ → Bool
+reports [] e r = false
+reports (report k q ∷ cs) e r = eqb k e && same q r || reports cs e r
+reports (summary k model spec inputs ∷ cs) e r = reports cs e r
+reports (conviction k ∷ cs) e r = reports cs e r
+
+-- a summary, by its bytes
+unfoldable pub summarizes : List Call → List ℕ → Bool
+summarizes [] p = false
+summarizes (report k r ∷ cs) p = summarizes cs p
+summarizes (summary k model spec inputs ∷ cs) p = same (summaryOf k model spec inputs) p || summarizes cs p
+summarizes (conviction k ∷ cs) p = summarizes cs p
+
+-- ---- how many different records and summaries it has
+
+unfoldable pub recordsOf : List Call → List (List ℕ)
+recordsOf [] = []
+recordsOf (report e r ∷ cs) = r ∷ recordsOf cs
+recordsOf (summary e model spec inputs ∷ cs) = recordsOf cs
+recordsOf (conviction e ∷ cs) = recordsOf cs
+
+unfoldable pub summariesOf : List Call → List (List ℕ)
+summariesOf [] = []
+summariesOf (report e r ∷ cs) = summariesOf cs
+summariesOf (summary e model spec inputs ∷ cs) = summaryOf e model spec inputs ∷ summariesOf cs
+summariesOf (conviction e ∷ cs) = summariesOf cs
+
+unfoldable pub among : List ℕ → List (List ℕ) → Bool
+among x [] = false
+among x (y ∷ ys) = same y x || among x ys
+
+unfoldable pub different : List (List ℕ) → List (List ℕ)
+different [] = []
+different (x ∷ xs) = cond (among x xs) (different xs) (x ∷ different xs)
+
+-- at most 96 different records and 256 different summaries remain
+abbrev pub fits : List Call → Bool
+fits cs = leb (length (different (recordsOf (remaining cs)))) maxRecords && leb (length (different (summariesOf (remaining cs)))) maxSummaries
+
+-- so it is of each beginning of a list, which is given from its end
+unfoldable pub alwaysFits : List Call → Bool
+alwaysFits [] = true
+alwaysFits (c ∷ before) = fits (c ∷ before) && alwaysFits before
