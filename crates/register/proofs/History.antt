@@ -23,10 +23,11 @@ use Rattle.record.specs.Formed as R
 use Rattle.models.specs.Summary.{engineOf, modelOf, summaryOf}
 use Rattle.register.specs.Register.{Register, After, after, signedBy, nothing, ofAnother, struck}
 use Rattle.register.specs.Memory.{summaryFormed}
-use Rattle.register.specs.Calls.{Call, report, summary, conviction, act, sound, convicts, reports, summarizes}
+use Rattle.register.specs.Calls.{Call, report, summary, conviction, act, sound, convicts, reports, summariesOf, among}
+use Rattle.register.specs.Claims.{signersOf}
 use Rattle.register.proofs.Striking.{all-of, none-more}
 use Rattle.register.proofs.Valid.{Valid, placeHeld}
-use Rattle.register.proofs.Steps.{signersOf, with-report, report-signers, report-valid, with-summary, summary-valid, summary-length, summary-longer, nothing-follows, struck-signers, struck-valid}
+use Rattle.register.proofs.Steps.{with-report, report-signers, report-valid, with-summary, summary-valid, summary-length, summary-longer, nothing-follows, struck-signers, struck-valid}
 
 abbrev pub start : Register
 start = record { convicted = 0; summaries = []; records = [] }
@@ -111,7 +112,7 @@ pub record Sum (h : List Call) (s : Register) : Type 0 where
   pub valid : Valid s
   pub struck-off : (e : ℕ) → bit (s .convicted) e ≡ convicts h e
   pub signed-by : (e : ℕ) (r : List ℕ) → bit (signersOf r s) e ≡ (reports h e r && (sound (report e r) && not (convicts h e)))
-  pub held : (p : List ℕ) → holds 36 p (s .summaries) ≡ (summarizes h p && (soundSummary p && not (convicts h (engineOf p))))
+  pub held : (p : List ℕ) → holds 36 p (s .summaries) ≡ (among p (summariesOf h) && (soundSummary p && not (convicts h (engineOf p))))
 
 -- ---- one report
 
@@ -125,7 +126,7 @@ module _ (k : ℕ) (q : List ℕ) (h : List Call) (s : Register) (u : Sum h s) w
       (λ (z : not (bit (s .convicted) k) ≡ false). and-none (sound (report e r)) (not (convicts h e)) (rw (sym i, sym (u .struck-off k)) z)) w
 
   report-moot : (sound (report k q) ≡ false) ⊎ (not (bit (s .convicted) k) ≡ false) → Sum (report k q ∷ h) s
-  unfolding convicts reports summarizes
+  unfolding convicts reports summariesOf among
   report-moot w = record {
     valid = u .valid;
     struck-off = u .struck-off;
@@ -154,7 +155,7 @@ module _ (k : ℕ) (q : List ℕ) (h : List Call) (s : Register) (u : Sum h s) w
         (λ x. rw (x, and-false) refl)
 
     report-done : (not (holds 222 q (s .records)) && leb 96 (length (s .records))) ≡ false → Sum (report k q ∷ h) (with-report s (u .valid) k q a b)
-    unfolding convicts reports summarizes
+    unfolding convicts reports summariesOf among
     report-done f = record {
       valid = report-valid s (u .valid) k q a b c f;
       struck-off = u .struck-off;
@@ -185,12 +186,12 @@ module _ (k model spec : ℕ) (inputs : List ℕ) (h : List Call) (s : Register)
   q = summaryOf k model spec inputs
 
   summary-moot : (sound (summary k model spec inputs) ≡ false) ⊎ (not (bit (s .convicted) k) ≡ false) → Sum (summary k model spec inputs ∷ h) s
-  unfolding convicts reports summarizes
+  unfolding convicts reports summariesOf among
   summary-moot w = record {
     valid = u .valid;
     struck-off = u .struck-off;
     signed-by = u .signed-by;
-    held = λ p. u .held p ∙ drop-or (same q p) (summarizes h p) (soundSummary p && not (convicts h (engineOf p))) (λ a. gone p (same-eq q p a) w);
+    held = λ p. u .held p ∙ drop-or (same q p) (among p (summariesOf h)) (soundSummary p && not (convicts h (engineOf p))) (λ a. gone p (same-eq q p a) w);
   }
     where
       gone : (p : List ℕ) → q ≡ p → (sound (summary k model spec inputs) ≡ false) ⊎ (not (bit (s .convicted) k) ≡ false) → (soundSummary p && not (convicts h (engineOf p))) ≡ false
@@ -210,12 +211,12 @@ module _ (k model spec : ℕ) (inputs : List ℕ) (h : List Call) (s : Register)
         rw (x, y, c) refl
 
     summary-done : (not (holds 36 q (s .summaries)) && leb 256 (length (s .summaries))) ≡ false → Sum (summary k model spec inputs ∷ h) (with-summary s (u .valid) q long formed)
-    unfolding convicts reports summarizes
+    unfolding convicts reports summariesOf among
     summary-done f = record {
       valid = summary-valid s (u .valid) q long formed f;
       struck-off = u .struck-off;
       signed-by = u .signed-by;
-      held = λ p. holds-put 36 nothing q long p (s .summaries) ∙ rw (u .held p) (keep-or (same q p) (summarizes h p) (soundSummary p && not (convicts h (engineOf p))) (λ a. stays p (same-eq q p a)));
+      held = λ p. holds-put 36 nothing q long p (s .summaries) ∙ rw (u .held p) (keep-or (same q p) (among p (summariesOf h)) (soundSummary p && not (convicts h (engineOf p))) (λ a. stays p (same-eq q p a)));
     }
       where
         stays : (p : List ℕ) → q ≡ p → (soundSummary p && not (convicts h (engineOf p))) ≡ true
@@ -240,7 +241,7 @@ module _ (k : ℕ) (h : List Call) (s : Register) (u : Sum h s) where
       empty = nothing-follows p (s .summaries) (v .summaries-wide)
 
   conviction-step : Sum (conviction k ∷ h) (act (conviction k) s .left)
-  unfolding convicts reports summarizes
+  unfolding convicts reports summariesOf among
   conviction-step =
       by (ltb 31 k)
       (λ a. let b = lt-leb k 31 (ltb-true 31 k a) in rw a (record { valid = v; struck-off = λ e. rw b (u .struck-off e); signed-by = λ e r. rw b (u .signed-by e r); held = λ p. rw b (u .held p) }))
@@ -249,7 +250,7 @@ module _ (k : ℕ) (h : List Call) (s : Register) (u : Sum h s) where
         struck-off = λ e. rw b (bit-set (s .convicted) k e ∙ rw (u .struck-off e) refl);
         signed-by = λ e r. rw b (ap (λ (n : ℕ). bit n e) (struck-signers s v k (ltb-false 31 k a) r) ∙ bit-clear (signersOf r s) k e
             ∙ rw (u .signed-by e r) (struck-from (eqb k e) (reports h e r) (sound (report e r)) (convicts h e)));
-        held = λ p. rw b (struck-holds p ∙ rw (u .held p) (struck-from (eqb k (engineOf p)) (summarizes h p) (soundSummary p) (convicts h (engineOf p))));
+        held = λ p. rw b (struck-holds p ∙ rw (u .held p) (struck-from (eqb k (engineOf p)) (among p (summariesOf h)) (soundSummary p) (convicts h (engineOf p))));
       }))
 
 -- ---- a history
@@ -276,7 +277,7 @@ start-valid = record {
 pub history : (h : List Call) → roomy h ≡ true → Sum h (run h)
 unfolding run roomy
 history [] g =
-    unfold convicts reports summarizes lookup word holds in record { valid = start-valid; struck-off = bit-zero; signed-by = λ e r. bit-zero e; held = λ p. refl }
+    unfold convicts reports summariesOf among lookup word holds in record { valid = start-valid; struck-off = bit-zero; signed-by = λ e r. bit-zero e; held = λ p. refl }
 history (report k r ∷ h) g =
     let s = run h in
     let u = history h (and-right (not (eqb (act (report k r) s .answer) 5)) (roomy h) g) in

@@ -8,3 +8,4 @@ pub mod Struck
 pub mod Valid
 pub mod Steps
 pub mod History
+pub mod Whole

@@ -26,6 +26,7 @@ use Rattle.record.specs.Formed as R
 use Rattle.models.specs.Summary.{engineOf, modelOf, summaryOf}
 use Rattle.register.specs.Register.{Register, signersIn, signedBy, unsignedBy, nothing, ofAnother, signedByAnother, struck}
 use Rattle.register.specs.Memory.{summaryFormed, placeFormed}
+use Rattle.register.specs.Claims.{signersOf}
 use Rattle.register.proofs.Striking.{all-of, none-more, key-of, signers-wide}
 use Rattle.register.proofs.Valid.{Valid, placeHeld, all-weaken}
 
@@ -131,10 +132,6 @@ held-long k w key (p ∷ ps) m x h =
     by (same (take k p) key)
     (λ s. ap length (sym (same-eq (take k p) key s)) ∙ length-take-le k p (rw (x .0) m))
     (λ s. held-long k w key ps m (x .1) (sym (holds-later k key p ps s) ∙ h))
-
--- the signers of a record: none where it is not held
-abbrev pub signersOf : List ℕ → Register → ℕ
-signersOf r s = word (lookup 222 r (s .records))
 
 module _ (s : Register) (v : Valid s) (r : List ℕ) where
   pub unheld : holds 222 r (s .records) ≡ false → lookup 222 r (s .records) ≡ []

@@ -72,14 +72,7 @@ reports (report k q ∷ cs) e r = eqb k e && same q r || reports cs e r
 reports (summary k model spec inputs ∷ cs) e r = reports cs e r
 reports (conviction k ∷ cs) e r = reports cs e r
 
--- a summary, by its bytes
-unfoldable pub summarizes : List Call → List ℕ → Bool
-summarizes [] p = false
-summarizes (report k r ∷ cs) p = summarizes cs p
-summarizes (summary k model spec inputs ∷ cs) p = same (summaryOf k model spec inputs) p || summarizes cs p
-summarizes (conviction k ∷ cs) p = summarizes cs p
-
--- ---- how many different records and summaries it has
+-- ---- the records and summaries of a list, and how many of them are different
 
 unfoldable pub recordsOf : List Call → List (List ℕ)
 recordsOf [] = []

@@ -3,3 +3,4 @@ pub mod Register
 pub mod Memory
 pub mod Strikes
 pub mod Calls
+pub mod Claims
