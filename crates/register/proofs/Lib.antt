@@ -9,3 +9,4 @@ pub mod Valid
 pub mod Steps
 pub mod History
 pub mod Whole
+pub mod Room
