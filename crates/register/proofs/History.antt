@@ -282,17 +282,17 @@ history (report k r ∷ h) g =
     let s = run h in
     let u = history h (and-right (not (eqb (act (report k r) s .answer) 5)) (roomy h) g) in
     elim (report-way s k r) [
-      refused e n w ↦ rw e (report-moot k r h s u w)
-    | filled e l w c f ↦ absurd (full-out (act (report k r) s .answer) (roomy h) e g)
-    | settled e n w c f ↦ rw e (report-done k r h s u w (free-of (bit (s .convicted) k) c) f)
+      | refused e n w ↦ rw e (report-moot k r h s u w)
+      | filled e l w c f ↦ absurd (full-out (act (report k r) s .answer) (roomy h) e g)
+      | settled e n w c f ↦ rw e (report-done k r h s u w (free-of (bit (s .convicted) k) c) f)
     ]
 history (summary k model spec inputs ∷ h) g =
     let s = run h in
     let u = history h (and-right (not (eqb (act (summary k model spec inputs) s .answer) 5)) (roomy h) g) in
     elim (summary-way s k model spec inputs) [
-      refused e n w ↦ rw e (summary-moot k model spec inputs h s u w)
-    | filled e l w c f ↦ absurd (full-out (act (summary k model spec inputs) s .answer) (roomy h) e g)
-    | settled e n w c f ↦ rw e (summary-done k model spec inputs h s u w (free-of (bit (s .convicted) k) c) f)
+      | refused e n w ↦ rw e (summary-moot k model spec inputs h s u w)
+      | filled e l w c f ↦ absurd (full-out (act (summary k model spec inputs) s .answer) (roomy h) e g)
+      | settled e n w c f ↦ rw e (summary-done k model spec inputs h s u w (free-of (bit (s .convicted) k) c) f)
     ]
 history (conviction k ∷ h) g =
     conviction-step k h (run h) (history h (and-right (not (eqb (act (conviction k) (run h) .answer) 5)) (roomy h) g))

@@ -181,15 +181,15 @@ fits-here : (c : Call) (h : List Call) → roomy h ≡ true → not (eqb (act c 
 fits-here (conviction k) h g = here (conviction k) h g (conviction-roomy k (run h))
 fits-here (report k q) h g =
     elim (report-way (run h) k q) [
-      refused e n w ↦ here (report k q) h g n
-    | filled e l w c f ↦ rw e (sym (over-records h (run h) (history h g) k q w c f))
-    | settled e n w c f ↦ here (report k q) h g n
+      | refused e n w ↦ here (report k q) h g n
+      | filled e l w c f ↦ rw e (sym (over-records h (run h) (history h g) k q w c f))
+      | settled e n w c f ↦ here (report k q) h g n
     ]
 fits-here (summary k model spec inputs) h g =
     elim (summary-way (run h) k model spec inputs) [
-      refused e n w ↦ here (summary k model spec inputs) h g n
-    | filled e l w c f ↦ rw e (sym (over-summaries h (run h) (history h g) k model spec inputs w c f))
-    | settled e n w c f ↦ here (summary k model spec inputs) h g n
+      | refused e n w ↦ here (summary k model spec inputs) h g n
+      | filled e l w c f ↦ rw e (sym (over-summaries h (run h) (history h g) k model spec inputs w c f))
+      | settled e n w c f ↦ here (summary k model spec inputs) h g n
     ]
 
 roomy-fits : (h : List Call) → roomy h ≡ alwaysFits h

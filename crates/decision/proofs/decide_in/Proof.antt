@@ -1,0 +1,34 @@
+-- `decide_in` meets its contract.
+use native.Mathlib.Omega.{arith}
+use borrow.Author.Needs.{needs}
+use Rattle.decision.proofs.decide_in.Statement.{statement}
+use Rattle.decision.proofs.decide_in.Tie as tie
+
+prepare-all-requires : tie.Need-prepare-all-requires
+prepare-all-requires c κs = search needs
+
+code-all-requires : tie.Need-code-all-requires
+code-all-requires c κs = search needs
+
+decide-all-requires : tie.Need-decide-all-requires
+decide-all-requires c κs = let w = c .before .before .before .before .before .before .before .before .before .before .before .before .before .before .pre .0 in let l = w .long in (w .few, record { long = omega arith; coded = c .before .before .before .before .code-all .ensures }, c .before .before .before .before .before .before .before .before .before .prepare-all .ensures)
+
+same-length : tie.Need-same-length
+same-length c = search needs
+
+same-length-2 : tie.Need-same-length-2
+same-length-2 c = search needs
+
+returns : tie.Need-returns
+returns c = search needs
+
+pub decide-in-spec : {M : Type 1} → statement M
+decide-in-spec =
+    tie.close
+    (tie.spec
+    prepare-all-requires
+    code-all-requires
+    decide-all-requires
+    same-length
+    same-length-2
+    returns)

@@ -1,0 +1,31 @@
+-- `better_rank` meets its contract.
+use mathlib.Core.Path.{refl}
+use native.Mathlib.Omega.{arith}
+use borrow.Author.Tests.{eq-eqb, ne-eqb}
+use Rattle.ranges.specs.Range.{better}
+use Rattle.decision.proofs.rule.better_rank.Statement.{statement}
+use Rattle.decision.proofs.rule.better_rank.Tie as tie
+
+returns : tie.Need-returns
+unfolding better
+returns c = rw (eq-eqb _ _ (c .if1 .taken)) refl
+
+ahead-requires : tie.Need-ahead-requires
+ahead-requires c κs = let p = c .before .before .pre in let b = p .2 .below (c .if1 .left) in (omega arith, omega arith)
+
+returns-2 : tie.Need-returns-2
+unfolding better
+returns-2 c = let a = c .before .before in rw (ne-eqb _ _ (a .if1 .left), ← c .before .ahead .ensures, c .if2 .taken) refl
+
+returns-3 : tie.Need-returns-3
+unfolding better
+returns-3 c = let a = c .before .before in rw (ne-eqb _ _ (a .if1 .left), ← c .before .ahead .ensures, c .if2 .left) refl
+
+pub better-rank-spec : {M : Type 1} → statement M
+better-rank-spec =
+    tie.close
+    (tie.spec
+    returns
+    ahead-requires
+    returns-2
+    returns-3)

@@ -1,0 +1,30 @@
+-- `blamed` meets its contract.
+use mathlib.Core.Path.{refl}
+use native.Mathlib.Omega.{arith}
+use borrow.Author.Needs.{needs}
+use Rattle.ranges.specs.Tables.{cached-at}
+use Rattle.decision.specs.Related.{rel}
+use Rattle.decision.proofs.Tests.{by-test}
+use Rattle.decision.proofs.rule.blamed.Statement.{statement}
+use Rattle.decision.proofs.rule.blamed.Tie as tie
+
+disagrees-requires : tie.Need-disagrees-requires
+disagrees-requires c κs = search needs
+
+element-copy-out-result : tie.Need-element-copy-out-result
+element-copy-out-result c = search needs
+
+returns : tie.Need-returns
+returns c = let a = c .before .before .before .before .before in let p = a .pre in rw (← c .before .before .disagrees .ensures, c .before .if1 .taken, cached-at _ _ _ _ _ (p .4) (p .0)) (by-test (rel (a .args .s .now) (a .args .n)) (omega arith) (a .args .j))
+
+returns-2 : tie.Need-returns-2
+returns-2 c = rw (← c .before .disagrees .ensures, c .if1 .left) refl
+
+pub blamed-spec : {M : Type 1} → statement M
+blamed-spec =
+    tie.close
+    (tie.spec
+    disagrees-requires
+    element-copy-out-result
+    returns
+    returns-2)

@@ -1,0 +1,51 @@
+-- `covered` meets its contract.
+use Prim.Native.Nat.{_-_, _≤_}
+use mathlib.Core.Path.{_≡_}
+use native.Mathlib.Omega.{arith}
+use borrow.Author.Needs.{needs}
+use Rattle.ranges.specs.Range.{any, anys}
+use Rattle.decision.specs.Decide.{covers}
+use Rattle.decision.specs.Related.{rel}
+use Rattle.decision.proofs.rule.covered.Statement.{statement}
+use Rattle.decision.proofs.rule.covered.Tie as tie
+
+abbrev Inv-loop : tie.InvT-loop
+Inv-loop s codes n rf i k₀ k = (k ≤ n) × (any (covers (rel s n) i) 0 n ≡ any (covers (rel s n) i) k (n - k))
+
+abbrev μ-loop : tie.MeasureT-loop
+μ-loop s codes n rf i k₀ k = n - k
+
+loop-holds : tie.Need-loop-holds Inv-loop μ-loop
+loop-holds c = (omega arith, search anys)
+
+covers-at-requires : tie.Need-covers-at-requires Inv-loop μ-loop
+covers-at-requires c κs = search needs
+
+returns : tie.Need-returns Inv-loop μ-loop
+returns c = search anys
+
+add-k : tie.Need-add-k Inv-loop μ-loop
+add-k c = search needs
+
+loop-less : tie.Need-loop-less Inv-loop μ-loop
+loop-less c = search needs
+
+loop-again : tie.Need-loop-again Inv-loop μ-loop
+loop-again c = (omega arith, search anys)
+
+returns-2 : tie.Need-returns-2 Inv-loop μ-loop
+returns-2 c = search anys
+
+pub covered-spec : {M : Type 1} → statement M
+covered-spec =
+    tie.close
+    (tie.spec
+    Inv-loop
+    μ-loop
+    loop-holds
+    covers-at-requires
+    returns
+    add-k
+    loop-less
+    loop-again
+    returns-2)

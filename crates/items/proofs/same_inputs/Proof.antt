@@ -1,0 +1,67 @@
+-- `same_inputs` meets its contract.
+use Rattle.items.proofs.Pairing.{width}
+use Prim.Native.Nat.{_+_, _*_}
+use borrow.Author.Needs.{needs}
+use Rattle.items.proofs.same_inputs.Statement.{statement}
+use Rattle.items.proofs.same_inputs.Tie as tie
+
+mul-a : tie.Need-mul-a
+mul-a c = search needs
+
+add-a : tie.Need-add-a
+add-a c = search needs
+
+mul-b : tie.Need-mul-b
+mul-b c = search needs
+
+add-b : tie.Need-add-b
+add-b c = search needs
+
+add-a-end : tie.Need-add-a-end
+add-a-end c = search needs
+
+add-b-end : tie.Need-add-b-end
+add-b-end c = search needs
+
+sub-equal : tie.Need-sub-equal
+sub-equal c = search needs
+
+part-equal-start : tie.Need-part-equal-start
+part-equal-start c = search needs
+
+part-equal-end : tie.Need-part-equal-end
+part-equal-end c = search needs
+
+sub-equal-2 : tie.Need-sub-equal-2
+sub-equal-2 c = search needs
+
+part-equal-start-2 : tie.Need-part-equal-start-2
+part-equal-start-2 c = search needs
+
+part-equal-end-2 : tie.Need-part-equal-end-2
+part-equal-end-2 c = search needs
+
+equal-requires : tie.Need-equal-requires
+equal-requires c κs = search needs
+
+returns : tie.Need-returns
+returns c = let a = c .before .before .before .before .args in rw (c .equal .ensures, width 32 (a .i * 297 + 222), width 32 (a .j * 297 + 222))
+
+pub same-inputs-spec : {M : Type 1} → statement M
+same-inputs-spec =
+    tie.close
+    (tie.spec
+    mul-a
+    add-a
+    mul-b
+    add-b
+    add-a-end
+    add-b-end
+    sub-equal
+    part-equal-start
+    part-equal-end
+    sub-equal-2
+    part-equal-start-2
+    part-equal-end-2
+    equal-requires
+    returns)
