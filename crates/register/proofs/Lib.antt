@@ -10,3 +10,4 @@ pub mod Steps
 pub mod History
 pub mod Whole
 pub mod Room
+pub mod Kept
