@@ -1,0 +1,194 @@
+//! Times the static library beside others in one run and prints the ratios.
+
+#[path = "../oracle/driver/binding.rs"]
+mod binding;
+#[path = "../oracle/driver/random.rs"]
+mod random;
+
+use oracle::decide::{SIZE, candidates};
+use oracle::{Claim, Record};
+use random::Random;
+use std::hint::black_box;
+use std::time::Instant;
+
+unsafe extern "C" {
+    /// libb2's one-call form.
+    fn blake2s(out: *mut u8, input: *const u8, key: *const u8, outlen: usize, inlen: usize, keylen: usize) -> i32;
+}
+
+/// How long one batch should take, and how many batches of each side are timed.
+const BATCH_NS: f64 = 4e6;
+const ROUNDS: usize = 25;
+
+fn batch(times: u64, work: &mut dyn FnMut()) -> f64 {
+    let start = Instant::now();
+    for _ in 0..times {
+        work();
+    }
+    start.elapsed().as_nanos() as f64 / times as f64
+}
+
+/// How often to call so that a batch is long enough.
+fn enough(work: &mut dyn FnMut()) -> u64 {
+    let mut times = 1;
+    loop {
+        let each = batch(times, work);
+        if each * times as f64 > BATCH_NS / 8.0 {
+            return (BATCH_NS / each).ceil() as u64;
+        }
+        times *= 2;
+    }
+}
+
+fn median(mut all: Vec<f64>) -> f64 {
+    all.sort_by(f64::total_cmp);
+    all[all.len() / 2]
+}
+
+fn least(all: &[f64]) -> f64 {
+    all.iter().copied().fold(f64::INFINITY, f64::min)
+}
+
+/// The two sides take turns, so that what else the machine does falls on both.
+fn race(ours: &mut dyn FnMut(), theirs: &mut dyn FnMut()) -> (Vec<f64>, Vec<f64>) {
+    let (a, b) = (enough(ours), enough(theirs));
+    (0..ROUNDS).map(|_| (batch(a, ours), batch(b, theirs))).unzip()
+}
+
+/// A line of the table; `per` calls are in one piece of work.
+fn line(what: &str, against: &str, per: f64, has: bool, ours: &mut dyn FnMut(), theirs: &mut dyn FnMut()) {
+    if !has {
+        let times = enough(theirs);
+        let all: Vec<f64> = (0..ROUNDS).map(|_| batch(times, theirs)).collect();
+        return println!("| {what} | {against} | not in the library | {:.1} | - | - |", least(&all) / per);
+    }
+    let (a, b) = race(ours, theirs);
+    let paired = median(a.iter().zip(&b).map(|(x, y)| x / y).collect());
+    let (x, y) = (least(&a), least(&b));
+    println!("| {what} | {against} | {:.1} | {:.1} | {:.2} | {paired:.2} |", x / per, y / per, x / y);
+}
+
+fn hash(random: &mut Random, length: usize) {
+    let input = random.bytes(length);
+    let mut ours = || {
+        black_box(binding::blake2s256(black_box(&input)));
+    };
+    let mut theirs = || {
+        let mut out = [0u8; 32];
+        let from = black_box(&input);
+        unsafe { blake2s(out.as_mut_ptr(), from.as_ptr(), std::ptr::null(), 32, from.len(), 0) };
+        black_box(out);
+    };
+    line(&format!("hash, {length} bytes"), "libb2", 1.0, binding::HASH, &mut ours, &mut theirs);
+}
+
+fn root(random: &mut Random) {
+    let values: Vec<f64> = (0..1024).map(|_| (random.unit() + 1.0) * 10f64.powi(random.below(12) as i32 - 4)).collect();
+    let mut ours = || {
+        for x in &values {
+            black_box(binding::root(black_box(*x)));
+        }
+    };
+    let mut theirs = || {
+        for x in &values {
+            black_box(black_box(*x).sqrt());
+        }
+    };
+    line("root", "the machine's sqrt", 1024.0, binding::ROOT, &mut ours, &mut theirs);
+}
+
+fn pairs(random: &mut Random) -> Vec<(Claim, Claim)> {
+    let one = |random: &mut Random| {
+        let lat = (random.below(1_200_000_000) as i64 - 600_000_000) as i32;
+        let lon = (random.below(3_600_000_000) as i64 - 1_800_000_000) as i32;
+        let smaller = Claim { lat, lon, height: Some(1_500_000), covariance: [100.0, 10.0, 5.0, 90.0, -7.0, 400.0] };
+        let near = random.below(2_000) as i32 - 1_000;
+        (smaller, Claim { lat: lat + near, lon: lon - near, height: Some(1_510_000), ..smaller })
+    };
+    (0..256).map(|_| one(random)).collect()
+}
+
+fn agreement(random: &mut Random) {
+    let pairs = pairs(random);
+    let mut ours = || {
+        for (a, b) in &pairs {
+            black_box(binding::agreement(black_box(a), black_box(b)));
+        }
+    };
+    let mut theirs = || {
+        for (a, b) in &pairs {
+            black_box(oracle::agreement(black_box(a), black_box(b)));
+        }
+    };
+    line("agreement", "the Rust, with the sine of 01", 256.0, binding::AGREEMENT, &mut ours, &mut theirs);
+    #[cfg(real_libm)]
+    {
+        let mut real = || {
+            for (a, b) in &pairs {
+                black_box(oracle::real::agreement(black_box(a), black_box(b)));
+            }
+        };
+        line("agreement", "the Rust, with the real libm", 256.0, binding::AGREEMENT, &mut ours, &mut real);
+    }
+}
+
+/// Nested items: the first has one tag, the next two, and so on to 16, then again from one.
+fn nested(random: &mut Random, n: usize) -> Vec<u8> {
+    let mut bytes = Vec::new();
+    for i in 0..n {
+        let count = i % 16 + 1;
+        let record = Record {
+            time: 1_000,
+            lat: 480_000_000 + random.below(200) as i32,
+            lon: 110_000_000 + random.below(200) as i32,
+            height: Some(1_500_000 + random.below(5_000) as i32),
+            message: vec![0x8d, 1, 2, 3, 4, 5, 6, 7, 8, 9, 10, 11, 12, 13],
+            tags: (1..=count as u64).collect(),
+            used: ((1u32 << count) - 1) as u16,
+            models: vec![5],
+            spec: 3,
+            covariance: [100.0, 10.0, 5.0, 90.0, -7.0, 400.0],
+        };
+        let mut item = [0u8; SIZE];
+        item[..222].copy_from_slice(&record.write());
+        item[254..286].copy_from_slice(&random.bytes(32));
+        item[294] = 1;
+        bytes.extend_from_slice(&item);
+    }
+    bytes
+}
+
+fn decide(random: &mut Random, n: usize) {
+    let bytes = nested(random, n);
+    let ready = candidates(&bytes).expect("well-formed items");
+    let mut answer = [0u8; binding::ANSWER];
+    let mut ours = || {
+        black_box(binding::decide_into(black_box(&bytes), &mut answer));
+        black_box(&answer);
+    };
+    let mut theirs = || {
+        black_box(solver::standing::decide(black_box(&ready)));
+    };
+    let mut from_bytes = || {
+        let ready = candidates(black_box(&bytes)).unwrap();
+        black_box(solver::standing::decide(&ready));
+    };
+    let what = format!("decide, {n} items");
+    line(&what, "the Rust, items in structs", 1.0, binding::DECIDE, &mut ours, &mut theirs);
+    line(&what, "the Rust, items read from the same bytes", 1.0, binding::DECIDE, &mut ours, &mut from_bytes);
+}
+
+fn main() {
+    let mut random = Random(7);
+    println!("Nanoseconds are the least of {ROUNDS} batches; the last column is the median of the batches' own ratios.\n");
+    println!("| what | against | ours, ns | theirs, ns | ours / theirs | median |");
+    println!("|---|---|---|---|---|---|");
+    for length in [86, 144, 4096] {
+        hash(&mut random, length);
+    }
+    root(&mut random);
+    agreement(&mut random);
+    for n in [2, 8, 32, 96] {
+        decide(&mut random, n);
+    }
+}

@@ -1,0 +1,14 @@
+# Sets library_flags: what rustc needs to link the static library, and a cfg for each function that it has. Sourced.
+library=${TOASTLAGOON_LIB:-$root/target/staticlib/libtoastlagoon.a}
+library_flags=""
+if [ -f "$library" ]; then
+    for name in tl_blake2s256 tl_root tl_horizontal_sigma tl_agreement tl_decide; do
+        if nm "$library" 2>/dev/null | grep -q " T $name\$"; then library_flags="$library_flags --cfg has_$name"; fi
+    done
+    if nm "$library" 2>/dev/null | grep -q " T tl_board\$"; then library_flags="$library_flags --cfg has_register"; fi
+    if nm "$library" 2>/dev/null | grep -q " T tl_track_report\$"; then library_flags="$library_flags --cfg has_track"; fi
+    library_flags="$library_flags -C link-arg=$library"
+else
+    echo "no static library at $library (run 'rt staticlib toastlagoon', or set TOASTLAGOON_LIB): the Rust runs alone"
+fi
+if [ -f "$out/libsolver_real.rlib" ]; then library_flags="$library_flags --cfg real_libm"; fi

@@ -1,0 +1,165 @@
+//! The board: what a register's counting records come to.
+
+use crate::register::Register;
+use oracle::decide::Decision;
+use oracle::{Record, blake2s256};
+
+pub const ROOM: usize = 16_384;
+const SHOWN: usize = 8;
+
+/// A representative: the first record, by bytes, of its identity.
+struct Fix {
+    bytes: [u8; 222],
+    record: Record,
+    inputs: [u8; 32],
+    identity: [u8; 32],
+    signers: u32,
+}
+
+/// A model's spec and inputs, if it has a summary and all its summaries have the same.
+fn agreed(register: &Register, model: u8) -> Option<&[u8]> {
+    let mut said = register.summaries.iter().filter(|s| s[1] == model).map(|s| &s[2..]);
+    let first = said.next()?;
+    said.all(|other| other == first).then_some(first)
+}
+
+/// The model inputs of a record, if it counts.
+fn model_inputs(register: &Register, record: &Record) -> Option<[u8; 32]> {
+    let mut bytes = b"tally pair model cited inputs\0".to_vec();
+    for &model in &record.models {
+        let (spec, inputs) = agreed(register, model)?.split_at(2);
+        if spec != record.spec.to_le_bytes() {
+            return None;
+        }
+        bytes.extend_from_slice(inputs);
+    }
+    Some(blake2s256(&bytes))
+}
+
+fn identity(record: &Record, inputs: &[u8; 32]) -> [u8; 32] {
+    let mut set = vec![record.message.len() as u8];
+    set.extend_from_slice(&record.message);
+    set.push(record.tags.len() as u8);
+    for tag in &record.tags {
+        set.extend_from_slice(&tag.to_le_bytes());
+    }
+    let mut bytes = b"tally merge input set\0".to_vec();
+    bytes.extend_from_slice(&blake2s256(&set));
+    bytes.extend_from_slice(inputs);
+    blake2s256(&bytes)
+}
+
+/// The representatives, ascending by identity. Records ascend by bytes, so the first come represents.
+fn representatives(register: &Register) -> Vec<Fix> {
+    let mut fixes: Vec<Fix> = Vec::new();
+    for (bytes, signers) in &register.records {
+        let record = Record::read(bytes).expect("a well-formed record");
+        let Some(inputs) = model_inputs(register, &record) else {
+            continue;
+        };
+        let identity = identity(&record, &inputs);
+        match fixes.iter_mut().find(|fix| fix.identity == identity) {
+            Some(fix) => fix.signers |= signers,
+            None => fixes.push(Fix { bytes: *bytes, record, inputs, identity, signers: *signers }),
+        }
+    }
+    fixes.sort_by_key(|fix| fix.identity);
+    fixes
+}
+
+fn linked(a: &Record, b: &Record) -> bool {
+    a.message == b.message && a.tags.iter().any(|tag| b.tags.contains(tag))
+}
+
+/// Everything linked through any chain, each transmission ascending by identity.
+fn transmissions(fixes: &[Fix]) -> Vec<Vec<usize>> {
+    let mut left: Vec<usize> = (0..fixes.len()).collect();
+    let mut all = Vec::new();
+    while !left.is_empty() {
+        let mut one = vec![left.remove(0)];
+        let mut at = 0;
+        while at < one.len() {
+            let from = &fixes[one[at]].record;
+            let (near, far): (Vec<usize>, Vec<usize>) = left.iter().partition(|&&i| linked(from, &fixes[i].record));
+            one.extend(near);
+            left = far;
+            at += 1;
+        }
+        one.sort();
+        all.push(one);
+    }
+    all
+}
+
+fn decided(fixes: &[Fix], one: &[usize]) -> Decision {
+    let mut items = Vec::new();
+    for &i in one {
+        let fix = &fixes[i];
+        items.extend_from_slice(&fix.bytes);
+        items.extend_from_slice(&fix.inputs);
+        items.extend_from_slice(&fix.identity);
+        items.extend_from_slice(&[0; 8]);
+        items.extend_from_slice(&[1, 0, 0]);
+    }
+    oracle::decide::decide(&items).expect("items that can be decided")
+}
+
+/// Whole metres, half away from zero.
+pub fn metres(height: i32) -> i64 {
+    let mm = i64::from(height);
+    (mm.abs() + 500) / 1000 * mm.signum()
+}
+
+fn line(role: &str, fix: &Fix) -> String {
+    let r = &fix.record;
+    let height = r.height.map_or("none".to_string(), |h| metres(h).to_string());
+    format!(
+        "role={role} time={} lat={} lon={} height={height} weight={} signers={:08x}",
+        r.time,
+        r.lat,
+        r.lon,
+        r.used.count_ones(),
+        fix.signers
+    )
+}
+
+/// The board of a well-formed register.
+pub fn text(register: &Register) -> String {
+    let fixes = representatives(register);
+    let mut decisions: Vec<(Vec<usize>, Decision)> =
+        transmissions(&fixes).into_iter().map(|one| (one.clone(), decided(&fixes, &one))).collect();
+    decisions.sort_by_key(|(one, d)| {
+        let first = &fixes[one[usize::from(d.ranked[0])]];
+        (first.record.time, first.identity)
+    });
+    let skipped = decisions.len().saturating_sub(SHOWN);
+    let mut out = String::new();
+    for (n, (one, d)) in decisions.iter().skip(skipped).enumerate() {
+        let fix = |at: u8| &fixes[one[usize::from(at)]];
+        let counts = (d.ranked.len(), d.dominated.len(), d.refusals.len());
+        out += &format!("transmission={} ranked={} dominated={} refused={}\n", n + 1, counts.0, counts.1, counts.2);
+        for &at in &d.ranked {
+            out += &format!("{}\n", line("ranked", fix(at)));
+        }
+        for &at in &d.dominated {
+            out += &format!("{}\n", line("dominated", fix(at)));
+        }
+        for refusal in &d.refusals {
+            out += &format!("{} chi2={:016x}\n", line("refused", fix(refusal.refused)), refusal.chi2);
+        }
+    }
+    out
+}
+
+/// Board: 1, 10, or the length of what was written.
+pub fn board(memory: &[u8], out: &mut [u8]) -> usize {
+    let Some(register) = Register::read(memory) else {
+        return 1;
+    };
+    if out.len() < ROOM {
+        return 10;
+    }
+    let text = text(&register);
+    out[..text.len()].copy_from_slice(text.as_bytes());
+    text.len()
+}

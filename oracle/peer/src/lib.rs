@@ -1,0 +1,10 @@
+//! A second writing of document 01's register, board and session, in plain Rust, to compare with. It was made from 01 alone. The
+//! decision on a board is the Rust's own (`standing::decide`), by way of the oracle.
+
+pub mod board;
+pub mod cases;
+pub mod register;
+pub mod session;
+
+#[cfg(test)]
+mod tests;

@@ -1,0 +1,197 @@
+//! What the peer must do on the sessions that document 01, or a reading of it, settles.
+
+use crate::board::{self, metres};
+use crate::cases::*;
+use crate::register::{self, Register, SIZE};
+use crate::session::session;
+
+/// What comes after the answers.
+fn board_of(input: &str) -> String {
+    session(input.as_bytes()).lines().filter(|l| !l.starts_with("answer=")).map(|l| format!("{l}\n")).collect()
+}
+
+fn answers(input: &str) -> Vec<u32> {
+    session(input.as_bytes()).lines().filter_map(|l| l.strip_prefix("answer=")).map(|n| n.parse().unwrap()).collect()
+}
+
+fn bad(input: &str, line: usize) {
+    assert_eq!(session(input.as_bytes()), format!("refused=11 line={line}\n"), "{input}");
+}
+
+#[test]
+fn the_worked_session_byte_for_byte() {
+    let expected = "answer=0\nanswer=0\nanswer=0\ntransmission=1 ranked=1 dominated=0 refused=1\n\
+        role=ranked time=1000 lat=500000000 lon=100000000 height=2 weight=2 signers=00000002\n\
+        role=refused time=1000 lat=500000000 lon=100000000 height=none weight=3 signers=00000004 chi2=7ff0000000000000\n";
+    assert_eq!(session(worked().as_bytes()), expected);
+}
+
+#[test]
+fn nested_fixes_in_all_orders() {
+    let n = nested();
+    let boards: Vec<String> = [[0, 1, 2], [0, 2, 1], [1, 0, 2], [1, 2, 0], [2, 0, 1], [2, 1, 0]]
+        .iter()
+        .map(|order| board_of(&order.iter().map(|&i: &usize| n[i].text()).collect::<String>()))
+        .collect();
+    assert!(boards.iter().all(|b| *b == boards[0]));
+    assert!(boards[0].starts_with("transmission=1 ranked=1 dominated=1 refused=1\nrole=ranked time=1000 lat=2700 "));
+    assert!(boards[0].contains("role=dominated time=1000 lat=0 ") && boards[0].contains("role=refused time=1000 lat=5400 "));
+}
+
+#[test]
+fn two_rooms_draw_one_board() {
+    let (one, two) = rooms();
+    assert_ne!(answers(&one).len(), answers(&two).len());
+    assert!(answers(&one).iter().chain(&answers(&two)).all(|&a| a == 0));
+    assert_eq!(board_of(&one), board_of(&two));
+    assert!(board_of(&one).contains("transmission=2 "));
+}
+
+#[test]
+fn a_conviction_half_way() {
+    let (_, input) = cases().into_iter().find(|c| c.0 == "convicted-half-way").unwrap();
+    assert_eq!(answers(&input), [0, 0, 0, 0, 4]);
+    let board = board_of(&input);
+    // S went with its only signer, so M and L agree and L dominates.
+    assert!(board.starts_with("transmission=1 ranked=1 dominated=1 refused=0\nrole=ranked time=1000 lat=5400 "), "{board}");
+    assert!(!board.contains("signers=00000002"));
+}
+
+#[test]
+fn one_identity_with_two_positions() {
+    let (_, input) = cases().into_iter().find(|c| c.0 == "one-identity-two-positions").unwrap();
+    // Latitude 0 comes first in byte order, and both engines sign.
+    let line = "role=ranked time=1000 lat=0 lon=0 height=2 weight=1 signers=00000006\n";
+    assert_eq!(board_of(&input), format!("transmission=1 ranked=1 dominated=0 refused=0\n{line}"));
+}
+
+#[test]
+fn a_fix_tied_to_two_transmissions_joins_them() {
+    let (_, input) = cases().into_iter().find(|c| c.0 == "tied-to-two").unwrap();
+    assert!(board_of(&input).starts_with("transmission=1 ranked=1 dominated=2 refused=0\n"));
+    let apart = Report::new(1, &[1], 0).text() + &Report::new(1, &[2], 0).text();
+    assert!(board_of(&apart).contains("transmission=2 "));
+}
+
+#[test]
+fn the_eight_latest_of_nine() {
+    let board = board_of(&nine());
+    assert_eq!(board.matches("transmission=").count(), 8);
+    let times: Vec<&str> = board.lines().filter(|l| l.starts_with("role")).map(|l| l.split(' ').nth(1).unwrap()).collect();
+    assert_eq!(times[0], "time=893");
+    assert_eq!(times[7], "time=900");
+    assert!(board.starts_with("transmission=1 "));
+}
+
+#[test]
+fn a_dispute_settled_by_a_conviction() {
+    let all = cases();
+    let of = |name: &str| board_of(&all.iter().find(|c| c.0 == name).unwrap().1);
+    assert_eq!(of("disputed"), "");
+    assert!(of("settled").contains("role=ranked"));
+    assert_eq!(of("nothing-counts"), "");
+}
+
+#[test]
+fn each_kind_of_bad_line() {
+    bad("", 1);
+    bad("\n", 1);
+    bad("op=convict\n", 2);
+    bad("op=convict\nengine=1", 2);
+    bad("op=convict", 1);
+    bad("op=convict\nengine=1\n\n", 3);
+    bad("op=nothing\n", 1);
+    bad("OP=convict\nengine=1\n", 1);
+    bad(" op=convict\nengine=1\n", 1);
+    bad("op=convict\nmodel=1\n", 2);
+    for value in [
+        "256",
+        "01",
+        "-0",
+        "-1",
+        "+1",
+        "",
+        " 1",
+        "1 ",
+        "1\r",
+        "0x1",
+        "99999999999999999999",
+        "340282366920938463463374607431768211456",
+    ] {
+        bad(&format!("op=convict\nengine={value}\n"), 2);
+    }
+    bad(&format!("op=convict\nengine={}\n", "1".repeat(60_000)), 2);
+    let report = Report::new(1, &[1], 0).text();
+    for (line, from, to) in [
+        (3, "time=1000", "time=18446744073709551616"),
+        (4, "lat=0", "lat=2147483648"),
+        (4, "lat=0", "lat=-2147483649"),
+        (4, "lat=0", "lat=00"),
+        (6, "height=1500", "height=None"),
+        (6, "height=1500", "height="),
+        (7, "message=8d", "message=8D"),
+        (7, "message=8d", "message=8d00"),
+        (8, "tags=1", "tags="),
+        (8, "tags=1", "tags=none"),
+        (8, "tags=1", "tags=1,"),
+        (8, "tags=1", "tags=1,2,3,4,5,6,7,8,9,10,11,12,13,14,15,16,17"),
+        (9, "used=1", "used=65536"),
+        (10, "models=none", "models="),
+        (10, "models=none", "models=1,2,3,4,5"),
+        (10, "models=none", "models=256"),
+        (11, "spec=0", "spec=65536"),
+        (12, "cov=40", "cov=4"),
+        (12, "cov=40", "cov=4g"),
+    ] {
+        bad(&report.replacen(from, to, 1), line);
+        bad(&(worked() + &report.replacen(from, to, 1)), 29 + line);
+    }
+    bad(&worked().replace("inputs=00", "inputs=0"), 5);
+    assert_eq!(session(&vec![b'\n'; 65_537]), "refused=12\n");
+    assert_eq!(session(&vec![b'\n'; 65_536]), "refused=11 line=1\n");
+}
+
+#[test]
+fn answers_that_are_not_bad_lines() {
+    let all = cases();
+    let of = |name: &str| answers(&all.iter().find(|c| c.0 == name).unwrap().1);
+    assert_eq!(of("engines"), [2, 2, 0, 4, 9, 2]);
+    assert_eq!(of("malformed"), [3, 3, 3]);
+    let mut expected = vec![0; 96];
+    expected.extend([5, 0]);
+    assert_eq!(of("full"), expected);
+}
+
+#[test]
+fn the_longest_board() {
+    let input = longest();
+    assert_eq!(answers(&input), vec![0; 96]);
+    assert_eq!(board_of(&input).len(), 13_248);
+}
+
+#[test]
+fn refusals_leave_the_memory_alone() {
+    let mut memory = vec![0u8; SIZE];
+    memory[4] = 1;
+    memory[8] = 32;
+    let before = memory.clone();
+    assert_eq!(register::report(&mut memory, 99, &[]), 1);
+    assert_eq!(register::summary(&mut memory, 99, 99, 0, &[]), 1);
+    assert_eq!(register::convict(&mut memory, 99), 1);
+    assert_eq!(board::board(&memory, &mut []), 1);
+    assert_eq!(memory, before);
+    let mut fresh = vec![0u8; SIZE];
+    assert_eq!(board::board(&fresh, &mut [0; 16_383]), 10);
+    assert_eq!(board::board(&fresh, &mut [7; 16_384]), 0);
+    assert_eq!(register::report(&mut fresh, 32, &[]), 2);
+    assert_eq!(register::report(&mut fresh, 31, &[0; 221]), 3);
+    assert_eq!(register::summary(&mut fresh, 31, 63, 0, &[0; 31]), 9);
+    assert_eq!(fresh, vec![0u8; SIZE]);
+    assert!(Register::read(&fresh[1..]).is_none());
+}
+
+#[test]
+fn whole_metres() {
+    let told: Vec<i64> = [499, 500, -499, -500, 1499, 1500, i32::MAX, i32::MIN].map(metres).to_vec();
+    assert_eq!(told, [0, 1, 0, -1, 1, 2, 2_147_484, -2_147_484]);
+}
