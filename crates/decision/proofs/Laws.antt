@@ -1,18 +1,18 @@
 -- The laws of the decision, over abstract relations (document 01, 'Decide'): every index falls in exactly one of ranked, dominated, refused; ranked is empty
 -- only without items; what a refusal names.
-use mathlib.Core.Path.{_≡_, refl, sym, ap, ap₂, _∙_, subst}
-use mathlib.Core.Bool.{Bool, true, false, not, cond, _&&_, _||_, true≢false, false≢true}
-use mathlib.Core.Logic.{_⊎_, inl, inr, ⊎-elim, _↔_}
-use mathlib.Core.List.{List, [], _∷_, _++_, List·Memᴰ, List·Memᴰ·head, List·Memᴰ·tail, List·Memᴰ·not-nil, List·Memᴰ·cases-cons}
+use mathlib.Core.Path.{_≡_, refl, sym, ap, _∙_}
+use mathlib.Core.Bool.{Bool, true, false, not, cond, _&&_}
+use mathlib.Core.Logic.{_⊎_, inl, inr, _↔_}
+use mathlib.Core.List.{List, [], _∷_, List·Memᴰ, List·Memᴰ·head, List·Memᴰ·tail, List·Memᴰ·not-nil, List·Memᴰ·cases-cons}
 use Prim.Native.Nat.{ℕ, zero, suc, _+_, _-_, _≤_, _<_}
 use native.Mathlib.Omega.{arith}
 use native.Mathlib.Nat.{le-trans, le-of-lt, eq-or-lt-of-le}
-use lib.Dec.{ltb, leb, eqb}
-use borrow.Author.Tests.{leb-true, leb-false, ltb-true, ltb-false, eqb-false, eqb-true, ne-eqb, eq-eqb, lt-ltb}
-use Rattle.ranges.specs.Bools.{decide, clash, no-true, and-true, and-l, and-r, or-l, or-r, not-t, not-f, same-test, by, or, not-false-t}
-use Rattle.ranges.specs.Range.{any, least, filt, any-of, any-at, any-no, any-ext, least-in, least-some, best-of, filt-mem, filt-at}
+use lib.Dec.{leb, eqb}
+use borrow.Author.Tests.{leb-true, leb-false, eqb-false, eqb-true, ne-eqb, eq-eqb}
+use Rattle.ranges.specs.Bools.{clash, no-true, and-true, and-l, and-r, not-t, not-f, by, or}
+use Rattle.ranges.specs.Range.{any, least, any-of, any-at, least-in, least-some, best-of, filt-mem, filt-at}
 use Rattle.ranges.specs.Least.{Strict, First, nothing, found, least-is}
-use Rattle.decision.specs.Decide.{Rel, none, resists, supersedes, beats, superseded, superBy, blames, contested, against, refused, covers, dominated, stands, refusal, order, ranked, dominatedList, refusedList, contestedBy}
+use Rattle.decision.specs.Decide.{Rel, none, resists, supersedes, beats, superseded, superBy, blames, contested, against, refused, covers, dominated, stands, order, ranked, dominatedList, refusedList}
 
 total : (a b : ℕ) → (a ≤ b) ⊎ (b ≤ a)
 total a b = by (leb a b) (λ p. inl (leb-true a b p)) (λ p. inr (le-of-lt (leb-false a b p)))

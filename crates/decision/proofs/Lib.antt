@@ -5,4 +5,5 @@ pub mod Laws
 pub mod Renamed
 pub mod Sound
 pub mod Decided
+pub mod Reordered
 pub mod Positions

@@ -1,11 +1,11 @@
 -- Document 01, 'Positions to check', 3: S in M in L, equal inputs, only S and L disagreeing: M ranked, S dominated, L refused.
 use mathlib.Core.Path.{_≡_, refl}
-use mathlib.Core.Bool.{Bool, true, false}
+use mathlib.Core.Bool.{true, false}
 use mathlib.Core.List.{List, [], _∷_, _++_}
 use Prim.Native.Nat.{ℕ, _+_, _-_, _*_, _^_}
 use lib.ListN.{length, replicate}
 use lib.Count.{leadingZeros}
-use lib.Ieee.{binary64, ofBits, toBits, round, le, lt, eq, ofInt, div, mul, add, sub, neg, isNan}
+use lib.Ieee.{ofBits, toBits, round, le, lt, eq, ofInt, div, mul, add, sub, neg, isNan}
 use Rattle.octets.specs.Words.{wordBytes, word}
 use Rattle.record.specs.Formed.{wellFormed, ascends, ascendsFrom, allUpTo}
 use Rattle.record.specs.Fields.{tagsFrom}
@@ -53,6 +53,14 @@ M = rec (1 ∷ 2 ∷ []) 2700
 
 abbrev pub L : List ℕ
 L = rec (1 ∷ 2 ∷ 3 ∷ []) 5400
+
+-- only S and L disagree
+pub ends-only :
+    (agreesOf (agreementOf (claimOf S) (claimOf M)) ≡ true)
+    × (agreesOf (agreementOf (claimOf M) (claimOf L)) ≡ true)
+    × (agreesOf (agreementOf (claimOf S) (claimOf L)) ≡ false)
+unfolding claimOf wordBytes word limitOf geodeticOf matrixOf lengthUnder chiSquareOf finiteOr differenceOf agreementOf agreesOf degree radiansOf factorial coefficient sineSeries cosineSeries sincosOf flattening eccentricity2 toEcef enuBasis subOf dotOf less rowsBelow columns choleskyOf forwards forward backwards backward solveOf plus decimal isqrt digitsOf rootOf rootFinite rootBits root leadingZeros ofBits toBits round le lt eq ofInt div mul add sub neg isNan
+ends-only = (refl, refl, refl)
 
 pub position-3 :
     decided (item S 1 ++ item M 2 ++ item L 3)

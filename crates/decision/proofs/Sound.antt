@@ -1,28 +1,25 @@
 -- The relations of items in bytes are sound, so that the laws hold of every decision: standing and the number of tags are numbers, and distinct identities
 -- make identity and rank strict total orders.
 use mathlib.Core.Path.{_≡_, refl, sym, ap, _∙_}
-use mathlib.Core.Bool.{Bool, true, false, not, cond, _&&_, _||_, true≢false, false≢true}
+use mathlib.Core.Bool.{Bool, true, false, not, _&&_, true≢false, false≢true}
 use mathlib.Core.List.{List}
 use mathlib.Core.Logic.{_⊎_, inl, inr}
-use Prim.Native.Nat.{ℕ, _+_, _*_, _/_, _≤_, _<_, compare}
+use Prim.Native.Nat.{ℕ, _≤_, _<_}
 use native.Mathlib.Omega.{arith}
 use native.Mathlib.Decide.{decLt}
-use lib.Dec.{ltb, eqb}
-use lib.ListN.{length}
+use lib.Dec.{ltb}
 use borrow.Author.Tests.{ltb-true, lt-ltb, le-ltb, ltb-false}
-use Rattle.octets.specs.Order.{isBefore, same}
+use Rattle.octets.specs.Order.{same}
 use Rattle.octets.proofs.Comparison.{before-trans, before-irrefl, tri, same-refl}
 use Rattle.record.specs.Fields.{tagCount}
 use Rattle.record.specs.Formed.{wellFormed}
-use Rattle.record.specs.Relations.{subset}
 use Rattle.record.proofs.Laws.{subset-fewer}
-use Rattle.ranges.specs.Bools.{by, or, clash, and-l, and-r, not-t}
+use Rattle.ranges.specs.Bools.{by, or, and-l, and-r, not-t}
 use Rattle.ranges.specs.Range.{any, any-no}
-use Rattle.ranges.specs.Least.{Strict}
 use Rattle.arithmetic.specs.Agree.{agreesOf}
-use Rattle.items.specs.Layout.{maxItems, itemSize}
+use Rattle.items.specs.Layout.{maxItems}
 use Rattle.items.specs.Items.{recordOf, identityOf, standingOf, weightOf, consistentOf, preferredOf, subsetAt, agreementAt, disagreesAt, withinAt, sameInputs, sameIdentity, lowerAt, moreFirst, aheadByWeight, aheadByStanding, aheadAt}
-use Rattle.decision.specs.Decide.{Rel, none, superseded, contested, against}
+use Rattle.decision.specs.Decide.{superseded, contested, against}
 use Rattle.decision.specs.Related.{rel}
 use Rattle.decision.specs.Answer.{badAt}
 use Rattle.decision.proofs.Laws.{Sound, against-is}

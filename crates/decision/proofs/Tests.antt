@@ -1,16 +1,14 @@
 -- What the tables of the decision say of an index: who is superseded, contested, refused, and what the refusal is.
-use mathlib.Core.Path.{_≡_, refl, sym, ap, ap₂, _∙_, subst}
-use mathlib.Core.Bool.{Bool, true, false, not, cond, _&&_, _||_, true≢false, false≢true}
-use mathlib.Core.Logic.{_⊎_, inl, inr, ⊎-elim, _↔_}
-use mathlib.Core.List.{List, [], _∷_, _++_, List·Memᴰ, List·Memᴰ·head, List·Memᴰ·tail, List·Memᴰ·not-nil, List·Memᴰ·cases-cons}
-use Prim.Native.Nat.{ℕ, zero, suc, _+_, _-_, _≤_, _<_}
+use mathlib.Core.Path.{_≡_, refl, sym, _∙_}
+use mathlib.Core.Bool.{Bool, true, false, not, cond}
+use mathlib.Core.Logic.{_⊎_, inl, inr}
+use Prim.Native.Nat.{ℕ, _-_, _≤_, _<_}
 use native.Mathlib.Omega.{arith}
-use native.Mathlib.Nat.{le-trans, le-of-lt, eq-or-lt-of-le}
-use lib.Dec.{ltb, leb, eqb}
-use borrow.Author.Tests.{leb-true, leb-false, ltb-true, ltb-false, eqb-false, eqb-true, ne-eqb, eq-eqb, lt-ltb}
-use Rattle.ranges.specs.Bools.{decide, clash, no-true, and-true, and-l, and-r, or-l, or-r, not-t, not-f, same-test, by, or, not-false-t}
-use Rattle.ranges.specs.Range.{any, least, filt, any-of, any-at, any-no, any-ext, least-in, least-some, best-of, filt-mem, filt-at}
-use Rattle.decision.specs.Decide.{Rel, none, resists, supersedes, beats, superseded, superBy, blames, contested, against, refused, covers, dominated, stands, refusal, order, ranked, dominatedList, refusedList, contestedBy}
+use lib.Dec.{eqb}
+use borrow.Author.Tests.{eqb-false, ne-eqb, eq-eqb}
+use Rattle.ranges.specs.Bools.{clash, and-r, not-t, by, or, not-false-t}
+use Rattle.ranges.specs.Range.{any, least, any-no, least-in, least-some}
+use Rattle.decision.specs.Decide.{Rel, none, supersedes, beats, superseded, superBy, blames, contested, against, refused, refusal, contestedBy}
 
 -- ---- what a search for the least shows of a test at some index
 module _ (before : ℕ → ℕ → Bool) (g : ℕ → Bool) (n : ℕ) (few : n ≤ 255) where

@@ -1,6 +1,5 @@
 -- The whole answer of `decide` (document 01, 'Decide' and 'Answers and refusals'): 8 for over 96 items, a malformed item, or two with one identity;
 -- else 0 with what is decided, in arrays with counts whose unused places are fixed.
-use mathlib.Core.Path.{_≡_}
 use mathlib.Core.Bool.{Bool, not, cond, _||_}
 use mathlib.Core.List.{List, [], _++_}
 use Prim.Native.Nat.{ℕ, _-_, _*_, _/_, _%_}

@@ -1,18 +1,17 @@
 -- What a loop leaves that takes the first by rank of those that are left, and lists it, until none is left (`order` of `Decide`).
-use mathlib.Core.Path.{_≡_, refl, sym, ap, ap₂, _∙_, subst}
-use mathlib.Core.Bool.{Bool, true, false, not, cond, _&&_, _||_, true≢false, false≢true}
-use mathlib.Core.Logic.{_⊎_, inl, inr}
-use mathlib.Core.List.{List, [], _∷_, _++_, append-assoc, append-nil}
+use mathlib.Core.Path.{_≡_, refl, sym, ap, ap₂, _∙_}
+use mathlib.Core.Bool.{Bool, false, not, cond, _&&_}
+use mathlib.Core.List.{List, [], _∷_, _++_, append-nil}
 use Prim.Native.Nat.{ℕ, zero, suc, _+_, _-_, _≤_, _<_}
 use native.Mathlib.Omega.{arith}
 use native.Mathlib.Nat.{sub-zero}
 use native.Mathlib.Numerals.{add-one}
-use lib.Dec.{ltb, leb, eqb}
-use lib.ListN.{length, getD, set, take, replicate, length-set, length-replicate}
+use lib.Dec.{eqb}
+use lib.ListN.{length, getD, set, take, replicate, length-set}
 use lib.Seq.{getD-set-same, getD-set-other, take-suc-set, length-take-le, append-snoc}
-use borrow.Author.Tests.{eqb-false, eqb-true, ne-eqb, eq-eqb}
+use borrow.Author.Tests.{eqb-false, eqb-true, ne-eqb}
 use Rattle.ranges.specs.Bools.{by, or}
-use Rattle.ranges.specs.Range.{any, least, least-in, least-ext, Filled, filled-none, filled-more}
+use Rattle.ranges.specs.Range.{least, least-in, least-ext, Filled, filled-none, filled-more}
 use Rattle.decision.specs.Decide.{Rel, none, stands, order, ranked}
 use Rattle.ranges.specs.Tables.{Cached, cached-at, marked}
 use Rattle.items.specs.Layout.{maxItems}

@@ -17,6 +17,18 @@ ghost use Rattle.decision.specs.Answer.{badAt, decision, decided, refuse
 
 mod rule;
 
+// Up to this many items have small tables, which cost little to clear.
+const FEW: u8 = 8;
+
+// The sizes of the tables of prepared numbers and of codes.
+const FEW_NUMBERS: usize = 8 * arithmetic::PREPARED;
+
+const FEW_CODES: usize = 8 * MAX_ITEMS;
+
+const MANY_NUMBERS: usize = MAX_ITEMS * arithmetic::PREPARED;
+
+const MANY_CODES: usize = MAX_ITEMS * MAX_ITEMS;
+
 // A refused item, the one that it is refused against, and the chi-square between them. `superseded`: it is the smaller,
 // and a verified superset with more standing took its place; else it is the larger.
 pub struct Refusal {
@@ -27,12 +39,12 @@ pub struct Refusal {
 }
 
 pub struct Refusals {
-    pub list: [Refusal; 96],
+    pub list: [Refusal; MAX_ITEMS],
     pub count: u8,
 }
 
 pub struct Indices {
-    pub list: [u8; 96],
+    pub list: [u8; MAX_ITEMS],
     pub count: u8,
 }
 
@@ -92,8 +104,8 @@ fn refused_decision() -> Decision
         chi2: 0.0,
         superseded: false,
     };
-    let list = [none; 96];
-    let zeros = [0u8; 96];
+    let list = [none; MAX_ITEMS];
+    let zeros = [0u8; MAX_ITEMS];
     let ranked = Indices {
         list: zeros,
         count: 0,
@@ -121,13 +133,12 @@ fn decide_in(s: &[u8], n: u8, table: &mut [f64], codes: &mut [u8]) -> Decision
     rule::decide_all(s, table, codes, n)
 }
 
-// Few items have small tables, which cost little to clear.
 fn decide_few(s: &[u8], n: u8) -> Decision
     requires { ⌜ Whole (now s) n × (n ≤ 8) ⌝ }
     ensures { λ r. ⌜ r ≡ decision (rel (now (s .entry)) n) ⌝ }
 {
-    let mut table = [0.0; 168];
-    let mut codes = [0u8; 768];
+    let mut table = [0.0; FEW_NUMBERS];
+    let mut codes = [0u8; FEW_CODES];
     decide_in(s, n, &mut table, &mut codes)
 }
 
@@ -135,8 +146,8 @@ fn decide_many(s: &[u8], n: u8) -> Decision
     requires { ⌜ Whole (now s) n ⌝ }
     ensures { λ r. ⌜ r ≡ decision (rel (now (s .entry)) n) ⌝ }
 {
-    let mut table = [0.0; 2016];
-    let mut codes = [0u8; 9216];
+    let mut table = [0.0; MANY_NUMBERS];
+    let mut codes = [0u8; MANY_CODES];
     decide_in(s, n, &mut table, &mut codes)
 }
 
@@ -153,7 +164,7 @@ pub fn decide(s: &[u8]) -> Decision
     if any_bad(s, n) {
         return refused_decision();
     }
-    if n <= 8 {
+    if n <= FEW {
         return decide_few(s, n);
     }
     decide_many(s, n)

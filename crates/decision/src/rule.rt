@@ -106,11 +106,11 @@ fn supersedes(s: &[u8], codes: &[u8], n: u8, i: u8) -> bool
 }
 
 // Who supersedes.
-fn super_table(s: &[u8], codes: &[u8], n: u8) -> [bool; 96]
+fn super_table(s: &[u8], codes: &[u8], n: u8) -> [bool; MAX_ITEMS]
     requires { ⌜ (n ≤ maxItems) × Ready (now s) (now codes) n ⌝ }
     ensures { λ r. ⌜ Cached false r (isSuperseding (rel (now (s .entry)) n)) n ⌝ }
 {
-    let mut m = [false; 96];
+    let mut m = [false; MAX_ITEMS];
     let mut i: u8 = 0;
     while i < n {
         m[i as usize] = supersedes(s, codes, n, i);
@@ -134,7 +134,7 @@ fn better_identity(s: &[u8], n: u8, best: u8, k: u8) -> u8
 }
 
 // A turn of the search for what supersedes j.
-fn super_step(s: &[u8], codes: &[u8], n: u8, sup: &[bool; 96], j: u8, best: u8, i: u8) -> u8
+fn super_step(s: &[u8], codes: &[u8], n: u8, sup: &[bool; MAX_ITEMS], j: u8, best: u8, i: u8) -> u8
     requires { ⌜ (i < n) × (j < n) × (n ≤ maxItems) × Valid none n best × Ready (now s) (now codes) n × Cached false (now sup) (isSuperseding (rel (now s) n)) n ⌝ }
     ensures { λ r. ⌜ r ≡ cond (beats (rel (now (s .entry)) n) j i) (better (rel (now (s .entry)) n .lower) none best i) best ⌝ }
 {
@@ -148,7 +148,7 @@ fn super_step(s: &[u8], codes: &[u8], n: u8, sup: &[bool; 96], j: u8, best: u8, 
 }
 
 // The lowest identity of what supersedes j.
-fn super_by(s: &[u8], codes: &[u8], n: u8, sup: &[bool; 96], j: u8) -> u8
+fn super_by(s: &[u8], codes: &[u8], n: u8, sup: &[bool; MAX_ITEMS], j: u8) -> u8
     requires { ⌜ (j < n) × (n ≤ maxItems) × Ready (now s) (now codes) n × Cached false (now sup) (isSuperseding (rel (now s) n)) n ⌝ }
     ensures { λ r. ⌜ r ≡ superBy (rel (now (s .entry)) n) j ⌝ }
 {
@@ -162,11 +162,11 @@ fn super_by(s: &[u8], codes: &[u8], n: u8, sup: &[bool; 96], j: u8) -> u8
 }
 
 // By whom each is superseded.
-fn by_table(s: &[u8], codes: &[u8], n: u8, sup: &[bool; 96]) -> [u8; 96]
+fn by_table(s: &[u8], codes: &[u8], n: u8, sup: &[bool; MAX_ITEMS]) -> [u8; MAX_ITEMS]
     requires { ⌜ (n ≤ maxItems) × Ready (now s) (now codes) n × Cached false (now sup) (isSuperseding (rel (now s) n)) n ⌝ }
     ensures { λ r. ⌜ Cached 0 r (superBy (rel (now (s .entry)) n)) n ⌝ }
 {
-    let mut m = [0u8; 96];
+    let mut m = [0u8; MAX_ITEMS];
     let mut i: u8 = 0;
     while i < n {
         m[i as usize] = super_by(s, codes, n, sup, i);
@@ -176,7 +176,7 @@ fn by_table(s: &[u8], codes: &[u8], n: u8, sup: &[bool; 96]) -> [u8; 96]
 }
 
 // Whether j is a disagreeing subset of i that nothing supersedes.
-fn blamed(s: &[u8], codes: &[u8], n: u8, by: &[u8; 96], i: u8, j: u8) -> bool
+fn blamed(s: &[u8], codes: &[u8], n: u8, by: &[u8; MAX_ITEMS], i: u8, j: u8) -> bool
     requires { ⌜ (j < n) × (i < n) × (n ≤ maxItems) × Ready (now s) (now codes) n × Cached 0 (now by) (superBy (rel (now s) n)) n ⌝ }
     ensures { λ r. ⌜ r ≡ blames (rel (now (s .entry)) n) i j ⌝ }
 {
@@ -187,7 +187,7 @@ fn blamed(s: &[u8], codes: &[u8], n: u8, by: &[u8; 96], i: u8, j: u8) -> bool
 }
 
 // A turn of the search for what stands against i.
-fn against_step(s: &[u8], codes: &[u8], n: u8, by: &[u8; 96], i: u8, best: u8, j: u8) -> u8
+fn against_step(s: &[u8], codes: &[u8], n: u8, by: &[u8; MAX_ITEMS], i: u8, best: u8, j: u8) -> u8
     requires { ⌜ (j < n) × (i < n) × (n ≤ maxItems) × Valid none n best × Ready (now s) (now codes) n × Cached 0 (now by) (superBy (rel (now s) n)) n ⌝ }
     ensures { λ r. ⌜ r ≡ cond (blames (rel (now (s .entry)) n) i j) (better (rel (now (s .entry)) n .lower) none best j) best ⌝ }
 {
@@ -198,7 +198,7 @@ fn against_step(s: &[u8], codes: &[u8], n: u8, by: &[u8; 96], i: u8, best: u8, j
 }
 
 // The lowest identity of what stands against i.
-fn against(s: &[u8], codes: &[u8], n: u8, by: &[u8; 96], i: u8) -> u8
+fn against(s: &[u8], codes: &[u8], n: u8, by: &[u8; MAX_ITEMS], i: u8) -> u8
     requires { ⌜ (i < n) × (n ≤ maxItems) × Ready (now s) (now codes) n × Cached 0 (now by) (superBy (rel (now s) n)) n ⌝ }
     ensures { λ r. ⌜ r ≡ leastAgainst (rel (now (s .entry)) n) i ⌝ }
 {
@@ -212,7 +212,14 @@ fn against(s: &[u8], codes: &[u8], n: u8, by: &[u8; 96], i: u8) -> u8
 }
 
 // Whom i is refused against if it is contested.
-fn contested_by(s: &[u8], codes: &[u8], n: u8, sup: &[bool; 96], by: &[u8; 96], i: u8) -> u8
+fn contested_by(
+    s: &[u8],
+    codes: &[u8],
+    n: u8,
+    sup: &[bool; MAX_ITEMS],
+    by: &[u8; MAX_ITEMS],
+    i: u8,
+) -> u8
     requires { ⌜ (i < n) × (n ≤ maxItems) × Ready (now s) (now codes) n × Cached false (now sup) (isSuperseding (rel (now s) n)) n × Cached 0 (now by) (superBy (rel (now s) n)) n ⌝ }
     ensures { λ r. ⌜ r ≡ contestedBy (rel (now (s .entry)) n) i ⌝ }
 {
@@ -226,11 +233,17 @@ fn contested_by(s: &[u8], codes: &[u8], n: u8, sup: &[bool; 96], by: &[u8; 96], 
 }
 
 // By whom each is contested.
-fn contested_table(s: &[u8], codes: &[u8], n: u8, sup: &[bool; 96], by: &[u8; 96]) -> [u8; 96]
+fn contested_table(
+    s: &[u8],
+    codes: &[u8],
+    n: u8,
+    sup: &[bool; MAX_ITEMS],
+    by: &[u8; MAX_ITEMS],
+) -> [u8; MAX_ITEMS]
     requires { ⌜ (n ≤ maxItems) × Ready (now s) (now codes) n × Cached false (now sup) (isSuperseding (rel (now s) n)) n × Cached 0 (now by) (superBy (rel (now s) n)) n ⌝ }
     ensures { λ r. ⌜ Cached 0 r (contestedBy (rel (now (s .entry)) n)) n ⌝ }
 {
-    let mut m = [0u8; 96];
+    let mut m = [0u8; MAX_ITEMS];
     let mut i: u8 = 0;
     while i < n {
         m[i as usize] = contested_by(s, codes, n, sup, by, i);
@@ -239,7 +252,7 @@ fn contested_table(s: &[u8], codes: &[u8], n: u8, sup: &[bool; 96], by: &[u8; 96
     m
 }
 
-fn refused_at(s: &[u8], n: u8, by: &[u8; 96], ct: &[u8; 96], i: u8) -> bool
+fn refused_at(s: &[u8], n: u8, by: &[u8; MAX_ITEMS], ct: &[u8; MAX_ITEMS], i: u8) -> bool
     requires { ⌜ (i < n) × (n ≤ maxItems) × Cached 0 (now by) (superBy (rel (now s) n)) n × Cached 0 (now ct) (contestedBy (rel (now s) n)) n ⌝ }
     ensures { λ r. ⌜ r ≡ isRefused (rel (now (s .entry)) n) i ⌝ }
 {
@@ -250,11 +263,11 @@ fn refused_at(s: &[u8], n: u8, by: &[u8; 96], ct: &[u8; 96], i: u8) -> bool
 }
 
 // Who is refused.
-fn refused_table(s: &[u8], n: u8, by: &[u8; 96], ct: &[u8; 96]) -> [bool; 96]
+fn refused_table(s: &[u8], n: u8, by: &[u8; MAX_ITEMS], ct: &[u8; MAX_ITEMS]) -> [bool; MAX_ITEMS]
     requires { ⌜ (n ≤ maxItems) × Cached 0 (now by) (superBy (rel (now s) n)) n × Cached 0 (now ct) (contestedBy (rel (now s) n)) n ⌝ }
     ensures { λ r. ⌜ Cached false r (isRefused (rel (now (s .entry)) n)) n ⌝ }
 {
-    let mut m = [false; 96];
+    let mut m = [false; MAX_ITEMS];
     let mut i: u8 = 0;
     while i < n {
         m[i as usize] = refused_at(s, n, by, ct, i);
@@ -263,7 +276,14 @@ fn refused_table(s: &[u8], n: u8, by: &[u8; 96], ct: &[u8; 96]) -> [bool; 96]
     m
 }
 
-fn refusal_at(s: &[u8], table: &[f64], n: u8, by: &[u8; 96], ct: &[u8; 96], i: u8) -> Refusal
+fn refusal_at(
+    s: &[u8],
+    table: &[f64],
+    n: u8,
+    by: &[u8; MAX_ITEMS],
+    ct: &[u8; MAX_ITEMS],
+    i: u8,
+) -> Refusal
     requires { ⌜ (i < n) × (n ≤ maxItems) × Cached 0 (now by) (superBy (rel (now s) n)) n × Cached 0 (now ct) (contestedBy (rel (now s) n)) n × Prepared (now s) (now table) n × (isRefused (rel (now s) n) i ≡ true) ⌝ }
     ensures { λ r. ⌜ r ≡ refusal (rel (now (s .entry)) n) i ⌝ }
 {
@@ -291,9 +311,9 @@ fn refuse_all(
     s: &[u8],
     table: &[f64],
     n: u8,
-    by: &[u8; 96],
-    ct: &[u8; 96],
-    rf: &[bool; 96],
+    by: &[u8; MAX_ITEMS],
+    ct: &[u8; MAX_ITEMS],
+    rf: &[bool; MAX_ITEMS],
 ) -> Refusals
     requires { ⌜ (n ≤ maxItems) × Cached 0 (now by) (superBy (rel (now s) n)) n × Cached 0 (now ct) (contestedBy (rel (now s) n)) n × Cached false (now rf) (isRefused (rel (now s) n)) n × Prepared (now s) (now table) n ⌝ }
     ensures { λ r. ⌜ Collected (isRefused (rel (now (s .entry)) n)) (refusal (rel (now (s .entry)) n)) maxItems noRefusal (r .list) (r .count) n ⌝ }
@@ -304,7 +324,7 @@ fn refuse_all(
         chi2: 0.0,
         superseded: false,
     };
-    let mut list = [none; 96];
+    let mut list = [none; MAX_ITEMS];
     let mut count: u8 = 0;
     let mut i: u8 = 0;
     while i < n {
@@ -320,7 +340,7 @@ fn refuse_all(
 }
 
 // Whether k is not refused, i is a subset of it, and has its model inputs.
-fn covers_at(s: &[u8], codes: &[u8], n: u8, rf: &[bool; 96], i: u8, k: u8) -> bool
+fn covers_at(s: &[u8], codes: &[u8], n: u8, rf: &[bool; MAX_ITEMS], i: u8, k: u8) -> bool
     requires { ⌜ (k < n) × (i < n) × (n ≤ maxItems) × Ready (now s) (now codes) n × Cached false (now rf) (isRefused (rel (now s) n)) n ⌝ }
     ensures { λ r. ⌜ r ≡ covers (rel (now (s .entry)) n) i k ⌝ }
 {
@@ -330,7 +350,7 @@ fn covers_at(s: &[u8], codes: &[u8], n: u8, rf: &[bool; 96], i: u8, k: u8) -> bo
     within(s, codes, n, i, k)
 }
 
-fn covered(s: &[u8], codes: &[u8], n: u8, rf: &[bool; 96], i: u8) -> bool
+fn covered(s: &[u8], codes: &[u8], n: u8, rf: &[bool; MAX_ITEMS], i: u8) -> bool
     requires { ⌜ (i < n) × (n ≤ maxItems) × Ready (now s) (now codes) n × Cached false (now rf) (isRefused (rel (now s) n)) n ⌝ }
     ensures { λ r. ⌜ r ≡ any (covers (rel (now (s .entry)) n) i) 0 n ⌝ }
 {
@@ -345,14 +365,14 @@ fn covered(s: &[u8], codes: &[u8], n: u8, rf: &[bool; 96], i: u8) -> bool
 }
 
 // What the table says of i.
-fn is_refused(s: &[u8], n: u8, rf: &[bool; 96], i: u8) -> bool
+fn is_refused(s: &[u8], n: u8, rf: &[bool; MAX_ITEMS], i: u8) -> bool
     requires { ⌜ (i < n) × (n ≤ maxItems) × Cached false (now rf) (isRefused (rel (now s) n)) n ⌝ }
     ensures { λ r. ⌜ r ≡ isRefused (rel (now (s .entry)) n) i ⌝ }
 {
     rf[i as usize]
 }
 
-fn dominated_at(s: &[u8], codes: &[u8], n: u8, rf: &[bool; 96], i: u8) -> bool
+fn dominated_at(s: &[u8], codes: &[u8], n: u8, rf: &[bool; MAX_ITEMS], i: u8) -> bool
     requires { ⌜ (i < n) × (n ≤ maxItems) × Ready (now s) (now codes) n × Cached false (now rf) (isRefused (rel (now s) n)) n ⌝ }
     ensures { λ r. ⌜ r ≡ isDominated (rel (now (s .entry)) n) i ⌝ }
 {
@@ -362,7 +382,7 @@ fn dominated_at(s: &[u8], codes: &[u8], n: u8, rf: &[bool; 96], i: u8) -> bool
     covered(s, codes, n, rf, i)
 }
 
-fn stands_at(s: &[u8], codes: &[u8], n: u8, rf: &[bool; 96], i: u8) -> bool
+fn stands_at(s: &[u8], codes: &[u8], n: u8, rf: &[bool; MAX_ITEMS], i: u8) -> bool
     requires { ⌜ (i < n) × (n ≤ maxItems) × Ready (now s) (now codes) n × Cached false (now rf) (isRefused (rel (now s) n)) n ⌝ }
     ensures { λ r. ⌜ r ≡ isStanding (rel (now (s .entry)) n) i ⌝ }
 {
@@ -373,11 +393,11 @@ fn stands_at(s: &[u8], codes: &[u8], n: u8, rf: &[bool; 96], i: u8) -> bool
 }
 
 // Who stands.
-fn stands_table(s: &[u8], codes: &[u8], n: u8, rf: &[bool; 96]) -> [bool; 96]
+fn stands_table(s: &[u8], codes: &[u8], n: u8, rf: &[bool; MAX_ITEMS]) -> [bool; MAX_ITEMS]
     requires { ⌜ (n ≤ maxItems) × Ready (now s) (now codes) n × Cached false (now rf) (isRefused (rel (now s) n)) n ⌝ }
     ensures { λ r. ⌜ Cached false r (isStanding (rel (now (s .entry)) n)) n ⌝ }
 {
-    let mut m = [false; 96];
+    let mut m = [false; MAX_ITEMS];
     let mut i: u8 = 0;
     while i < n {
         m[i as usize] = stands_at(s, codes, n, rf, i);
@@ -386,11 +406,11 @@ fn stands_table(s: &[u8], codes: &[u8], n: u8, rf: &[bool; 96]) -> [bool; 96]
     m
 }
 
-fn dominate_all(s: &[u8], codes: &[u8], n: u8, rf: &[bool; 96]) -> Indices
+fn dominate_all(s: &[u8], codes: &[u8], n: u8, rf: &[bool; MAX_ITEMS]) -> Indices
     requires { ⌜ (n ≤ maxItems) × Ready (now s) (now codes) n × Cached false (now rf) (isRefused (rel (now s) n)) n ⌝ }
     ensures { λ r. ⌜ Collected (isDominated (rel (now (s .entry)) n)) itself maxItems 0 (r .list) (r .count) n ⌝ }
 {
-    let mut list = [0u8; 96];
+    let mut list = [0u8; MAX_ITEMS];
     let mut count: u8 = 0;
     let mut i: u8 = 0;
     while i < n {
@@ -420,7 +440,7 @@ fn better_rank(s: &[u8], n: u8, best: u8, k: u8) -> u8
 }
 
 // The first by rank of those that are left.
-fn first_left(s: &[u8], n: u8, left: &[bool; 96]) -> u8
+fn first_left(s: &[u8], n: u8, left: &[bool; MAX_ITEMS]) -> u8
     requires { ⌜ (n ≤ maxItems) × (n * itemSize ≤ length (now s)) ⌝ }
     ensures { λ r. ⌜ r ≡ least (rel (now (s .entry)) n .ahead) none (marked (now (left .entry))) none 0 n ⌝ }
 {
@@ -437,12 +457,12 @@ fn first_left(s: &[u8], n: u8, left: &[bool; 96]) -> u8
     best
 }
 
-fn rank_all(s: &[u8], n: u8, stands: [bool; 96]) -> Indices
+fn rank_all(s: &[u8], n: u8, stands: [bool; MAX_ITEMS]) -> Indices
     requires { ⌜ (n ≤ maxItems) × (n * itemSize ≤ length (now s)) × Cached false stands (isStanding (rel (now s) n)) n ⌝ }
     ensures { λ r. ⌜ Ranked (rel (now (s .entry)) n) (r .list) (r .count) ⌝ }
 {
     let mut left = stands;
-    let mut list = [0u8; 96];
+    let mut list = [0u8; MAX_ITEMS];
     let mut count: u8 = 0;
     while count < n {
         let b = first_left(s, n, &left);

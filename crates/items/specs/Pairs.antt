@@ -1,17 +1,16 @@
 -- The tables that a decision is worked out from: each item's claim prepared once, and a code for each ordered pair of items, so that a pair is compared
 -- at most once. Document 01 says nothing of them: they hold what `Items` defines.
-use mathlib.Core.Path.{_≡_, refl, sym, ap, _∙_}
-use mathlib.Core.Bool.{Bool, true, false, not, cond, _&&_}
+use mathlib.Core.Path.{_≡_}
+use mathlib.Core.Bool.{true, cond}
 use mathlib.Core.List.{List}
 use Prim.Native.Nat.{ℕ, _+_, _*_, _≤_, _<_}
-use lib.Dec.{eqb}
 use lib.Ieee.{Float}
 use lib.ListN.{length, getD}
 use Rattle.record.specs.Formed.{wellFormed}
 use Rattle.arithmetic.specs.Agree.{agreesOf}
 use Rattle.arithmetic.specs.Stages.{preparedSize, preparedOf, entryOf}
 use Rattle.items.specs.Layout.{maxItems, itemSize}
-use Rattle.items.specs.Items.{recordOf, claimOf, consistentOf, subsetAt, agreementAt, disagreesAt}
+use Rattle.items.specs.Items.{recordOf, claimOf, consistentOf, subsetAt, agreementAt}
 
 -- 0 where j is no subset of i, 2 where it is a consistent one that disagrees, else 1
 unfoldable pub pairCode : List ℕ → ℕ → ℕ → ℕ

@@ -4,7 +4,6 @@ ghost use mathlib.Core.Path.{_≡_};
 ghost use mathlib.Core.Bool.{true};
 ghost use Prim.Native.Nat.{_+_, _*_, _≤_};
 ghost use lib.ListN.{length};
-ghost use Rattle.record.specs.Layout.{recordSize};
 ghost use Rattle.record.specs.Formed.{wellFormed};
 ghost use Rattle.items.specs.Layout.{itemSize};
 ghost use Rattle.items.specs.Items as I;

@@ -2,10 +2,10 @@
 // no root and no sine or cosine, and each ordered pair is compared at most once.
 use crate::layout::MAX_ITEMS;
 ghost use mathlib.Core.Path.{_≡_};
-ghost use Prim.Native.Nat.{ℕ, _+_, _*_, _≤_, _<_};
+ghost use Prim.Native.Nat.{_+_, _*_, _≤_, _<_};
 ghost use lib.ListN.{length};
 ghost use Rattle.arithmetic.specs.Stages.{preparedSize};
-ghost use Rattle.items.specs.Layout.{maxItems, itemSize};
+ghost use Rattle.items.specs.Layout.{itemSize};
 ghost use Rattle.arithmetic.specs.Agree.{agreesOf};
 ghost use Rattle.items.specs.Items.{agreementAt};
 ghost use Rattle.items.specs.Pairs.{pairCode, stride, Whole, Prepared, Coded, CodedRow};

@@ -1,14 +1,13 @@
 -- The least by a strict total order of the indices below n at which a test holds: it comes before each other, and there is no second.
 use mathlib.Core.Path.{_≡_, refl, sym, ap, _∙_, subst}
-use mathlib.Core.Bool.{Bool, true, false, not, cond, _&&_, _||_, true≢false, false≢true}
+use mathlib.Core.Bool.{Bool, true, false, cond}
 use mathlib.Core.Logic.{_⊎_, inl, inr}
 use Prim.Native.Nat.{ℕ, zero, suc, _+_, _≤_, _<_}
 use native.Mathlib.Omega.{arith}
 use native.Mathlib.Nat.{eq-or-lt-of-le}
-use lib.Dec.{eqb}
 use borrow.Author.Tests.{ne-eqb, eq-eqb}
 use Rattle.ranges.specs.Bools.{by, or, clash}
-use Rattle.ranges.specs.Range.{any, any-at, any-no, least, better}
+use Rattle.ranges.specs.Range.{least, better}
 
 -- a strict total order of the indices below n
 pub record Strict (before : ℕ → ℕ → Bool) (n : ℕ) : Type 0 where

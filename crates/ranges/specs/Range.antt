@@ -1,17 +1,17 @@
 -- Over the indices k, k + 1, .., k + f - 1: whether a test holds at some, the first and the least at which it holds, and the list of them.
 use mathlib.Core.Path.{_≡_, refl, sym, ap, ap₂, _∙_, subst}
-use mathlib.Core.Bool.{Bool, true, false, not, cond, _&&_, _||_, true≢false, false≢true}
+use mathlib.Core.Bool.{Bool, true, false, cond, _||_, true≢false, false≢true}
 use mathlib.Core.Logic.{_⊎_, inl, inr, ⊎-elim}
 use mathlib.Core.List.{List, [], _∷_, _++_, List·Memᴰ, List·Memᴰ·head, List·Memᴰ·tail, List·Memᴰ·not-nil, List·Memᴰ·cases-cons}
-use borrow.Author.Tests.{ltb-true, ltb-false, eqb-false, eqb-true}
+use borrow.Author.Tests.{eqb-false}
 use Prim.Native.Nat.{ℕ, zero, suc, _+_, _-_, _≤_, _<_}
 use native.Mathlib.Omega.{arith}
 use native.Mathlib.Nat.{eq-or-lt-of-le, sub-zero, add-zero, zero-add}
-use lib.ListN.{length, replicate, set, length-append, length-replicate, take, length-take, length-set}
-use lib.Seq.{set-at, append-snoc, take-at, length-take-le}
-use mathlib.Core.List.{append-assoc, append-nil}
+use lib.ListN.{length, replicate, set, length-append, length-replicate}
+use lib.Seq.{set-at, append-snoc}
+use mathlib.Core.List.{append-nil}
 use native.Mathlib.Numerals.{add-one}
-use lib.Dec.{ltb, leb, eqb}
+use lib.Dec.{eqb}
 use Rattle.ranges.specs.Bools.{decide, clash, no-true, by, or}
 
 unfoldable pub any : (ℕ → Bool) → ℕ → ℕ → Bool

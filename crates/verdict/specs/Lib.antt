@@ -1,0 +1,2 @@
+-- What comparing two records finds.
+pub mod Supersets
