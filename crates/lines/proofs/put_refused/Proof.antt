@@ -1,0 +1,54 @@
+use Rattle.lines.specs.Ascii.{ascii}
+use Rattle.lines.specs.Lines.{refusedLine}
+use native.Mathlib.Omega.{arith}
+use Rattle.text.proofs.Writing.{put-put, put-as}
+use borrow.Author.Needs.{needs}
+use Rattle.lines.proofs.put_refused.Statement.{statement}
+use Rattle.lines.proofs.put_refused.Tie as tie
+use Rattle.lines.proofs.put_refused.Reads as reads
+use Rattle.lines.proofs.put_refused.Lts as lts
+use Rattle.lines.proofs.put_digits.Reads as put-digits-reads
+use Rattle.lines.proofs.put_fix.Reads as put-fix-reads
+use Rattle.text.proofs.put_bytes.Reads as put-bytes-reads
+
+slice-aggregate-put-fix : tie.Need-slice-aggregate-put-fix
+slice-aggregate-put-fix c = search needs
+
+put-fix-requires : tie.Need-put-fix-requires
+put-fix-requires c κs = search needs
+
+slice-aggregate-put-digits : tie.Need-slice-aggregate-put-digits
+slice-aggregate-put-digits c = search needs
+
+put-digits-requires : tie.Need-put-digits-requires
+put-digits-requires c κs = search needs
+
+slice-aggregate-put-bytes : tie.Need-slice-aggregate-put-bytes
+slice-aggregate-put-bytes c = search needs
+
+put-bytes-requires : tie.Need-put-bytes-requires
+put-bytes-requires c κs = search needs
+
+same-length : tie.Need-same-length
+same-length c = search needs
+
+returns : tie.Need-returns
+unfolding refusedLine ascii
+returns c =
+    let p = c .before .before .before .before .before .before .before .before .before .before .before .before .put-fix .ensures in
+    let q = c .before .before .before .before .before .before .before .put-digits .ensures in
+    let e = c .before .before .put-bytes .ensures in
+    (omega (arith, p .0, q .0, e .next), put-put (p .1) (put-put (q .1) e))
+
+pub put-refused-spec : {M : Type 1} → statement M
+put-refused-spec =
+    tie.close
+    (tie.spec
+    slice-aggregate-put-fix
+    put-fix-requires
+    slice-aggregate-put-digits
+    put-digits-requires
+    slice-aggregate-put-bytes
+    put-bytes-requires
+    same-length
+    returns)

@@ -1,0 +1,64 @@
+-- The lines of a board (document 01, 'The board' and the worked session under 'The track and the session'): a header for each transmission, and a line
+-- for each of its fixes. Each ends with a line feed.
+use Prim.Native.Nat.{ℕ}
+use mathlib.Core.Bool.{Bool, cond}
+use mathlib.Core.List.{List, _++_}
+use Rattle.text.specs.Numbers.{decimal, signed, hex}
+use Rattle.text.specs.Heights.{metres}
+use Rattle.record.specs.Fields.{time, latitude, longitude, hasHeight, height, weight}
+use Rattle.lines.specs.Ascii.{ascii}
+
+-- "transmission=1 ranked=1 dominated=0 refused=1"
+unfoldable pub header : ℕ → ℕ → ℕ → ℕ → List ℕ
+header number ranked dominated refused =
+    (ascii "transmission=" ++ decimal number)
+    ++ ((ascii " ranked=" ++ decimal ranked)
+    ++ ((ascii " dominated=" ++ decimal dominated)
+    ++ ((ascii " refused=" ++ decimal refused)
+    ++ ascii "\n")))
+
+-- "time=1000 lat=500000000 lon=100000000"
+unfoldable pub whereWhen : List ℕ → List ℕ
+whereWhen r = (ascii " time=" ++ decimal (time r)) ++ ((ascii " lat=" ++ signed (latitude r)) ++ (ascii " lon=" ++ signed (longitude r)))
+
+-- "Height is whole metres, half away from zero, or `none`"
+unfoldable pub heightText : List ℕ → List ℕ
+heightText r = ascii " height=" ++ cond (hasHeight r) (signed (metres (height r))) (ascii "none")
+
+-- what every line says of a fix: its role, its record, and its signers, "8 hex digits, highest first"
+unfoldable pub fixText : List ℕ → List ℕ → ℕ → List ℕ
+fixText role r signers =
+    (ascii "role=" ++ role)
+    ++ (whereWhen r
+    ++ (heightText r
+    ++ ((ascii " weight=" ++ decimal (weight r))
+    ++ (ascii " signers=" ++ hex 8 signers))))
+
+-- a line of a ranked or dominated fix
+unfoldable pub line : List ℕ → List ℕ → ℕ → List ℕ
+line role r signers = fixText role r signers ++ ascii "\n"
+
+abbrev pub rankedLine : List ℕ → ℕ → List ℕ
+rankedLine r signers = line (ascii "ranked") r signers
+
+abbrev pub dominatedLine : List ℕ → ℕ → List ℕ
+dominatedLine r signers = line (ascii "dominated") r signers
+
+-- "a refused one with its refusal's chi-square bits"
+unfoldable pub refusedLine : List ℕ → ℕ → ℕ → List ℕ
+refusedLine r signers bits = fixText (ascii "refused") r signers ++ ((ascii " chi2=" ++ hex 16 bits) ++ ascii "\n")
+
+-- ---- what a buffer must have room for: the widest header, ranked or dominated line, and refused line
+
+-- "dominated" is the longest of the roles
+abbrev pub roleWidth : ℕ
+roleWidth = 9
+
+abbrev pub headerWidth : ℕ
+headerWidth = 122
+
+abbrev pub lineWidth : ℕ
+lineWidth = 137
+
+abbrev pub refusedWidth : ℕ
+refusedWidth = 159
