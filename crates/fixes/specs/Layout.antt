@@ -5,11 +5,11 @@ use mathlib.Core.List.{List}
 use lib.ListN.{take, drop}
 use Rattle.octets.specs.Words.{wordAt}
 use Rattle.record.specs.Layout.{recordSize}
-use Rattle.items.specs.Layout.{hashSize}
+use Rattle.items.specs.Layout.{hashSize, maxItems}
 
--- the most fixes on a board: one for each place of a register's records
+-- the most fixes on a board: as many as are decided at once
 abbrev pub maxFixes : ℕ
-maxFixes = 96
+maxFixes = maxItems
 
 abbrev pub identityAt : ℕ
 identityAt = 0

@@ -1,0 +1,2 @@
+pub mod Transmission
+pub mod Latest
