@@ -1,0 +1,63 @@
+-- What the loop leaves that takes the latest of those that are left, until there are enough or none is left.
+use mathlib.Core.Path.{_≡_, refl, sym, ap, ap₂, _∙_}
+use mathlib.Core.Bool.{Bool, false, cond}
+use mathlib.Core.List.{List, [], _∷_}
+use Prim.Native.Nat.{ℕ, zero, suc, _+_, _-_, _≤_, _<_}
+use native.Mathlib.Omega.{arith}
+use native.Mathlib.Numerals.{add-one}
+use lib.Dec.{eqb}
+use lib.ListN.{length, set, drop, replicate, length-set}
+use borrow.Author.Tests.{ne-eqb, eq-eqb}
+use Rattle.ranges.specs.Bools.{or}
+use Rattle.ranges.specs.Range.{least-in}
+use Rattle.ranges.specs.Tables.{marked}
+use Rattle.fixes.specs.Layout.{maxFixes}
+use Rattle.transmissions.specs.Transmission.{none}
+use Rattle.transmissions.specs.Latest.{maxShown, later, latestLeft, latest}
+
+drop-set : (l : List ℕ) (k b : ℕ) → k < length l → drop k (set l k b) ≡ b ∷ drop (suc k) l
+drop-set [] k b h = absurd (omega arith)
+drop-set (x ∷ l) zero b h = refl
+drop-set (x ∷ l) (suc k) b h = drop-set l k b (omega arith)
+
+module _ (t d : List ℕ) (n : ℕ) (heads : List Bool) where
+  pub record Showing (left : List Bool) (list : List ℕ) (k : ℕ) : Type 0 where
+    pub few : k ≤ maxShown
+    pub long : length list ≡ maxShown
+    pub wide : length left ≡ maxFixes
+    pub rest : latest t d n maxShown heads [] ≡ latest t d n k left (drop k list)
+
+  pub found : (left : List Bool) (b : ℕ) → b ≡ latestLeft t d n left → (b ≡ 255 → ⊥) → b < n
+  found left b e f = or (least-in (later t d) none (marked left) none 0 n) (λ q. absurd (f (e ∙ q))) (λ x. let z = x .1 in rw e (omega arith))
+
+  pub showing-none : length heads ≡ maxFixes → Showing heads (replicate maxShown 0) maxShown
+  showing-none h = record { few = omega arith; long = refl; wide = h; rest = refl }
+
+  pub showing-more : (left : List Bool) (list : List ℕ) (k b : ℕ) → 0 < k → b ≡ latestLeft t d n left → (b ≡ 255 → ⊥) → Showing left list k
+      → Showing (set left b false) (set list (k - 1) b) (k - 1)
+  unfolding latest
+  showing-more left list k b h e f s =
+      let fw = s .few in
+      let lg = s .long in
+      let z : k ≡ suc (k - 1) = omega arith in
+      record {
+        few = omega arith;
+        long = length-set list (k - 1) b ∙ s .long;
+        wide = length-set left b false ∙ s .wide;
+        rest = s .rest
+            ∙ ap₂ (λ (i j : ℕ). latest t d n i left (drop j list)) z z
+            ∙ ap (λ (c : ℕ). cond (eqb c none) (drop (suc (k - 1)) list) (latest t d n (k - 1) (set left c false) (c ∷ drop (suc (k - 1)) list))) (sym e)
+            ∙ rw (ne-eqb b 255 f) (ap (latest t d n (k - 1) (set left b false)) (sym (drop-set list (k - 1) b (omega arith))));
+      }
+
+  pub showing-end : (left : List Bool) (list : List ℕ) (k b : ℕ) → 0 < k → b ≡ latestLeft t d n left → b ≡ 255 → Showing left list k → drop k list ≡ latest t d n maxShown heads []
+  unfolding latest
+  showing-end left list k b h e f s =
+      let z : k ≡ suc (k - 1) = omega arith in
+      sym (s .rest
+      ∙ ap (λ (i : ℕ). latest t d n i left (drop k list)) z
+      ∙ ap (λ (c : ℕ). cond (eqb c none) (drop k list) (latest t d n (k - 1) (set left c false) (c ∷ drop k list))) (sym e ∙ f))
+
+  pub showing-full : (left : List Bool) (list : List ℕ) (k : ℕ) → k ≤ 0 → Showing left list k → drop k list ≡ latest t d n maxShown heads []
+  unfolding latest
+  showing-full left list k h s = let z : k ≡ 0 = omega arith in sym (s .rest ∙ ap (λ (i : ℕ). latest t d n i left (drop k list)) z)

@@ -1,0 +1,66 @@
+-- `latest` meets its contract.
+use native.Mathlib.Omega.{arith}
+use Rattle.transmissions.proofs.Showing.{Showing, found, showing-none, showing-more, showing-end, showing-full}
+use borrow.Author.Needs.{needs}
+use Rattle.transmissions.proofs.latest.latest.Statement.{statement}
+use Rattle.transmissions.proofs.latest.latest.Tie as tie
+use Rattle.transmissions.proofs.latest.latest.Reads as reads
+use Rattle.transmissions.proofs.latest.latest.Lts as lts
+use Rattle.transmissions.proofs.latest.latest_left.Reads as latest-left-reads
+
+abbrev Inv-loop : tie.InvT-loop
+Inv-loop t leads n left₀ list₀ k₀ left list k = Showing t leads n left₀ left list k
+
+abbrev μ-loop : tie.MeasureT-loop
+μ-loop t leads n left₀ list₀ k₀ left list k = k
+
+loop-holds : tie.Need-loop-holds Inv-loop μ-loop
+loop-holds c = showing-none _ _ _ _ (c .before .before .pre .1 .1 .1)
+
+latest-left-requires : tie.Need-latest-left-requires Inv-loop μ-loop
+latest-left-requires c κs = search needs
+
+returns : tie.Need-returns Inv-loop μ-loop
+returns c = let s = c .before .before .before .before .loop .inv in (s .few, showing-end _ _ _ _ _ _ _ _ (c .before .before .before .loop-test .taken) (c .before .latest-left .ensures) (c .if1 .taken) s)
+
+sub-k : tie.Need-sub-k Inv-loop μ-loop
+sub-k c = search needs
+
+cast-list : tie.Need-cast-list Inv-loop μ-loop
+cast-list c = search needs
+
+array-write-list : tie.Need-array-write-list Inv-loop μ-loop
+array-write-list c = let s = c .before .before .before .before .loop .inv in omega (arith, s .few)
+
+cast-left : tie.Need-cast-left Inv-loop μ-loop
+cast-left c = search needs
+
+array-write-left : tie.Need-array-write-left Inv-loop μ-loop
+array-write-left c = let st = c .before .before .before .before .before .before .before in let l = found (st .args .t .now) (st .args .leads .now) (st .args .n) (st .args .heads) (c .before .before .before .before .loop .left) _ (c .before .latest-left .ensures) (c .if1 .left) in omega (arith, l)
+
+loop-less : tie.Need-loop-less Inv-loop μ-loop
+loop-less c = search needs
+
+loop-again : tie.Need-loop-again Inv-loop μ-loop
+loop-again c = showing-more _ _ _ _ _ _ _ _ (c .before .before .before .loop-test .taken) (c .before .latest-left .ensures) (c .if1 .left) (c .before .before .before .before .loop .inv)
+
+returns-2 : tie.Need-returns-2 Inv-loop μ-loop
+returns-2 c = let s = c .before .loop .inv in (s .few, showing-full _ _ _ _ _ _ _ (c .loop-test .left) s)
+
+pub latest-spec : {M : Type 1} → statement M
+latest-spec =
+    tie.close
+    (tie.spec
+    Inv-loop
+    μ-loop
+    loop-holds
+    latest-left-requires
+    returns
+    sub-k
+    cast-list
+    array-write-list
+    cast-left
+    array-write-left
+    loop-less
+    loop-again
+    returns-2)
