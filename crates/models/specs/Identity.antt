@@ -1,0 +1,59 @@
+-- What a record is known by (document 01, 'Models and identity'): its model inputs, its set hash and its identity, each a BLAKE2s-256.
+use Prim.Native.Nat.{ℕ, _*_}
+use mathlib.Core.List.{List, [], _∷_, _++_}
+use lib.ListN.{take, drop}
+use Rattle.hashing.specs.Blake2s.{blake2s256}
+use Rattle.record.specs.Layout.{tagsAt}
+use Rattle.record.specs.Fields.{messageLength, message, tagCount, models}
+use Rattle.models.specs.Models.{State, missing, agreed, disputed, stateOf}
+
+-- ---- model inputs: "`publish::cited_inputs` in the listed order"
+
+-- 'tally pair model cited inputs', the Rust's CITED_INPUTS_DOMAIN
+abbrev pub citedDomain : List ℕ
+citedDomain =
+    116 ∷ 97 ∷ 108 ∷ 108 ∷ 121 ∷ 32  -- 'tally '
+    ∷ 112 ∷ 97 ∷ 105 ∷ 114 ∷ 32  -- 'pair '
+    ∷ 109 ∷ 111 ∷ 100 ∷ 101 ∷ 108 ∷ 32  -- 'model '
+    ∷ 99 ∷ 105 ∷ 116 ∷ 101 ∷ 100 ∷ 32  -- 'cited '
+    ∷ 105 ∷ 110 ∷ 112 ∷ 117 ∷ 116 ∷ 115 ∷ []  -- 'inputs'
+
+-- the inputs of a model that is agreed; of any other nothing is hashed
+abbrev pub agreedInputs : State → List ℕ
+agreedInputs missing = []
+agreedInputs (agreed s h) = h
+agreedInputs disputed = []
+
+-- those of models, one after another
+unfoldable pub inputsInOrder : List ℕ → List (List ℕ) → List ℕ
+inputsInOrder [] ps = []
+inputsInOrder (m ∷ ms) ps = agreedInputs (stateOf m ps) ++ inputsInOrder ms ps
+
+unfoldable pub citedInputs : List (List ℕ) → List ℕ → List ℕ
+citedInputs ps r = blake2s256 (citedDomain ++ (0 ∷ inputsInOrder (models r) ps))
+
+-- ---- set hash: "over the length byte, the message's 7 or 14 bytes, the tag count byte and that many tags"
+
+-- the tags as they stand in the record, each in 8 bytes with the lowest first
+abbrev pub tagBytes : List ℕ → List ℕ
+tagBytes r = take (8 * tagCount r) (drop tagsAt r)
+
+unfoldable pub setHash : List ℕ → List ℕ
+setHash r = blake2s256 (messageLength r ∷ (message r ++ (tagCount r ∷ tagBytes r)))
+
+-- ---- identity: "over `tally merge input set`, a zero byte, the set hash and the model inputs"
+
+abbrev pub mergeDomain : List ℕ
+mergeDomain =
+    116 ∷ 97 ∷ 108 ∷ 108 ∷ 121 ∷ 32  -- 'tally '
+    ∷ 109 ∷ 101 ∷ 114 ∷ 103 ∷ 101 ∷ 32  -- 'merge '
+    ∷ 105 ∷ 110 ∷ 112 ∷ 117 ∷ 116 ∷ 32  -- 'input '
+    ∷ 115 ∷ 101 ∷ 116 ∷ []  -- 'set'
+
+-- of a set hash and model inputs
+unfoldable pub identityOf : List ℕ → List ℕ → List ℕ
+identityOf set inputs = blake2s256 (mergeDomain ++ (0 ∷ (set ++ inputs)))
+
+-- of a record among summaries
+abbrev pub identity : List (List ℕ) → List ℕ → List ℕ
+identity ps r = identityOf (setHash r) (citedInputs ps r)
