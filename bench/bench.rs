@@ -14,6 +14,8 @@ use std::time::Instant;
 unsafe extern "C" {
     /// libb2's one-call form.
     fn blake2s(out: *mut u8, input: *const u8, key: *const u8, outlen: usize, inlen: usize, keylen: usize) -> i32;
+    /// The C library's.
+    fn memcmp(a: *const u8, b: *const u8, n: usize) -> i32;
 }
 
 /// How long one batch should take, and how many batches of each side are timed.
@@ -178,6 +180,70 @@ fn decide(random: &mut Random, n: usize) {
     line(&what, "the Rust, items read from the same bytes", 1.0, binding::DECIDE, &mut ours, &mut from_bytes);
 }
 
+/// A full register, made by the peer: 96 records of 16 tags and 256 summaries, with the last record and summary put in. They differ
+/// in their first bytes, or, where they are alike, in their last alone, so that each is compared whole with the next.
+fn full_register(alike: bool) -> (Vec<u8>, Vec<u8>, [u8; 32]) {
+    let mut memory = vec![0u8; peer::register::SIZE];
+    let (mut record, mut inputs) = (Vec::new(), [7u8; 32]);
+    for i in 0..96u32 {
+        let one = Record {
+            time: if alike { 1_000 } else { u64::from(1_000 + i) },
+            lat: 480_000_000,
+            lon: 110_000_000,
+            height: Some(1_500_000),
+            message: vec![0x8d, 1, 2, 3, 4, 5, 6, 7, 8, 9, 10, 11, 12, 13],
+            tags: (1..=16).collect(),
+            used: u16::MAX,
+            models: vec![5],
+            spec: 3,
+            covariance: [100.0, 10.0, 5.0, 90.0, -7.0, if alike { 400.0 + f64::from(i) } else { 400.0 }],
+        };
+        record = one.write().to_vec();
+        assert_eq!(peer::register::report(&mut memory, 3, &record), 0);
+    }
+    for i in 0..256u32 {
+        inputs[31] = i as u8;
+        let (engine, model) = if alike { (3, 63) } else { (i / 64, i % 64) };
+        assert_eq!(peer::register::summary(&mut memory, engine, model, 3, &inputs), 0);
+    }
+    (memory, record, inputs)
+}
+
+/// Calls that leave a full register as it is: what is held is reported or given again, and a new record finds no place. Each reads
+/// the register once, to see that it is one, and looks for the place.
+fn register(alike: bool) {
+    let (memory, held, inputs) = full_register(alike);
+    let copy = memory.clone();
+    let mut compared = || {
+        let (a, b) = (black_box(&memory), black_box(&copy));
+        black_box(unsafe { memcmp(a.as_ptr(), b.as_ptr(), a.len()) });
+    };
+    let mut new = held.clone();
+    new[221] ^= 1;
+    let (mut m, mut n) = (memory.clone(), memory.clone());
+    let mut peers = || {
+        black_box(peer::register::report(&mut n, 3, black_box(&held)));
+    };
+    let name = |what: &str| format!("{what}, full register{}", if alike { ", all but the last bytes alike" } else { "" });
+    let against = "memcmp of 30,920 bytes";
+    let has = binding::REGISTER;
+    assert!(!has || binding::report(&mut m, 3, &held) == 0 && binding::report(&mut m, 3, &new) == 5);
+    assert!(!has || binding::summary(&mut m, 3, 63, 3, &inputs) == 0 && m == memory);
+    let mut report = || {
+        black_box(binding::report(&mut m, 3, black_box(&held)));
+    };
+    line(&name("report"), against, 1.0, has, &mut report, &mut compared);
+    line(&name("report"), "the peer", 1.0, has, &mut report, &mut peers);
+    let mut refused = || {
+        black_box(binding::report(&mut m, 3, black_box(&new)));
+    };
+    line(&name("report refused"), against, 1.0, has, &mut refused, &mut compared);
+    let mut summary = || {
+        black_box(binding::summary(&mut m, 3, 63, 3, black_box(&inputs)));
+    };
+    line(&name("summary"), against, 1.0, has, &mut summary, &mut compared);
+}
+
 fn main() {
     let mut random = Random(7);
     println!("Nanoseconds are the least of {ROUNDS} batches; the last column is the median of the batches' own ratios.\n");
@@ -191,4 +257,6 @@ fn main() {
     for n in [2, 8, 32, 96] {
         decide(&mut random, n);
     }
+    register(false);
+    register(true);
 }

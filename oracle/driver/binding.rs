@@ -49,7 +49,7 @@ unsafe extern "C" {
 
 #[cfg(has_tl_decide)]
 unsafe extern "C" {
-    fn tl_decide(items: *const u8, len: usize, answer: *mut u8, answer_len: usize) -> u32;
+    fn tl_decide(items: *const u8, len: usize, answer: *mut u8) -> u32;
 }
 
 #[cfg(has_register)]
@@ -65,6 +65,10 @@ unsafe extern "C" {
         inputs_len: usize,
     ) -> u32;
     fn tl_register_conviction(memory: *mut u8, len: usize, engine: u32) -> u32;
+}
+
+#[cfg(has_board)]
+unsafe extern "C" {
     fn tl_board(memory: *const u8, len: usize, out: *mut u8, out_len: usize) -> u64;
 }
 
@@ -82,6 +86,7 @@ pub mod register {
         unsafe { super::tl_register_conviction(m.as_mut_ptr(), m.len(), engine) }
     }
 
+    #[cfg(has_board)]
     pub fn board(m: &[u8], out: &mut [u8]) -> usize {
         unsafe { super::tl_board(m.as_ptr(), m.len(), out.as_mut_ptr(), out.len()) as usize }
     }
@@ -131,6 +136,25 @@ pub mod track {
     pub fn convict(m: &mut [u8], engine: u32) -> Answer {
         Answer::Number(unsafe { super::tl_track_conviction(m.as_mut_ptr(), m.len(), engine) } as u8)
     }
+}
+
+/// The register's report and summary for the bench, which also runs without them (and then calls neither).
+pub const REGISTER: bool = cfg!(has_register);
+
+#[inline(always)]
+pub fn report(m: &mut [u8], engine: u32, record: &[u8]) -> u32 {
+    #[cfg(has_register)]
+    return register::report(m, engine, record);
+    #[cfg(not(has_register))]
+    unreachable!("{} {engine} {}", m.len(), record.len())
+}
+
+#[inline(always)]
+pub fn summary(m: &mut [u8], engine: u32, model: u32, spec: u16, inputs: &[u8]) -> u32 {
+    #[cfg(has_register)]
+    return register::summary(m, engine, model, spec, inputs);
+    #[cfg(not(has_register))]
+    unreachable!("{} {engine} {model} {spec} {}", m.len(), inputs.len())
 }
 
 pub const HASH: bool = cfg!(has_tl_blake2s256);
@@ -225,7 +249,7 @@ pub const ANSWER: usize = 97 + 97 + 1 + 96 * 11;
 #[inline(always)]
 pub fn decide_into(items: &[u8], answer: &mut [u8; ANSWER]) -> Option<u32> {
     #[cfg(has_tl_decide)]
-    return Some(unsafe { tl_decide(items.as_ptr(), items.len(), answer.as_mut_ptr(), ANSWER) });
+    return Some(unsafe { tl_decide(items.as_ptr(), items.len(), answer.as_mut_ptr()) });
     #[cfg(not(has_tl_decide))]
     {
         let _ = (items, answer);

@@ -195,7 +195,7 @@ fn compare_hash(random: &mut Random, times: u64) {
 fn main() {
     let mut words = std::env::args().skip(1);
     let mut number = |otherwise: u64| words.next().map_or(otherwise, |w| w.parse().expect("a number"));
-    let (pairs, lists, others, seed) = (number(1_000_000), number(200_000), number(200_000), number(1));
+    let (pairs, lists, others, calls, seed) = (number(1_000_000), number(200_000), number(200_000), number(200_000), number(1));
     let mut random = Random(seed);
     compare_hash(&mut random, others / 10);
     compare_root(&mut random, others);
@@ -204,8 +204,8 @@ fn main() {
     compare_decide(&mut random, lists);
     tracks::compare(&mut random, lists / 10);
     #[cfg(has_register)]
-    registers::compare(&mut random, lists / 100);
+    registers::compare(&mut random, calls);
     #[cfg(not(has_register))]
-    println!("register and board: not in the library");
+    println!("register: not in the library ({calls} lists of calls left out)");
     println!("no difference");
 }

@@ -1,11 +1,13 @@
-//! The library's register and board beside the peer's: lists of calls on two memories, each answer, all bytes and the boards.
+//! The library's register beside the peer's: lists of calls on two memories, each answer and all bytes; and the boards, where the
+//! library has one.
 
 use crate::binding::register as ours;
 use crate::random::Random;
 use oracle::{Record, hex};
-use peer::board::board;
 use peer::register::{self as theirs, SIZE};
 use std::collections::BTreeMap;
+
+type Counts = BTreeMap<String, u64>;
 
 /// One call, kept so that a list can be run again.
 #[derive(Clone, Debug)]
@@ -77,89 +79,103 @@ fn call(random: &mut Random, wide: u64, summaries: u64) -> Call {
     }
 }
 
-/// What two memories and their boards come to; the first difference in words.
-fn run(calls: &[Call], counts: &mut BTreeMap<String, u64>) -> Option<String> {
-    let (mut a, mut b) = (vec![0u8; SIZE], vec![0u8; SIZE]);
+/// Both boards, where the library has one; the difference in words.
+#[cfg(has_board)]
+fn compare_boards(a: &[u8], b: &[u8], n: usize, counts: &mut Counts) -> Option<String> {
+    let (mut c, mut d) = (vec![7u8; 16_384], vec![7u8; 16_384]);
+    let (x, y) = (ours::board(a, &mut c), peer::board::board(b, &mut d));
+    if x != y || c != d {
+        return Some(format!("board after call {n}: library {x}, peer {y}"));
+    }
+    let lines = c[..if x == 1 { 0 } else { x }].iter().filter(|&&b| b == b'\n').count();
+    let kind = match (x, lines) {
+        (1, _) => "boards refused with 1",
+        (_, 0) => "boards of no bytes",
+        (_, 1..10) => "boards of less than 10 lines",
+        _ => "boards of 10 lines or more",
+    };
+    *counts.entry(kind.to_string()).or_default() += 1;
+    None
+}
+
+/// One call on both memories: what each answers, and what kind of call it was.
+fn answers(call: &Call, a: &mut [u8], b: &mut [u8]) -> (u32, u32, &'static str) {
+    match call {
+        Call::Report { engine, record } => (ours::report(a, *engine, record), theirs::report(b, *engine, record), "report"),
+        Call::Summary { engine, model, spec, inputs } => {
+            let x = ours::summary(a, *engine, *model, *spec, inputs);
+            (x, theirs::summary(b, *engine, *model, *spec, inputs), "summary")
+        }
+        Call::Convict { engine } => (ours::convict(a, *engine), theirs::convict(b, *engine), "conviction"),
+        Call::Spoil { at, byte } => {
+            if let (Some(x), Some(y)) = (a.get_mut(*at), b.get_mut(*at)) {
+                (*x, *y) = (*byte, *byte);
+            }
+            (0, 0, "spoiling")
+        }
+    }
+}
+
+/// What a list of calls comes to on two memories of `size` bytes; the first difference in words. A spoilt byte is put back after the
+/// next call, if that was refused for it.
+fn run(size: usize, calls: &[Call], counts: &mut Counts) -> Option<String> {
+    let (mut a, mut b) = (vec![0u8; size], vec![0u8; size]);
     let mut back: Option<(usize, u8)> = None;
     for (n, call) in calls.iter().enumerate() {
-        let (x, y) = match call {
-            Call::Report { engine, record } => (ours::report(&mut a, *engine, record), theirs::report(&mut b, *engine, record)),
-            Call::Summary { engine, model, spec, inputs } => {
-                (ours::summary(&mut a, *engine, *model, *spec, inputs), theirs::summary(&mut b, *engine, *model, *spec, inputs))
+        if let Call::Spoil { at, .. } = call {
+            if let Some((was, held)) = back.take() {
+                (a[was], b[was]) = (held, held);
             }
-            Call::Convict { engine } => (ours::convict(&mut a, *engine), theirs::convict(&mut b, *engine)),
-            Call::Spoil { at, byte } => {
-                if let Some((was, held)) = back {
-                    a[was] = held;
-                    b[was] = held;
-                }
-                back = Some((*at, a[*at]));
-                a[*at] = *byte;
-                b[*at] = *byte;
-                (0, 0)
-            }
-        };
+            back = a.get(*at).map(|held| (*at, *held));
+        }
+        let (x, y, kind) = answers(call, &mut a, &mut b);
         if x != y || a != b {
-            return Some(format!(
-                "call {n}: library answers {x}, peer {y}; memories {}",
-                if a == b { "alike" } else { "differ" }
-            ));
+            let alike = if a == b { "alike" } else { "differ" };
+            return Some(format!("call {n}: library answers {x}, peer {y}; memories {alike}"));
         }
-        let what = match call {
-            Call::Report { .. } => format!("report answered {x}"),
-            Call::Summary { .. } => format!("summary answered {x}"),
-            Call::Convict { .. } => format!("conviction answered {x}"),
-            Call::Spoil { .. } => "bytes changed".to_string(),
-        };
-        *counts.entry(what).or_default() += 1;
-        let (mut c, mut d) = (vec![7u8; 16_384], vec![7u8; 16_384]);
+        *counts.entry(format!("{kind} answered {x}")).or_default() += 1;
+        #[cfg(has_board)]
         if n % 8 == 0 || n + 1 == calls.len() || back.is_some() {
-            let (x, y) = (ours::board(&a, &mut c), board(&b, &mut d));
-            if x != y || c != d {
-                return Some(format!("board after call {n}: library {x}, peer {y}"));
+            if let Some(words) = compare_boards(&a, &b, n, counts) {
+                return Some(words);
             }
-            let lines = c[..if x == 1 { 0 } else { x }].iter().filter(|&&b| b == b'\n').count();
-            let kind = match (x, lines) {
-                (1, _) => "boards refused with 1",
-                (_, 0) => "boards of no bytes",
-                (_, 1..10) => "boards of less than 10 lines",
-                _ => "boards of 10 lines or more",
-            };
-            *counts.entry(kind.to_string()).or_default() += 1;
         }
-        if let (Some((at, byte)), false) = (back, matches!(call, Call::Spoil { .. })) {
-            // Only where the call was refused: else the byte is a part of what is held now.
-            if x == 1 {
-                a[at] = byte;
-                b[at] = byte;
+        if kind != "spoiling" {
+            if let (Some((at, byte)), 1) = (back.take(), x) {
+                (a[at], b[at]) = (byte, byte);
             }
-            back = None;
         }
     }
     None
 }
 
 /// Drops calls while the two still differ.
-fn shrink(mut calls: Vec<Call>) -> Vec<Call> {
+fn shrink(size: usize, mut calls: Vec<Call>) -> Vec<Call> {
     let mut at = 0;
     while at < calls.len() {
         let mut fewer = calls.clone();
         fewer.remove(at);
-        if run(&fewer, &mut BTreeMap::new()).is_some() { calls = fewer } else { at += 1 }
+        if run(size, &fewer, &mut Counts::new()).is_some() { calls = fewer } else { at += 1 }
     }
     calls
 }
 
+/// Mostly short lists; one in forty is long enough to fill a register.
+fn list(random: &mut Random) -> Vec<Call> {
+    let wide = random.pick(&[2, 8, 300]);
+    let length = if random.one_in(40) { random.pick(&[300, 600]) } else { random.pick(&[4, 12, 30]) };
+    let summaries = random.pick(&[5, 20, 50]);
+    (0..length).map(|_| call(random, wide, summaries)).collect()
+}
+
 pub fn compare(random: &mut Random, lists: u64) {
-    let mut counts = BTreeMap::new();
+    let mut counts = Counts::new();
     for _ in 0..lists {
-        let wide = random.pick(&[2, 8, 300]);
-        let length = random.pick(&[20, 60, 500]) as usize;
-        let summaries = random.pick(&[5, 20, 50]);
-        let calls: Vec<Call> = (0..length).map(|_| call(random, wide, summaries)).collect();
-        if run(&calls, &mut counts).is_some() {
-            let least = shrink(calls);
-            println!("DIFFERENT: register, {}", run(&least, &mut BTreeMap::new()).unwrap());
+        let size = if random.one_in(400) { random.pick(&[0, 4, SIZE - 1, SIZE + 1]) } else { SIZE };
+        let calls = list(random);
+        if run(size, &calls, &mut counts).is_some() {
+            let least = shrink(size, calls);
+            println!("DIFFERENT: register of {size} bytes, {}", run(size, &least, &mut Counts::new()).unwrap());
             for call in &least {
                 match call {
                     Call::Report { engine, record } => println!("  report {engine} {}", hex::write(record)),
@@ -169,7 +185,8 @@ pub fn compare(random: &mut Random, lists: u64) {
             std::process::exit(1);
         }
     }
-    println!("register and board: {lists} lists, library and peer alike");
+    let boards = if cfg!(has_board) { " and board" } else { ", no board in the library" };
+    println!("register{boards}: {lists} lists of calls, library and peer alike");
     for (what, times) in &counts {
         println!("  {times:>9}  {what}");
     }

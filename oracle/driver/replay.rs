@@ -86,12 +86,12 @@ fn put_decision(out: &mut Vec<u8>, bytes: &[u8]) {
 fn kinds_of(bytes: &[u8]) -> Vec<(&'static str, u64)> {
     let Some(all) = items(bytes) else {
         let kind = kinds::refusal_kind(bytes);
-        return vec![(kind, if bytes.len() > 8 * SIZE { 2 } else { 6 })];
+        return vec![(kind, if bytes.len() > 8 * SIZE { 1 } else { 6 })];
     };
-    let long = bytes.len() > 6 * SIZE;
+    let long = bytes.len() > 4 * SIZE;
     let found = kinds::features(&all, &decide(bytes).unwrap());
     if all.len() == 96 {
-        return vec![("lists of 96 items", 2)];
+        return vec![("lists of 96 items", 1)];
     }
     found.into_iter().filter(|_| !long).map(|(kind, _)| (kind, OF_A_KIND)).collect()
 }
@@ -112,7 +112,7 @@ fn decisions(random: &mut Random) -> (Vec<u8>, Kept, usize) {
     // What is still missing to the least number: short lists, as they come.
     while count < AT_LEAST {
         let bytes = lists::list(random);
-        if (2 * SIZE..=5 * SIZE).contains(&bytes.len()) {
+        if (2 * SIZE..=4 * SIZE).contains(&bytes.len()) {
             put_decision(&mut out, &bytes);
             count += 1;
         }

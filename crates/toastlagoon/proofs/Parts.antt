@@ -1,0 +1,141 @@
+-- Laws of a decision's bytes: how wide each part is, where it stands, and how one refusal more is written.
+use mathlib.Core.Path.{_≡_, refl, sym, ap, ap₂, _∙_}
+use mathlib.Core.Bool.{Bool, true, false, cond}
+use mathlib.Core.List.{List, [], _∷_, _++_, append-assoc, append-nil}
+use Prim.Native.Nat.{ℕ, zero, suc, _+_, _-_, _*_, _≤_, _<_}
+use native.Mathlib.Nat.{sub-zero}
+use native.Mathlib.Omega.{arith}
+use native.Mathlib.Numerals.{add-one}
+use mir.Val.{boolByte}
+use lib.Ieee.{binary64, toBits}
+use lib.ListN.{length, take, drop, set, getD, length-set, length-append, length-replicate, length-take, replicate}
+use lib.Seq.{sets, sets-eq, take-suc, take-all, take-at, drop-at}
+use Rattle.octets.specs.Words.{wordBytes, putWord}
+use Rattle.octets.proofs.Numbers.{length-word-bytes}
+use Rattle.text.specs.Buffer.{Put}
+use Rattle.text.proofs.Writing.{put-put, put-whole}
+use Rattle.items.specs.Layout.{maxItems}
+use Rattle.decision.specs.declared.Refusal.{Refusal}
+use Rattle.decision.specs.declared.Refusals.{Refusals}
+use Rattle.decision.specs.declared.Decision.{Decision}
+use Rattle.toastlagoon.specs.Layout.{indicesSize, refusalSize, refusalsSize, rankedAt, dominatedAt, refusalsAt, answerSize}
+use Rattle.toastlagoon.specs.Answer.{indicesBytes, refusalBytes, eachBytes, counted, refusalsBytes, answerBytes}
+
+-- a number put at a place is a text of its bytes
+pub word-put : (n at x : ℕ) (s : List ℕ) → at + n ≤ length s → Put s at (wordBytes n x) (at + n) (putWord n at x s)
+word-put n at x s h =
+    let l = length-word-bytes n x in
+    record {
+      next = rw l refl;
+      bytes = sym (sets-eq (wordBytes n x) s at (rw l h) ∙ rw l (append-assoc (take at s) (wordBytes n x) (drop (at + n) s)));
+    }
+
+-- three bytes stored one after another
+three-put : (l : List ℕ) (at x y z : ℕ) → Put l at (x ∷ y ∷ z ∷ []) (at + 3) (set (set (set l at x) (at + 1) y) (at + 2) z)
+three-put l at x y z =
+    let p : at + 1 ≡ suc at = omega arith in
+    let q : at + 2 ≡ suc (suc at) = omega arith in
+    record { next = refl; bytes = ap₂ (λ (i j : ℕ). set (set (set l at x) i y) j z) p q }
+
+-- a flag as the byte that the machine makes of it
+flag : (b : Bool) → boolByte b ≡ cond b 1 0
+flag true = refl
+flag false = refl
+
+pub length-refusal : (x : Refusal) → length (refusalBytes x) ≡ refusalSize
+length-refusal x = rw (length-word-bytes 8) refl
+
+-- a refusal's three bytes, and its chi-square's bits after them
+pub refusal-put : (l : List ℕ) (at : ℕ) (x : Refusal) → at + refusalSize ≤ length l
+    → Put l at (refusalBytes x) (at + refusalSize) (putWord 8 (at + 3) (toBits binary64 (x .chi2)) (set (set (set l at (x .refused)) (at + 1) (x .kept)) (at + 2) (boolByte (x .superseded))))
+refusal-put l at x h =
+    let m = set (set (set l at (x .refused)) (at + 1) (x .kept)) (at + 2) (boolByte (x .superseded)) in
+    let p = put-put (three-put l at (x .refused) (x .kept) (boolByte (x .superseded))) (word-put 8 (at + 3) (toBits binary64 (x .chi2)) m (simp length-set (omega arith))) in
+    let n : length (refusalBytes x) ≡ refusalSize = length-refusal x in
+    record { next = omega arith; bytes = p .bytes ∙ ap (λ (b : ℕ). sets l at (x .refused ∷ x .kept ∷ b ∷ wordBytes 8 (toBits binary64 (x .chi2)))) (flag (x .superseded)) }
+
+drop-zeros : (k n : ℕ) → drop k (replicate {A = ℕ} n 0) ≡ replicate (n - k) 0
+drop-zeros zero n = ap (λ (m : ℕ). replicate m 0) (sym (sub-zero n))
+drop-zeros (suc k) zero = let e : 0 ≡ 0 - suc k = omega arith in ap (λ (m : ℕ). replicate m 0) e
+drop-zeros (suc k) (suc n) = let e : suc n - suc k ≡ n - k = omega arith in drop-zeros k n ∙ ap (λ (m : ℕ). replicate m 0) (sym e)
+
+-- three texts, one after another, into n zeros: the rest stays zero
+pub put-zeros : (n : ℕ) {l₁ l₂ l₃ t u v : List ℕ} {r₁ r₂ r₃ : ℕ} → Put (replicate n 0) 0 t r₁ l₁ → Put l₁ r₁ u r₂ l₂ → Put l₂ r₂ v r₃ l₃ → r₃ ≤ n → l₃ ≡ t ++ (u ++ (v ++ replicate (n - r₃) 0))
+put-zeros n {l₁} {l₂} {l₃} {t} {u} {v} {r₁} {r₂} {r₃} p q r h =
+    let a = t ++ (u ++ v) in
+    let w = put-put p (put-put q r) in
+    let z : List ℕ = replicate n 0 in
+    let m : length z ≡ n = length-replicate n 0 in
+    let e : r₃ ≡ 0 + length a = w .next in
+    put-whole w (omega arith)
+    ∙ ap (λ (k : ℕ). a ++ drop k z) (sym e)
+    ∙ ap (λ (d : List ℕ). a ++ d) (drop-zeros r₃ n)
+    ∙ append-assoc t (u ++ v) (replicate (n - r₃) 0)
+    ∙ ap (λ (d : List ℕ). t ++ d) (append-assoc u v (replicate (n - r₃) 0))
+
+each-append : (l k : List Refusal) → eachBytes (l ++ k) ≡ eachBytes l ++ eachBytes k
+unfolding eachBytes
+each-append [] k = refl
+each-append (x ∷ l) k = ap (λ (t : List ℕ). refusalBytes x ++ t) (each-append l k) ∙ sym (append-assoc (refusalBytes x) (eachBytes l) (eachBytes k))
+
+pub length-each : (l : List Refusal) → length (eachBytes l) ≡ length l * refusalSize
+unfolding eachBytes
+length-each [] = refl
+length-each (x ∷ l) = length-append (refusalBytes x) (eachBytes l) ∙ rw (length-refusal x, length-each l) (omega arith)
+
+-- one refusal more
+pub each-more : (l : List Refusal) (i : ℕ) (d : Refusal) → i < length l → eachBytes (take (i + 1) l) ≡ eachBytes (take i l) ++ refusalBytes (getD l i d)
+unfolding eachBytes
+each-more l i d h =
+    ap eachBytes (ap (λ (k : ℕ). take k l) (add-one i) ∙ take-suc l i d h)
+    ∙ each-append (take i l) (getD l i d ∷ [])
+    ∙ ap (λ (t : List ℕ). eachBytes (take i l) ++ t) (append-nil (refusalBytes (getD l i d)))
+
+-- as many as there are, when all were written, or when the count was reached
+pub all-counted : (l : List Refusal) (i n : ℕ) → length l ≤ i → i ≤ n → take i l ≡ take n l
+all-counted l i n h k = take-all i l h ∙ sym (take-all n l (omega arith))
+
+-- they fit
+pub counted-fits : (l : List Refusal) (n : ℕ) → length (eachBytes (take n l)) ≤ length l * refusalSize
+counted-fits l n = omega (arith, length-each (take n l), length-take n l)
+
+-- ---- where each part stands, in a decision whose lists have room for all items, as each has that `decide` returns
+
+pub record Roomy (d : Decision) : Type 0 where
+  pub ranked : length (d .ranked .list) ≡ maxItems
+  pub dominated : length (d .dominated .list) ≡ maxItems
+  pub refusals : length (d .refusals .list) ≡ maxItems
+
+refusals-long : (x : Refusals) → length (x .list) ≡ maxItems → length (refusalsBytes x) ≡ refusalsSize
+refusals-long x h =
+    let f = counted-fits (x .list) (x .count) in
+    let n = maxItems * refusalSize - length (counted x) in
+    let e : length (counted x ++ replicate n 0) ≡ length (counted x) + n = length-append (counted x) (replicate n 0) ∙ ap (λ (k : ℕ). length (counted x) + k) (length-replicate n 0) in
+    omega arith
+
+pub answer-long : (d : Decision) → Roomy d → length (answerBytes d) ≡ answerSize
+unfolding answerBytes
+answer-long d r =
+    let a = r .ranked in
+    let b = r .dominated in
+    let c = refusals-long (d .refusals) (r .refusals) in
+    omega (arith, length-append (indicesBytes (d .ranked)) (indicesBytes (d .dominated) ++ refusalsBytes (d .refusals)), length-append (indicesBytes (d .dominated)) (refusalsBytes (d .refusals)))
+
+pub ranked-stands : (d : Decision) → Roomy d → take indicesSize (drop rankedAt (answerBytes d)) ≡ indicesBytes (d .ranked)
+unfolding answerBytes
+ranked-stands d r = take-at (indicesBytes (d .ranked)) (indicesBytes (d .dominated) ++ refusalsBytes (d .refusals)) indicesSize (ap suc (r .ranked))
+
+pub dominated-stands : (d : Decision) → Roomy d → take indicesSize (drop dominatedAt (answerBytes d)) ≡ indicesBytes (d .dominated)
+unfolding answerBytes
+dominated-stands d r =
+    ap (take indicesSize) (drop-at (indicesBytes (d .ranked)) (indicesBytes (d .dominated) ++ refusalsBytes (d .refusals)) dominatedAt (ap suc (r .ranked)))
+    ∙ take-at (indicesBytes (d .dominated)) (refusalsBytes (d .refusals)) indicesSize (ap suc (r .dominated))
+
+pub refusals-stand : (d : Decision) → Roomy d → drop refusalsAt (answerBytes d) ≡ refusalsBytes (d .refusals)
+unfolding answerBytes
+refusals-stand d r =
+    let a = indicesBytes (d .ranked) in
+    let b = indicesBytes (d .dominated) in
+    let p = r .ranked in
+    let q = r .dominated in
+    ap (drop refusalsAt) (sym (append-assoc a b (refusalsBytes (d .refusals)))) ∙ drop-at (a ++ b) (refusalsBytes (d .refusals)) refusalsAt (omega (arith, length-append a b))

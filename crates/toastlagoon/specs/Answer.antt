@@ -1,0 +1,40 @@
+-- The bytes of a decision (document 01, 'Decide'): what is ranked, dominated and refused, in the layout of `Layout`. The unused places of each list are
+-- zero: of the indices as they are in the decision, and of the refusals as is said here.
+use mathlib.Core.Bool.{Bool, cond}
+use mathlib.Core.List.{List, [], _∷_, _++_}
+use Prim.Native.Nat.{ℕ, _-_, _*_}
+use lib.Dec.{eqb}
+use lib.Ieee.{binary64, toBits}
+use lib.ListN.{length, take, replicate}
+use Rattle.octets.specs.Words.{wordBytes}
+use Rattle.items.specs.Layout.{maxItems}
+use Rattle.decision.specs.declared.Refusal.{Refusal}
+use Rattle.decision.specs.declared.Refusals.{Refusals}
+use Rattle.decision.specs.declared.Indices.{Indices}
+use Rattle.decision.specs.declared.Decision.{Decision}
+use Rattle.register.specs.Register.{After, after}
+use Rattle.toastlagoon.specs.Layout.{refusalSize}
+
+abbrev pub indicesBytes : Indices → List ℕ
+indicesBytes x = x .count ∷ x .list
+
+-- the chi-square's bits have their lowest byte first
+abbrev pub refusalBytes : Refusal → List ℕ
+refusalBytes x = x .refused ∷ x .kept ∷ cond (x .superseded) 1 0 ∷ wordBytes 8 (toBits binary64 (x .chi2))
+
+unfoldable pub eachBytes : List Refusal → List ℕ
+eachBytes [] = []
+eachBytes (x ∷ xs) = refusalBytes x ++ eachBytes xs
+
+abbrev pub counted : Refusals → List ℕ
+counted x = eachBytes (take (x .count) (x .list))
+
+abbrev pub refusalsBytes : Refusals → List ℕ
+refusalsBytes x = x .count ∷ (counted x ++ replicate (maxItems * refusalSize - length (counted x)) 0)
+
+unfoldable pub answerBytes : Decision → List ℕ
+answerBytes d = indicesBytes (d .ranked) ++ (indicesBytes (d .dominated) ++ refusalsBytes (d .refusals))
+
+-- what is answered, and what the array holds then: the decision, or what was found there ("A refusal returns its number and changes no lent byte")
+unfoldable pub told : Decision → List ℕ → After (List ℕ)
+told d found = cond (eqb (d .answer) 0) (after 0 (answerBytes d)) (after (d .answer) found)

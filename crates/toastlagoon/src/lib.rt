@@ -1,0 +1,176 @@
+// What other products call by C names: one thin call each, for any bytes and any numbers. A refusal is the number that is answered;
+// include/toastlagoon.h says the same for C.
+use answers::ANSWER_SIZE;
+use arithmetic::standing::Claimed;
+use arithmetic::standing::Covariance;
+ghost use mathlib.Core.Path.{_≡_};
+ghost use Rattle.hashing.specs.Blake2s as Hash;
+ghost use Rattle.floats.specs.Root as Root;
+ghost use Rattle.arithmetic.specs.Agree.{agreementOf, sigmaOf};
+ghost use Rattle.decision.specs.Answer.{decided};
+ghost use Rattle.register.specs.Register.{after, reported, summarized, convictedOf};
+ghost use Rattle.register.specs.Memory.{onMemory};
+ghost use Rattle.toastlagoon.specs.Claims.{covarianceOf, claimOf};
+ghost use Rattle.toastlagoon.specs.Answer.{told};
+
+pub mod answers;
+
+// The BLAKE2s-256 hash of any bytes. Answers 0.
+#[no_mangle]
+pub extern "C" fn tl_blake2s256(input: &[u8], out: &mut [u8; 32]) -> u32
+    ensures { λ a. ⌜ (a ≡ 0) × (now (out .exit) ≡ Hash.blake2s256 (now (input .entry))) ⌝ }
+{
+    *out = hashing::blake2s256(input);
+    0
+}
+
+// The square root, as IEEE 754 has it.
+#[no_mangle]
+pub extern "C" fn tl_root(x: f64) -> f64
+    ensures { λ r. ⌜ r ≡ Root.root x ⌝ }
+{
+    floats::root(x)
+}
+
+fn covariance(xx: f64, xy: f64, xz: f64, yy: f64, yz: f64, zz: f64) -> Covariance
+    ensures { λ r. ⌜ r ≡ covarianceOf xx xy xz yy yz zz ⌝ }
+{
+    Covariance {
+        xx,
+        xy,
+        xz,
+        yy,
+        yz,
+        zz,
+    }
+}
+
+// The horizontal deviation of a covariance, in metres.
+#[no_mangle]
+pub extern "C" fn tl_horizontal_sigma(xx: f64, xy: f64, xz: f64, yy: f64, yz: f64, zz: f64) -> f64
+    ensures { λ r. ⌜ r ≡ sigmaOf (covarianceOf xx xy xz yy yz zz) ⌝ }
+{
+    arithmetic::horizontal_sigma_m(covariance(xx, xy, xz, yy, yz, zz))
+}
+
+// A claim whose numbers came one by one.
+fn claim(
+    lat: i32,
+    lon: i32,
+    has_height: bool,
+    height: i32,
+    xx: f64,
+    xy: f64,
+    xz: f64,
+    yy: f64,
+    yz: f64,
+    zz: f64,
+) -> Claimed
+    ensures { λ r. ⌜ r ≡ claimOf lat lon «has_height» height xx xy xz yy yz zz ⌝ }
+{
+    let covariance = covariance(xx, xy, xz, yy, yz, zz);
+    Claimed {
+        lat,
+        lon,
+        has_height,
+        height,
+        covariance,
+    }
+}
+
+// The chi-square of a larger fix's position under a smaller one's covariance, and the most that agrees. Answers 0.
+#[no_mangle]
+pub extern "C" fn tl_agreement(
+    lat: i32,
+    lon: i32,
+    has_height: bool,
+    height: i32,
+    xx: f64,
+    xy: f64,
+    xz: f64,
+    yy: f64,
+    yz: f64,
+    zz: f64,
+    lat2: i32,
+    lon2: i32,
+    has_height2: bool,
+    height2: i32,
+    xx2: f64,
+    xy2: f64,
+    xz2: f64,
+    yy2: f64,
+    yz2: f64,
+    zz2: f64,
+    chi2: &mut f64,
+    limit: &mut f64,
+) -> u32
+    ensures { λ a. ⌜ (a ≡ 0) × (record { chi2 = now (chi2 .exit); limit = now (limit .exit) }
+        ≡ agreementOf (claimOf lat lon «has_height» height xx xy xz yy yz zz) (claimOf lat2 lon2 «has_height2» height2 xx2 xy2 xz2 yy2 yz2 zz2)) ⌝ }
+{
+    let smaller = claim(lat, lon, has_height, height, xx, xy, xz, yy, yz, zz);
+    let larger = claim(
+        lat2,
+        lon2,
+        has_height2,
+        height2,
+        xx2,
+        xy2,
+        xz2,
+        yy2,
+        yz2,
+        zz2,
+    );
+    let a = arithmetic::agreement(smaller, larger);
+    *chi2 = a.chi2;
+    *limit = a.limit;
+    0
+}
+
+fn wide(x: u8) -> u32
+    ensures { λ r. ⌜ r ≡ x ⌝ }
+{
+    x as u32
+}
+
+// Decides items in bytes. The array is written where something is decided, and stays as it is on a refusal.
+#[no_mangle]
+pub extern "C" fn tl_decide(items: &[u8], answer: &mut [u8; ANSWER_SIZE]) -> u32
+    ensures { λ a. ⌜ after a (now (answer .exit)) ≡ told (decided (now (items .entry))) (now (answer .entry)) ⌝ }
+{
+    let d = decision::decide(items);
+    if d.answer == 0 {
+        *answer = answers::bytes_of(d);
+        return 0;
+    }
+    wide(d.answer)
+}
+
+// Reports a record for an engine into a register.
+#[no_mangle]
+pub extern "C" fn tl_register_report(memory: &mut [u8], engine: u32, r: &[u8]) -> u32
+    ensures { λ a. ⌜ after a (now (memory .exit)) ≡ onMemory (reported engine (now (r .entry))) (now (memory .entry)) ⌝ }
+{
+    register::reports::report(memory, engine, r)
+}
+
+// Puts an engine's summary of a model into a register.
+#[no_mangle]
+pub extern "C" fn tl_register_summary(
+    memory: &mut [u8],
+    engine: u32,
+    model: u32,
+    spec: u16,
+    inputs: &[u8],
+) -> u32
+    ensures { λ a. ⌜ after a (now (memory .exit)) ≡ onMemory (summarized engine model spec (now (inputs .entry))) (now (memory .entry)) ⌝ }
+{
+    register::summaries::summary(memory, engine, model, spec, inputs)
+}
+
+// Strikes an engine from a register, with all that it alone said.
+#[no_mangle]
+pub extern "C" fn tl_register_conviction(memory: &mut [u8], engine: u32) -> u32
+    ensures { λ a. ⌜ after a (now (memory .exit)) ≡ onMemory (convictedOf engine) (now (memory .entry)) ⌝ }
+{
+    register::convictions::conviction(memory, engine)
+}
