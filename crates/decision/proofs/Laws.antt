@@ -159,7 +159,7 @@ module _ (x : Rel) where
       by (h k) (λ p. rw (p, e k (omega arith) (omega arith) p) (omega arith)) (λ p. rw p (omega arith))
 
   -- one fewer without b
-  count-less : (g h : ℕ → Bool) (b k f : ℕ) → ((i : ℕ) → k ≤ i → i < k + f → h i ≡ true → g i ≡ true) → k ≤ b → b < k + f → g b ≡ true → h b ≡ false → count h k f < count g k f
+  pub count-less : (g h : ℕ → Bool) (b k f : ℕ) → ((i : ℕ) → k ≤ i → i < k + f → h i ≡ true → g i ≡ true) → k ≤ b → b < k + f → g b ≡ true → h b ≡ false → count h k f < count g k f
   unfolding count
   count-less g h b k zero e u v p q = absurd (omega arith)
   count-less g h b k (suc f) e u v p q =

@@ -7,3 +7,4 @@ pub mod Sound
 pub mod Decided
 pub mod Reordered
 pub mod Positions
+pub mod Counted

@@ -1,0 +1,46 @@
+-- Lines one after another.
+use mathlib.Core.Path.{_≡_, refl, sym, ap, _∙_}
+use mathlib.Core.List.{List, [], _∷_, _++_, append-assoc, append-nil}
+use Prim.Native.Nat.{ℕ, zero, suc, _+_, _<_}
+use native.Mathlib.Numerals.{add-one}
+use lib.Ieee.{binary64, toBits}
+use lib.ListN.{length, getD, take}
+use lib.Seq.{take-suc}
+use Rattle.fixes.specs.Layout.{recordOf, signersOf}
+use Rattle.lines.specs.Lines.{line, refusedLine}
+use Rattle.decision.specs.declared.Refusal.{Refusal}
+use Rattle.drawing.specs.Drawing.{linesOf, refusedLines}
+
+lines-append : (role t m is js : List ℕ) → linesOf role t m (is ++ js) ≡ linesOf role t m is ++ linesOf role t m js
+unfolding linesOf
+lines-append role t m [] js = refl
+lines-append role t m (i ∷ is) js =
+    ap (λ (x : List ℕ). line role (recordOf t (getD m i 0)) (signersOf t (getD m i 0)) ++ x) (lines-append role t m is js)
+    ∙ sym (append-assoc (line role (recordOf t (getD m i 0)) (signersOf t (getD m i 0))) (linesOf role t m is) (linesOf role t m js))
+
+-- a turn of the loop that writes them
+pub lines-more : (role t m l : List ℕ) (i : ℕ) → i < length l
+    → linesOf role t m (take i l) ++ line role (recordOf t (getD m (getD l i 0) 0)) (signersOf t (getD m (getD l i 0) 0)) ≡ linesOf role t m (take (i + 1) l)
+unfolding linesOf
+lines-more role t m l i h =
+    ap (λ (x : List ℕ). linesOf role t m (take i l) ++ x) (sym (append-nil (line role (recordOf t (getD m (getD l i 0) 0)) (signersOf t (getD m (getD l i 0) 0)))))
+    ∙ sym (lines-append role t m (take i l) (getD l i 0 ∷ []))
+    ∙ ap (linesOf role t m) (sym (take-suc l i 0 h) ∙ ap (λ (k : ℕ). take k l) (sym (add-one i)))
+
+-- the same of refused fixes
+refused-append : (t m : List ℕ) (rs qs : List Refusal) → refusedLines t m (rs ++ qs) ≡ refusedLines t m rs ++ refusedLines t m qs
+unfolding refusedLines
+refused-append t m [] qs = refl
+refused-append t m (r ∷ rs) qs =
+    ap (λ (x : List ℕ). refusedLine (recordOf t (getD m (r .refused) 0)) (signersOf t (getD m (r .refused) 0)) (toBits binary64 (r .chi2)) ++ x) (refused-append t m rs qs)
+    ∙ sym (append-assoc (refusedLine (recordOf t (getD m (r .refused) 0)) (signersOf t (getD m (r .refused) 0)) (toBits binary64 (r .chi2))) (refusedLines t m rs) (refusedLines t m qs))
+
+pub refused-more : (t m : List ℕ) (l : List Refusal) (i : ℕ) (d : Refusal) → i < length l
+    → let r = getD l i d in
+    refusedLines t m (take i l) ++ refusedLine (recordOf t (getD m (r .refused) 0)) (signersOf t (getD m (r .refused) 0)) (toBits binary64 (r .chi2)) ≡ refusedLines t m (take (i + 1) l)
+unfolding refusedLines
+refused-more t m l i d h =
+    let r = getD l i d in
+    ap (λ (x : List ℕ). refusedLines t m (take i l) ++ x) (sym (append-nil (refusedLine (recordOf t (getD m (r .refused) 0)) (signersOf t (getD m (r .refused) 0)) (toBits binary64 (r .chi2)))))
+    ∙ sym (refused-append t m (take i l) (r ∷ []))
+    ∙ ap (refusedLines t m) (sym (take-suc l i d h) ∙ ap (λ (k : ℕ). take k l) (sym (add-one i)))

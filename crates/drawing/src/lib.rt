@@ -1,0 +1,85 @@
+// The text of a board into a lent buffer, from a table of fixes and their labels.
+use decision::Decision;
+use decision::Refusal;
+use decision::Refusals;
+use fixes::layout::MAX_FIXES;
+ghost use mathlib.Core.Path.{_≡_};
+ghost use Prim.Native.Nat.{ℕ, _+_, _*_, _<_, _≤_};
+ghost use lib.Ieee.{binary64, toBits};
+ghost use lib.ListN.{length, getD, take};
+ghost use Rattle.text.specs.Buffer.{Put};
+ghost use Rattle.fixes.specs.Layout.{fixSize, maxFixes, recordOf, signersOf};
+ghost use Rattle.lines.specs.Lines.{line, refusedLine, roleWidth, headerWidth, lineWidth, refusedWidth};
+ghost use Rattle.drawing.specs.Drawing as D;
+
+// The lines of ranked or dominated fixes: the first `count` of a list of indices into m.
+fn put_lines(out: &mut [u8], at: usize, role: &[u8], t: &[u8], m: &[u8], list: &[u8], count: u8) -> usize
+    requires { ⌜ length (now role) ≤ roleWidth ⌝ }
+    requires { ⌜ length (now t) ≡ maxFixes * fixSize ⌝ }
+    requires { ⌜ (count ≤ length (now list)) × D.OfFixes (now m) ⌝ }
+    requires { ⌜ at + count * refusedWidth ≤ length (now out) ⌝ }
+    ensures { λ r. ⌜ (r ≤ at + count * refusedWidth) × Put (now (out .entry)) at (D.linesOf (now (role .entry)) (now (t .entry)) (now (m .entry)) (take count (now (list .entry)))) r (now (out .exit)) ⌝ }
+{
+    let mut a = at;
+    let mut i: u8 = 0;
+    while i < count {
+        let j = transmissions::nth(m, list[i as usize]);
+        a = lines::put_line(out, a, role, fixes::record_of(t, j), fixes::signers(t, j));
+        i += 1;
+    }
+    a
+}
+
+// The line of a refused fix.
+fn put_refusal(out: &mut [u8], at: usize, t: &[u8], m: &[u8], r: Refusal) -> usize
+    requires { ⌜ length (now t) ≡ maxFixes * fixSize ⌝ }
+    requires { ⌜ D.OfFixes (now m) ⌝ }
+    requires { ⌜ at + refusedWidth ≤ length (now out) ⌝ }
+    ensures { λ x. ⌜ (x ≤ at + refusedWidth) × Put (now (out .entry)) at (refusedLine (recordOf (now (t .entry)) (getD (now (m .entry)) (r .refused) 0)) (signersOf (now (t .entry)) (getD (now (m .entry)) (r .refused) 0)) (toBits binary64 (r .chi2))) x (now (out .exit)) ⌝ }
+{
+    let j = transmissions::nth(m, r.refused);
+    lines::put_refused(out, at, fixes::record_of(t, j), fixes::signers(t, j), floats::to_bits(r.chi2))
+}
+
+// The lines of the refused fixes.
+fn put_refusals(out: &mut [u8], at: usize, t: &[u8], m: &[u8], refusals: Refusals) -> usize
+    requires { ⌜ length (now t) ≡ maxFixes * fixSize ⌝ }
+    requires { ⌜ D.OfFixes (now m) ⌝ }
+    requires { ⌜ (refusals .count ≤ maxFixes) × (length (refusals .list) ≡ maxFixes) ⌝ }
+    requires { ⌜ at + refusals .count * refusedWidth ≤ length (now out) ⌝ }
+    ensures { λ x. ⌜ (x ≤ at + refusals .count * refusedWidth) × Put (now (out .entry)) at (D.refusedLines (now (t .entry)) (now (m .entry)) (take (refusals .count) (refusals .list))) x (now (out .exit)) ⌝ }
+{
+    let list = refusals.list;
+    let count = refusals.count;
+    let mut a = at;
+    let mut i: u8 = 0;
+    while i < count {
+        a = put_refusal(out, a, t, m, list[i as usize]);
+        i += 1;
+    }
+    a
+}
+
+// A transmission's header and lines: of its fixes m, d was decided.
+fn put_decided(out: &mut [u8], at: usize, number: u8, t: &[u8], m: &[u8], d: Decision) -> usize
+    requires { ⌜ length (now t) ≡ maxFixes * fixSize ⌝ }
+    requires { ⌜ D.OfFixes (now m) ⌝ }
+    requires { ⌜ D.Arrayed d ⌝ }
+    requires { ⌜ at + headerWidth + D.linesIn d * refusedWidth ≤ length (now out) ⌝ }
+    ensures { λ x. ⌜ (x ≤ at + headerWidth + D.linesIn d * refusedWidth) × Put (now (out .entry)) at (D.decidedText number (now (t .entry)) (now (m .entry)) d) x (now (out .exit)) ⌝ }
+{
+    let ranked = d.ranked;
+    let dominated = d.dominated;
+    let refusals = d.refusals;
+    let a = lines::put_header(
+        out,
+        at,
+        number as u64,
+        ranked.count as u64,
+        dominated.count as u64,
+        refusals.count as u64,
+    );
+    let b = put_lines(out, a, b"ranked", t, m, &ranked.list, ranked.count);
+    let c = put_lines(out, b, b"dominated", t, m, &dominated.list, dominated.count);
+    put_refusals(out, c, t, m, refusals)
+}
