@@ -1,13 +1,13 @@
 -- The text of a board (document 01, 'The board'), of a table of fixes t of which there are n, and their labels l: "a header numbered from 1, then ranked
 -- lines in rank, dominated and refused by identity, a refused one with its refusal's chi-square bits".
-use Prim.Native.Nat.{ℕ, _+_, _≤_, _<_}
+use Prim.Native.Nat.{ℕ, _+_, _*_, _≤_, _<_}
 use mathlib.Core.Path.{_≡_}
 use mathlib.Core.List.{List, [], _∷_, _++_}
 use lib.Ieee.{binary64, toBits}
 use lib.ListN.{length, getD, take}
 use Rattle.fixes.specs.Layout.{maxFixes, recordOf, signersOf}
 use Rattle.lines.specs.Ascii.{ascii}
-use Rattle.lines.specs.Lines.{header, line, refusedLine}
+use Rattle.lines.specs.Lines.{header, line, refusedLine, headerWidth, refusedWidth}
 use Rattle.decision.specs.declared.Refusal.{Refusal}
 use Rattle.decision.specs.declared.Refusals.{Refusals}
 use Rattle.decision.specs.declared.Indices.{Indices}
@@ -51,6 +51,10 @@ decidedText number t m d =
 -- the transmission s
 unfoldable pub transmissionText : List ℕ → List ℕ → ℕ → ℕ → ℕ → List ℕ
 transmissionText t l n number s = decidedText number t (indices (membersOf l n s) .list) (outcomeOf t l n s)
+
+-- the room that its text has in any case
+abbrev pub roomOf : List ℕ → ℕ → ℕ → ℕ
+roomOf l n s = headerWidth + length (membersOf l n s) * refusedWidth
 
 -- transmissions, the first of them with this number
 unfoldable pub drawnFrom : List ℕ → List ℕ → ℕ → ℕ → List ℕ → List ℕ

@@ -8,12 +8,21 @@ ghost use Prim.Native.Nat.{ℕ, _+_, _*_, _<_, _≤_};
 ghost use lib.Ieee.{binary64, toBits};
 ghost use lib.ListN.{length, getD, take};
 ghost use Rattle.text.specs.Buffer.{Put};
+ghost use Rattle.items.specs.Layout.{itemSize};
 ghost use Rattle.fixes.specs.Layout.{fixSize, maxFixes, recordOf, signersOf};
 ghost use Rattle.lines.specs.Lines.{line, refusedLine, roleWidth, headerWidth, lineWidth, refusedWidth};
 ghost use Rattle.drawing.specs.Drawing as D;
 
 // The lines of ranked or dominated fixes: the first `count` of a list of indices into m.
-fn put_lines(out: &mut [u8], at: usize, role: &[u8], t: &[u8], m: &[u8], list: &[u8], count: u8) -> usize
+fn put_lines(
+    out: &mut [u8],
+    at: usize,
+    role: &[u8],
+    t: &[u8],
+    m: &[u8],
+    list: &[u8],
+    count: u8,
+) -> usize
     requires { ⌜ length (now role) ≤ roleWidth ⌝ }
     requires { ⌜ length (now t) ≡ maxFixes * fixSize ⌝ }
     requires { ⌜ (count ≤ length (now list)) × D.OfFixes (now m) ⌝ }
@@ -38,7 +47,13 @@ fn put_refusal(out: &mut [u8], at: usize, t: &[u8], m: &[u8], r: Refusal) -> usi
     ensures { λ x. ⌜ (x ≤ at + refusedWidth) × Put (now (out .entry)) at (refusedLine (recordOf (now (t .entry)) (getD (now (m .entry)) (r .refused) 0)) (signersOf (now (t .entry)) (getD (now (m .entry)) (r .refused) 0)) (toBits binary64 (r .chi2))) x (now (out .exit)) ⌝ }
 {
     let j = transmissions::nth(m, r.refused);
-    lines::put_refused(out, at, fixes::record_of(t, j), fixes::signers(t, j), floats::to_bits(r.chi2))
+    lines::put_refused(
+        out,
+        at,
+        fixes::record_of(t, j),
+        fixes::signers(t, j),
+        floats::to_bits(r.chi2),
+    )
 }
 
 // The lines of the refused fixes.
@@ -82,4 +97,27 @@ fn put_decided(out: &mut [u8], at: usize, number: u8, t: &[u8], m: &[u8], d: Dec
     let b = put_lines(out, a, b"ranked", t, m, &ranked.list, ranked.count);
     let c = put_lines(out, b, b"dominated", t, m, &dominated.list, dominated.count);
     put_refusals(out, c, t, m, refusals)
+}
+
+// The transmission s.
+fn put_transmission(
+    out: &mut [u8],
+    at: usize,
+    number: u8,
+    items: &mut [u8],
+    t: &[u8],
+    labels: &[u8; MAX_FIXES],
+    n: u8,
+    s: u8,
+) -> usize
+    requires { ⌜ length (now items) ≡ maxFixes * itemSize ⌝ }
+    requires { ⌜ length (now t) ≡ maxFixes * fixSize ⌝ }
+    requires { ⌜ n ≤ maxFixes ⌝ }
+    requires { ⌜ at + D.roomOf (now labels) n s ≤ length (now out) ⌝ }
+    ensures { λ x. ⌜ (x ≤ at + D.roomOf (now (labels .entry)) n s) × Put (now (out .entry)) at (D.transmissionText (now (t .entry)) (now (labels .entry)) n number s) x (now (out .exit)) ⌝ }
+{
+    let m = transmissions::members(labels, n, s);
+    let list = m.list;
+    let d = transmissions::outcome(items, t, &list, m.count);
+    put_decided(out, at, number, t, &list, d)
 }
