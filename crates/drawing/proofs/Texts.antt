@@ -2,14 +2,16 @@
 use mathlib.Core.Path.{_≡_, refl, sym, ap, _∙_}
 use mathlib.Core.List.{List, [], _∷_, _++_, append-assoc, append-nil}
 use Prim.Native.Nat.{ℕ, zero, suc, _+_, _<_}
+use native.Mathlib.Omega.{arith}
+use native.Mathlib.Nat.{add-zero}
 use native.Mathlib.Numerals.{add-one}
 use lib.Ieee.{binary64, toBits}
-use lib.ListN.{length, getD, take}
-use lib.Seq.{take-suc}
+use lib.ListN.{length, getD, take, drop}
+use lib.Seq.{take-suc, drop-cons}
 use Rattle.fixes.specs.Layout.{recordOf, signersOf}
 use Rattle.lines.specs.Lines.{line, refusedLine}
 use Rattle.decision.specs.declared.Refusal.{Refusal}
-use Rattle.drawing.specs.Drawing.{linesOf, refusedLines}
+use Rattle.drawing.specs.Drawing.{linesOf, refusedLines, transmissionText, drawnFrom, roomOf, rooms}
 
 lines-append : (role t m is js : List ℕ) → linesOf role t m (is ++ js) ≡ linesOf role t m is ++ linesOf role t m js
 unfolding linesOf
@@ -44,3 +46,28 @@ refused-more t m l i d h =
     ap (λ (x : List ℕ). refusedLines t m (take i l) ++ x) (sym (append-nil (refusedLine (recordOf t (getD m (r .refused) 0)) (signersOf t (getD m (r .refused) 0)) (toBits binary64 (r .chi2)))))
     ∙ sym (refused-append t m (take i l) (r ∷ []))
     ∙ ap (refusedLines t m) (sym (take-suc l i d h) ∙ ap (λ (k : ℕ). take k l) (sym (add-one i)))
+
+-- ---- transmissions one after another
+
+drawn-next : (t l : List ℕ) (n a : ℕ) (ss : List ℕ) (i : ℕ) → i < length ss
+    → drawnFrom t l n a (take i ss) ++ transmissionText t l n (a + i) (getD ss i 0) ≡ drawnFrom t l n a (take (suc i) ss)
+unfolding drawnFrom
+drawn-next t l n a [] i h = absurd (omega arith)
+drawn-next t l n a (s ∷ ss) zero h = ap (λ (k : ℕ). transmissionText t l n k s) (add-zero a) ∙ sym (append-nil (transmissionText t l n a s))
+drawn-next t l n a (s ∷ ss) (suc i) h =
+    let e : a + suc i ≡ (a + 1) + i = omega arith in
+    append-assoc (transmissionText t l n a s) (drawnFrom t l n (a + 1) (take i ss)) (transmissionText t l n (a + suc i) (getD ss i 0))
+    ∙ ap (λ (x : List ℕ). transmissionText t l n a s ++ x)
+    (ap (λ (k : ℕ). drawnFrom t l n (a + 1) (take i ss) ++ transmissionText t l n k (getD ss i 0)) e ∙ drawn-next t l n (a + 1) ss i (omega arith))
+
+pub drawn-more : (t l : List ℕ) (n : ℕ) (ss : List ℕ) (i : ℕ) → i < length ss
+    → drawnFrom t l n 1 (take i ss) ++ transmissionText t l n (i + 1) (getD ss i 0) ≡ drawnFrom t l n 1 (take (i + 1) ss)
+drawn-more t l n ss i h =
+    let e : i + 1 ≡ 1 + i = omega arith in
+    ap (λ (k : ℕ). drawnFrom t l n 1 (take i ss) ++ transmissionText t l n k (getD ss i 0)) e
+    ∙ drawn-next t l n 1 ss i h
+    ∙ ap (λ (k : ℕ). drawnFrom t l n 1 (take k ss)) (sym (add-one i))
+
+pub rooms-at : (l : List ℕ) (n : ℕ) (ss : List ℕ) (i : ℕ) → i < length ss → rooms l n (drop i ss) ≡ roomOf l n (getD ss i 0) + rooms l n (drop (i + 1) ss)
+unfolding rooms
+rooms-at l n ss i h = ap (rooms l n) (drop-cons ss i 0 h) ∙ ap (λ (k : ℕ). roomOf l n (getD ss i 0) + rooms l n (drop k ss)) (sym (add-one i))

@@ -56,6 +56,14 @@ transmissionText t l n number s = decidedText number t (indices (membersOf l n s
 abbrev pub roomOf : List ℕ → ℕ → ℕ → ℕ
 roomOf l n s = headerWidth + length (membersOf l n s) * refusedWidth
 
+unfoldable pub rooms : List ℕ → ℕ → List ℕ → ℕ
+rooms l n [] = 0
+rooms l n (s ∷ ss) = roomOf l n s + rooms l n ss
+
+-- what a caller lends: "10: output under 16,384 bytes"
+abbrev pub boardSize : ℕ
+boardSize = 16384
+
 -- transmissions, the first of them with this number
 unfoldable pub drawnFrom : List ℕ → List ℕ → ℕ → ℕ → List ℕ → List ℕ
 drawnFrom t l n number [] = []

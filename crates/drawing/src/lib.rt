@@ -3,6 +3,7 @@ use decision::Decision;
 use decision::Refusal;
 use decision::Refusals;
 use fixes::layout::MAX_FIXES;
+use items::layout::ITEM_SIZE;
 ghost use mathlib.Core.Path.{_≡_};
 ghost use Prim.Native.Nat.{ℕ, _+_, _*_, _<_, _≤_};
 ghost use lib.Ieee.{binary64, toBits};
@@ -11,6 +12,7 @@ ghost use Rattle.text.specs.Buffer.{Put};
 ghost use Rattle.items.specs.Layout.{itemSize};
 ghost use Rattle.fixes.specs.Layout.{fixSize, maxFixes, recordOf, signersOf};
 ghost use Rattle.lines.specs.Lines.{line, refusedLine, roleWidth, headerWidth, lineWidth, refusedWidth};
+ghost use Rattle.transmissions.specs.Latest.{maxShown};
 ghost use Rattle.drawing.specs.Drawing as D;
 
 // The lines of ranked or dominated fixes: the first `count` of a list of indices into m.
@@ -120,4 +122,47 @@ fn put_transmission(
     let list = m.list;
     let d = transmissions::outcome(items, t, &list, m.count);
     put_decided(out, at, number, t, &list, d)
+}
+
+// Transmissions one after another, numbered from 1.
+fn put_shown(
+    out: &mut [u8],
+    items: &mut [u8],
+    t: &[u8],
+    labels: &[u8; MAX_FIXES],
+    n: u8,
+    shown: &[u8],
+) -> usize
+    requires { ⌜ length (now items) ≡ maxFixes * itemSize ⌝ }
+    requires { ⌜ length (now t) ≡ maxFixes * fixSize ⌝ }
+    requires { ⌜ (n ≤ maxFixes) × (length (now shown) ≤ maxShown) ⌝ }
+    requires { ⌜ D.rooms (now labels) n (now shown) ≤ length (now out) ⌝ }
+    ensures { λ x. ⌜ Put (now (out .entry)) 0 (D.drawnFrom (now (t .entry)) (now (labels .entry)) n 1 (now (shown .entry))) x (now (out .exit)) ⌝ }
+{
+    let mut at = 0;
+    let mut i: u8 = 0;
+    while (i as usize) < shown.len() {
+        at = put_transmission(out, at, i + 1, items, t, labels, n, shown[i as usize]);
+        i += 1;
+    }
+    at
+}
+
+// The board of a table of n fixes with these labels.
+pub fn draw(out: &mut [u8], t: &[u8], labels: &[u8; MAX_FIXES], n: u8) -> usize
+    requires { ⌜ length (now t) ≡ maxFixes * fixSize ⌝ }
+    requires { ⌜ n ≤ maxFixes ⌝ }
+    requires { ⌜ D.boardSize ≤ length (now out) ⌝ }
+    ensures { λ x. ⌜ Put (now (out .entry)) 0 (D.drawn (now (t .entry)) (now (labels .entry)) n) x (now (out .exit)) ⌝ }
+{
+    let mut items = [0u8; MAX_FIXES * ITEM_SIZE];
+    let leads = transmissions::leaders(&mut items, t, labels, n);
+    let shown = transmissions::latest::latest(
+        t,
+        &leads,
+        n,
+        transmissions::latest::heads(labels, n),
+    );
+    let list = shown.list;
+    put_shown(out, &mut items, t, labels, n, &list[shown.start as usize..])
 }

@@ -91,7 +91,7 @@ pub fn latest(t: &[u8], leads: &[u8], n: u8, heads: [bool; MAX_FIXES]) -> Shown
     requires { ⌜ length (now t) ≡ maxFixes * fixSize ⌝ }
     requires { ⌜ (n ≤ length (now leads)) × ((i : ℕ) → getD (now leads) i 0 < maxFixes) ⌝ }
     requires { ⌜ (n ≤ maxFixes) × (length heads ≡ maxFixes) ⌝ }
-    ensures { λ r. ⌜ (r .start ≤ L.maxShown) × (drop (r .start) (r .list) ≡ L.latest (now (t .entry)) (now (leads .entry)) n L.maxShown heads []) ⌝ }
+    ensures { λ r. ⌜ (r .start ≤ L.maxShown) × (length (r .list) ≡ L.maxShown) × (drop (r .start) (r .list) ≡ L.latest (now (t .entry)) (now (leads .entry)) n L.maxShown heads []) ⌝ }
 {
     let mut left = heads;
     let mut list = [0u8; MAX_SHOWN];

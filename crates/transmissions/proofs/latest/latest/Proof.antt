@@ -21,7 +21,7 @@ latest-left-requires : tie.Need-latest-left-requires Inv-loop μ-loop
 latest-left-requires c κs = search needs
 
 returns : tie.Need-returns Inv-loop μ-loop
-returns c = let s = c .before .before .before .before .loop .inv in (s .few, showing-end _ _ _ _ _ _ _ _ (c .before .before .before .loop-test .taken) (c .before .latest-left .ensures) (c .if1 .taken) s)
+returns c = let s = c .before .before .before .before .loop .inv in (s .few, s .long, showing-end _ _ _ _ _ _ _ _ (c .before .before .before .loop-test .taken) (c .before .latest-left .ensures) (c .if1 .taken) s)
 
 sub-k : tie.Need-sub-k Inv-loop μ-loop
 sub-k c = search needs
@@ -45,7 +45,7 @@ loop-again : tie.Need-loop-again Inv-loop μ-loop
 loop-again c = showing-more _ _ _ _ _ _ _ _ (c .before .before .before .loop-test .taken) (c .before .latest-left .ensures) (c .if1 .left) (c .before .before .before .before .loop .inv)
 
 returns-2 : tie.Need-returns-2 Inv-loop μ-loop
-returns-2 c = let s = c .before .loop .inv in (s .few, showing-full _ _ _ _ _ _ _ (c .loop-test .left) s)
+returns-2 c = let s = c .before .loop .inv in (s .few, s .long, showing-full _ _ _ _ _ _ _ (c .loop-test .left) s)
 
 pub latest-spec : {M : Type 1} → statement M
 latest-spec =

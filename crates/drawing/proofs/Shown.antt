@@ -1,0 +1,98 @@
+-- What is written fits: no more transmissions than are shown, and each fix in one of them.
+use mathlib.Core.Path.{_≡_, refl, sym, ap, _∙_}
+use mathlib.Core.Bool.{Bool, true, false, cond}
+use mathlib.Core.List.{List, [], _∷_, _++_}
+use Prim.Native.Nat.{ℕ, zero, suc, _+_, _-_, _*_, _≤_, _<_}
+use native.Mathlib.Omega.{arith}
+use lib.Dec.{eqb}
+use lib.ListN.{length, getD, set, replicate, length-append, length-replicate, length-set}
+use lib.Seq.{getD-set-same, getD-set-other}
+use borrow.Author.Tests.{eqb-true, eqb-false}
+use Rattle.octets.proofs.Cases.{by}
+use Rattle.ranges.specs.Bools.{or}
+use Rattle.ranges.specs.Range.{collect, least-in}
+use Rattle.ranges.specs.Tables.{marked, itself}
+use Rattle.fixes.specs.Layout.{maxFixes}
+use Rattle.lines.specs.Lines.{headerWidth, refusedWidth}
+use Rattle.decision.specs.Answer.{indices}
+use Rattle.transmissions.specs.Transmission.{none, belongs, membersOf, nth, leaderOf, leading, every, tabled, leadersOf, headsOf}
+use Rattle.transmissions.specs.Latest.{maxShown, later, latestLeft, latest}
+use Rattle.transmissions.proofs.Gathering.{members-listed, collect-length}
+use Rattle.drawing.specs.Drawing.{OfFixes, roomOf, rooms, shownOf, boardSize}
+
+-- ---- arrays of what is known of each fix
+
+every-length : {A : Type 0} (f : ℕ → A) (k m : ℕ) → length (collect every f k m) ≡ m
+unfolding collect
+every-length f k zero = refl
+every-length f k (suc m) = ap suc (every-length f (suc k) m)
+
+pub tabled-length : {A : Type 0} (d : A) (f : ℕ → A) (n : ℕ) → n ≤ maxFixes → length (tabled d f n) ≡ maxFixes
+tabled-length d f n h =
+    let e = every-length f 0 n in
+    length-append (collect every f 0 n) (replicate (maxFixes - length (collect every f 0 n)) d)
+    ∙ ap (λ (k : ℕ). length (collect every f 0 n) + k) (length-replicate (maxFixes - length (collect every f 0 n)) d)
+    ∙ omega arith
+
+zeros : (m i : ℕ) → _≡_ {A = ℕ} (getD (replicate m 0) i 0) 0
+zeros zero i = refl
+zeros (suc m) zero = refl
+zeros (suc m) (suc i) = zeros m i
+
+tabled-below : (f : ℕ → ℕ) (b k m r i : ℕ) → ((s : ℕ) → f s < b) → 0 < b → getD (collect every f k m ++ replicate r 0) i 0 < b
+unfolding collect
+tabled-below f b k zero r i h z = rw (zeros r i) z
+tabled-below f b k (suc m) r zero h z = h k
+tabled-below f b k (suc m) r (suc i) h z = tabled-below f b (suc k) m r i h z
+
+leading-fix : (t l : List ℕ) (n s : ℕ) → n ≤ maxFixes → leading t l n s < maxFixes
+unfolding leaderOf
+leading-fix t l n s h = by (belongs l s s) (λ e. rw e (members-listed l n s h .fixes _)) (λ e. rw e (omega arith))
+
+pub leaders-fixes : (t l : List ℕ) (n : ℕ) → n ≤ maxFixes → OfFixes (leadersOf t l n)
+leaders-fixes t l n h i = tabled-below (leading t l n) maxFixes 0 n (maxFixes - length (collect every (leading t l n) 0 n)) i (λ s. leading-fix t l n s h) (omega arith)
+
+-- ---- the fixes whose transmissions are left
+
+left-at : List ℕ → List Bool → ℕ → Bool
+left-at l left j = marked left (getD l j 0)
+
+unshown : List ℕ → ℕ → List Bool → ℕ
+unshown l n left = length (collect (left-at l left) itself 0 n)
+
+-- without b its fixes are no longer left
+fewer : (l : List ℕ) (left : List Bool) (b k f : ℕ) → b < length left → marked left b ≡ true
+    → length (collect (belongs l b) itself k f) + length (collect (left-at l (set left b false)) itself k f) ≤ length (collect (left-at l left) itself k f)
+unfolding collect left-at
+fewer l left b k zero h e = omega arith
+fewer l left b k (suc f) h e =
+    let r = fewer l left b (suc k) f h e in
+    by (belongs l b k)
+    (λ p. let q = eqb-true (getD l k 0) b p in
+    rw (p, ap (marked (set left b false)) q ∙ getD-set-same left b false false h, ap (marked left) q ∙ e) (omega arith))
+    (λ p. let q = getD-set-other left b (getD l k 0) false false (eqb-false (getD l k 0) b p) in
+    rw (p, q) (by (marked left (getD l k 0)) (λ u. rw u (omega arith)) (λ u. rw u (omega arith))))
+
+module _ (t d l : List ℕ) (n : ℕ) (few : n ≤ maxFixes) where
+  rooms-latest : (k : ℕ) (left : List Bool) (shown : List ℕ) → length left ≡ maxFixes
+      → rooms l n (latest t d n k left shown) ≤ rooms l n shown + k * headerWidth + unshown l n left * refusedWidth
+  unfolding latest rooms unshown
+  rooms-latest zero left shown w = omega arith
+  rooms-latest (suc k) left shown w =
+      let b = latestLeft t d n left in
+      by (eqb b none)
+      (λ p. rw p (omega arith))
+      (λ p. or (least-in (later t d) none (marked left) none 0 n) (λ z. absurd (eqb-false b none p z))
+      (λ x.
+      let u = x .1 in
+      let f = fewer l left b 0 n (omega arith) (x .2) in
+      let r = rooms-latest k (set left b false) (b ∷ shown) (length-set left b false ∙ w) in
+      rw p (omega (arith, f, r))))
+
+-- every board fits
+pub rooms-fit : (t l : List ℕ) (n : ℕ) → n ≤ maxFixes → rooms l n (shownOf t l n) ≤ boardSize
+unfolding rooms unshown
+rooms-fit t l n h =
+    let r = rooms-latest t (leadersOf t l n) l n h maxShown (headsOf l n) [] (tabled-length false (λ s. belongs l s s) n h) in
+    let c = collect-length (left-at l (headsOf l n)) itself 0 n in
+    omega (arith, r, c)
