@@ -57,13 +57,13 @@ without-apart m c e h =
     one true a b h = refl
     one false a b h = h
 
-with-some : (m e : ℕ) → eqb (withBit m e) 0 ≡ false
+pub with-some : (m e : ℕ) → eqb (withBit m e) 0 ≡ false
 with-some m e =
     ne-eqb (withBit m e) 0 (λ z. true≢false (sym (bit-set m e e ∙ rw (eq-eqb e e refl) refl) ∙ ap (λ (n : ℕ). bit n e) z ∙ bit-zero e))
 
 -- ---- a record's place
 
-no-word : word [] ≡ 0
+pub no-word : word [] ≡ 0
 unfolding word
 no-word = refl
 
@@ -176,7 +176,7 @@ module _ (s : Register) (v : Valid s) (r : List ℕ) where
 -- ---- a report
 
 -- signers with one more
-with-small : (x e : ℕ) → e ≤ 31 → x < 256 ^ 4 → withBit x e < 256 ^ 4
+pub with-small : (x e : ℕ) → e ≤ 31 → x < 256 ^ 4 → withBit x e < 256 ^ 4
 with-small x e h b = with-lt 32 x e (omega arith) b
 
 without-small : (x e : ℕ) → x < 256 ^ 4 → withoutBit x e < 256 ^ 4

@@ -113,11 +113,11 @@ gone true b g true h = sym (h refl)
 gone true b g false h = rw (h refl, and-false b) refl
 
 -- a call that goes or stays, where it does not matter
-either : {A : Type 0} (f : List Call → A) (d : Bool) (c : Call) (cs : List Call) → f (c ∷ cs) ≡ f cs → f (cond d (c ∷ cs) cs) ≡ f cs
+pub either : {A : Type 0} (f : List Call → A) (d : Bool) (c : Call) (cs : List Call) → f (c ∷ cs) ≡ f cs → f (cond d (c ∷ cs) cs) ≡ f cs
 either f true c cs h = h
 either f false c cs h = refl
 
-pulled : {A : Type 0} (f : List Call → A) (d : Bool) (a b : List Call) → f (cond d a b) ≡ cond d (f a) (f b)
+pub pulled : {A : Type 0} (f : List Call → A) (d : Bool) (a b : List Call) → f (cond d a b) ≡ cond d (f a) (f b)
 pulled f true a b = refl
 pulled f false a b = refl
 
@@ -186,7 +186,7 @@ record-held s v cs b r =
 -- ---- the claims
 
 module _ (cs : List Call) (f : noneFull fresh cs ≡ true) where
-  abbrev last : Register
+  abbrev pub last : Register
   last = run (reverse cs)
 
   both : (runs fresh cs ≡ encode last) × (roomy (reverse cs) ≡ true)
@@ -195,23 +195,23 @@ module _ (cs : List Call) (f : noneFull fresh cs ≡ true) where
       begun : noneFull (encode start) cs ≡ true → (runs (encode start) cs ≡ encode last) × (roomy (reverse cs) ≡ true)
       begun g = let h = along cs [] (unfold roomy in refl) in unfold run in h (unfold run in g)
 
-  sum : Sum (reverse cs) last
+  pub sum : Sum (reverse cs) last
   sum = history (reverse cs) (both .1)
 
   struck : (e : ℕ) → convicts (reverse cs) e ≡ convicts cs e
   struck e = convicts-back cs [] e ∙ (unfold convicts in or-false (convicts cs e))
 
-  signs : (e : ℕ) (r : List ℕ) → bit (signersOf r last) e ≡ reports (remaining cs) e r
+  pub signs : (e : ℕ) (r : List ℕ) → bit (signersOf r last) e ≡ reports (remaining cs) e r
   signs e r =
       let a : reports (reverse cs) e r ≡ reports cs e r = reports-back cs [] e r ∙ (unfold reports in or-false (reports cs e r)) in
       sum .signed-by e r ∙ rw (a, struck e) (sym (kept-reports (convicts cs) e r cs))
 
-  summarized : (p : List ℕ) → holds 36 p (last .summaries) ≡ among p (summariesOf (remaining cs))
+  pub summarized : (p : List ℕ) → holds 36 p (last .summaries) ≡ among p (summariesOf (remaining cs))
   summarized p =
       let a : among p (summariesOf (reverse cs)) ≡ among p (summariesOf cs) = summaries-back cs [] p ∙ (unfold among summariesOf in or-false (among p (summariesOf cs))) in
       sum .held p ∙ rw (a, struck (engineOf p)) (sym (kept-summaries (convicts cs) p cs))
 
-  decoded : decode (runs fresh cs) ≡ last
+  pub decoded : decode (runs fresh cs) ≡ last
   decoded = rw (both .0) (decode-encode last (sum .valid))
 
   whole-of : Whole cs (runs fresh cs)

@@ -14,6 +14,7 @@ use Rattle.register.specs.Layout.{summaryCountAt}
 use Rattle.register.specs.Register.{Register}
 use Rattle.register.specs.Memory.{wellFormed, decode, fresh}
 use Rattle.register.specs.Calls.{Call, runs, noneFull, convicts, remaining, reports, recordsOf, summariesOf, among, alwaysFits}
+use Rattle.register.specs.Remains.{summariesHeld, recordsHeld}
 
 -- the signers of a record: none where it is not held
 abbrev pub signersOf : List ℕ → Register → ℕ
@@ -39,6 +40,11 @@ pub record SameRemains (cs ds : List Call) : Type 0 where
 -- a list of which no call is refused as full leaves a register that holds exactly what remains
 abbrev pub HoldsWhatRemains : Type 0
 HoldsWhatRemains = (cs : List Call) → noneFull fresh cs ≡ true → Whole cs (runs fresh cs)
+
+-- its summaries and records are those that remain, in their order
+abbrev pub HoldsInOrder : Type 0
+HoldsInOrder = (cs : List Call) → noneFull fresh cs ≡ true
+    → (decode (runs fresh cs) .summaries ≡ summariesHeld (remaining cs)) × (decode (runs fresh cs) .records ≡ recordsHeld (remaining cs))
 
 -- no call is refused as full exactly when each beginning of the list leaves at most 96 different records and 256 different summaries
 abbrev pub FullExactlyWhen : Type 0

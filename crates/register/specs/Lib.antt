@@ -3,4 +3,5 @@ pub mod Register
 pub mod Memory
 pub mod Strikes
 pub mod Calls
+pub mod Remains
 pub mod Claims
