@@ -1,0 +1,27 @@
+-- The labels that the walk gave are those of the definition.
+use Prim.Native.Nat.{ℕ, zero, suc, _+_, _-_, _≤_, _<_}
+use mathlib.Core.Path.{_≡_, refl, sym, ap, _∙_}
+use mathlib.Core.List.{List, [], _∷_, _++_}
+use native.Mathlib.Omega.{arith}
+use lib.ListN.{length, getD, replicate}
+use Rattle.ranges.specs.Range.{collect}
+use Rattle.ranges.specs.Tables.{Cached, cached-at}
+use Rattle.fixes.specs.Layout.{maxFixes}
+use Rattle.links.specs.Links.{linkAt}
+use Rattle.links.specs.Walk.{label}
+use Rattle.transmissions.specs.Transmission.{every, tabled}
+use Rattle.drawing.specs.Drawing.{drawn}
+use Rattle.drawing.proofs.Relabelled.{drawn-same}
+use Rattle.board.specs.Board.{labelsOf}
+
+every-at : (f : ℕ → ℕ) (k m r j : ℕ) → j < m → getD (collect every f k m ++ replicate r 0) j 0 ≡ f (k + j)
+unfolding collect
+every-at f k zero r j h = absurd (omega arith)
+every-at f k (suc m) r zero h = let e : k ≡ k + 0 = omega arith in ap f e
+every-at f k (suc m) r (suc j) h = let e : suc k + j ≡ k + suc j = omega arith in every-at f (suc k) m r j (omega arith) ∙ ap f e
+
+pub labels-same : (t l : List ℕ) (n : ℕ) → Cached 0 l (label (linkAt t) n) n → drawn t l n ≡ drawn t (labelsOf t n) n
+labels-same t l n c =
+    drawn-same t l (labelsOf t n) n
+    (λ j h. cached-at 0 l (label (linkAt t) n) n j c h
+    ∙ sym (every-at (label (linkAt t) n) 0 n (maxFixes - length (collect every (label (linkAt t) n) 0 n)) j h ∙ (let e : 0 + j ≡ j = omega arith in ap (label (linkAt t) n) e)))

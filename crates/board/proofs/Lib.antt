@@ -1,0 +1,3 @@
+pub mod Lent
+pub mod Labelled
+pub mod Fitting

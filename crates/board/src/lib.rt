@@ -1,0 +1,49 @@
+// The board of a register: what a control room sees, the same for every order in which reports came.
+use fixes::layout::FIX_SIZE;
+use fixes::layout::MAX_FIXES;
+use register::layout;
+ghost use mathlib.Core.Path.{_≡_};
+ghost use mathlib.Core.Bool.{true};
+ghost use Prim.Native.Nat.{_≤_};
+ghost use lib.ListN.{length};
+ghost use Rattle.text.specs.Buffer.{Put};
+ghost use Rattle.drawing.specs.Drawing.{boardSize};
+ghost use Rattle.register.specs.Register.{after};
+ghost use Rattle.register.specs.Memory.{wellFormed, decode};
+ghost use Rattle.board.specs.Board.{boardIn, boarded};
+
+// The least output that a board is written to: every board fits.
+pub const BOARD_SIZE: usize = 16384;
+
+// Writes the board of a register.
+fn draw(memory: &[u8], out: &mut [u8]) -> usize
+    requires { ⌜ wellFormed (now memory) ≡ true ⌝ }
+    requires { ⌜ boardSize ≤ length (now out) ⌝ }
+    ensures { λ x. ⌜ Put (now (out .entry)) 0 (boardIn (decode (now (memory .entry)))) x (now (out .exit)) ⌝ }
+{
+    let summaries = octets::words::u16_at(memory, layout::SUMMARY_COUNT_AT);
+    let records = octets::words::u16_at(memory, layout::RECORD_COUNT_AT);
+    let mut t = [0u8; MAX_FIXES * FIX_SIZE];
+    let n = representatives::represent(
+        &memory[layout::SUMMARIES_AT..layout::RECORDS_AT],
+        summaries as usize,
+        &memory[layout::RECORDS_AT..],
+        records as usize,
+        &mut t,
+    );
+    let labels = links::labels(&t, n);
+    drawing::draw(out, &t, &labels, n)
+}
+
+// The board of a register: 1 or 10, or its length.
+pub fn board(memory: &[u8], out: &mut [u8]) -> u32
+    ensures { λ a. ⌜ after a (now (out .exit)) ≡ boarded (now (memory .entry)) (now (out .entry)) ⌝ }
+{
+    if !register::formed::well_formed(memory) {
+        return 1;
+    }
+    if out.len() < BOARD_SIZE {
+        return 10;
+    }
+    draw(memory, out) as u32
+}

@@ -1,0 +1,62 @@
+-- `take_in` meets its contract.
+use mathlib.Core.Path.{sym, ap, _∙_}
+use native.Mathlib.Omega.{arith}
+use lib.ListN.{length}
+use lib.Seq.{length-take-le}
+use borrow.Author.Tests.{not-true, not-false}
+use Rattle.places.specs.Places.{places, tableOf}
+use Rattle.places.proofs.Tables.{length-places}
+use Rattle.record.specs.Layout.{recordSize}
+use Rattle.models.specs.Summary.{summarySize}
+use Rattle.fixes.specs.Layout.{maxFixes, fixSize}
+use Rattle.representatives.proofs.Soundness.{gathered-is}
+use Rattle.representatives.proofs.Entering.{taken}
+use borrow.Author.Needs.{needs}
+use Rattle.representatives.proofs.take_in.Statement.{statement}
+use Rattle.representatives.proofs.take_in.Tie as tie
+
+slice-aggregate-counts : tie.Need-slice-aggregate-counts
+slice-aggregate-counts c = sym (length-take-le recordSize (c .before .before .before .before .args .p .now) (omega arith))
+
+counts-requires : tie.Need-counts-requires
+counts-requires c κs = search needs
+
+returns : tie.Need-returns
+returns c =
+    let s = c .before .before .before .before .before .before in
+    let e = sym (c .before .counts .ensures) ∙ not-true _ (c .if1 .taken) in
+    rw e (sym (length-places fixSize (s .args .n) (s .args .t .now)), gathered-is (s .args .n) (s .args .t .now) (s .pre .1 .0))
+
+u32-at-requires : tie.Need-u32-at-requires
+u32-at-requires c κs = search needs
+
+slice-aggregate-sign-in : tie.Need-slice-aggregate-sign-in
+slice-aggregate-sign-in c = sym (length-take-le recordSize (c .before .before .before .before .before .before .before .before .before .args .p .now) (omega arith))
+
+sign-in-requires : tie.Need-sign-in-requires
+sign-in-requires c κs = search needs
+
+same-length : tie.Need-same-length
+same-length c = search needs
+
+returns-2 : tie.Need-returns-2
+returns-2 c =
+    let s = c .before .before .before .before .before .before .before .before .before .before .before .before in
+    let ss = places summarySize (s .args .ns) (s .args .sums .now) in
+    let fs = places fixSize (s .args .n) (s .args .t .now) in
+    let e = sym (c .before .before .before .before .before .before .before .counts .ensures) ∙ not-false _ (c .before .before .before .before .before .before .if1 .left) in
+    let z = taken ss (s .args .p .now) (c .before .before .before .before .before .u32-at .result) fs (s .pre .1 .1 .1 .0) (c .before .before .before .before .before .u32-at .ensures) e in
+    (c .before .before .sign-in .ensures .0 ∙ ap length z, c .before .before .sign-in .ensures .1 ∙ ap (tableOf fixSize maxFixes) z)
+
+pub take-in-spec : {M : Type 1} → statement M
+take-in-spec =
+    tie.close
+    (tie.spec
+    slice-aggregate-counts
+    counts-requires
+    returns
+    u32-at-requires
+    slice-aggregate-sign-in
+    sign-in-requires
+    same-length
+    returns-2)
