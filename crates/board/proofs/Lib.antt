@@ -1,3 +1,4 @@
 pub mod Lent
 pub mod Labelled
 pub mod Fitting
+pub mod WholeLists

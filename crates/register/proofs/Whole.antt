@@ -238,7 +238,7 @@ module _ (cs ds : List Call) (f : noneFull fresh cs ≡ true) (g : noneFull fres
   abbrev t : Register
   t = run (reverse ds)
 
-  same-summaries : s .summaries ≡ t .summaries
+  pub same-summaries : s .summaries ≡ t .summaries
   same-summaries =
       ascending-ext 36 (s .summaries) (t .summaries) (sum cs f .valid .summaries-ascend) (sum ds g .valid .summaries-ascend)
       (λ p. summarized cs f p ∙ q .summaries p ∙ sym (summarized ds g p))
@@ -247,7 +247,7 @@ module _ (cs ds : List Call) (f : noneFull fresh cs ≡ true) (g : noneFull fres
   same-signers : (r : List ℕ) → signersOf r s ≡ signersOf r t
   same-signers r = bit-ext (signersOf r s) (signersOf r t) (λ e. signs cs f e r ∙ q .reported e r ∙ sym (signs ds g e r))
 
-  same-records : s .records ≡ t .records
+  pub same-records : s .records ≡ t .records
   same-records =
       ascending-ext 222 (s .records) (t .records) (sum cs f .valid .records-ascend) (sum ds g .valid .records-ascend)
       (λ r. held-signed s (sum cs f .valid) r ∙ ap (λ (n : ℕ). not (eqb n 0)) (same-signers r) ∙ sym (held-signed t (sum ds g .valid) r))

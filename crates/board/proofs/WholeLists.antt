@@ -1,0 +1,51 @@
+-- The claim about whole lists: both rooms hold and show the same.
+use Prim.Native.Nat.{ℕ, _≤_, _<_}
+use mathlib.Core.Path.{_≡_, refl, sym, ap, ap₂, _∙_}
+use mathlib.Core.Logic.{_⊎_, inl, inr, ⊎-elim}
+use mathlib.Core.Bool.{Bool, true, cond}
+use mathlib.Core.List.{List}
+use native.Mathlib.Omega.{arith}
+use lib.ListN.{length}
+use borrow.Author.Tests.{le-ltb}
+use Rattle.drawing.specs.Drawing.{boardSize}
+use Rattle.register.specs.Register.{Register, After}
+use Rattle.register.specs.Memory.{wellFormed, decode, fresh}
+use Rattle.register.specs.Calls.{Call, runs, noneFull, remaining}
+use Rattle.register.specs.Remains.{summariesHeld, recordsHeld}
+use Rattle.register.specs.Claims.{SameRemains}
+use Rattle.register.proofs.Whole.{whole, same-bytes, decoded, same-summaries, same-records}
+use Rattle.register.proofs.Room.{none-full}
+use Rattle.register.proofs.Remaining.{holds-in-order}
+use Rattle.board.specs.Board.{boardOf, boardIn, boarded, written}
+use Rattle.board.specs.Claims.{boardOver, greatestRefusal, SameInBothRooms, WholeLists}
+use Rattle.board.proofs.Fitting.{long-board}
+
+module _ (cs : List Call) (f : noneFull fresh cs ≡ true) where
+  -- the register's board is the board over what remains
+  board-over : boardIn (decode (runs fresh cs)) ≡ boardOver cs
+  board-over = let h = holds-in-order cs f in ap₂ boardOf (h .0) (h .1)
+
+  -- and a call draws it
+  drawn : (out : List ℕ) → boardSize ≤ length out → boarded (runs fresh cs) out ≡ written (boardOver cs) out
+  unfolding boarded
+  drawn out h = rw (whole cs f .formed, le-ltb _ _ h) (ap (λ (t : List ℕ). written t out) board-over)
+
+module _ (cs ds : List Call) (f : noneFull fresh cs ≡ true) (g : noneFull fresh ds ≡ true) (q : SameRemains cs ds) where
+  same-board : boardOver ds ≡ boardOver cs
+  same-board =
+      sym (board-over ds g)
+      ∙ ap boardIn (decoded ds g)
+      ∙ ap₂ boardOf (sym (same-summaries cs ds f g q)) (sym (same-records cs ds f g q))
+      ∙ sym (ap boardIn (decoded cs f))
+      ∙ board-over cs f
+
+  both-rooms : SameInBothRooms cs ds
+  both-rooms = record {
+    registers = same-bytes cs ds f g q;
+    drawn-north = drawn cs f;
+    drawn-south = λ out h. drawn ds g out h ∙ ap (λ (t : List ℕ). written t out) same-board;
+    no-refusal = rw (← board-over cs f) (⊎-elim (λ z. inl z) (λ z. inr (omega (arith, z))) (long-board (runs fresh cs) (whole cs f .formed)));
+  }
+
+pub whole-lists : WholeLists
+whole-lists = record { holds-what-remains = whole; full-exactly-when = none-full; same-in-both-rooms = both-rooms }
