@@ -2,3 +2,4 @@ pub mod Lent
 pub mod Labelled
 pub mod Fitting
 pub mod WholeLists
+pub mod Positions
