@@ -33,6 +33,7 @@ extern "C" {
 #define TL_FULL 5         /* not held yet, and there is no place left */
 #define TL_BAD_ITEMS 8    /* over 96 items, a malformed item, or two with one identity */
 #define TL_BAD_SUMMARY 9  /* a model over 63, or inputs that are not of 32 bytes */
+#define TL_OUTPUT_TOO_SMALL 10 /* a board's output of under TL_BOARD_SIZE bytes */
 
 /* ---- limits */
 
@@ -59,6 +60,9 @@ extern "C" {
 
 /* A register. A fresh one is all zeros. */
 #define TL_REGISTER_SIZE 30920
+
+/* What a board is written to: every board fits. */
+#define TL_BOARD_SIZE 16384
 
 /* ---- the answer of a decision
  *
@@ -105,6 +109,11 @@ uint32_t tl_register_summary(uint8_t *memory, size_t memory_len, uint32_t engine
 /* Convicts an engine: its summaries go, its signature goes from every record, and so does a record that has no signer left. Answers
  * TL_OK, also for an engine that is convicted already, or TL_MALFORMED_REGISTER, TL_ENGINE_OVER_31, the first that holds. */
 uint32_t tl_register_conviction(uint8_t *memory, size_t memory_len, uint32_t engine);
+
+/* Writes the board of a register to the start of out and answers its length, or TL_MALFORMED_REGISTER, TL_OUTPUT_TOO_SMALL, the first
+ * that holds. A length is 0 or greater than every refusal's number. Bytes past the length, and all bytes of a refused call, stay as found.
+ * Every board fits TL_BOARD_SIZE bytes. Registers that hold the same records, signers and summaries have the same board. */
+uint32_t tl_board(const uint8_t *memory, size_t memory_len, uint8_t *out, size_t out_len);
 
 #ifdef __cplusplus
 }

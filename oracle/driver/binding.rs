@@ -69,7 +69,7 @@ unsafe extern "C" {
 
 #[cfg(has_board)]
 unsafe extern "C" {
-    fn tl_board(memory: *const u8, len: usize, out: *mut u8, out_len: usize) -> u64;
+    fn tl_board(memory: *const u8, len: usize, out: *mut u8, out_len: usize) -> u32;
 }
 
 #[cfg(has_register)]

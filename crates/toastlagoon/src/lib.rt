@@ -10,6 +10,7 @@ ghost use Rattle.arithmetic.specs.Agree.{agreementOf, sigmaOf};
 ghost use Rattle.decision.specs.Answer.{decided};
 ghost use Rattle.register.specs.Register.{after, reported, summarized, convictedOf};
 ghost use Rattle.register.specs.Memory.{onMemory};
+ghost use Rattle.board.specs.Board.{boarded};
 ghost use Rattle.toastlagoon.specs.Claims.{covarianceOf, claimOf};
 ghost use Rattle.toastlagoon.specs.Answer.{told};
 
@@ -173,4 +174,12 @@ pub extern "C" fn tl_register_conviction(memory: &mut [u8], engine: u32) -> u32
     ensures { λ a. ⌜ after a (now (memory .exit)) ≡ onMemory (convictedOf engine) (now (memory .entry)) ⌝ }
 {
     register::convictions::conviction(memory, engine)
+}
+
+// The board of a register into `out`: 1 or 10, or its length, which is 0 or greater than every refusal's number.
+#[no_mangle]
+pub extern "C" fn tl_board(memory: &[u8], out: &mut [u8]) -> u32
+    ensures { λ a. ⌜ after a (now (out .exit)) ≡ boarded (now (memory .entry)) (now (out .entry)) ⌝ }
+{
+    board::board(memory, out)
 }
