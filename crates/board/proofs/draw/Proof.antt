@@ -1,4 +1,5 @@
 -- `draw` meets its contract.
+use Prim.Native.Nat.{_≤_}
 use mathlib.Core.Path.{_≡_, refl}
 use native.Mathlib.Omega.{arith}
 use lib.ListN.{length}
@@ -90,7 +91,8 @@ draw-requires c κs =
     let n : c .before .before .before .before .before .before .represent .result ≡ length fs = rw (l .summaries-are, l .records-are) at (c .before .before .before .before .before .before .represent .ensures .0) in
     let t : c .before .before .before .before .before .before .represent .last .1 .1 .1 .1 .0 ≡ tableOf fixSize maxFixes fs = rw (l .summaries-are, l .records-are) at (c .before .before .before .before .before .before .represent .ensures .1) in
     let g = representatives-gathered (decode m .summaries) (decode m .records) (formed-held m w) (few-held m w) in
-    rw (n, t) (g .size, (g .few, st .pre .1))
+    let f : c .before .before .before .before .before .before .represent .result ≤ maxFixes = rw n (g .few) in
+    (rw t (g .size), (omega (arith, f), st .pre .1))
 
 same-length : tie.Need-same-length
 same-length c = search needs
