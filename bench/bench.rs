@@ -244,6 +244,40 @@ fn register(alike: bool) {
     line(&name("summary"), against, 1.0, has, &mut summary, &mut compared);
 }
 
+/// Full boards: 96 records in so many transmissions. The tags of one transmission are nested, so that its fixes are compared.
+fn board(transmissions: u64) {
+    let mut memory = vec![0u8; peer::register::SIZE];
+    let each = 96 / transmissions;
+    for i in 0..96u64 {
+        let (group, depth) = (i / each, i % each);
+        // A chain: each fix has the group's first tag, and ever more others.
+        let tags: Vec<u64> = (0..=depth % 15).map(|k| 1_000 * group + if k == 0 { 0 } else { 16 * (depth / 15) + k }).collect();
+        let one = Record {
+            time: 1_000 + group,
+            lat: 480_000_000 + i as i32,
+            lon: 110_000_000,
+            height: Some(1_500_000),
+            message: vec![0x8d, 1, 2, 3, 4, 5, 6, 7, 8, 9, 10, 11, 12, 13],
+            used: (1u32 << tags.len()).wrapping_sub(1) as u16,
+            tags,
+            models: vec![],
+            spec: 3,
+            covariance: [100.0, 10.0, 5.0, 90.0, -7.0, 400.0],
+        };
+        assert_eq!(peer::register::report(&mut memory, 3, &one.write()), 0);
+    }
+    let (mut a, mut b) = (vec![0u8; 16_384], vec![0u8; 16_384]);
+    let has = binding::BOARD;
+    assert!(!has || binding::board(&memory, &mut a) == peer::board::board(&memory, &mut b) && a == b);
+    let mut ours = || {
+        black_box(binding::board(black_box(&memory), &mut a));
+    };
+    let mut theirs = || {
+        black_box(peer::board::board(black_box(&memory), &mut b));
+    };
+    line(&format!("board, 96 records in {transmissions} transmissions"), "the peer", 1.0, has, &mut ours, &mut theirs);
+}
+
 fn main() {
     let mut random = Random(7);
     println!("Nanoseconds are the least of {ROUNDS} batches; the last column is the median of the batches' own ratios.\n");
@@ -259,4 +293,7 @@ fn main() {
     }
     register(false);
     register(true);
+    for transmissions in [1, 8, 96] {
+        board(transmissions);
+    }
 }

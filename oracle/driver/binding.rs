@@ -157,6 +157,16 @@ pub fn summary(m: &mut [u8], engine: u32, model: u32, spec: u16, inputs: &[u8]) 
     unreachable!("{} {engine} {model} {spec} {}", m.len(), inputs.len())
 }
 
+pub const BOARD: bool = cfg!(has_board);
+
+#[inline(always)]
+pub fn board(m: &[u8], out: &mut [u8]) -> usize {
+    #[cfg(has_board)]
+    return register::board(m, out);
+    #[cfg(not(has_board))]
+    unreachable!("{} {}", m.len(), out.len())
+}
+
 pub const HASH: bool = cfg!(has_tl_blake2s256);
 pub const ROOT: bool = cfg!(has_tl_root);
 pub const SIGMA: bool = cfg!(has_tl_horizontal_sigma);

@@ -1,0 +1,155 @@
+#!/usr/bin/env python3
+"""Makes stdin (sessions, each after its length in four bytes, lowest first) and stdout (what each must print) of this program.
+
+The expected output is the peer's, a second writing of document 01 in plain Rust (oracle/peer/build makes target/oracle/peer), and what is
+written here by hand beside some cases is compared with it. Nothing of ours is asked."""
+import os
+import subprocess
+import sys
+
+here = os.path.dirname(os.path.abspath(__file__))
+peer = os.path.join(here, "..", "..", "target", "oracle", "peer")
+
+ZERO = "0" * 96
+HUNDRED = "4059000000000000"
+DIAG = HUNDRED + "0" * 32 + HUNDRED + "0" * 16 + HUNDRED
+
+
+def summary(engine, model, spec=0, inputs="00" * 32):
+    return f"op=summary\nengine={engine}\nmodel={model}\nspec={spec}\ninputs={inputs}\n"
+
+
+def convict(engine):
+    return f"op=convict\nengine={engine}\n"
+
+
+def report(engine, tags, lat=0, time=1000, lon=0, height="1500", message="8d000000000000", used=None, models="none", spec=0, cov=DIAG):
+    listed = ",".join(str(t) for t in tags)
+    used = (1 << len(tags)) - 1 if used is None else used
+    return (
+        f"op=report\nengine={engine}\ntime={time}\nlat={lat}\nlon={lon}\nheight={height}\nmessage={message}\n"
+        f"tags={listed}\nused={used}\nmodels={models}\nspec={spec}\ncov={cov}\n"
+    )
+
+
+S = report(1, [1], 0)
+M = report(2, [1, 2], 2700)
+L = report(3, [1, 2, 3], 5400)
+WORKED = (
+    summary(1, 5, 3)
+    + report(1, [11, 12], 500000000, 1000, 100000000, "1500", models="5", spec=3, cov=ZERO)
+    + report(2, [11, 12, 13], 500000000, 1000, 100000000, "none", models="5", spec=3, cov=ZERO)
+)
+WORKED_OUT = """answer=0
+answer=0
+answer=0
+transmission=1 ranked=1 dominated=0 refused=1
+role=ranked time=1000 lat=500000000 lon=100000000 height=2 weight=2 signers=00000002
+role=refused time=1000 lat=500000000 lon=100000000 height=none weight=3 signers=00000004 chi2=7ff0000000000000
+"""
+
+
+def bad(line):
+    return f"refused=11 line={line}\n"
+
+
+def changed(text, line, new):
+    lines = text.split("\n")
+    lines[line - 1] = new
+    return "\n".join(lines)
+
+
+def cases():
+    yield WORKED, WORKED_OUT
+    # three nested fixes, in several orders and with repeats
+    for order in (S + M + L, L + S + M, M + L + S, S + M + L + S, L + L + M + S + M):
+        yield order, None
+    # two rooms: other orders, and a conviction half way
+    yield S + M + report(4, [1, 4], 900) + L + convict(4), None
+    yield L + convict(4) + report(4, [1, 4], 900) + M + S, None
+    # one identity with two positions, both orders: the record whose bytes come first represents
+    yield report(1, [1], 0) + report(2, [1], 2700), None
+    yield report(2, [1], 2700) + report(1, [1], 0), None
+    yield report(1, [1], 0, time=256) + report(2, [1], 0, time=1), None
+    # a fix tied to two transmissions
+    yield report(1, [1]) + report(1, [2]) + report(1, [1, 2]), None
+    yield report(1, [1, 2]) + report(1, [2]) + report(1, [1]), None
+    # 7 bytes and the same with seven zeros are different messages
+    yield report(1, [1]) + report(1, [1], message="8d000000000000" + "00" * 7), None
+    # nine transmissions: the oldest is not shown
+    yield "".join(report(i, [10 * i], time=100 - i) for i in range(1, 10)), None
+    yield "".join(report(i, [10 * i], time=7) for i in range(1, 10)), None
+    # a disputed model, settled by a conviction; a model of another spec; a model that is not there
+    X, Y = "11" * 32, "22" * 32
+    yield summary(1, 5, 0, X) + report(1, [1], models="5") + summary(2, 5, 0, Y), None
+    yield summary(1, 5, 0, X) + report(1, [1], models="5") + summary(2, 5, 0, Y) + convict(2), None
+    yield summary(1, 5, 1, X) + report(1, [1], models="5"), None
+    yield report(1, [1], models="5"), None
+    yield summary(1, 5, 0, X) + summary(1, 6, 0, Y) + report(1, [1], models="5,6") + report(2, [1], models="6,5") + report(3, [1], models="5,5"), None
+    # answers 2, 3, 4, 9
+    yield report(32, [1]) + report(255, [1]) + summary(32, 0) + convict(32) + convict(31), "answer=2\n" * 4 + "answer=0\n"
+    yield report(1, [2, 1]) + report(1, [1], used=2) + report(1, [1], models="64") + report(1, [1, 1]), "answer=3\n" * 4
+    yield summary(1, 64) + summary(1, 255) + convict(1) + summary(1, 1) + report(1, [1]), "answer=9\nanswer=9\nanswer=0\nanswer=4\nanswer=4\n"
+    yield summary(255, 255) + report(255, [2, 1]), "answer=2\nanswer=2\n"
+    # heights and widths
+    for h in ("499", "500", "-499", "-500", "0", "-2147483648", "2147483647", "none"):
+        yield report(1, [1], height=h), None
+    yield report(31, range(16), -2147483648, 18446744073709551615, 2147483647, used=0), None
+    yield report(1, [18446744073709551615], cov="7ff8000000000001" * 6) + report(1, [1, 18446744073709551615], cov="fff0000000000000" * 6), None
+    # a full register: a 97th record is 5, a held one with a new signer 0; a conviction half way makes room
+    full = "".join(report(1 + i % 2, [i + 1], time=i, cov=ZERO) for i in range(96))
+    yield full + report(3, [97], time=97) + report(3, [1], time=0, cov=ZERO), None
+    yield full + report(3, [97], time=97) + convict(1) + report(3, [97], time=97) + report(3, [98], time=98) + report(1, [99]), None
+    many = "".join(summary(i // 64, i % 64) for i in range(256))
+    yield many + summary(4, 0) + summary(3, 63), None
+    yield many + summary(4, 0) + convict(2) + summary(4, 0), None
+    # each kind of bad line
+    yield "", bad(1)
+    yield "\n", bad(1)
+    yield S[:-1], bad(12)
+    yield S + "op=convict\n", bad(14)
+    yield S + "op=convict\nengine=1", bad(14)
+    yield "op=convict\r\nengine=1\n", bad(1)
+    yield "op=other\nengine=1\n", bad(1)
+    yield "Op=convict\nengine=1\n", bad(1)
+    yield " op=convict\nengine=1\n", bad(1)
+    yield convict(1) + "\n" + convict(1), bad(3)
+    for value in ("", "01", "+1", "-1", "-0", " 1", "1 ", "256", "1" * 40, "0x1", "1\x00", "\xff"):
+        yield f"op=convict\nengine={value}\n", bad(2)
+    for line, new in (
+        (2, "motor=1"), (3, "time=18446744073709551616"), (3, "time=-1"), (3, "time=" + "9" * 200), (4, "lat=2147483648"), (4, "lat=-2147483649"),
+        (4, "lat=-0"), (4, "lat=--1"), (5, "lon=00"), (6, "height="), (6, "height=None"), (6, "height=2147483648"), (7, "message="),
+        (7, "message=8d0000000000"), (7, "message=8D000000000000"), (7, "message=8d00000000000g"), (8, "tags="), (8, "tags=none"), (8, "tags=1,"),
+        (8, "tags=,1"), (8, "tags=1,,2"), (8, "tags=" + ",".join(str(i) for i in range(17))), (8, "tags=01"), (9, "used=65536"), (10, "models="),
+        (10, "models=1,2,3,4,5"), (10, "models=256"), (10, "models=none,1"), (11, "spec=65536"), (12, "cov=" + "0" * 95), (12, "cov=" + "0" * 97),
+        (12, "cov=" + "A" * 96),
+    ):
+        yield changed(S, line, new), bad(line)
+    yield changed(summary(1, 5), 5, "inputs=" + "0" * 62), bad(5)
+    yield changed(summary(1, 5), 5, "inputs=" + "0" * 66), bad(5)
+    yield changed(summary(1, 5), 4, "spec=-1"), bad(4)
+    # good lines that look odd
+    yield report(1, range(16), models="1,2,3,4") + report(1, [0], message="8d" + "00" * 13) + report(1, [5], used=0), None
+    # 65,536 bytes are read, one more is not
+    yield convict(1) * 3276 + "op=convict\nengi", bad(6554)
+    yield convict(1) * 3274 + convict(10) * 2, "answer=0\n" * 3276
+    yield convict(1) * 3277, "refused=12\n"
+    yield "x" * 65537, "refused=12\n"
+
+
+def main():
+    if not os.path.exists(peer):
+        sys.exit("no target/oracle/peer: run oracle/peer/build first")
+    inputs, outputs = b"", b""
+    for number, (text, expected) in enumerate(cases(), 1):
+        data = text.encode("latin-1")
+        out = subprocess.run([peer], input=data, capture_output=True, check=True).stdout
+        assert expected is None or out == expected.encode(), (number, text[:300], expected, out)
+        inputs += len(data).to_bytes(4, "little") + data
+        outputs += b"session %d\n" % number + out
+    open(os.path.join(here, "stdin"), "wb").write(inputs)
+    open(os.path.join(here, "stdout"), "wb").write(outputs)
+    print(number, "sessions,", len(inputs), "bytes in,", len(outputs), "bytes out")
+
+
+main()
