@@ -6,7 +6,7 @@ use Prim.Native.Nat.{ℕ, _-_, _≤_, _<_}
 use native.Mathlib.Omega.{arith}
 use lib.Dec.{eqb}
 use borrow.Author.Tests.{eqb-false, ne-eqb, eq-eqb}
-use Rattle.ranges.specs.Bools.{clash, and-r, not-t, by, or, not-false-t}
+use Rattle.ranges.specs.Bools.{clash, and-l, and-r, not-t, by, or, not-false-t}
 use Rattle.ranges.specs.Range.{any, least, any-no, least-in, least-some}
 use Rattle.decision.specs.Decide.{Rel, none, supersedes, beats, superseded, superBy, blames, contested, against, refused, refusal, contestedBy}
 
@@ -77,9 +77,18 @@ module _ (x : Rel) (few : x .n ≤ 255) where
   unfolding superBy
   super-in i f = or (least-in (x .lower) none (beats x i) none 0 (x .n)) (λ q. absurd (f q)) (λ t. omega arith)
 
+  -- and disagrees
+  pub super-disagrees : (i : ℕ) → (superBy x i ≡ none → ⊥) → x .disagrees (superBy x i) i ≡ true
+  unfolding superBy
+  super-disagrees i f = or (least-in (x .lower) none (beats x i) none 0 (x .n)) (λ q. absurd (f q)) (λ t. and-r (supersedes x (superBy x i)) _ (t .2))
+
   pub against-in : (i : ℕ) → contested x i ≡ true → against x i < x .n
   unfolding against
   against-in i e = or (least-in (x .lower) none (blames x i) none 0 (x .n)) (λ q. absurd (eqb-false (least (x .lower) none (blames x i) none 0 (x .n)) none (against-some i e) q)) (λ t. omega arith)
+
+  against-disagrees : (i : ℕ) → contested x i ≡ true → x .disagrees i (against x i) ≡ true
+  unfolding against
+  against-disagrees i e = or (least-in (x .lower) none (blames x i) none 0 (x .n)) (λ q. absurd (eqb-false (least (x .lower) none (blames x i) none 0 (x .n)) none (against-some i e) q)) (λ t. and-l (x .disagrees i (against x i)) (not (superseded x (against x i))) (t .2))
 
   pub contested-in : (i : ℕ) → superBy x i ≡ none → refused x i ≡ true → contestedBy x i < x .n
   unfolding refused contestedBy
@@ -87,6 +96,13 @@ module _ (x : Rel) (few : x .n ≤ 255) where
       let p = superseded-no i e in
       let q : contested x i ≡ true = rw p at r in
       rw q (against-in i q)
+
+  pub contested-disagrees : (i : ℕ) → superBy x i ≡ none → refused x i ≡ true → x .disagrees i (contestedBy x i) ≡ true
+  unfolding refused contestedBy
+  contested-disagrees i e r =
+      let p = superseded-no i e in
+      let q : contested x i ≡ true = rw p at r in
+      rw q (against-disagrees i q)
 
   pub refusal-taken : (i : ℕ) → (superBy x i ≡ 255 → ⊥) → refusal x i ≡ record { refused = i; kept = superBy x i; chi2 = x .chiSquare (superBy x i) i; superseded = true }
   unfolding refusal

@@ -20,14 +20,18 @@ mod rule;
 // Up to this many items have small tables, which cost little to clear.
 const FEW: u8 = 8;
 
-// The sizes of the tables of prepared numbers and of codes.
+// The sizes of the tables of prepared numbers, of codes and of chi-squares.
 const FEW_NUMBERS: usize = 8 * arithmetic::PREPARED;
 
 const FEW_CODES: usize = 8 * MAX_ITEMS;
 
+const FEW_CHIS: usize = 8 * 8;
+
 const MANY_NUMBERS: usize = MAX_ITEMS * arithmetic::PREPARED;
 
 const MANY_CODES: usize = MAX_ITEMS * MAX_ITEMS;
+
+const MANY_CHIS: usize = MAX_ITEMS * MAX_ITEMS;
 
 // A refused item, the one that it is refused against, and the chi-square between them. `superseded`: it is the smaller,
 // and a verified superset with more standing took its place; else it is the larger.
@@ -124,13 +128,13 @@ fn refused_decision() -> Decision
 }
 
 // Fills the lent tables, and decides by them.
-fn decide_in(s: &[u8], n: u8, table: &mut [f64], codes: &mut [u8]) -> Decision
-    requires { ⌜ Whole (now s) n × (n * preparedSize ≤ length (now table)) × (n * stride ≤ length (now codes)) ⌝ }
+fn decide_in(s: &[u8], n: u8, table: &mut [f64], codes: &mut [u8], chis: &mut [f64]) -> Decision
+    requires { ⌜ Whole (now s) n × (n * preparedSize ≤ length (now table)) × (n * stride ≤ length (now codes)) × (n * n ≤ length (now chis)) ⌝ }
     ensures { λ r. ⌜ r ≡ decision (rel (now (s .entry)) n) ⌝ }
 {
     items::pairs::prepare_all(s, n, table);
-    items::pairs::code_all(s, n, table, codes);
-    rule::decide_all(s, table, codes, n)
+    items::pairs::code_all(s, n, table, codes, chis);
+    rule::decide_all(s, codes, chis, n)
 }
 
 fn decide_few(s: &[u8], n: u8) -> Decision
@@ -139,7 +143,8 @@ fn decide_few(s: &[u8], n: u8) -> Decision
 {
     let mut table = [0.0; FEW_NUMBERS];
     let mut codes = [0u8; FEW_CODES];
-    decide_in(s, n, &mut table, &mut codes)
+    let mut chis = [0.0; FEW_CHIS];
+    decide_in(s, n, &mut table, &mut codes, &mut chis)
 }
 
 fn decide_many(s: &[u8], n: u8) -> Decision
@@ -148,7 +153,8 @@ fn decide_many(s: &[u8], n: u8) -> Decision
 {
     let mut table = [0.0; MANY_NUMBERS];
     let mut codes = [0u8; MANY_CODES];
-    decide_in(s, n, &mut table, &mut codes)
+    let mut chis = [0.0; MANY_CHIS];
+    decide_in(s, n, &mut table, &mut codes, &mut chis)
 }
 
 pub fn decide(s: &[u8]) -> Decision

@@ -15,7 +15,7 @@ ghost use Rattle.ranges.specs.Range.{any, least, better, Collected, Valid};
 ghost use Rattle.ranges.specs.Tables.{Cached, marked, itself};
 ghost use Rattle.items.specs.Layout.{itemSize, maxItems};
 ghost use Rattle.items.specs.Items.{subsetAt, disagreesAt, withinAt};
-ghost use Rattle.items.specs.Pairs.{Prepared};
+ghost use Rattle.items.specs.Pairs.{Kept};
 ghost use Rattle.decision.specs.Decide.{none, resists, beats, blames, covers, superBy, contestedBy, refusal, noRefusal};
 ghost use Rattle.decision.specs.Decide.{supersedes as isSuperseding, against as leastAgainst, refused as isRefused, dominated as isDominated, stands as isStanding};
 ghost use Rattle.decision.specs.Related.{rel, Ready};
@@ -278,19 +278,19 @@ fn refused_table(s: &[u8], n: u8, by: &[u8; MAX_ITEMS], ct: &[u8; MAX_ITEMS]) ->
 
 fn refusal_at(
     s: &[u8],
-    table: &[f64],
+    chis: &[f64],
     n: u8,
     by: &[u8; MAX_ITEMS],
     ct: &[u8; MAX_ITEMS],
     i: u8,
 ) -> Refusal
-    requires { ⌜ (i < n) × (n ≤ maxItems) × Cached 0 (now by) (superBy (rel (now s) n)) n × Cached 0 (now ct) (contestedBy (rel (now s) n)) n × Prepared (now s) (now table) n × (isRefused (rel (now s) n) i ≡ true) ⌝ }
+    requires { ⌜ (i < n) × (n ≤ maxItems) × Cached 0 (now by) (superBy (rel (now s) n)) n × Cached 0 (now ct) (contestedBy (rel (now s) n)) n × Kept (now s) (now chis) n (n * n) × (isRefused (rel (now s) n) i ≡ true) ⌝ }
     ensures { λ r. ⌜ r ≡ refusal (rel (now (s .entry)) n) i ⌝ }
 {
     let k = by[i as usize];
     if k == NONE {
         let j = ct[i as usize];
-        let chi2 = items::pairs::chi_square(s, n, table, i, j);
+        let chi2 = items::pairs::chi_square(s, n, chis, i, j);
         return Refusal {
             refused: i,
             kept: j,
@@ -298,7 +298,7 @@ fn refusal_at(
             superseded: false,
         };
     }
-    let chi2 = items::pairs::chi_square(s, n, table, k, i);
+    let chi2 = items::pairs::chi_square(s, n, chis, k, i);
     Refusal {
         refused: i,
         kept: k,
@@ -309,13 +309,13 @@ fn refusal_at(
 
 fn refuse_all(
     s: &[u8],
-    table: &[f64],
+    chis: &[f64],
     n: u8,
     by: &[u8; MAX_ITEMS],
     ct: &[u8; MAX_ITEMS],
     rf: &[bool; MAX_ITEMS],
 ) -> Refusals
-    requires { ⌜ (n ≤ maxItems) × Cached 0 (now by) (superBy (rel (now s) n)) n × Cached 0 (now ct) (contestedBy (rel (now s) n)) n × Cached false (now rf) (isRefused (rel (now s) n)) n × Prepared (now s) (now table) n ⌝ }
+    requires { ⌜ (n ≤ maxItems) × Cached 0 (now by) (superBy (rel (now s) n)) n × Cached 0 (now ct) (contestedBy (rel (now s) n)) n × Cached false (now rf) (isRefused (rel (now s) n)) n × Kept (now s) (now chis) n (n * n) ⌝ }
     ensures { λ r. ⌜ Collected (isRefused (rel (now (s .entry)) n)) (refusal (rel (now (s .entry)) n)) maxItems noRefusal (r .list) (r .count) n ⌝ }
 {
     let none = Refusal {
@@ -332,7 +332,7 @@ fn refuse_all(
             i += 1;
             continue;
         }
-        list[count as usize] = refusal_at(s, table, n, by, ct, i);
+        list[count as usize] = refusal_at(s, chis, n, by, ct, i);
         count += 1;
         i += 1;
     }
@@ -476,15 +476,15 @@ fn rank_all(s: &[u8], n: u8, stands: [bool; MAX_ITEMS]) -> Indices
     Indices { list, count }
 }
 
-pub fn decide_all(s: &[u8], table: &[f64], codes: &[u8], n: u8) -> Decision
-    requires { ⌜ (n ≤ maxItems) × Ready (now s) (now codes) n × Prepared (now s) (now table) n ⌝ }
+pub fn decide_all(s: &[u8], codes: &[u8], chis: &[f64], n: u8) -> Decision
+    requires { ⌜ (n ≤ maxItems) × Ready (now s) (now codes) n × Kept (now s) (now chis) n (n * n) ⌝ }
     ensures { λ r. ⌜ r ≡ decision (rel (now (s .entry)) n) ⌝ }
 {
     let sup = super_table(s, codes, n);
     let by = by_table(s, codes, n, &sup);
     let ct = contested_table(s, codes, n, &sup, &by);
     let rf = refused_table(s, n, &by, &ct);
-    let refusals = refuse_all(s, table, n, &by, &ct, &rf);
+    let refusals = refuse_all(s, chis, n, &by, &ct, &rf);
     let dominated = dominate_all(s, codes, n, &rf);
     let ranked = rank_all(s, n, stands_table(s, codes, n, &rf));
     Decision {

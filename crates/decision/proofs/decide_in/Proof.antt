@@ -11,13 +11,20 @@ code-all-requires : tie.Need-code-all-requires
 code-all-requires c κs = search needs
 
 decide-all-requires : tie.Need-decide-all-requires
-decide-all-requires c κs = let w = c .before .before .before .before .before .before .before .before .before .before .before .before .before .before .pre .0 in let l = w .long in (w .few, record { long = omega arith; coded = c .before .before .before .before .code-all .ensures }, c .before .before .before .before .before .before .before .before .before .prepare-all .ensures)
+decide-all-requires c κs =
+    let w = c .before .before .before .before .before .before .before .before .before .before .before .before .before .before .before .before .before .before .pre .0 in
+    let l = w .long in
+    let e = c .before .before .before .before .before .before .code-all .ensures in
+    (w .few, record { long = omega arith; coded = e .0 }, e .1)
 
 same-length : tie.Need-same-length
 same-length c = search needs
 
 same-length-2 : tie.Need-same-length-2
 same-length-2 c = search needs
+
+same-length-3 : tie.Need-same-length-3
+same-length-3 c = search needs
 
 returns : tie.Need-returns
 returns c = search needs
@@ -31,4 +38,5 @@ decide-in-spec =
     decide-all-requires
     same-length
     same-length-2
+    same-length-3
     returns)

@@ -14,10 +14,10 @@ use Rattle.decision.proofs.rule.refuse_all.Statement.{statement}
 use Rattle.decision.proofs.rule.refuse_all.Tie as tie
 
 abbrev Inv-loop : tie.InvT-loop
-Inv-loop s table n by ct rf list₀ count₀ i₀ list count i = (i ≤ n) × (length list ≡ maxItems) × Collected (refused (rel s n)) (refusal (rel s n)) maxItems noRefusal list count i
+Inv-loop s chis n by ct rf list₀ count₀ i₀ list count i = (i ≤ n) × (length list ≡ maxItems) × Collected (refused (rel s n)) (refusal (rel s n)) maxItems noRefusal list count i
 
 abbrev μ-loop : tie.MeasureT-loop
-μ-loop s table n by ct rf list₀ count₀ i₀ list count i = n - i
+μ-loop s chis n by ct rf list₀ count₀ i₀ list count i = n - i
 
 loop-holds : tie.Need-loop-holds Inv-loop μ-loop
 loop-holds c = (omega arith, refl, collected-none _ _ 96 _)

@@ -1,0 +1,31 @@
+-- `decide_few` meets its contract.
+use native.Mathlib.Omega.{arith}
+use Rattle.items.proofs.Pairing.{rows-within}
+use borrow.Author.Needs.{needs}
+use Rattle.decision.proofs.decide_few.Statement.{statement}
+use Rattle.decision.proofs.decide_few.Tie as tie
+
+slice-aggregate-decide-in : tie.Need-slice-aggregate-decide-in
+slice-aggregate-decide-in c = search needs
+
+slice-aggregate-decide-in-2 : tie.Need-slice-aggregate-decide-in-2
+slice-aggregate-decide-in-2 c = search needs
+
+slice-aggregate-decide-in-3 : tie.Need-slice-aggregate-decide-in-3
+slice-aggregate-decide-in-3 c = search needs
+
+decide-in-requires : tie.Need-decide-in-requires
+decide-in-requires c κs = let a = c .before .before .before .before in let p = a .pre in (p .0, omega arith, omega arith, rows-within (a .args .n) 8 (p .1))
+
+returns : tie.Need-returns
+returns c = search needs
+
+pub decide-few-spec : {M : Type 1} → statement M
+decide-few-spec =
+    tie.close
+    (tie.spec
+    slice-aggregate-decide-in
+    slice-aggregate-decide-in-2
+    slice-aggregate-decide-in-3
+    decide-in-requires
+    returns)
