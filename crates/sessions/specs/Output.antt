@@ -1,14 +1,15 @@
 -- What a session prints (document 01, 'The track and the session' and 'Answers and refusals'): "Prints only `refused=12` if input is over 65,536 bytes, else
 -- only `refused=11 line=N` for the first bad line"; else "Each operation prints `answer=` and its register answer, then comes the board".
-use Prim.Native.Nat.{ℕ}
+use Prim.Native.Nat.{ℕ, _+_, _*_}
 use mathlib.Core.Bool.{Bool, cond}
 use mathlib.Core.List.{List, [], _∷_, _++_}
-use lib.Dec.{ltb}
+use lib.Dec.{ltb, eqb}
 use lib.ListN.{length}
 use Rattle.text.specs.Numbers.{decimal}
 use Rattle.lines.specs.Ascii.{ascii}
 use Rattle.register.specs.Memory.{decode, fresh, onMemory}
 use Rattle.register.specs.Calls.{Call, act, runs}
+use Rattle.drawing.specs.Drawing.{boardSize}
 use Rattle.board.specs.Board.{boardIn}
 use Rattle.grammar.specs.Grammar.{Session, badAt, calls, sessionOf}
 
@@ -19,10 +20,26 @@ maxInput = 65536
 unfoldable pub answerLine : ℕ → List ℕ
 answerLine n = (ascii "answer=" ++ decimal n) ++ ascii "\n"
 
+-- its widest
+abbrev pub answerWidth : ℕ
+answerWidth = 28
+
+-- what a session may print: an answer for each operation, which has a byte or more, and a board
+abbrev pub outputSize : ℕ
+outputSize = maxInput * answerWidth + boardSize
+
 -- the answers of calls on a register, first to last
 unfoldable pub answers : List ℕ → List Call → List ℕ
 answers m [] = []
 answers m (c ∷ cs) = answerLine (onMemory (act c) m .answer) ++ answers (onMemory (act c) m .left) cs
+
+-- the calls of the bytes from a place on; none where no byte is left
+abbrev pub callsIn : Session → List Call
+callsIn (badAt n) = []
+callsIn (calls cs) = cs
+
+abbrev pub callsFrom : List ℕ → List Call
+callsFrom s = cond (eqb (length s) 0) [] (callsIn (sessionOf s))
 
 -- the answers, then the board
 unfoldable pub performed : List ℕ → List Call → List ℕ

@@ -1,0 +1,69 @@
+use Prim.Native.Nat.{ℕ, _+_, _-_, _*_, _≤_, _<_}
+use mathlib.Core.Path.{_≡_, refl, sym, ap, _∙_}
+use mathlib.Core.Bool.{Bool, true, false, cond, not, _&&_, _||_}
+use mathlib.Core.List.{List, [], _∷_, _++_}
+use native.Mathlib.Omega.{arith}
+use lib.ListN.{length, getD, drop, take}
+use borrow.Author.Tests.{not-true, not-false}
+use Rattle.octets.specs.Words.{wordBytes}
+use Rattle.lines.specs.Ascii.{ascii}
+use Rattle.grammar.specs.Values as Val
+use Rattle.grammar.specs.Reading.{Reading, bad, good, told, after}
+use Rattle.grammar.specs.Grammar as G
+use Rattle.grammar.proofs.Steps.{told-stop}
+use Rattle.grammar.proofs.Steps.{kind-two}
+use borrow.Author.Needs.{needs}
+use Rattle.grammar.proofs.sessions.operation.Statement.{statement}
+use Rattle.grammar.proofs.sessions.operation.Tie as tie
+use Rattle.grammar.proofs.sessions.operation.Reads as reads
+use Rattle.grammar.proofs.sessions.operation.Lts as lts
+use Rattle.grammar.proofs.keyed.kind.Reads as kind-reads
+use Rattle.grammar.proofs.operations.bad.Reads as bad-reads
+use Rattle.grammar.proofs.operations.convict.Reads as convict-reads
+use Rattle.grammar.proofs.operations.report.Reads as report-reads
+use Rattle.grammar.proofs.operations.summary.Reads as summary-reads
+
+kind-requires : tie.Need-kind-requires
+kind-requires c κs = search needs
+
+bad-requires : tie.Need-bad-requires
+bad-requires c κs = search needs
+
+returns : tie.Need-returns
+unfolding G.operationOf ascii
+returns c = (told-stop (c .bad .result .good) (c .bad .result .lines) 0 (G.callOf (c .bad .result .kind) (c .bad .result .engine) (c .bad .result .model) (c .bad .result .spec) (c .bad .result .inputs) (c .bad .result .record)) (drop (c .bad .result .next) (c .before .before .before .before .before .args .input .now)) (c .bad .ensures .0) (c .bad .ensures .1) (rw (← (c .before .before .before .kind .ensures), not-true (c .before .before .before .kind .result .good) (c .before .if1 .taken)) refl), omega (arith, c .bad .ensures .1))
+
+summary-requires : tie.Need-summary-requires
+summary-requires c κs = search needs
+
+returns-2 : tie.Need-returns-2
+unfolding G.operationOf ascii
+returns-2 c = (rw (← (c .before .before .before .before .before .kind .ensures), not-false (c .before .before .before .before .before .kind .result .good) (c .before .before .before .if1 .left), c .before .if2 .taken) (c .summary .ensures .0), c .summary .ensures .1)
+
+convict-requires : tie.Need-convict-requires
+convict-requires c κs = search needs
+
+returns-3 : tie.Need-returns-3
+unfolding G.operationOf ascii
+returns-3 c = (rw (← (c .before .before .before .before .before .before .before .kind .ensures), not-false (c .before .before .before .before .before .before .before .kind .result .good) (c .before .before .before .before .before .if1 .left), c .before .if3 .taken) (c .convict .ensures .0), c .convict .ensures .1)
+
+report-requires : tie.Need-report-requires
+report-requires c κs = search needs
+
+returns-4 : tie.Need-returns-4
+unfolding G.operationOf ascii
+returns-4 c = (rw (← (c .before .before .before .before .before .before .before .kind .ensures), not-false (c .before .before .before .before .before .before .before .kind .result .good) (c .before .before .before .before .before .if1 .left), kind-two (c .before .before .before .before .before .before .before .kind .result .value) (c .before .before .before .if2 .left) (c .before .if3 .left)) (c .report .ensures .0), c .report .ensures .1)
+
+pub operation-spec : {M : Type 1} → statement M
+operation-spec =
+    tie.close
+    (tie.spec
+    kind-requires
+    bad-requires
+    returns
+    summary-requires
+    returns-2
+    convict-requires
+    returns-3
+    report-requires
+    returns-4)

@@ -1,0 +1,35 @@
+use Prim.Native.Nat.{ℕ, _+_, _-_, _*_, _≤_, _<_}
+use mathlib.Core.Path.{_≡_, refl, sym, ap, _∙_}
+use mathlib.Core.Bool.{Bool, true, false, cond, not, _&&_, _||_}
+use native.Mathlib.Omega.{arith}
+use lib.ListN.{length, getD, drop}
+use mathlib.Core.Option.{Option, none, some}
+use borrow.Author.Tests.{lt-ltb, le-ltb, eq-eqb, ne-eqb, not-true, not-false}
+use Rattle.grammar.proofs.Texts.{told-not, told-some, not-told, some-told}
+use Rattle.grammar.proofs.Texts.{nibble-low, nibble-digit, nibble-between, nibble-letter, nibble-high}
+use borrow.Author.Needs.{needs}
+use Rattle.grammar.proofs.values.nibble.Statement.{statement}
+use Rattle.grammar.proofs.values.nibble.Tie as tie
+use Rattle.grammar.proofs.values.nibble.Reads as reads
+use Rattle.grammar.proofs.values.nibble.Lts as lts
+
+returns : tie.Need-returns
+returns c = (sym (nibble-low (c .before .args .c) (c .if1 .taken)), omega arith)
+
+returns-2 : tie.Need-returns-2
+returns-2 c = (sym (nibble-digit (c .before .before .args .c) (omega arith) (omega arith)), omega arith)
+
+returns-3 : tie.Need-returns-3
+returns-3 c = (sym (nibble-between (c .before .before .before .args .c) (omega arith) (omega arith)), omega arith)
+
+sub-result : tie.Need-sub-result
+sub-result c = search needs
+
+returns-4 : tie.Need-returns-4
+returns-4 c = (sym (nibble-letter (c .before .before .before .before .args .c) (omega arith) (omega arith)), omega arith)
+
+returns-5 : tie.Need-returns-5
+returns-5 c = (sym (nibble-high (c .before .before .before .before .args .c) (omega arith)), omega arith)
+
+pub nibble-spec : {M : Type 1} → statement M
+nibble-spec = tie.close (tie.spec returns returns-2 returns-3 sub-result returns-4 returns-5)

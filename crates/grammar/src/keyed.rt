@@ -1,0 +1,394 @@
+// The lines of a session, one at a time: the key due, its value, and where the next line begins.
+use crate::values;
+ghost use mathlib.Core.Path.{_≡_};
+ghost use mathlib.Core.Bool.{false, cond};
+ghost use mathlib.Core.List.{[], _∷_};
+ghost use Prim.Native.Nat.{_+_, _-_, _≤_, _<_};
+ghost use lib.ListN.{length, take, drop};
+ghost use Rattle.octets.specs.Words.{wordBytes};
+ghost use Rattle.models.specs.Summary.{inputsSize};
+ghost use Rattle.lines.specs.Ascii.{ascii};
+ghost use Rattle.grammar.specs.Values as Val;
+ghost use Rattle.grammar.specs.Reading.{toldLine};
+ghost use Rattle.grammar.specs.Grammar.{line, keyed, aLine, noLine, kind, kindOf, ListedLine};
+ghost use Rattle.record.specs.Layout.{maxTags, maxModels, longMessage};
+
+// Where the value of the line due stands, and what follows it.
+struct Cut {
+    good: bool,
+    from: usize,
+    to: usize,
+    next: usize,
+}
+
+fn no_line() -> Cut
+    ensures { λ r. ⌜ (r .good ≡ false) × (r .from ≡ 0) × (r .to ≡ 0) ⌝ }
+{
+    Cut {
+        good: false,
+        from: 0,
+        to: 0,
+        next: 0,
+    }
+}
+
+// The line due: its key, then a value up to a line feed.
+fn due(input: &[u8], at: usize, key: &[u8]) -> Cut
+    ensures { λ r. ⌜ (cond (r .good) (aLine (take (r .to - r .from) (drop (r .from) (now (input .entry)))) (drop (r .next) (now (input .entry)))) noLine ≡ keyed (now (key .entry)) (drop at (now (input .entry)))) × (r .from ≤ r .to) × (r .to ≤ length (now (input .entry))) ⌝ }
+{
+    if input.len() <= at {
+        return no_line();
+    }
+    if input.len() - at < key.len() {
+        return no_line();
+    }
+    let from = at + key.len();
+    if !octets::order::equal(&input[at..from], key) {
+        return no_line();
+    }
+    let to = values::find(input, from, b'\n');
+    if to == input.len() {
+        return no_line();
+    }
+    Cut {
+        good: true,
+        from,
+        to,
+        next: to + 1,
+    }
+}
+
+// A line's number.
+pub struct Numbered {
+    pub good: bool,
+    pub next: usize,
+    pub value: u64,
+}
+
+fn no_number() -> Numbered
+    ensures { λ r. ⌜ (r .good ≡ false) × (r .value ≡ 0) ⌝ }
+{
+    Numbered {
+        good: false,
+        next: 0,
+        value: 0,
+    }
+}
+
+// The line of a number of at most `most`.
+pub fn number(input: &[u8], at: usize, key: &[u8], most: u64) -> Numbered
+    ensures { λ r. ⌜ (toldLine (r .good) (r .value) (drop (r .next) (now (input .entry))) ≡ line (now (key .entry)) (Val.number most) (drop at (now (input .entry)))) × (r .value ≤ most) ⌝ }
+{
+    let l = due(input, at, key);
+    if !l.good {
+        return no_number();
+    }
+    let from = l.from;
+    let to = l.to;
+    let n = values::number(&input[from..to], most);
+    if !n.good {
+        return no_number();
+    }
+    Numbered {
+        good: true,
+        next: l.next,
+        value: n.value,
+    }
+}
+
+// The line of a signed number of 32 bits, as its bits.
+pub fn signed(input: &[u8], at: usize, key: &[u8]) -> Numbered
+    ensures { λ r. ⌜ toldLine (r .good) (r .value) (drop (r .next) (now (input .entry))) ≡ line (now (key .entry)) Val.signedBits (drop at (now (input .entry))) ⌝ }
+{
+    let l = due(input, at, key);
+    if !l.good {
+        return no_number();
+    }
+    let from = l.from;
+    let to = l.to;
+    let n = values::signed(&input[from..to]);
+    if !n.good {
+        return no_number();
+    }
+    Numbered {
+        good: true,
+        next: l.next,
+        value: n.value,
+    }
+}
+
+// A height's flag and its number, as its bits.
+pub struct Raised {
+    pub good: bool,
+    pub next: usize,
+    pub flag: u8,
+    pub value: u64,
+}
+
+fn no_height() -> Raised
+    ensures { λ r. ⌜ r .good ≡ false ⌝ }
+{
+    Raised {
+        good: false,
+        next: 0,
+        flag: 0,
+        value: 0,
+    }
+}
+
+// The line of a height.
+pub fn height(input: &[u8], at: usize) -> Raised
+    ensures { λ r. ⌜ toldLine (r .good) (r .flag ∷ wordBytes 4 (r .value)) (drop (r .next) (now (input .entry))) ≡ line (ascii "height=") Val.height (drop at (now (input .entry))) ⌝ }
+{
+    let l = due(input, at, b"height=");
+    if !l.good {
+        return no_height();
+    }
+    let from = l.from;
+    let to = l.to;
+    if octets::order::equal(&input[from..to], b"none") {
+        return Raised {
+            good: true,
+            next: l.next,
+            flag: 0,
+            value: 0,
+        };
+    }
+    let n = values::signed(&input[from..to]);
+    if !n.good {
+        return no_height();
+    }
+    Raised {
+        good: true,
+        next: l.next,
+        flag: 1,
+        value: n.value,
+    }
+}
+
+// A message's length and its bytes.
+pub struct Said {
+    pub good: bool,
+    pub next: usize,
+    pub size: usize,
+    pub bytes: [u8; 14],
+}
+
+fn no_message() -> Said
+    ensures { λ r. ⌜ (r .good ≡ false) × (r .size ≡ 0) ⌝ }
+{
+    Said {
+        good: false,
+        next: 0,
+        size: 0,
+        bytes: [0u8; 14],
+    }
+}
+
+// The line of a message.
+pub fn message(input: &[u8], at: usize) -> Said
+    ensures { λ r. ⌜ (toldLine (r .good) (r .size ∷ r .bytes) (drop (r .next) (now (input .entry))) ≡ line (ascii "message=") Val.message (drop at (now (input .entry)))) × (r .size ≤ longMessage) ⌝ }
+{
+    let l = due(input, at, b"message=");
+    if !l.good {
+        return no_message();
+    }
+    let from = l.from;
+    let to = l.to;
+    let size = values::message_size(to - from);
+    let mut bytes = [0u8; 14];
+    if !values::hex(&input[from..to], &mut bytes[..size]) {
+        return no_message();
+    }
+    Said {
+        good: true,
+        next: l.next,
+        size,
+        bytes,
+    }
+}
+
+// A line's list of numbers, of which the first `count` are there and the rest zero.
+pub struct Several {
+    pub good: bool,
+    pub next: usize,
+    pub count: usize,
+    pub values: [u64; 16],
+}
+
+fn no_numbers() -> Several
+    ensures { λ r. ⌜ (r .good ≡ false) × (r .count ≡ 0) × (r .values ≡ Val.padded maxTags []) ⌝ }
+{
+    Several {
+        good: false,
+        next: 0,
+        count: 0,
+        values: [0u64; 16],
+    }
+}
+
+// The line of the tags.
+pub fn tags(input: &[u8], at: usize) -> Several
+    ensures { λ r. ⌜ ListedLine (line (ascii "tags=") Val.tags (drop at (now (input .entry)))) maxTags (r .good) (r .count) (r .values) (drop (r .next) (now (input .entry))) ⌝ }
+{
+    let l = due(input, at, b"tags=");
+    if !l.good {
+        return no_numbers();
+    }
+    let from = l.from;
+    let to = l.to;
+    let n = values::listed(&input[from..to], 0xffff_ffff_ffff_ffff, 16);
+    if !n.good {
+        return no_numbers();
+    }
+    let list = n.values;
+    Several {
+        good: true,
+        next: l.next,
+        count: n.count,
+        values: list,
+    }
+}
+
+// The line of the models.
+pub fn models(input: &[u8], at: usize) -> Several
+    ensures { λ r. ⌜ ListedLine (line (ascii "models=") Val.models (drop at (now (input .entry)))) maxModels (r .good) (r .count) (r .values) (drop (r .next) (now (input .entry))) ⌝ }
+{
+    let l = due(input, at, b"models=");
+    if !l.good {
+        return no_numbers();
+    }
+    let from = l.from;
+    let to = l.to;
+    if octets::order::equal(&input[from..to], b"none") {
+        return Several {
+            good: true,
+            next: l.next,
+            count: 0,
+            values: [0u64; 16],
+        };
+    }
+    let n = values::listed(&input[from..to], 255, 4);
+    if !n.good {
+        return no_numbers();
+    }
+    let list = n.values;
+    Several {
+        good: true,
+        next: l.next,
+        count: n.count,
+        values: list,
+    }
+}
+
+// A summary's inputs.
+pub struct Given {
+    pub good: bool,
+    pub next: usize,
+    pub bytes: [u8; 32],
+}
+
+fn no_inputs() -> Given
+    ensures { λ r. ⌜ r .good ≡ false ⌝ }
+{
+    Given {
+        good: false,
+        next: 0,
+        bytes: [0u8; 32],
+    }
+}
+
+// The line of a summary's inputs.
+pub fn inputs(input: &[u8], at: usize) -> Given
+    ensures { λ r. ⌜ toldLine (r .good) (r .bytes) (drop (r .next) (now (input .entry))) ≡ line (ascii "inputs=") (Val.hex inputsSize) (drop at (now (input .entry))) ⌝ }
+{
+    let l = due(input, at, b"inputs=");
+    if !l.good {
+        return no_inputs();
+    }
+    let from = l.from;
+    let to = l.to;
+    let mut bytes = [0u8; 32];
+    if !values::hex(&input[from..to], &mut bytes) {
+        return no_inputs();
+    }
+    Given {
+        good: true,
+        next: l.next,
+        bytes,
+    }
+}
+
+// A covariance, as it stands in memory.
+pub struct Spread {
+    pub good: bool,
+    pub next: usize,
+    pub bytes: [u8; 48],
+}
+
+fn no_covariance() -> Spread
+    ensures { λ r. ⌜ r .good ≡ false ⌝ }
+{
+    Spread {
+        good: false,
+        next: 0,
+        bytes: [0u8; 48],
+    }
+}
+
+// The line of a covariance.
+pub fn covariance(input: &[u8], at: usize) -> Spread
+    ensures { λ r. ⌜ toldLine (r .good) (r .bytes) (drop (r .next) (now (input .entry))) ≡ line (ascii "cov=") Val.covariance (drop at (now (input .entry))) ⌝ }
+{
+    let l = due(input, at, b"cov=");
+    if !l.good {
+        return no_covariance();
+    }
+    let from = l.from;
+    let to = l.to;
+    let mut digits = [0u8; 48];
+    if !values::hex(&input[from..to], &mut digits) {
+        return no_covariance();
+    }
+    let bytes = values::turn(&digits);
+    Spread {
+        good: true,
+        next: l.next,
+        bytes,
+    }
+}
+
+// Which operation begins here: 0 a summary, 1 a conviction, 2 a report.
+pub fn kind(input: &[u8], at: usize) -> Numbered
+    ensures { λ r. ⌜ toldLine (r .good) (kindOf (r .value)) (drop (r .next) (now (input .entry))) ≡ line (ascii "op=") kind (drop at (now (input .entry))) ⌝ }
+{
+    let l = due(input, at, b"op=");
+    if !l.good {
+        return no_number();
+    }
+    let from = l.from;
+    let to = l.to;
+    let next = l.next;
+    if octets::order::equal(&input[from..to], b"summary") {
+        return Numbered {
+            good: true,
+            next,
+            value: 0,
+        };
+    }
+    if octets::order::equal(&input[from..to], b"convict") {
+        return Numbered {
+            good: true,
+            next,
+            value: 1,
+        };
+    }
+    if octets::order::equal(&input[from..to], b"report") {
+        return Numbered {
+            good: true,
+            next,
+            value: 2,
+        };
+    }
+    no_number()
+}

@@ -1,0 +1,46 @@
+// Runs sessions one after another and prints what each prints: on standard input each has its length before it, in four bytes, lowest
+// first. The expected output is that of a second writing of document 01 (make_stdout.py).
+use libc::STDIN_FILENO;
+use libc::STDOUT_FILENO;
+use sessions::MAX_INPUT;
+use sessions::OUTPUT_SIZE;
+ghost use mathlib.Core.Path.{_≡_};
+ghost use Prim.Native.Nat.{_≤_};
+ghost use lib.ListN.{length};
+
+// The length of the next session; 0 where there is none, and no more than one byte over what is read.
+fn next_length() -> usize
+    ensures { λ r. ⌜ r ≤ 65537 ⌝ }
+{
+    let mut four = [0u8; 4];
+    let n = io::read_full(STDIN_FILENO, &mut four);
+    if n < 4 {
+        return MAX_INPUT + 1;
+    }
+    let size = octets::words::u32_at(&four, 0) as usize;
+    if MAX_INPUT < size {
+        return MAX_INPUT + 1;
+    }
+    size
+}
+
+fn rehearse(number: u64, size: usize)
+    requires { ⌜ size ≤ 65537 ⌝ }
+{
+    io::write_all(STDOUT_FILENO, b"session ");
+    io::print_decimal(STDOUT_FILENO, number);
+    io::write_all(STDOUT_FILENO, b"\n");
+    let mut input = [0u8; MAX_INPUT + 1];
+    let n = io::read_full(STDIN_FILENO, &mut input[..size]);
+    let mut out = [0u8; OUTPUT_SIZE];
+    let length = sessions::run(&input[..n], &mut out);
+    io::write_all(STDOUT_FILENO, &out[..length]);
+}
+
+fn main() {
+    let mut number: u64 = 1;
+    while number <= 101 {
+        rehearse(number, next_length());
+        number += 1;
+    }
+}

@@ -1,0 +1,13 @@
+// A session: standard input to standard output. One byte more than is read is enough to know that there are more.
+use libc::STDIN_FILENO;
+use libc::STDOUT_FILENO;
+use sessions::MAX_INPUT;
+use sessions::OUTPUT_SIZE;
+
+fn main() {
+    let mut input = [0u8; MAX_INPUT + 1];
+    let n = io::read_full(STDIN_FILENO, &mut input);
+    let mut out = [0u8; OUTPUT_SIZE];
+    let size = sessions::run(&input[..n], &mut out);
+    io::write_all(STDOUT_FILENO, &out[..size]);
+}

@@ -1,0 +1,110 @@
+// A session: its bytes to the bytes that it prints. All lines are read before any answer is written.
+use grammar::operations::Operation;
+use register::layout::REGISTER_SIZE;
+ghost use mathlib.Core.Path.{_≡_};
+ghost use mathlib.Core.Bool.{true};
+ghost use Prim.Native.Nat.{_+_, _*_, _≤_};
+ghost use lib.ListN.{length};
+ghost use Rattle.text.specs.Buffer.{Put};
+ghost use Rattle.drawing.specs.Drawing.{boardSize};
+ghost use Rattle.register.specs.Register.{after};
+ghost use Rattle.register.specs.Memory.{wellFormed, onMemory, fresh};
+ghost use Rattle.register.specs.Calls.{act, runs};
+ghost use Rattle.grammar.specs.Grammar.{callOf, firstBad};
+ghost use Rattle.sessions.specs.Output as O;
+
+// The longest input that is read.
+pub const MAX_INPUT: usize = 65536;
+
+// An answer's line has at most so many bytes.
+const ANSWER_WIDTH: usize = 28;
+
+// What a session may print: an answer for each operation, which has a byte or more, and a board.
+pub const OUTPUT_SIZE: usize = MAX_INPUT * ANSWER_WIDTH + board::BOARD_SIZE;
+
+// The line of an answer.
+fn put_answer(out: &mut [u8], at: usize, n: u32) -> usize
+    requires { ⌜ at + O.answerWidth ≤ length (now out) ⌝ }
+    ensures { λ x. ⌜ (x ≤ at + O.answerWidth) × Put (now (out .entry)) at (O.answerLine n) x (now (out .exit)) ⌝ }
+{
+    let a = text::put_bytes(out, at, b"answer=");
+    let b = text::put_u64(out, a, n as u64);
+    text::put_bytes(out, b, b"\n")
+}
+
+// The line of the first bad line.
+fn put_refused(out: &mut [u8], line: usize) -> usize
+    requires { ⌜ 37 ≤ length (now out) ⌝ }
+    ensures { λ x. ⌜ (x ≤ 37) × Put (now (out .entry)) 0 (O.refusedAt line) x (now (out .exit)) ⌝ }
+{
+    let a = text::put_bytes(out, 0, b"refused=11 line=");
+    let b = text::put_u64(out, a, line as u64);
+    text::put_bytes(out, b, b"\n")
+}
+
+// Calls the register: 0 is a summary, 1 a conviction, else a report.
+fn perform(memory: &mut [u8], kind: u8, engine: u8, model: u8, spec: u16, inputs: &[u8], r: &[u8]) -> u32
+    ensures { λ a. ⌜ after a (now (memory .exit)) ≡ onMemory (act (callOf kind engine model spec (now (inputs .entry)) (now (r .entry)))) (now (memory .entry)) ⌝ }
+{
+    if kind == 0 {
+        return register::summaries::summary(memory, engine as u32, model as u32, spec, inputs);
+    }
+    if kind == 1 {
+        return register::convictions::conviction(memory, engine as u32);
+    }
+    register::reports::report(memory, engine as u32, r)
+}
+
+// The same of an operation.
+fn perform_one(memory: &mut [u8], o: Operation) -> u32
+    ensures { λ a. ⌜ after a (now (memory .exit)) ≡ onMemory (act (callOf (o .kind) (o .engine) (o .model) (o .spec) (o .inputs) (o .record))) (now (memory .entry)) ⌝ }
+{
+    let inputs = o.inputs;
+    let r = o.record;
+    perform(memory, o.kind, o.engine, o.model, o.spec, &inputs, &r)
+}
+
+// Runs a good session's operations on a register, and writes their answers.
+fn answer_all(input: &[u8], memory: &mut [u8], out: &mut [u8]) -> usize
+    requires { ⌜ firstBad (now input) ≡ 0 ⌝ }
+    requires { ⌜ wellFormed (now memory) ≡ true ⌝ }
+    requires { ⌜ length (now input) * O.answerWidth ≤ length (now out) ⌝ }
+    ensures { λ x. ⌜ (x ≤ length (now (input .entry)) * O.answerWidth) × Put (now (out .entry)) 0 (O.answers (now (memory .entry)) (O.callsFrom (now (input .entry)))) x (now (out .exit)) ⌝ }
+    ensures { λ _. ⌜ (now (memory .exit) ≡ runs (now (memory .entry)) (O.callsFrom (now (input .entry)))) × (wellFormed (now (memory .exit)) ≡ true) ⌝ }
+{
+    let mut at: usize = 0;
+    let mut end: usize = 0;
+    while at < input.len() {
+        let o = grammar::sessions::operation(input, at);
+        at = o.next;
+        let a = perform_one(memory, o);
+        end = put_answer(out, end, a);
+    }
+    end
+}
+
+// Runs a good session from a fresh register: the answers, then the board.
+fn perform_all(input: &[u8], out: &mut [u8]) -> usize
+    requires { ⌜ firstBad (now input) ≡ 0 ⌝ }
+    requires { ⌜ length (now input) * O.answerWidth + boardSize ≤ length (now out) ⌝ }
+    ensures { λ x. ⌜ (x ≤ length (now (input .entry)) * O.answerWidth + boardSize) × Put (now (out .entry)) 0 (O.performed fresh (O.callsFrom (now (input .entry)))) x (now (out .exit)) ⌝ }
+{
+    let mut memory = [0u8; REGISTER_SIZE];
+    let at = answer_all(input, &mut memory, out);
+    let n = board::board(&memory, &mut out[at..]);
+    at + n as usize
+}
+
+// What a session prints, at the start of `out`; the answer is its length.
+pub fn run(input: &[u8], out: &mut [u8; OUTPUT_SIZE]) -> usize
+    ensures { λ x. ⌜ (x ≤ O.outputSize) × Put (now (out .entry)) 0 (O.outputOf (now (input .entry))) x (now (out .exit)) ⌝ }
+{
+    if MAX_INPUT < input.len() {
+        return text::put_bytes(out, 0, b"refused=12\n");
+    }
+    let bad = grammar::sessions::first_bad(input);
+    if bad != 0 {
+        return put_refused(out, bad);
+    }
+    perform_all(input, out)
+}
