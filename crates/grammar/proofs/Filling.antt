@@ -1,16 +1,16 @@
 -- Numbers put into a record one after another.
-use Prim.Native.Nat.{ℕ, zero, suc, _+_, _-_, _*_, _/_, _%_, _^_, _≤_, _<_}
+use Prim.Native.Nat.{ℕ, _+_, _-_, _*_, _%_, _^_, _≤_, _<_}
 use mathlib.Core.Path.{_≡_, refl, sym, ap, _∙_}
 use mathlib.Core.List.{List, [], _∷_, _++_, append-assoc, append-nil}
 use native.Mathlib.Omega.{arith}
 use native.Mathlib.Numerals.{add-one}
 use native.Mathlib.Nat.{mul-suc, add-comm}
-use lib.ListN.{length, getD, take, drop, set, length-append, replicate, drop-of-length-le}
-use lib.Seq.{take-suc, take-all, sets, sets-eq}
+use lib.ListN.{length, getD, take, drop, set, length-append, drop-of-length-le}
+use lib.Seq.{take-suc, take-all, sets-eq}
 use Rattle.octets.specs.Words.{wordBytes, putWord}
 use Rattle.octets.proofs.Numbers.{length-word-bytes, bytes-low}
 use Rattle.text.specs.Buffer.{Put}
-use Rattle.text.proofs.Writing.{put-put, put-as, put-one, put-whole}
+use Rattle.text.proofs.Writing.{put-as, put-one, put-whole}
 use Rattle.grammar.specs.Values.{words}
 
 -- a number put is its bytes written

@@ -3,3 +3,4 @@ pub mod Texts
 pub mod Steps
 pub mod Filling
 pub mod Whole
+pub mod Printed

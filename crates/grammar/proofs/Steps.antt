@@ -1,23 +1,21 @@
 -- The line due, at the steps of the code that reads it, and what a good or bad line makes of the lines after it.
-use Prim.Native.Nat.{ℕ, zero, suc, _+_, _-_, _*_, _≤_, _<_}
+use Prim.Native.Nat.{ℕ, zero, suc, _+_, _-_, _≤_, _<_}
 use mathlib.Core.Path.{_≡_, refl, sym, ap, _∙_}
-use mathlib.Core.Bool.{Bool, true, false, cond, not, _&&_, _||_}
-use mathlib.Core.List.{List, [], _∷_, _++_}
+use mathlib.Core.Bool.{Bool, true, false, cond}
+use mathlib.Core.List.{List, []}
 use mathlib.Core.Option.{Option, none, some}
 use native.Mathlib.Omega.{arith}
-use native.Mathlib.Numerals.{add-one}
 use borrow.Author.Tests.{lt-ltb, le-ltb}
-use lib.Dec.{ltb}
-use lib.ListN.{length, getD, take, drop, length-take, length-drop, drop-of-length-le}
+use lib.ListN.{length, take, drop, length-take, length-drop, drop-of-length-le}
 use lib.Seq.{drop-drop, drop-nil}
 use Rattle.octets.specs.Order.{same}
 use Rattle.octets.proofs.Cases.{by}
 use Rattle.octets.proofs.Comparison.{not-same}
+use Rattle.record.specs.Layout.{maxTags}
+use Rattle.lines.specs.Ascii.{ascii}
 use Rattle.grammar.specs.Reading.{Reading, bad, good, after, _▸_, toldLine, told}
 use Rattle.grammar.specs.Values.{indexOf, padded}
-use Rattle.record.specs.Layout.{maxTags}
-use Rattle.grammar.specs.Grammar.{Line, noLine, aLine, cut, keyed, valued, read, line, ListedLine, Kind, isSummary, isConviction, isReport, kind, kindOf}
-use Rattle.lines.specs.Ascii.{ascii}
+use Rattle.grammar.specs.Grammar.{Line, noLine, aLine, cut, keyed, line, ListedLine, isSummary, isConviction, isReport, kind, kindOf}
 
 -- ---- the line due
 

@@ -1,22 +1,22 @@
 -- The definitions of values at the steps of the loops that read them.
-use Prim.Native.Nat.{ℕ, zero, suc, _+_, _-_, _*_, _/_, _%_, _≤_, _<_}
+use Prim.Native.Nat.{ℕ, zero, suc, _+_, _-_, _*_, _%_, _≤_, _<_}
 use mathlib.Core.Path.{_≡_, refl, sym, ap, _∙_}
-use mathlib.Core.Bool.{Bool, true, false, cond, not, _&&_, _||_}
+use mathlib.Core.Bool.{Bool, true, false}
 use mathlib.Core.List.{List, [], _∷_, _++_, append-assoc, append-nil, reverse, reverseAux}
 use mathlib.Core.Option.{Option, none, some}
 use native.Mathlib.Omega.{arith}
 use native.Mathlib.Numerals.{add-one}
 use borrow.Author.Tests.{eqb-true, ltb-true, ltb-false, lt-ltb, le-ltb, le-leb, lt-leb, eq-eqb, ne-eqb}
-use lib.Dec.{ltb, leb, eqb}
-use lib.ListN.{length, getD, take, drop, set, replicate, drop-of-length-le, length-take, length-drop, length-set, length-append, length-reverse, length-replicate, List·getD-append}
-use lib.Seq.{drop-cons, drop-drop, take-suc-set, take-all, drop-nil, length-take-le, drop-set-lt, set-at, getD-take, getD-drop, getD-append-add, take-append-add}
+use lib.Dec.{ltb, eqb}
+use lib.ListN.{length, getD, take, drop, set, replicate, drop-of-length-le, length-take, length-drop, length-append, length-reverse, length-replicate, List·getD-append}
+use lib.Seq.{drop-cons, drop-drop, take-suc-set, take-all, length-take-le, set-at, getD-take, getD-drop, getD-append-add, take-append-add}
 use Rattle.octets.proofs.Cases.{by}
 use Rattle.text.specs.Numbers.{decimalValue}
 use Rattle.record.specs.Layout.{maxTags, maxModels, longMessage}
-use Rattle.grammar.specs.Values.{toldValue, indexOf, isDigit, allDigits, digitsAfter, number, leadingZero, signedBits, negative, nibble, hexByte, hexBytes, hex, mapped, listed, numbers, padded, Listed, turned, height, models, message, messageSize, covariance, u8}
 use Rattle.octets.specs.Order.{same}
 use Rattle.octets.specs.Words.{wordBytes}
 use Rattle.lines.specs.Ascii.{ascii}
+use Rattle.grammar.specs.Values.{toldValue, indexOf, allDigits, digitsAfter, number, signedBits, negative, nibble, hexByte, hexBytes, hex, mapped, listed, numbers, padded, Listed, turned, height, models, message, messageSize, covariance, u8}
 
 -- ---- the first of a byte
 

@@ -1,21 +1,21 @@
 -- A session is one operation and the session of the rest: how much each reading leaves, and the step from one operation to the next.
-use Prim.Native.Nat.{ℕ, zero, suc, _+_, _-_, _*_, _≤_, _<_}
+use Prim.Native.Nat.{ℕ, zero, suc, _+_, _-_, _≤_}
 use mathlib.Core.Path.{_≡_, refl, sym, ap, _∙_}
-use mathlib.Core.Bool.{Bool, true, false, cond, not, _&&_, _||_}
-use mathlib.Core.List.{List, [], _∷_, _++_}
+use mathlib.Core.Bool.{cond}
+use mathlib.Core.List.{List, [], _∷_}
 use mathlib.Core.Option.{Option, none, some}
 use native.Mathlib.Omega.{arith}
 use native.Mathlib.Nat.{add-assoc}
-use borrow.Author.Tests.{lt-ltb, le-ltb, ltb-true, ltb-false, eq-eqb, ne-eqb, eqb-true, eqb-false}
+use borrow.Author.Tests.{ltb-true, ne-eqb, eqb-true, eqb-false}
 use lib.Dec.{ltb, eqb}
-use lib.ListN.{length, getD, take, drop, length-take, length-drop, drop-of-length-le}
+use lib.ListN.{length, take, drop, length-drop, drop-of-length-le}
 use Rattle.octets.specs.Order.{isBefore, same}
 use Rattle.octets.proofs.Cases.{by}
 use Rattle.register.specs.Calls.{Call}
 use Rattle.lines.specs.Ascii.{ascii}
-use Rattle.grammar.specs.Reading.{Reading, bad, good, after, _▸_, done, told}
+use Rattle.grammar.specs.Reading.{Reading, bad, good, after, _▸_, done}
 use Rattle.grammar.specs.Values as Val
-use Rattle.grammar.specs.Grammar.{Line, noLine, aLine, cut, keyed, valued, read, line, engine, convictionOf, summaryOf, placeOf, sightingOf, citedOf, reportOf, Kind, isSummary, isConviction, isReport, kind, lines, operationOf, Session, badAt, calls, operations, asSession, sessionOf, badLine, firstBad}
+use Rattle.grammar.specs.Grammar.{Line, noLine, aLine, keyed, valued, read, line, engine, convictionOf, summaryOf, placeOf, sightingOf, citedOf, reportOf, Kind, isSummary, isConviction, isReport, kind, lines, operationOf, Session, badAt, calls, operations, asSession, sessionOf, badLine, firstBad}
 
 -- ---- a good reading of n lines takes n bytes at least
 
@@ -232,3 +232,36 @@ goes-on input at next n c e =
     let p : 1 ≤ n = rw e at (operation-starts (drop at input)) in
     let x = length-drop next input in let y = length-drop at input in
     (omega arith, p)
+
+-- ---- a session without a bad line, operation by operation: for whoever runs its calls
+
+pub never-bad : (s : List ℕ) (n : ℕ) → firstBad s ≡ 0 → operationOf s ≡ bad n → ⊥
+never-bad s n z e = let b : firstBad s ≡ n + 1 = ap badLine (session-bad s n e) in omega arith
+
+pub rest-good : (s : List ℕ) (n : ℕ) (c : Call) (rest : List ℕ) → operationOf s ≡ good n c rest → firstBad s ≡ 0 → (length rest ≡ 0 → ⊥) → firstBad rest ≡ 0
+rest-good s n c rest e z f =
+    let h : cond (eqb (firstBad rest) 0) 0 (n + firstBad rest) ≡ 0 = rw (ne-eqb (length rest) 0 f) at (sym (first-step s n c rest e) ∙ z) in
+    by (eqb (firstBad rest) 0) (λ k. eqb-true (firstBad rest) 0 k) (λ k. let g : n + firstBad rest ≡ 0 = rw k at h in omega arith)
+
+-- the calls that are left
+abbrev pub callsIn : Session → List Call
+callsIn (badAt n) = []
+callsIn (calls cs) = cs
+
+abbrev pub callsFrom : List ℕ → List Call
+callsFrom s = cond (eqb (length s) 0) [] (callsIn (sessionOf s))
+
+then-calls : (n : ℕ) (c : Call) (m : Reading (List Call)) → badLine (asSession m) ≡ 0 → callsIn (andThen n c (asSession m)) ≡ c ∷ callsIn (asSession m)
+then-calls n c (bad j) h = absurd (omega arith)
+then-calls n c (good j cs rest) h = refl
+
+pub calls-step : (s : List ℕ) (n : ℕ) (c : Call) (rest : List ℕ) → operationOf s ≡ good n c rest → firstBad s ≡ 0 → callsFrom s ≡ c ∷ callsFrom rest
+calls-step s n c rest e z =
+    let h : n + length rest ≤ length s = rw e at (operation-shrinks s) in
+    let p : 1 ≤ n = rw e at (operation-starts s) in
+    rw (ne-eqb (length s) 0 (λ q. omega arith), session-step s n c rest e)
+    (by (eqb (length rest) 0) (λ k. rw k refl)
+    (λ k. let g = rest-good s n c rest e z (eqb-false (length rest) 0 k) in rw k (last g)))
+  where
+    last : firstBad rest ≡ 0 → callsIn (andThen n c (sessionOf rest)) ≡ c ∷ callsIn (sessionOf rest)
+    last g = unfold sessionOf in then-calls n c (operations (length rest) rest) g

@@ -1,16 +1,16 @@
 -- The operations of the worked session (document 01, 'The track and the session'), and lines that are bad.
 use mathlib.Core.Path.{_≡_, refl}
 use mathlib.Core.List.{List, [], _∷_, _++_}
-use mathlib.Core.Option.{Option, none, some}
-use Prim.Native.Nat.{ℕ, _+_, _-_, _*_, _^_}
-use lib.ListN.{length, replicate}
+use mathlib.Core.Option.{none, some}
+use Prim.Native.Nat.{ℕ, _+_, _-_}
+use lib.ListN.{replicate}
 use Rattle.octets.specs.Words.{wordBytes}
 use Rattle.octets.specs.Order.{isBefore, same}
 use Rattle.text.specs.Numbers.{decimalValue}
-use Rattle.register.specs.Calls.{Call, report, summary, conviction}
+use Rattle.register.specs.Calls.{report, summary, conviction}
 use Rattle.lines.specs.Ascii.{ascii}
 use Rattle.grammar.specs.Values.{indexOf, allDigits, digitsAfter, number, signedBits, numbers, models, hexBytes, hex, height, message, turned, covariance, words}
-use Rattle.grammar.specs.Grammar.{keyed, convictionOf, summaryOf, placeOf, sightingOf, citedOf, reportOf, kind, operationOf, Session, badAt, calls, operations, sessionOf}
+use Rattle.grammar.specs.Grammar.{keyed, convictionOf, summaryOf, placeOf, sightingOf, citedOf, reportOf, kind, operationOf, badAt, calls, operations, sessionOf}
 
 abbrev zeros : ℕ → List ℕ
 zeros n = replicate n 48
@@ -25,22 +25,33 @@ summarized :
 unfolding sessionOf operations operationOf kind summaryOf keyed same isBefore indexOf number digitsAfter allDigits decimalValue hex hexBytes ascii
 summarized = refl
 
--- the record of the worked session
-worked : List ℕ
-worked =
-    (wordBytes 8 1000 ++ (wordBytes 4 500000000 ++ (wordBytes 4 100000000 ++ (1 ∷ wordBytes 4 1500))))
+-- the records of the worked session: a height, how many tags, the used mask, and the tags
+worked : List ℕ → ℕ → ℕ → List ℕ → List ℕ
+worked height count used tags =
+    (wordBytes 8 1000 ++ (wordBytes 4 500000000 ++ (wordBytes 4 100000000 ++ height)))
     ++ ((7 ∷ 0x8d ∷ replicate 13 0)
-    ++ ((2 ∷ 3 ∷ 0 ∷ [])
-    ++ ((wordBytes 8 11 ++ (wordBytes 8 12 ++ replicate 112 0))
-    ++ ((1 ∷ 5 ∷ 0 ∷ 0 ∷ 0 ∷ []) ++ (3 ∷ 0 ∷ []) ++ replicate 48 0))))
+    ++ ((count ∷ used ∷ 0 ∷ [])
+    ++ (tags ++ ((1 ∷ 5 ∷ 0 ∷ 0 ∷ 0 ∷ []) ++ (3 ∷ 0 ∷ []) ++ replicate 48 0))))
 
-reported :
+first : List ℕ
+first = worked (1 ∷ wordBytes 4 1500) 2 3 (wordBytes 8 11 ++ (wordBytes 8 12 ++ replicate 112 0))
+
+second : List ℕ
+second = worked (replicate 5 0) 3 7 (wordBytes 8 11 ++ (wordBytes 8 12 ++ (wordBytes 8 13 ++ replicate 104 0)))
+
+-- the whole of it: a summary and two reports
+whole :
     sessionOf
-    (ascii "op=report\nengine=1\ntime=1000\nlat=500000000\nlon=100000000\nheight=1500\nmessage=8d000000000000\n"
-    ++ (ascii "tags=11,12\nused=3\nmodels=5\nspec=3\ncov=" ++ (zeros 96 ++ ascii "\n")))
-    ≡ calls (report 1 worked ∷ [])
-unfolding worked sessionOf operations operationOf kind reportOf placeOf sightingOf citedOf keyed same isBefore indexOf number digitsAfter allDigits decimalValue signedBits height message numbers models words wordBytes hex hexBytes covariance turned ascii
-reported = refl
+    (ascii "op=summary\nengine=1\nmodel=5\nspec=3\ninputs="
+    ++ (zeros 64
+    ++ (ascii "\nop=report\nengine=1\ntime=1000\nlat=500000000\nlon=100000000\nheight=1500\nmessage=8d000000000000\n"
+    ++ (ascii "tags=11,12\nused=3\nmodels=5\nspec=3\ncov="
+    ++ (zeros 96
+    ++ (ascii "\nop=report\nengine=2\ntime=1000\nlat=500000000\nlon=100000000\nheight=none\nmessage=8d000000000000\n"
+    ++ (ascii "tags=11,12,13\nused=7\nmodels=5\nspec=3\ncov=" ++ (zeros 96 ++ ascii "\n"))))))))
+    ≡ calls (summary 1 5 3 (replicate 32 0) ∷ report 1 first ∷ report 2 second ∷ [])
+unfolding worked first second sessionOf operations operationOf kind summaryOf reportOf placeOf sightingOf citedOf keyed same isBefore indexOf number digitsAfter allDigits decimalValue signedBits height message numbers models words wordBytes hex hexBytes covariance turned ascii
+whole = refl
 
 bad-lines :
     (sessionOf [] ≡ badAt 1)

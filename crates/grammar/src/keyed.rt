@@ -1,5 +1,6 @@
 // The lines of a session, one at a time: the key due, its value, and where the next line begins.
 use crate::values;
+use record::layout;
 ghost use mathlib.Core.Path.{_≡_};
 ghost use mathlib.Core.Bool.{false, cond};
 ghost use mathlib.Core.List.{[], _∷_};
@@ -213,7 +214,7 @@ pub struct Several {
     pub good: bool,
     pub next: usize,
     pub count: usize,
-    pub values: [u64; 16],
+    pub values: [u64; layout::MAX_TAGS],
 }
 
 fn no_numbers() -> Several
@@ -223,7 +224,7 @@ fn no_numbers() -> Several
         good: false,
         next: 0,
         count: 0,
-        values: [0u64; 16],
+        values: [0u64; layout::MAX_TAGS],
     }
 }
 
@@ -237,7 +238,7 @@ pub fn tags(input: &[u8], at: usize) -> Several
     }
     let from = l.from;
     let to = l.to;
-    let n = values::listed(&input[from..to], 0xffff_ffff_ffff_ffff, 16);
+    let n = values::listed(&input[from..to], 0xffff_ffff_ffff_ffff, layout::MAX_TAGS);
     if !n.good {
         return no_numbers();
     }
@@ -265,10 +266,10 @@ pub fn models(input: &[u8], at: usize) -> Several
             good: true,
             next: l.next,
             count: 0,
-            values: [0u64; 16],
+            values: [0u64; layout::MAX_TAGS],
         };
     }
-    let n = values::listed(&input[from..to], 255, 4);
+    let n = values::listed(&input[from..to], 255, layout::MAX_MODELS);
     if !n.good {
         return no_numbers();
     }
@@ -285,7 +286,7 @@ pub fn models(input: &[u8], at: usize) -> Several
 pub struct Given {
     pub good: bool,
     pub next: usize,
-    pub bytes: [u8; 32],
+    pub bytes: [u8; models::layout::INPUTS_SIZE],
 }
 
 fn no_inputs() -> Given
@@ -294,7 +295,7 @@ fn no_inputs() -> Given
     Given {
         good: false,
         next: 0,
-        bytes: [0u8; 32],
+        bytes: [0u8; models::layout::INPUTS_SIZE],
     }
 }
 
@@ -308,7 +309,7 @@ pub fn inputs(input: &[u8], at: usize) -> Given
     }
     let from = l.from;
     let to = l.to;
-    let mut bytes = [0u8; 32];
+    let mut bytes = [0u8; models::layout::INPUTS_SIZE];
     if !values::hex(&input[from..to], &mut bytes) {
         return no_inputs();
     }

@@ -1,6 +1,7 @@
 // The three operations of a session, each after its first line.
 use crate::keyed;
 use crate::records;
+use record::layout;
 ghost use mathlib.Core.Path.{_≡_};
 ghost use mathlib.Core.Bool.{false};
 ghost use Prim.Native.Nat.{_+_, _≤_};
@@ -18,8 +19,8 @@ pub struct Operation {
     pub engine: u8,
     pub model: u8,
     pub spec: u16,
-    pub inputs: [u8; 32],
-    pub record: [u8; 222],
+    pub inputs: [u8; models::layout::INPUTS_SIZE],
+    pub record: [u8; layout::RECORD_SIZE],
 }
 
 // An operation whose line after `lines` good ones is bad.
@@ -34,8 +35,8 @@ pub fn bad(lines: usize) -> Operation
         engine: 0,
         model: 0,
         spec: 0,
-        inputs: [0u8; 32],
-        record: [0u8; 222],
+        inputs: [0u8; models::layout::INPUTS_SIZE],
+        record: [0u8; layout::RECORD_SIZE],
     }
 }
 
@@ -55,8 +56,8 @@ pub fn convict(input: &[u8], at: usize) -> Operation
         engine: e.value as u8,
         model: 0,
         spec: 0,
-        inputs: [0u8; 32],
-        record: [0u8; 222],
+        inputs: [0u8; models::layout::INPUTS_SIZE],
+        record: [0u8; layout::RECORD_SIZE],
     }
 }
 
@@ -90,7 +91,7 @@ pub fn summary(input: &[u8], at: usize) -> Operation
         model: m.value as u8,
         spec: s.value as u16,
         inputs,
-        record: [0u8; 222],
+        record: [0u8; layout::RECORD_SIZE],
     }
 }
 
@@ -123,7 +124,7 @@ pub fn report(input: &[u8], at: usize) -> Operation
         engine: e.value as u8,
         model: 0,
         spec: 0,
-        inputs: [0u8; 32],
+        inputs: [0u8; models::layout::INPUTS_SIZE],
         record,
     }
 }

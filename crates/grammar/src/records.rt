@@ -80,7 +80,7 @@ pub struct Sighting {
     pub size: usize,
     pub message: [u8; 14],
     pub count: usize,
-    pub tags: [u64; 16],
+    pub tags: [u64; layout::MAX_TAGS],
     pub used: u64,
 }
 
@@ -94,7 +94,7 @@ fn no_sighting(lines: usize) -> Sighting
         size: 0,
         message: [0u8; 14],
         count: 0,
-        tags: [0u64; 16],
+        tags: [0u64; layout::MAX_TAGS],
         used: 0,
     }
 }
@@ -135,7 +135,7 @@ pub struct Cited {
     pub lines: usize,
     pub next: usize,
     pub count: usize,
-    pub models: [u64; 16],
+    pub models: [u64; layout::MAX_TAGS],
     pub spec: u64,
     pub covariance: [u8; 48],
 }
@@ -148,7 +148,7 @@ fn no_cited(lines: usize) -> Cited
         lines,
         next: 0,
         count: 0,
-        models: [0u64; 16],
+        models: [0u64; layout::MAX_TAGS],
         spec: 0,
         covariance: [0u8; 48],
     }
@@ -280,11 +280,11 @@ fn put_cited(out: &mut [u8], m: Cited)
 }
 
 // The record of a report.
-pub fn record_of(p: Place, s: Sighting, m: Cited) -> [u8; 222]
+pub fn record_of(p: Place, s: Sighting, m: Cited) -> [u8; layout::RECORD_SIZE]
     requires { ⌜ (s .size ≤ L.longMessage) × (s .count ≤ L.maxTags) × (m .count ≤ L.maxModels) ⌝ }
     ensures { λ r. ⌜ r ≡ G.placeBytes (p .time) (p .lat) (p .lon) (p .flag ∷ wordBytes 4 (p .height)) ++ (G.sightingBytes (s .size ∷ s .message) (s .count) (s .used) (s .tags) ++ G.citedBytes (m .count) (take L.maxModels (m .models)) (m .spec) (m .covariance)) ⌝ }
 {
-    let mut r = [0u8; 222];
+    let mut r = [0u8; layout::RECORD_SIZE];
     put_place(&mut r, p);
     put_sighting(&mut r, s);
     put_cited(&mut r, m);

@@ -1,4 +1,5 @@
 // The values of a session's lines: numbers, lists of numbers and hex, each from the whole text of a value.
+use record::layout;
 ghost use mathlib.Core.Path.{_≡_};
 ghost use mathlib.Core.List.{[]};
 ghost use mathlib.Core.Bool.{false};
@@ -114,7 +115,7 @@ pub fn signed(text: &[u8]) -> Value
 pub struct Numbers {
     pub good: bool,
     pub count: usize,
-    pub values: [u64; 16],
+    pub values: [u64; layout::MAX_TAGS],
 }
 
 fn no_list() -> Numbers
@@ -123,7 +124,7 @@ fn no_list() -> Numbers
     Numbers {
         good: false,
         count: 0,
-        values: [0u64; 16],
+        values: [0u64; layout::MAX_TAGS],
     }
 }
 
@@ -132,7 +133,7 @@ pub fn listed(text: &[u8], most: u64, room: usize) -> Numbers
     requires { ⌜ room ≤ maxTags ⌝ }
     ensures { λ r. ⌜ Val.Listed (Val.numbers most room (now (text .entry))) room (r .good) (r .count) (r .values) ⌝ }
 {
-    let mut values = [0u64; 16];
+    let mut values = [0u64; layout::MAX_TAGS];
     let mut count: usize = 0;
     let mut from: usize = 0;
     while count < room {

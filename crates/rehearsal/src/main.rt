@@ -24,23 +24,43 @@ fn next_length() -> usize
     size
 }
 
-fn rehearse(number: u64, size: usize)
+fn input_buffer() -> [u8; MAX_INPUT + 1] {
+    [0; MAX_INPUT + 1]
+}
+
+fn output_buffer() -> [u8; OUTPUT_SIZE] {
+    [0; OUTPUT_SIZE]
+}
+
+// Reads a session of this length; answers how many bytes came.
+fn read_session(input: &mut [u8], size: usize) -> usize
+    requires { ⌜ size ≤ length (now input) ⌝ }
+    ensures { λ r. ⌜ (r ≤ length (now (input .entry))) × (length (now (input .exit)) ≡ length (now (input .entry))) ⌝ }
+{
+    io::read_full(STDIN_FILENO, &mut input[..size])
+}
+
+fn rehearse(size: usize)
     requires { ⌜ size ≤ 65537 ⌝ }
 {
+    let mut input = input_buffer();
+    let n = read_session(&mut input, size);
+    let mut out = output_buffer();
+    let length = sessions::run(&input[..n], &mut out);
+    io::write_all(STDOUT_FILENO, &out[..length]);
+}
+
+fn announce(number: u64) {
     io::write_all(STDOUT_FILENO, b"session ");
     io::print_decimal(STDOUT_FILENO, number);
     io::write_all(STDOUT_FILENO, b"\n");
-    let mut input = [0u8; MAX_INPUT + 1];
-    let n = io::read_full(STDIN_FILENO, &mut input[..size]);
-    let mut out = [0u8; OUTPUT_SIZE];
-    let length = sessions::run(&input[..n], &mut out);
-    io::write_all(STDOUT_FILENO, &out[..length]);
 }
 
 fn main() {
     let mut number: u64 = 1;
     while number <= 101 {
-        rehearse(number, next_length());
+        announce(number);
+        rehearse(next_length());
         number += 1;
     }
 }

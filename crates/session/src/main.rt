@@ -4,10 +4,18 @@ use libc::STDOUT_FILENO;
 use sessions::MAX_INPUT;
 use sessions::OUTPUT_SIZE;
 
+fn input_buffer() -> [u8; MAX_INPUT + 1] {
+    [0; MAX_INPUT + 1]
+}
+
+fn output_buffer() -> [u8; OUTPUT_SIZE] {
+    [0; OUTPUT_SIZE]
+}
+
 fn main() {
-    let mut input = [0u8; MAX_INPUT + 1];
+    let mut input = input_buffer();
     let n = io::read_full(STDIN_FILENO, &mut input);
-    let mut out = [0u8; OUTPUT_SIZE];
+    let mut out = output_buffer();
     let size = sessions::run(&input[..n], &mut out);
     io::write_all(STDOUT_FILENO, &out[..size]);
 }

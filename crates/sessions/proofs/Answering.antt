@@ -42,12 +42,14 @@ pub calls-step : (s : List ℕ) (n : ℕ) (c : Call) (rest : List ℕ) → 1 ≤
 calls-step s n c rest h f e g =
     let z : 0 + n ≡ n = omega arith in
     let b : badFrom n rest ≡ 0 = sym (ap (λ (k : ℕ). badFrom k rest) z) ∙ sym (bad-next 0 s n c rest e) ∙ g in
-    let o = later-good n rest h b in
-    (ap (λ (k : Bool). cond k [] (callsIn (sessionOf s))) (ne-eqb (length s) 0 f)
-    ∙ ap callsIn (session-step s n c rest e)
-    ∙ by (eqb (length rest) 0)
-    (λ k. rw k refl)
-    (λ k. rw k (calls-and-then n c rest (none k o))), o)
+    let o = later-good n rest h b in (
+      ap (λ (k : Bool). cond k [] (callsIn (sessionOf s))) (ne-eqb (length s) 0 f)
+          ∙ ap callsIn (session-step s n c rest e)
+          ∙ by (eqb (length rest) 0)
+          (λ k. rw k refl)
+          (λ k. rw k (calls-and-then n c rest (none k o))),
+      o,
+    )
   where
     none : eqb (length rest) 0 ≡ false → badFrom 0 rest ≡ 0 → firstBad rest ≡ 0
     none k o = by (eqb (firstBad rest) 0) (λ w. eqb-true (firstBad rest) 0 w) (λ w. let q = rw (k, w) at o in omega (arith, q))

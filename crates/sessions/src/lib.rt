@@ -43,7 +43,15 @@ fn put_refused(out: &mut [u8], line: usize) -> usize
 }
 
 // Calls the register: 0 is a summary, 1 a conviction, else a report.
-fn perform(memory: &mut [u8], kind: u8, engine: u8, model: u8, spec: u16, inputs: &[u8], r: &[u8]) -> u32
+fn perform(
+    memory: &mut [u8],
+    kind: u8,
+    engine: u8,
+    model: u8,
+    spec: u16,
+    inputs: &[u8],
+    r: &[u8],
+) -> u32
     ensures { λ a. ⌜ after a (now (memory .exit)) ≡ onMemory (act (callOf kind engine model spec (now (inputs .entry)) (now (r .entry)))) (now (memory .entry)) ⌝ }
 {
     if kind == 0 {

@@ -43,10 +43,11 @@ loop-again : tie.Need-loop-again Inv-loop μ-loop
 loop-again c =
     let l = c .before .before .before .before .before .before .before .before .before .before .loop in
     let s = l .inv .1 in
-    let p = c .before .before .put-answer .ensures in
-    (c .before .before .before .before .before .before .perform-one .kept .0 ∙ l .inv .0,
-    answered-more _ _ _ _ _ _ _ (c .before .before .before .before .before .before .before .before .before .loop-test .taken) s (c .before .before .before .before .before .before .before .before .operation .result .good) (c .before .before .before .before .before .before .before .before .operation .result .lines) _ (c .before .before .before .before .before .before .before .before .operation .result .next) (c .before .before .before .before .before .before .before .before .operation .ensures .0) _ _
-    (all-bytes (c .before .before .before .before .before .before .perform-one .last .0) (λ i. c .before .before .before .before .slice-known3 .given i .fits)) (c .before .before .before .before .before .before .perform-one .ensures) _ _ (p .0) (p .1))
+    let p = c .before .before .put-answer .ensures in (
+      c .before .before .before .before .before .before .perform-one .kept .0 ∙ l .inv .0,
+      answered-more _ _ _ _ _ _ _ (c .before .before .before .before .before .before .before .before .before .loop-test .taken) s (c .before .before .before .before .before .before .before .before .operation .result .good) (c .before .before .before .before .before .before .before .before .operation .result .lines) _ (c .before .before .before .before .before .before .before .before .operation .result .next) (c .before .before .before .before .before .before .before .before .operation .ensures .0) _ _
+          (all-bytes (c .before .before .before .before .before .before .perform-one .last .0) (λ i. c .before .before .before .before .slice-known3 .given i .fits)) (c .before .before .before .before .before .before .perform-one .ensures) _ _ (p .0) (p .1),
+    )
 
 same-length : tie.Need-same-length Inv-loop μ-loop
 same-length c = c .before .loop .inv .0

@@ -1,28 +1,17 @@
-use Prim.Native.Nat.{ℕ, _+_, _-_, _*_, _≤_, _<_}
-use mathlib.Core.Path.{_≡_, refl, sym, ap, _∙_}
-use mathlib.Core.Bool.{Bool, true, false, cond, not, _&&_, _||_}
-use native.Mathlib.Omega.{arith}
-use lib.ListN.{length, getD, drop, take, set, length-set}
-use mathlib.Core.List.{List, [], _∷_, _++_}
-use mathlib.Core.Option.{Option, none, some}
+use Prim.Native.Nat.{_-_}
+use mathlib.Core.Path.{sym, _∙_}
+use mathlib.Core.List.{_∷_}
+use lib.ListN.{drop, take}
 use borrow.Author.Tests.{not-true, not-false}
-use Rattle.grammar.specs.Values as Val
-use Rattle.grammar.specs.Reading.{Reading, bad, good, toldLine}
-use Rattle.grammar.specs.Grammar.{line, keyed, aLine, noLine}
-use Rattle.grammar.proofs.Texts.{told-not, told-some, not-told, some-told}
-use Rattle.grammar.proofs.Steps.{line-past, line-long, line-other, line-open, line-whole, cut-not, line-missing, line-wrong, line-right, told-bad}
+use borrow.Author.Needs.{needs}
 use Rattle.octets.specs.Words.{wordBytes}
 use Rattle.lines.specs.Ascii.{ascii}
-use Rattle.grammar.proofs.Texts.{height-none, height-bad, height-some}
-use borrow.Author.Needs.{needs}
+use Rattle.grammar.specs.Values as Val
+use Rattle.grammar.specs.Reading.{good}
+use Rattle.grammar.proofs.Texts.{not-told, some-told, height-none, height-bad, height-some}
+use Rattle.grammar.proofs.Steps.{line-missing, line-wrong, line-right, told-bad}
 use Rattle.grammar.proofs.keyed.height.Statement.{statement}
 use Rattle.grammar.proofs.keyed.height.Tie as tie
-use Rattle.grammar.proofs.keyed.height.Reads as reads
-use Rattle.grammar.proofs.keyed.height.Lts as lts
-use Rattle.grammar.proofs.keyed.due.Reads as due-reads
-use Rattle.grammar.proofs.keyed.no_height.Reads as no-height-reads
-use Rattle.grammar.proofs.values.signed.Reads as signed-reads
-use Rattle.octets.proofs.order.equal.Reads as equal-reads
 
 slice-aggregate-due : tie.Need-slice-aggregate-due
 slice-aggregate-due c = search needs
@@ -35,7 +24,12 @@ no-height-requires c κs = search needs
 
 returns : tie.Need-returns
 unfolding ascii
-returns c = let d = c .before .before .before .due in let dr = d .result in let a = c .before .before .before .before .before .before .args in let i = a .input .now in told-bad (c .no-height .result .flag ∷ wordBytes 4 (c .no-height .result .value)) (drop (c .no-height .result .next) i) (c .no-height .ensures) (line-missing Val.height (dr .good) (take (dr .to - dr .from) (drop (dr .from) i)) (drop (dr .next) i) (ascii "height=") (drop (a .at) i) (d .ensures .0) (not-true (dr .good) (c .before .if1 .taken)))
+returns c =
+    let d = c .before .before .before .due in
+    let dr = d .result in
+    let a = c .before .before .before .before .before .before .args in
+    let i = a .input .now in
+    told-bad (c .no-height .result .flag ∷ wordBytes 4 (c .no-height .result .value)) (drop (c .no-height .result .next) i) (c .no-height .ensures) (line-missing Val.height (dr .good) (take (dr .to - dr .from) (drop (dr .from) i)) (drop (dr .next) i) (ascii "height=") (drop (a .at) i) (d .ensures .0) (not-true (dr .good) (c .before .if1 .taken)))
 
 sub-equal : tie.Need-sub-equal
 sub-equal c = search needs
@@ -54,7 +48,12 @@ equal-requires c κs = search needs
 
 returns-2 : tie.Need-returns-2
 unfolding ascii
-returns-2 c = let d = c .before .before .before .before .before .before .due in let dr = d .result in let a = c .before .before .before .before .before .before .before .before .before .args in let i = a .input .now in sym (line-right Val.height (dr .good) (take (dr .to - dr .from) (drop (dr .from) i)) (drop (dr .next) i) (ascii "height=") (drop (a .at) i) (d .ensures .0) (0 ∷ wordBytes 4 0) (not-false (dr .good) (c .before .before .before .before .if1 .left)) (height-none (take (dr .to - dr .from) (drop (dr .from) i)) (sym (c .before .equal .ensures) ∙ c .if2 .taken)))
+returns-2 c =
+    let d = c .before .before .before .before .before .before .due in
+    let dr = d .result in
+    let a = c .before .before .before .before .before .before .before .before .before .args in
+    let i = a .input .now in
+    sym (line-right Val.height (dr .good) (take (dr .to - dr .from) (drop (dr .from) i)) (drop (dr .next) i) (ascii "height=") (drop (a .at) i) (d .ensures .0) (0 ∷ wordBytes 4 0) (not-false (dr .good) (c .before .before .before .before .if1 .left)) (height-none (take (dr .to - dr .from) (drop (dr .from) i)) (sym (c .before .equal .ensures) ∙ c .if2 .taken)))
 
 sub-signed : tie.Need-sub-signed
 sub-signed c = search needs
@@ -73,11 +72,23 @@ no-height-requires-2 c κs = search needs
 
 returns-3 : tie.Need-returns-3
 unfolding ascii
-returns-3 c = let d = c .before .before .before .before .before .before .before .before .before .before .before .due in let dr = d .result in let a = c .before .before .before .before .before .before .before .before .before .before .before .before .before .before .args in let i = a .input .now in let n = c .before .before .before .signed in told-bad (c .no-height2 .result .flag ∷ wordBytes 4 (c .no-height2 .result .value)) (drop (c .no-height2 .result .next) i) (c .no-height2 .ensures) (line-wrong Val.height (dr .good) (take (dr .to - dr .from) (drop (dr .from) i)) (drop (dr .next) i) (ascii "height=") (drop (a .at) i) (d .ensures .0) (not-false (dr .good) (c .before .before .before .before .before .before .before .before .before .if1 .left)) (height-bad (take (dr .to - dr .from) (drop (dr .from) i)) (sym (c .before .before .before .before .before .before .equal .ensures) ∙ c .before .before .before .before .before .if2 .left) (not-told (n .result .value) (n .ensures) (not-true (n .result .good) (c .before .if3 .taken)))))
+returns-3 c =
+    let d = c .before .before .before .before .before .before .before .before .before .before .before .due in
+    let dr = d .result in
+    let a = c .before .before .before .before .before .before .before .before .before .before .before .before .before .before .args in
+    let i = a .input .now in
+    let n = c .before .before .before .signed in
+    told-bad (c .no-height2 .result .flag ∷ wordBytes 4 (c .no-height2 .result .value)) (drop (c .no-height2 .result .next) i) (c .no-height2 .ensures) (line-wrong Val.height (dr .good) (take (dr .to - dr .from) (drop (dr .from) i)) (drop (dr .next) i) (ascii "height=") (drop (a .at) i) (d .ensures .0) (not-false (dr .good) (c .before .before .before .before .before .before .before .before .before .if1 .left)) (height-bad (take (dr .to - dr .from) (drop (dr .from) i)) (sym (c .before .before .before .before .before .before .equal .ensures) ∙ c .before .before .before .before .before .if2 .left) (not-told (n .result .value) (n .ensures) (not-true (n .result .good) (c .before .if3 .taken)))))
 
 returns-4 : tie.Need-returns-4
 unfolding ascii
-returns-4 c = let d = c .before .before .before .before .before .before .before .before .before .before .due in let dr = d .result in let a = c .before .before .before .before .before .before .before .before .before .before .before .before .before .args in let i = a .input .now in let n = c .before .before .signed in sym (line-right Val.height (dr .good) (take (dr .to - dr .from) (drop (dr .from) i)) (drop (dr .next) i) (ascii "height=") (drop (a .at) i) (d .ensures .0) (1 ∷ wordBytes 4 (n .result .value)) (not-false (dr .good) (c .before .before .before .before .before .before .before .before .if1 .left)) (height-some (take (dr .to - dr .from) (drop (dr .from) i)) (n .result .value) (sym (c .before .before .before .before .before .equal .ensures) ∙ c .before .before .before .before .if2 .left) (some-told (n .result .value) (n .ensures) (not-false (n .result .good) (c .if3 .left)))))
+returns-4 c =
+    let d = c .before .before .before .before .before .before .before .before .before .before .due in
+    let dr = d .result in
+    let a = c .before .before .before .before .before .before .before .before .before .before .before .before .before .args in
+    let i = a .input .now in
+    let n = c .before .before .signed in
+    sym (line-right Val.height (dr .good) (take (dr .to - dr .from) (drop (dr .from) i)) (drop (dr .next) i) (ascii "height=") (drop (a .at) i) (d .ensures .0) (1 ∷ wordBytes 4 (n .result .value)) (not-false (dr .good) (c .before .before .before .before .before .before .before .before .if1 .left)) (height-some (take (dr .to - dr .from) (drop (dr .from) i)) (n .result .value) (sym (c .before .before .before .before .before .equal .ensures) ∙ c .before .before .before .before .if2 .left) (some-told (n .result .value) (n .ensures) (not-false (n .result .good) (c .if3 .left)))))
 
 pub height-spec : {M : Type 1} → statement M
 height-spec =

@@ -1,32 +1,19 @@
-use Rattle.grammar.proofs.Texts.{message-bad, message-some, text-size, zeros-left, hex-length}
-use Rattle.grammar.proofs.Texts.{message-bad, message-some, text-size, zeros-left}
-use lib.ListN.{replicate}
-use lib.Seq.{length-take-le}
-use Rattle.record.specs.Layout.{longMessage}
-use Prim.Native.Nat.{ℕ, _+_, _-_, _*_, _≤_, _<_}
-use mathlib.Core.Path.{_≡_, refl, sym, ap, _∙_}
-use mathlib.Core.Bool.{Bool, true, false, cond, not, _&&_, _||_}
+use Prim.Native.Nat.{ℕ, _-_}
+use mathlib.Core.Path.{_≡_, sym, ap, _∙_}
+use mathlib.Core.List.{List, _∷_}
 use native.Mathlib.Omega.{arith}
-use lib.ListN.{length, getD, drop, take, set, length-set}
-use mathlib.Core.List.{List, [], _∷_, _++_}
-use mathlib.Core.Option.{Option, none, some}
+use lib.ListN.{replicate, length, drop, take}
+use lib.Seq.{length-take-le}
 use borrow.Author.Tests.{not-true, not-false}
-use Rattle.grammar.specs.Values as Val
-use Rattle.grammar.specs.Reading.{Reading, bad, good, toldLine}
-use Rattle.grammar.specs.Grammar.{line, keyed, aLine, noLine}
-use Rattle.grammar.proofs.Texts.{told-not, told-some, not-told, some-told}
-use Rattle.grammar.proofs.Steps.{line-past, line-long, line-other, line-open, line-whole, cut-not, line-missing, line-wrong, line-right, told-bad}
-use Rattle.lines.specs.Ascii.{ascii}
-use Rattle.grammar.proofs.Texts.{message-bad, message-some}
 use borrow.Author.Needs.{needs}
+use Rattle.record.specs.Layout.{longMessage}
+use Rattle.lines.specs.Ascii.{ascii}
+use Rattle.grammar.specs.Values as Val
+use Rattle.grammar.specs.Reading.{good}
+use Rattle.grammar.proofs.Texts.{message-bad, message-some, text-size, zeros-left, hex-length, not-told, some-told}
+use Rattle.grammar.proofs.Steps.{line-missing, line-wrong, line-right, told-bad}
 use Rattle.grammar.proofs.keyed.message.Statement.{statement}
 use Rattle.grammar.proofs.keyed.message.Tie as tie
-use Rattle.grammar.proofs.keyed.message.Reads as reads
-use Rattle.grammar.proofs.keyed.message.Lts as lts
-use Rattle.grammar.proofs.keyed.due.Reads as due-reads
-use Rattle.grammar.proofs.keyed.no_message.Reads as no-message-reads
-use Rattle.grammar.proofs.values.hex.Reads as hex-reads
-use Rattle.grammar.proofs.values.message_size.Reads as message-size-reads
 
 slice-aggregate-due : tie.Need-slice-aggregate-due
 slice-aggregate-due c = search needs
@@ -39,7 +26,12 @@ no-message-requires c κs = search needs
 
 returns : tie.Need-returns
 unfolding ascii
-returns c = let d = c .before .before .before .due in let dr = d .result in let a = c .before .before .before .before .before .before .args in let i = a .input .now in (told-bad (c .no-message .result .size ∷ c .no-message .result .bytes) (drop (c .no-message .result .next) i) (c .no-message .ensures .0) (line-missing Val.message (dr .good) (take (dr .to - dr .from) (drop (dr .from) i)) (drop (dr .next) i) (ascii "message=") (drop (a .at) i) (d .ensures .0) (not-true (dr .good) (c .before .if1 .taken))), omega (arith, c .no-message .ensures .1))
+returns c =
+    let d = c .before .before .before .due in
+    let dr = d .result in
+    let a = c .before .before .before .before .before .before .args in
+    let i = a .input .now in
+    (told-bad (c .no-message .result .size ∷ c .no-message .result .bytes) (drop (c .no-message .result .next) i) (c .no-message .ensures .0) (line-missing Val.message (dr .good) (take (dr .to - dr .from) (drop (dr .from) i)) (drop (dr .next) i) (ascii "message=") (drop (a .at) i) (d .ensures .0) (not-true (dr .good) (c .before .if1 .taken))), omega (arith, c .no-message .ensures .1))
 
 sub-message-size : tie.Need-sub-message-size
 sub-message-size c = search needs
@@ -60,7 +52,9 @@ array-borrow-prefix-bytes : tie.Need-array-borrow-prefix-bytes
 array-borrow-prefix-bytes c = search needs
 
 slice-aggregate-hex : tie.Need-slice-aggregate-hex
-slice-aggregate-hex c = let z : List ℕ = replicate 14 0 in sym (length-take-le (c .before .before .message-size .result) z (c .before .before .message-size .ensures .1))
+slice-aggregate-hex c =
+    let z : List ℕ = replicate 14 0 in
+    sym (length-take-le (c .before .before .message-size .result) z (c .before .before .message-size .ensures .1))
 
 hex-requires : tie.Need-hex-requires
 hex-requires c κs = search needs
@@ -70,11 +64,28 @@ no-message-requires-2 c κs = search needs
 
 returns-2 : tie.Need-returns-2
 unfolding ascii
-returns-2 c = let d = c .before .before .before .before .before .before .before .before .before .due in let dr = d .result in let a = c .before .before .before .before .before .before .before .before .before .before .before .before .args in let i = a .input .now in let n = c .before .before .before .hex in let m = c .before .before .before .before .before .before .message-size in let z : List ℕ = replicate 14 0 in (told-bad (c .no-message2 .result .size ∷ c .no-message2 .result .bytes) (drop (c .no-message2 .result .next) i) (c .no-message2 .ensures .0) (line-wrong Val.message (dr .good) (take (dr .to - dr .from) (drop (dr .from) i)) (drop (dr .next) i) (ascii "message=") (drop (a .at) i) (d .ensures .0) (not-false (dr .good) (c .before .before .before .before .before .before .before .if1 .left)) (message-bad (take (dr .to - dr .from) (drop (dr .from) i)) (m .result) (m .ensures .0 ∙ ap Val.messageSize (sym (text-size i (dr .from) (dr .to) (d .ensures .1) (d .ensures .2)))) (sym (ap (λ (k : ℕ). Val.hex k (take (dr .to - dr .from) (drop (dr .from) i))) (length-take-le (m .result) z (m .ensures .1))) ∙ not-told (n .last .1 .0) (n .ensures) (not-true (n .result) (c .before .if2 .taken))))), omega (arith, c .no-message2 .ensures .1))
+returns-2 c =
+    let d = c .before .before .before .before .before .before .before .before .before .due in
+    let dr = d .result in
+    let a = c .before .before .before .before .before .before .before .before .before .before .before .before .args in
+    let i = a .input .now in
+    let n = c .before .before .before .hex in
+    let m = c .before .before .before .before .before .before .message-size in
+    let z : List ℕ = replicate 14 0 in
+    (told-bad (c .no-message2 .result .size ∷ c .no-message2 .result .bytes) (drop (c .no-message2 .result .next) i) (c .no-message2 .ensures .0) (line-wrong Val.message (dr .good) (take (dr .to - dr .from) (drop (dr .from) i)) (drop (dr .next) i) (ascii "message=") (drop (a .at) i) (d .ensures .0) (not-false (dr .good) (c .before .before .before .before .before .before .before .if1 .left)) (message-bad (take (dr .to - dr .from) (drop (dr .from) i)) (m .result) (m .ensures .0 ∙ ap Val.messageSize (sym (text-size i (dr .from) (dr .to) (d .ensures .1) (d .ensures .2)))) (sym (ap (λ (k : ℕ). Val.hex k (take (dr .to - dr .from) (drop (dr .from) i))) (length-take-le (m .result) z (m .ensures .1))) ∙ not-told (n .last .1 .0) (n .ensures) (not-true (n .result) (c .before .if2 .taken))))), omega (arith, c .no-message2 .ensures .1))
 
 returns-3 : tie.Need-returns-3
 unfolding ascii
-returns-3 c = let d = c .before .before .before .before .before .before .before .before .due in let dr = d .result in let a = c .before .before .before .before .before .before .before .before .before .before .before .args in let i = a .input .now in let n = c .before .before .hex in let m = c .before .before .before .before .before .message-size in let z : List ℕ = replicate 14 0 in let w : length (n .last .1 .0) ≡ m .result = let q : length (take (m .result) z) ≡ m .result = length-take-le (m .result) z (m .ensures .1) in hex-length (length (take (m .result) z)) (take (dr .to - dr .from) (drop (dr .from) i)) (n .last .1 .0) (some-told (n .last .1 .0) (n .ensures) (not-false (n .result) (c .if2 .left))) ∙ q in (ap (λ (x : List ℕ). good 1 x (drop (dr .next) i)) (zeros-left (m .result) (n .last .1 .0) w (m .ensures .1)) ∙ sym (line-right Val.message (dr .good) (take (dr .to - dr .from) (drop (dr .from) i)) (drop (dr .next) i) (ascii "message=") (drop (a .at) i) (d .ensures .0) (length (n .last .1 .0) ∷ Val.padded longMessage (n .last .1 .0)) (not-false (dr .good) (c .before .before .before .before .before .before .if1 .left)) (message-some (take (dr .to - dr .from) (drop (dr .from) i)) (n .last .1 .0) (m .result) (m .ensures .0 ∙ ap Val.messageSize (sym (text-size i (dr .from) (dr .to) (d .ensures .1) (d .ensures .2)))) (sym (ap (λ (k : ℕ). Val.hex k (take (dr .to - dr .from) (drop (dr .from) i))) (length-take-le (m .result) z (m .ensures .1))) ∙ some-told (n .last .1 .0) (n .ensures) (not-false (n .result) (c .if2 .left))))), m .ensures .1)
+returns-3 c =
+    let d = c .before .before .before .before .before .before .before .before .due in
+    let dr = d .result in
+    let a = c .before .before .before .before .before .before .before .before .before .before .before .args in
+    let i = a .input .now in
+    let n = c .before .before .hex in
+    let m = c .before .before .before .before .before .message-size in
+    let z : List ℕ = replicate 14 0 in
+    let w : length (n .last .1 .0) ≡ m .result = let q : length (take (m .result) z) ≡ m .result = length-take-le (m .result) z (m .ensures .1) in
+    hex-length (length (take (m .result) z)) (take (dr .to - dr .from) (drop (dr .from) i)) (n .last .1 .0) (some-told (n .last .1 .0) (n .ensures) (not-false (n .result) (c .if2 .left))) ∙ q in (ap (λ (x : List ℕ). good 1 x (drop (dr .next) i)) (zeros-left (m .result) (n .last .1 .0) w (m .ensures .1)) ∙ sym (line-right Val.message (dr .good) (take (dr .to - dr .from) (drop (dr .from) i)) (drop (dr .next) i) (ascii "message=") (drop (a .at) i) (d .ensures .0) (length (n .last .1 .0) ∷ Val.padded longMessage (n .last .1 .0)) (not-false (dr .good) (c .before .before .before .before .before .before .if1 .left)) (message-some (take (dr .to - dr .from) (drop (dr .from) i)) (n .last .1 .0) (m .result) (m .ensures .0 ∙ ap Val.messageSize (sym (text-size i (dr .from) (dr .to) (d .ensures .1) (d .ensures .2)))) (sym (ap (λ (k : ℕ). Val.hex k (take (dr .to - dr .from) (drop (dr .from) i))) (length-take-le (m .result) z (m .ensures .1))) ∙ some-told (n .last .1 .0) (n .ensures) (not-false (n .result) (c .if2 .left))))), m .ensures .1)
 
 pub message-spec : {M : Type 1} → statement M
 message-spec =

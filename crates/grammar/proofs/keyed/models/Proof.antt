@@ -1,29 +1,19 @@
-use Prim.Native.Nat.{ℕ, _+_, _-_, _*_, _≤_, _<_}
-use mathlib.Core.Path.{_≡_, refl, sym, ap, _∙_}
-use mathlib.Core.Bool.{Bool, true, false, cond, not, _&&_, _||_}
+use Prim.Native.Nat.{_-_}
+use mathlib.Core.Path.{refl, sym, _∙_}
+use mathlib.Core.List.{[]}
 use native.Mathlib.Omega.{arith}
-use lib.ListN.{length, getD, drop, take, set, length-set}
-use mathlib.Core.List.{List, [], _∷_, _++_}
-use mathlib.Core.Option.{Option, none, some}
+use lib.ListN.{drop, take}
 use borrow.Author.Tests.{not-true, not-false}
-use Rattle.grammar.specs.Values as Val
-use Rattle.grammar.specs.Reading.{Reading, bad, good, toldLine}
-use Rattle.grammar.specs.Grammar.{line, keyed, aLine, noLine}
-use Rattle.grammar.proofs.Texts.{told-not, told-some, not-told, some-told}
-use Rattle.grammar.proofs.Steps.{line-past, line-long, line-other, line-open, line-whole, cut-not, line-missing, line-wrong, line-right, told-bad}
-use Rattle.lines.specs.Ascii.{ascii}
-use Rattle.record.specs.Layout.{maxTags, maxModels}
-use Rattle.grammar.proofs.Texts.{models-none, models-listed}
-use Rattle.grammar.proofs.Steps.{list-bad-line}
 use borrow.Author.Needs.{needs}
+use Rattle.lines.specs.Ascii.{ascii}
+use Rattle.record.specs.Layout.{maxModels}
+use Rattle.grammar.specs.Values as Val
+use Rattle.grammar.specs.Reading.{good}
+use Rattle.grammar.specs.Grammar.{line}
+use Rattle.grammar.proofs.Texts.{not-told, some-told, models-none, models-listed}
+use Rattle.grammar.proofs.Steps.{line-missing, line-wrong, line-right, list-bad-line}
 use Rattle.grammar.proofs.keyed.models.Statement.{statement}
 use Rattle.grammar.proofs.keyed.models.Tie as tie
-use Rattle.grammar.proofs.keyed.models.Reads as reads
-use Rattle.grammar.proofs.keyed.models.Lts as lts
-use Rattle.grammar.proofs.keyed.due.Reads as due-reads
-use Rattle.grammar.proofs.keyed.no_numbers.Reads as no-numbers-reads
-use Rattle.grammar.proofs.values.listed.Reads as listed-reads
-use Rattle.octets.proofs.order.equal.Reads as equal-reads
 
 slice-aggregate-due : tie.Need-slice-aggregate-due
 slice-aggregate-due c = search needs
@@ -36,7 +26,14 @@ no-numbers-requires c κs = search needs
 
 returns : tie.Need-returns
 unfolding ascii
-returns c = let d = c .before .before .before .due in let dr = d .result in let a = c .before .before .before .before .before .before .args in let i = a .input .now in let r = c .no-numbers .result in let e = c .no-numbers .ensures in list-bad-line (line (ascii "models=") Val.models (drop (a .at) i)) maxModels (r .good) (r .count) (r .values) (drop (r .next) i) (e .0) (e .1) (e .2) (line-missing Val.models (dr .good) (take (dr .to - dr .from) (drop (dr .from) i)) (drop (dr .next) i) (ascii "models=") (drop (a .at) i) (d .ensures .0) (not-true (dr .good) (c .before .if1 .taken)))
+returns c =
+    let d = c .before .before .before .due in
+    let dr = d .result in
+    let a = c .before .before .before .before .before .before .args in
+    let i = a .input .now in
+    let r = c .no-numbers .result in
+    let e = c .no-numbers .ensures in
+    list-bad-line (line (ascii "models=") Val.models (drop (a .at) i)) maxModels (r .good) (r .count) (r .values) (drop (r .next) i) (e .0) (e .1) (e .2) (line-missing Val.models (dr .good) (take (dr .to - dr .from) (drop (dr .from) i)) (drop (dr .next) i) (ascii "models=") (drop (a .at) i) (d .ensures .0) (not-true (dr .good) (c .before .if1 .taken)))
 
 sub-equal : tie.Need-sub-equal
 sub-equal c = search needs
@@ -55,7 +52,12 @@ equal-requires c κs = search needs
 
 returns-2 : tie.Need-returns-2
 unfolding ascii
-returns-2 c = let d = c .before .before .before .before .before .before .due in let dr = d .result in let a = c .before .before .before .before .before .before .before .before .before .args in let i = a .input .now in record { list = sym (line-right Val.models (dr .good) (take (dr .to - dr .from) (drop (dr .from) i)) (drop (dr .next) i) (ascii "models=") (drop (a .at) i) (d .ensures .0) [] (not-false (dr .good) (c .before .before .before .before .if1 .left)) (models-none (take (dr .to - dr .from) (drop (dr .from) i)) (sym (c .before .equal .ensures) ∙ c .if2 .taken))); fits = omega arith; zeros = refl }
+returns-2 c =
+    let d = c .before .before .before .before .before .before .due in
+    let dr = d .result in
+    let a = c .before .before .before .before .before .before .before .before .before .args in
+    let i = a .input .now in
+    record { list = sym (line-right Val.models (dr .good) (take (dr .to - dr .from) (drop (dr .from) i)) (drop (dr .next) i) (ascii "models=") (drop (a .at) i) (d .ensures .0) [] (not-false (dr .good) (c .before .before .before .before .if1 .left)) (models-none (take (dr .to - dr .from) (drop (dr .from) i)) (sym (c .before .equal .ensures) ∙ c .if2 .taken))); fits = omega arith; zeros = refl }
 
 sub-listed : tie.Need-sub-listed
 sub-listed c = search needs
@@ -74,11 +76,25 @@ no-numbers-requires-2 c κs = search needs
 
 returns-3 : tie.Need-returns-3
 unfolding ascii
-returns-3 c = let d = c .before .before .before .before .before .before .before .before .before .before .before .due in let dr = d .result in let a = c .before .before .before .before .before .before .before .before .before .before .before .before .before .before .args in let i = a .input .now in let n = c .before .before .before .listed in let r = c .no-numbers2 .result in let e = c .no-numbers2 .ensures in list-bad-line (line (ascii "models=") Val.models (drop (a .at) i)) maxModels (r .good) (r .count) (r .values) (drop (r .next) i) (e .0) (e .1) (e .2) (line-wrong Val.models (dr .good) (take (dr .to - dr .from) (drop (dr .from) i)) (drop (dr .next) i) (ascii "models=") (drop (a .at) i) (d .ensures .0) (not-false (dr .good) (c .before .before .before .before .before .before .before .before .before .if1 .left)) (models-listed (take (dr .to - dr .from) (drop (dr .from) i)) (sym (c .before .before .before .before .before .before .equal .ensures) ∙ c .before .before .before .before .before .if2 .left) ∙ not-told (take (n .result .count) (n .result .values)) (n .ensures .list) (not-true (n .result .good) (c .before .if3 .taken))))
+returns-3 c =
+    let d = c .before .before .before .before .before .before .before .before .before .before .before .due in
+    let dr = d .result in
+    let a = c .before .before .before .before .before .before .before .before .before .before .before .before .before .before .args in
+    let i = a .input .now in
+    let n = c .before .before .before .listed in
+    let r = c .no-numbers2 .result in
+    let e = c .no-numbers2 .ensures in
+    list-bad-line (line (ascii "models=") Val.models (drop (a .at) i)) maxModels (r .good) (r .count) (r .values) (drop (r .next) i) (e .0) (e .1) (e .2) (line-wrong Val.models (dr .good) (take (dr .to - dr .from) (drop (dr .from) i)) (drop (dr .next) i) (ascii "models=") (drop (a .at) i) (d .ensures .0) (not-false (dr .good) (c .before .before .before .before .before .before .before .before .before .if1 .left)) (models-listed (take (dr .to - dr .from) (drop (dr .from) i)) (sym (c .before .before .before .before .before .before .equal .ensures) ∙ c .before .before .before .before .before .if2 .left) ∙ not-told (take (n .result .count) (n .result .values)) (n .ensures .list) (not-true (n .result .good) (c .before .if3 .taken))))
 
 returns-4 : tie.Need-returns-4
 unfolding ascii
-returns-4 c = let d = c .before .before .before .before .before .before .before .before .before .before .before .due in let dr = d .result in let a = c .before .before .before .before .before .before .before .before .before .before .before .before .before .before .args in let i = a .input .now in let n = c .before .before .before .listed in record { list = sym (line-right Val.models (dr .good) (take (dr .to - dr .from) (drop (dr .from) i)) (drop (dr .next) i) (ascii "models=") (drop (a .at) i) (d .ensures .0) (take (n .result .count) (n .result .values)) (not-false (dr .good) (c .before .before .before .before .before .before .before .before .before .if1 .left)) (models-listed (take (dr .to - dr .from) (drop (dr .from) i)) (sym (c .before .before .before .before .before .before .equal .ensures) ∙ c .before .before .before .before .before .if2 .left) ∙ some-told (take (n .result .count) (n .result .values)) (n .ensures .list) (not-false (n .result .good) (c .before .if3 .left)))); fits = n .ensures .fits; zeros = n .ensures .rest }
+returns-4 c =
+    let d = c .before .before .before .before .before .before .before .before .before .before .before .due in
+    let dr = d .result in
+    let a = c .before .before .before .before .before .before .before .before .before .before .before .before .before .before .args in
+    let i = a .input .now in
+    let n = c .before .before .before .listed in
+    record { list = sym (line-right Val.models (dr .good) (take (dr .to - dr .from) (drop (dr .from) i)) (drop (dr .next) i) (ascii "models=") (drop (a .at) i) (d .ensures .0) (take (n .result .count) (n .result .values)) (not-false (dr .good) (c .before .before .before .before .before .before .before .before .before .if1 .left)) (models-listed (take (dr .to - dr .from) (drop (dr .from) i)) (sym (c .before .before .before .before .before .before .equal .ensures) ∙ c .before .before .before .before .before .if2 .left) ∙ some-told (take (n .result .count) (n .result .values)) (n .ensures .list) (not-false (n .result .good) (c .before .if3 .left)))); fits = n .ensures .fits; zeros = n .ensures .rest }
 
 pub models-spec : {M : Type 1} → statement M
 models-spec =

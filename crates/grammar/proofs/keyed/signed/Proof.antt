@@ -1,24 +1,14 @@
-use Prim.Native.Nat.{ℕ, _+_, _-_, _*_, _≤_, _<_}
-use mathlib.Core.Path.{_≡_, refl, sym, ap, _∙_}
-use mathlib.Core.Bool.{Bool, true, false, cond, not, _&&_, _||_}
-use native.Mathlib.Omega.{arith}
-use lib.ListN.{length, getD, drop, take, set, length-set}
-use mathlib.Core.List.{List, [], _∷_, _++_}
-use mathlib.Core.Option.{Option, none, some}
+use Prim.Native.Nat.{_-_}
+use mathlib.Core.Path.{sym}
+use lib.ListN.{drop, take}
 use borrow.Author.Tests.{not-true, not-false}
-use Rattle.grammar.specs.Values as Val
-use Rattle.grammar.specs.Reading.{Reading, bad, good, toldLine}
-use Rattle.grammar.specs.Grammar.{line, keyed, aLine, noLine}
-use Rattle.grammar.proofs.Texts.{told-not, told-some, not-told, some-told}
-use Rattle.grammar.proofs.Steps.{line-past, line-long, line-other, line-open, line-whole, cut-not, line-missing, line-wrong, line-right, told-bad}
 use borrow.Author.Needs.{needs}
+use Rattle.grammar.specs.Values as Val
+use Rattle.grammar.specs.Reading.{good}
+use Rattle.grammar.proofs.Texts.{not-told, some-told}
+use Rattle.grammar.proofs.Steps.{line-missing, line-wrong, line-right, told-bad}
 use Rattle.grammar.proofs.keyed.signed.Statement.{statement}
 use Rattle.grammar.proofs.keyed.signed.Tie as tie
-use Rattle.grammar.proofs.keyed.signed.Reads as reads
-use Rattle.grammar.proofs.keyed.signed.Lts as lts
-use Rattle.grammar.proofs.keyed.due.Reads as due-reads
-use Rattle.grammar.proofs.keyed.no_number.Reads as no-number-reads
-use Rattle.grammar.proofs.values.signed.Reads as signed-reads
 
 due-requires : tie.Need-due-requires
 due-requires c κs = search needs
@@ -27,7 +17,12 @@ no-number-requires : tie.Need-no-number-requires
 no-number-requires c κs = search needs
 
 returns : tie.Need-returns
-returns c = let d = c .before .before .before .due in let dr = d .result in let a = c .before .before .before .before .before .before .args in let i = a .input .now in told-bad (c .no-number .result .value) (drop (c .no-number .result .next) i) (c .no-number .ensures .0) (line-missing Val.signedBits (dr .good) (take (dr .to - dr .from) (drop (dr .from) i)) (drop (dr .next) i) (a .key .now) (drop (a .at) i) (d .ensures .0) (not-true (dr .good) (c .before .if1 .taken)))
+returns c =
+    let d = c .before .before .before .due in
+    let dr = d .result in
+    let a = c .before .before .before .before .before .before .args in
+    let i = a .input .now in
+    told-bad (c .no-number .result .value) (drop (c .no-number .result .next) i) (c .no-number .ensures .0) (line-missing Val.signedBits (dr .good) (take (dr .to - dr .from) (drop (dr .from) i)) (drop (dr .next) i) (a .key .now) (drop (a .at) i) (d .ensures .0) (not-true (dr .good) (c .before .if1 .taken)))
 
 sub-signed : tie.Need-sub-signed
 sub-signed c = search needs
@@ -45,10 +40,22 @@ no-number-requires-2 : tie.Need-no-number-requires-2
 no-number-requires-2 c κs = search needs
 
 returns-2 : tie.Need-returns-2
-returns-2 c = let d = c .before .before .before .before .before .before .before .due in let dr = d .result in let a = c .before .before .before .before .before .before .before .before .before .before .args in let i = a .input .now in let n = c .before .before .before .signed in told-bad (c .no-number2 .result .value) (drop (c .no-number2 .result .next) i) (c .no-number2 .ensures .0) (line-wrong Val.signedBits (dr .good) (take (dr .to - dr .from) (drop (dr .from) i)) (drop (dr .next) i) (a .key .now) (drop (a .at) i) (d .ensures .0) (not-false (dr .good) (c .before .before .before .before .before .if1 .left)) (not-told (n .result .value) (n .ensures) (not-true (n .result .good) (c .before .if2 .taken))))
+returns-2 c =
+    let d = c .before .before .before .before .before .before .before .due in
+    let dr = d .result in
+    let a = c .before .before .before .before .before .before .before .before .before .before .args in
+    let i = a .input .now in
+    let n = c .before .before .before .signed in
+    told-bad (c .no-number2 .result .value) (drop (c .no-number2 .result .next) i) (c .no-number2 .ensures .0) (line-wrong Val.signedBits (dr .good) (take (dr .to - dr .from) (drop (dr .from) i)) (drop (dr .next) i) (a .key .now) (drop (a .at) i) (d .ensures .0) (not-false (dr .good) (c .before .before .before .before .before .if1 .left)) (not-told (n .result .value) (n .ensures) (not-true (n .result .good) (c .before .if2 .taken))))
 
 returns-3 : tie.Need-returns-3
-returns-3 c = let d = c .before .before .before .before .before .before .due in let dr = d .result in let a = c .before .before .before .before .before .before .before .before .before .args in let i = a .input .now in let n = c .before .before .signed in sym (line-right Val.signedBits (dr .good) (take (dr .to - dr .from) (drop (dr .from) i)) (drop (dr .next) i) (a .key .now) (drop (a .at) i) (d .ensures .0) (n .result .value) (not-false (dr .good) (c .before .before .before .before .if1 .left)) (some-told (n .result .value) (n .ensures) (not-false (n .result .good) (c .if2 .left))))
+returns-3 c =
+    let d = c .before .before .before .before .before .before .due in
+    let dr = d .result in
+    let a = c .before .before .before .before .before .before .before .before .before .args in
+    let i = a .input .now in
+    let n = c .before .before .signed in
+    sym (line-right Val.signedBits (dr .good) (take (dr .to - dr .from) (drop (dr .from) i)) (drop (dr .next) i) (a .key .now) (drop (a .at) i) (d .ensures .0) (n .result .value) (not-false (dr .good) (c .before .before .before .before .if1 .left)) (some-told (n .result .value) (n .ensures) (not-false (n .result .good) (c .if2 .left))))
 
 pub signed-spec : {M : Type 1} → statement M
 signed-spec =

@@ -1,28 +1,17 @@
-use Prim.Native.Nat.{ℕ, _+_, _-_, _*_, _≤_, _<_}
-use mathlib.Core.Path.{_≡_, refl, sym, ap, _∙_}
-use mathlib.Core.Bool.{Bool, true, false, cond, not, _&&_, _||_}
-use native.Mathlib.Omega.{arith}
-use lib.ListN.{length, getD, drop, take, set, length-set}
-use mathlib.Core.List.{List, [], _∷_, _++_}
-use mathlib.Core.Option.{Option, none, some}
+use Prim.Native.Nat.{_-_}
+use mathlib.Core.Path.{sym}
+use lib.ListN.{drop, take}
 use borrow.Author.Tests.{not-true, not-false}
-use Rattle.grammar.specs.Values as Val
-use Rattle.grammar.specs.Reading.{Reading, bad, good, toldLine}
-use Rattle.grammar.specs.Grammar.{line, keyed, aLine, noLine}
-use Rattle.grammar.proofs.Texts.{told-not, told-some, not-told, some-told}
-use Rattle.grammar.proofs.Steps.{line-past, line-long, line-other, line-open, line-whole, cut-not, line-missing, line-wrong, line-right, told-bad}
-use Rattle.lines.specs.Ascii.{ascii}
-use Rattle.record.specs.Layout.{maxTags, maxModels}
-use Rattle.grammar.proofs.Texts.{models-none, models-listed}
-use Rattle.grammar.proofs.Steps.{list-bad-line}
 use borrow.Author.Needs.{needs}
+use Rattle.lines.specs.Ascii.{ascii}
+use Rattle.record.specs.Layout.{maxTags}
+use Rattle.grammar.specs.Values as Val
+use Rattle.grammar.specs.Reading.{good}
+use Rattle.grammar.specs.Grammar.{line}
+use Rattle.grammar.proofs.Texts.{not-told, some-told}
+use Rattle.grammar.proofs.Steps.{line-missing, line-wrong, line-right, list-bad-line}
 use Rattle.grammar.proofs.keyed.tags.Statement.{statement}
 use Rattle.grammar.proofs.keyed.tags.Tie as tie
-use Rattle.grammar.proofs.keyed.tags.Reads as reads
-use Rattle.grammar.proofs.keyed.tags.Lts as lts
-use Rattle.grammar.proofs.keyed.due.Reads as due-reads
-use Rattle.grammar.proofs.keyed.no_numbers.Reads as no-numbers-reads
-use Rattle.grammar.proofs.values.listed.Reads as listed-reads
 
 slice-aggregate-due : tie.Need-slice-aggregate-due
 slice-aggregate-due c = search needs
@@ -35,7 +24,14 @@ no-numbers-requires c κs = search needs
 
 returns : tie.Need-returns
 unfolding ascii
-returns c = let d = c .before .before .before .due in let dr = d .result in let a = c .before .before .before .before .before .before .args in let i = a .input .now in let r = c .no-numbers .result in let e = c .no-numbers .ensures in list-bad-line (line (ascii "tags=") Val.tags (drop (a .at) i)) maxTags (r .good) (r .count) (r .values) (drop (r .next) i) (e .0) (e .1) (e .2) (line-missing Val.tags (dr .good) (take (dr .to - dr .from) (drop (dr .from) i)) (drop (dr .next) i) (ascii "tags=") (drop (a .at) i) (d .ensures .0) (not-true (dr .good) (c .before .if1 .taken)))
+returns c =
+    let d = c .before .before .before .due in
+    let dr = d .result in
+    let a = c .before .before .before .before .before .before .args in
+    let i = a .input .now in
+    let r = c .no-numbers .result in
+    let e = c .no-numbers .ensures in
+    list-bad-line (line (ascii "tags=") Val.tags (drop (a .at) i)) maxTags (r .good) (r .count) (r .values) (drop (r .next) i) (e .0) (e .1) (e .2) (line-missing Val.tags (dr .good) (take (dr .to - dr .from) (drop (dr .from) i)) (drop (dr .next) i) (ascii "tags=") (drop (a .at) i) (d .ensures .0) (not-true (dr .good) (c .before .if1 .taken)))
 
 sub-listed : tie.Need-sub-listed
 sub-listed c = search needs
@@ -54,11 +50,25 @@ no-numbers-requires-2 c κs = search needs
 
 returns-2 : tie.Need-returns-2
 unfolding ascii
-returns-2 c = let d = c .before .before .before .before .before .before .before .due in let dr = d .result in let a = c .before .before .before .before .before .before .before .before .before .before .args in let i = a .input .now in let n = c .before .before .before .listed in let r = c .no-numbers2 .result in let e = c .no-numbers2 .ensures in list-bad-line (line (ascii "tags=") Val.tags (drop (a .at) i)) maxTags (r .good) (r .count) (r .values) (drop (r .next) i) (e .0) (e .1) (e .2) (line-wrong Val.tags (dr .good) (take (dr .to - dr .from) (drop (dr .from) i)) (drop (dr .next) i) (ascii "tags=") (drop (a .at) i) (d .ensures .0) (not-false (dr .good) (c .before .before .before .before .before .if1 .left)) (not-told (take (n .result .count) (n .result .values)) (n .ensures .list) (not-true (n .result .good) (c .before .if2 .taken))))
+returns-2 c =
+    let d = c .before .before .before .before .before .before .before .due in
+    let dr = d .result in
+    let a = c .before .before .before .before .before .before .before .before .before .before .args in
+    let i = a .input .now in
+    let n = c .before .before .before .listed in
+    let r = c .no-numbers2 .result in
+    let e = c .no-numbers2 .ensures in
+    list-bad-line (line (ascii "tags=") Val.tags (drop (a .at) i)) maxTags (r .good) (r .count) (r .values) (drop (r .next) i) (e .0) (e .1) (e .2) (line-wrong Val.tags (dr .good) (take (dr .to - dr .from) (drop (dr .from) i)) (drop (dr .next) i) (ascii "tags=") (drop (a .at) i) (d .ensures .0) (not-false (dr .good) (c .before .before .before .before .before .if1 .left)) (not-told (take (n .result .count) (n .result .values)) (n .ensures .list) (not-true (n .result .good) (c .before .if2 .taken))))
 
 returns-3 : tie.Need-returns-3
 unfolding ascii
-returns-3 c = let d = c .before .before .before .before .before .before .before .due in let dr = d .result in let a = c .before .before .before .before .before .before .before .before .before .before .args in let i = a .input .now in let n = c .before .before .before .listed in record { list = sym (line-right Val.tags (dr .good) (take (dr .to - dr .from) (drop (dr .from) i)) (drop (dr .next) i) (ascii "tags=") (drop (a .at) i) (d .ensures .0) (take (n .result .count) (n .result .values)) (not-false (dr .good) (c .before .before .before .before .before .if1 .left)) (some-told (take (n .result .count) (n .result .values)) (n .ensures .list) (not-false (n .result .good) (c .before .if2 .left)))); fits = n .ensures .fits; zeros = n .ensures .rest }
+returns-3 c =
+    let d = c .before .before .before .before .before .before .before .due in
+    let dr = d .result in
+    let a = c .before .before .before .before .before .before .before .before .before .before .args in
+    let i = a .input .now in
+    let n = c .before .before .before .listed in
+    record { list = sym (line-right Val.tags (dr .good) (take (dr .to - dr .from) (drop (dr .from) i)) (drop (dr .next) i) (ascii "tags=") (drop (a .at) i) (d .ensures .0) (take (n .result .count) (n .result .values)) (not-false (dr .good) (c .before .before .before .before .before .if1 .left)) (some-told (take (n .result .count) (n .result .values)) (n .ensures .list) (not-false (n .result .good) (c .before .if2 .left)))); fits = n .ensures .fits; zeros = n .ensures .rest }
 
 pub tags-spec : {M : Type 1} → statement M
 tags-spec =

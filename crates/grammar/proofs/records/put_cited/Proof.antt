@@ -1,50 +1,50 @@
-use Rattle.grammar.proofs.Filling.{put-to, words-size, put-all}
-use lib.ListN.{length-append}
-use Rattle.octets.proofs.Numbers.{length-word-bytes}
-use Prim.Native.Nat.{ℕ, _+_, _-_, _*_, _/_, _%_, _≤_, _<_}
-use mathlib.Core.Path.{_≡_, refl, sym, ap, _∙_}
-use mathlib.Core.List.{List, [], _∷_, _++_}
+use Prim.Native.Nat.{ℕ, _+_, _-_}
+use mathlib.Core.Path.{_≡_, sym, ap}
+use mathlib.Core.List.{_∷_, _++_}
 use native.Mathlib.Omega.{arith}
-use lib.ListN.{length, getD, drop, take, set, length-set, replicate, drop-of-length-le}
+use lib.ListN.{length, take}
 use lib.Seq.{length-take-le}
-use Rattle.octets.specs.Words.{wordBytes, putWord}
-use Rattle.octets.proofs.Numbers.{length-put}
-use Rattle.text.specs.Buffer.{Put}
-use Rattle.text.proofs.Writing.{put-put, put-as, put-one, put-none, put-whole, put-length}
-use Rattle.grammar.specs.Values as Val
-use Rattle.grammar.proofs.Filling.{word-put, word-low, words-more, put-next}
-use Rattle.record.specs.Layout as L
-use Rattle.grammar.specs.Grammar as G
 use borrow.Author.Needs.{needs}
+use Rattle.record.specs.Layout as L
+use Rattle.octets.specs.Words.{wordBytes}
+use Rattle.text.specs.Buffer.{Put}
+use Rattle.text.proofs.Writing.{put-put}
+use Rattle.grammar.specs.Values as Val
 use Rattle.grammar.proofs.records.put_cited.Statement.{statement}
 use Rattle.grammar.proofs.records.put_cited.Tie as tie
-use Rattle.grammar.proofs.records.put_cited.Reads as reads
-use Rattle.grammar.proofs.records.put_cited.Lts as lts
-use Rattle.grammar.proofs.records.put_models.Reads as put-models-reads
-use Rattle.grammar.proofs.records.put_spread.Reads as put-spread-reads
 
 array-share-prefix-models : tie.Need-array-share-prefix-models
-array-share-prefix-models c = let n : length (c .before .before .before .before .args .m .models) ≡ 16 = search needs in omega arith
+array-share-prefix-models c = let n : length (c .before .before .before .before .args .m .models) ≡ L.maxTags = search needs in omega arith
 
 slice-aggregate-put-models : tie.Need-slice-aggregate-put-models
-slice-aggregate-put-models c = let n : length (c .before .before .before .before .before .args .m .models) ≡ 16 = search needs in sym (length-take-le 4 (c .before .before .before .before .before .args .m .models) (omega arith))
+slice-aggregate-put-models c =
+    let n : length (c .before .before .before .before .before .args .m .models) ≡ L.maxTags = search needs in
+    sym (length-take-le L.maxModels (c .before .before .before .before .before .args .m .models) (omega arith))
 
 put-models-requires : tie.Need-put-models-requires
-put-models-requires c κs = let n : length (c .before .before .before .before .before .args .m .models) ≡ 16 = search needs in (search needs, (search needs, length-take-le 4 (c .before .before .before .before .before .args .m .models) (omega arith)))
+put-models-requires c κs =
+    let n : length (c .before .before .before .before .before .args .m .models) ≡ L.maxTags = search needs in
+    (search needs, (search needs, length-take-le L.maxModels (c .before .before .before .before .before .args .m .models) (omega arith)))
 
 slice-aggregate-put-spread : tie.Need-slice-aggregate-put-spread
 slice-aggregate-put-spread c = search needs
 
 put-spread-requires : tie.Need-put-spread-requires
-put-spread-requires c κs = let n : length (c .before .before .before .before .before .before .before .before .before .before .args .m .covariance) ≡ 48 = search needs in (search needs, ap (λ (k : ℕ). 174 + k) n)
+put-spread-requires c κs =
+    let n : length (c .before .before .before .before .before .before .before .before .before .before .args .m .covariance) ≡ 48 = search needs in
+    (search needs, ap (λ (k : ℕ). L.covarianceAt + k) n)
 
 same-length : tie.Need-same-length
 same-length c = search needs
 
 returns : tie.Need-returns
-returns c = let a = c .before .before .before .before .before .before .before .before .before .before .before .before .before .args in let m = a .m in let x = c .before .before .before .before .before .before .before .put-models in let y = c .before .before .put-spread in
-    let p : Put (a .out .now) 167 (m .count ∷ Val.words 1 (take 4 (m .models))) 172 (x .last .0) = x .ensures in
-    let q : Put (x .last .0) 172 (wordBytes 2 (m .spec) ++ m .covariance) 222 (y .last .0) = y .ensures in
+returns c =
+    let a = c .before .before .before .before .before .before .before .before .before .before .before .before .before .args in
+    let m = a .m in
+    let x = c .before .before .before .before .before .before .before .put-models in
+    let y = c .before .before .put-spread in
+    let p : Put (a .out .now) L.modelCountAt (m .count ∷ Val.words 1 (take L.maxModels (m .models))) L.specAt (x .last .0) = x .ensures in
+    let q : Put (x .last .0) L.specAt (wordBytes 2 (m .spec) ++ m .covariance) L.recordSize (y .last .0) = y .ensures in
     put-put p q
 
 pub put-cited-spec : {M : Type 1} → statement M

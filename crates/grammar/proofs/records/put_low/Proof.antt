@@ -1,20 +1,14 @@
-use Rattle.grammar.proofs.Filling.{byte-put, words-none, words-all}
-use Prim.Native.Nat.{ℕ, _+_, _-_, _*_, _/_, _%_, _≤_, _<_}
-use mathlib.Core.Path.{_≡_, refl, sym, ap, _∙_}
-use mathlib.Core.List.{List, [], _∷_, _++_}
+use Prim.Native.Nat.{_+_, _-_, _≤_}
+use mathlib.Core.Path.{_≡_, refl, _∙_}
 use native.Mathlib.Omega.{arith}
-use lib.ListN.{length, getD, drop, take, set, length-set}
-use Rattle.octets.specs.Words.{wordBytes, putWord}
-use Rattle.octets.proofs.Numbers.{length-put}
-use Rattle.text.specs.Buffer.{Put}
-use Rattle.text.proofs.Writing.{put-put, put-as, put-one, put-none, put-whole, put-length}
-use Rattle.grammar.specs.Values as Val
-use Rattle.grammar.proofs.Filling.{word-put, word-low, words-more, put-next}
+use lib.ListN.{length, getD, take}
 use borrow.Author.Needs.{needs}
+use Rattle.text.specs.Buffer.{Put}
+use Rattle.text.proofs.Writing.{put-put, put-as, put-length}
+use Rattle.grammar.specs.Values as Val
+use Rattle.grammar.proofs.Filling.{byte-put, words-none, words-all, words-more, put-next}
 use Rattle.grammar.proofs.records.put_low.Statement.{statement}
 use Rattle.grammar.proofs.records.put_low.Tie as tie
-use Rattle.grammar.proofs.records.put_low.Reads as reads
-use Rattle.grammar.proofs.records.put_low.Lts as lts
 
 abbrev Inv-loop : tie.InvT-loop
 Inv-loop out₀ at values i₀ out i = (i ≤ length values) × (length out ≡ length out₀) × (at + length values ≤ length out) × Put out₀ at (Val.words 1 (take i values)) (at + i) out
@@ -47,7 +41,12 @@ loop-less : tie.Need-loop-less Inv-loop μ-loop
 loop-less c = omega arith
 
 loop-again : tie.Need-loop-again Inv-loop μ-loop
-loop-again c = let l = c .before .before in let a = c .before .before .before .args in let i = l .loop .inv in let v = a .values .now in let j = l .loop .i in
+loop-again c =
+    let l = c .before .before in
+    let a = c .before .before .before .args in
+    let i = l .loop .inv in
+    let v = a .values .now in
+    let j = l .loop .i in
     let q = byte-put (l .loop .out) (a .at + j) (getD v j 0) in
     let n = put-length q in
     (omega arith, n ∙ i .1, omega arith, put-next (let z : a .at + j + 1 ≡ a .at + (j + 1) = omega arith in z) (put-as (words-more 1 v j (omega arith)) (put-put (i .3) q)))
@@ -59,7 +58,11 @@ same-length : tie.Need-same-length Inv-loop μ-loop
 same-length c = search needs
 
 returns : tie.Need-returns Inv-loop μ-loop
-returns c = let l = c .before in let a = c .before .before .args in let i = l .loop .inv in put-as (words-all 1 (a .values .now) (l .loop .i) (omega arith)) (i .3)
+returns c =
+    let l = c .before in
+    let a = c .before .before .args in
+    let i = l .loop .inv in
+    put-as (words-all 1 (a .values .now) (l .loop .i) (omega arith)) (i .3)
 
 pub put-low-spec : {M : Type 1} → statement M
 put-low-spec =

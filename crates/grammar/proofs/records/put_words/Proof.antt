@@ -1,21 +1,14 @@
-use Rattle.grammar.proofs.Filling.{byte-put, words-none, words-all}
-use Prim.Native.Nat.{ℕ, _+_, _-_, _*_, _/_, _%_, _≤_, _<_}
-use mathlib.Core.Path.{_≡_, refl, sym, ap, _∙_}
-use mathlib.Core.List.{List, [], _∷_, _++_}
+use Prim.Native.Nat.{_+_, _-_, _*_, _≤_}
+use mathlib.Core.Path.{_≡_, refl, _∙_}
 use native.Mathlib.Omega.{arith}
-use lib.ListN.{length, getD, drop, take, set, length-set}
-use Rattle.octets.specs.Words.{wordBytes, putWord}
-use Rattle.octets.proofs.Numbers.{length-put}
-use Rattle.text.specs.Buffer.{Put}
-use Rattle.text.proofs.Writing.{put-put, put-as, put-one, put-none, put-whole, put-length}
-use Rattle.grammar.specs.Values as Val
-use Rattle.grammar.proofs.Filling.{word-put, word-low, words-more, put-next}
+use lib.ListN.{length, getD, take}
 use borrow.Author.Needs.{needs}
+use Rattle.text.specs.Buffer.{Put}
+use Rattle.text.proofs.Writing.{put-put, put-as, put-length}
+use Rattle.grammar.specs.Values as Val
+use Rattle.grammar.proofs.Filling.{words-none, words-all, word-put, words-more}
 use Rattle.grammar.proofs.records.put_words.Statement.{statement}
 use Rattle.grammar.proofs.records.put_words.Tie as tie
-use Rattle.grammar.proofs.records.put_words.Reads as reads
-use Rattle.grammar.proofs.records.put_words.Lts as lts
-use Rattle.octets.proofs.words.put_u64.Reads as put-u64-reads
 
 abbrev Inv-loop : tie.InvT-loop
 Inv-loop out₀ at values i₀ out i = (i ≤ length values) × (length out ≡ length out₀) × (at + 8 * length values ≤ length out) × Put out₀ at (Val.words 8 (take i values)) (at + 8 * i) out
@@ -48,7 +41,12 @@ loop-less : tie.Need-loop-less Inv-loop μ-loop
 loop-less c = omega arith
 
 loop-again : tie.Need-loop-again Inv-loop μ-loop
-loop-again c = let l = c .before .before .before .before .before .before in let a = c .before .before .before .before .before .before .before .before .before .args in let i = l .loop .inv in let v = a .values .now in let j = l .loop .i in
+loop-again c =
+    let l = c .before .before .before .before .before .before in
+    let a = c .before .before .before .before .before .before .before .before .before .args in
+    let i = l .loop .inv in
+    let v = a .values .now in
+    let j = l .loop .i in
     let q = word-put 8 (a .at + 8 * j) (getD v j 0) (a .at + 8 * (j + 1)) (l .loop .out) (c .before .before .put-u64 .last .0) (omega arith) (omega arith) (c .before .before .put-u64 .ensures) in
     let n = put-length q in
     (omega arith, n ∙ i .1, omega arith, put-as (words-more 8 v j (omega arith)) (put-put (i .3) q))
@@ -63,7 +61,11 @@ same-length : tie.Need-same-length Inv-loop μ-loop
 same-length c = search needs
 
 returns : tie.Need-returns Inv-loop μ-loop
-returns c = let l = c .before in let a = c .before .before .before .before .args in let i = l .loop .inv in put-as (words-all 8 (a .values .now) (l .loop .i) (omega arith)) (i .3)
+returns c =
+    let l = c .before in
+    let a = c .before .before .before .before .args in
+    let i = l .loop .inv in
+    put-as (words-all 8 (a .values .now) (l .loop .i) (omega arith)) (i .3)
 
 pub put-words-spec : {M : Type 1} → statement M
 put-words-spec =

@@ -1,28 +1,16 @@
-use Prim.Native.Nat.{ℕ, _+_, _-_, _*_, _/_, _%_, _≤_, _<_}
-use mathlib.Core.Path.{_≡_, refl, sym, ap, _∙_}
-use mathlib.Core.List.{List, [], _∷_, _++_}
-use native.Mathlib.Omega.{arith}
-use lib.ListN.{length, getD, drop, take, set, length-set, replicate, drop-of-length-le}
-use lib.Seq.{length-take-le}
-use Rattle.octets.specs.Words.{wordBytes, putWord}
-use Rattle.octets.proofs.Numbers.{length-put}
-use Rattle.text.specs.Buffer.{Put}
-use Rattle.text.proofs.Writing.{put-put, put-as, put-one, put-none, put-whole, put-length}
-use Rattle.grammar.specs.Values as Val
-use Rattle.grammar.proofs.Filling.{word-put, word-low, words-more, put-next}
-use Rattle.record.specs.Layout as L
-use Rattle.grammar.specs.Grammar as G
-use Rattle.grammar.proofs.Filling.{put-to, words-size, put-all}
-use lib.ListN.{length-append}
-use Rattle.octets.proofs.Numbers.{length-word-bytes}
+use Prim.Native.Nat.{ℕ, _-_}
+use mathlib.Core.Path.{refl}
+use mathlib.Core.List.{List, _∷_}
+use lib.ListN.{take, replicate}
 use borrow.Author.Needs.{needs}
+use Rattle.record.specs.Layout as L
+use Rattle.octets.specs.Words.{wordBytes}
+use Rattle.text.specs.Buffer.{Put}
+use Rattle.text.proofs.Writing.{put-put}
+use Rattle.grammar.specs.Grammar as G
+use Rattle.grammar.proofs.Filling.{put-all}
 use Rattle.grammar.proofs.records.record_of.Statement.{statement}
 use Rattle.grammar.proofs.records.record_of.Tie as tie
-use Rattle.grammar.proofs.records.record_of.Reads as reads
-use Rattle.grammar.proofs.records.record_of.Lts as lts
-use Rattle.grammar.proofs.records.put_cited.Reads as put-cited-reads
-use Rattle.grammar.proofs.records.put_place.Reads as put-place-reads
-use Rattle.grammar.proofs.records.put_sighting.Reads as put-sighting-reads
 
 slice-aggregate-put-place : tie.Need-slice-aggregate-put-place
 slice-aggregate-put-place c = search needs
@@ -43,11 +31,15 @@ put-cited-requires : tie.Need-put-cited-requires
 put-cited-requires c κs = search needs
 
 returns : tie.Need-returns
-returns c = let a = c .before .before .before .before .before .before .before .before .before .args in let x = c .before .before .before .before .before .before .before .put-place in let y = c .before .before .before .before .put-sighting in let z = c .before .put-cited in
-    let n : List ℕ = replicate 222 0 in
-    let p : Put n 0 (G.placeBytes (a .p .time) (a .p .lat) (a .p .lon) (a .p .flag ∷ wordBytes 4 (a .p .height))) 21 (x .last .0) = x .ensures in
-    let q : Put (x .last .0) 21 (G.sightingBytes (a .s .size ∷ a .s .message) (a .s .count) (a .s .used) (a .s .tags)) 167 (y .last .0) = y .ensures in
-    let r : Put (y .last .0) 167 (G.citedBytes (a .m .count) (take 4 (a .m .models)) (a .m .spec) (a .m .covariance)) 222 (z .last .0) = z .ensures in
+returns c =
+    let a = c .before .before .before .before .before .before .before .before .before .args in
+    let x = c .before .before .before .before .before .before .before .put-place in
+    let y = c .before .before .before .before .put-sighting in
+    let z = c .before .put-cited in
+    let n : List ℕ = replicate L.recordSize 0 in
+    let p : Put n L.timeAt (G.placeBytes (a .p .time) (a .p .lat) (a .p .lon) (a .p .flag ∷ wordBytes 4 (a .p .height))) L.messageLengthAt (x .last .0) = x .ensures in
+    let q : Put (x .last .0) L.messageLengthAt (G.sightingBytes (a .s .size ∷ a .s .message) (a .s .count) (a .s .used) (a .s .tags)) L.modelCountAt (y .last .0) = y .ensures in
+    let r : Put (y .last .0) L.modelCountAt (G.citedBytes (a .m .count) (take L.maxModels (a .m .models)) (a .m .spec) (a .m .covariance)) L.recordSize (z .last .0) = z .ensures in
     put-all (put-put p (put-put q r)) refl
 
 pub record-of-spec : {M : Type 1} → statement M

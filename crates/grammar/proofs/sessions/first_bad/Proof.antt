@@ -1,22 +1,14 @@
-use Rattle.grammar.proofs.Whole.{goes-on}
-use Prim.Native.Nat.{ℕ, _+_, _-_, _*_, _≤_, _<_}
-use mathlib.Core.Path.{_≡_, refl, sym, ap, _∙_}
-use mathlib.Core.Bool.{Bool, true, false}
-use mathlib.Core.List.{List}
+use Prim.Native.Nat.{_+_, _-_, _≤_}
+use mathlib.Core.Path.{_≡_, sym, _∙_}
 use native.Mathlib.Omega.{arith}
 use lib.ListN.{length, drop, length-drop}
 use borrow.Author.Tests.{not-true, not-false}
-use Rattle.register.specs.Calls.{Call}
-use Rattle.grammar.specs.Reading.{Reading, bad, good, told}
+use Rattle.grammar.specs.Reading.{good}
 use Rattle.grammar.specs.Grammar as G
+use Rattle.grammar.proofs.Whole.{goes-on, badFrom, bad-start, bad-empty, bad-end, bad-here, bad-next}
 use Rattle.grammar.proofs.Steps.{told-bad-is, told-good-is}
-use Rattle.grammar.proofs.Whole.{Shrinks, Starts, operation-shrinks, operation-starts, badFrom, bad-start, bad-empty, bad-end, bad-here, bad-next}
-use borrow.Author.Needs.{needs}
 use Rattle.grammar.proofs.sessions.first_bad.Statement.{statement}
 use Rattle.grammar.proofs.sessions.first_bad.Tie as tie
-use Rattle.grammar.proofs.sessions.first_bad.Reads as reads
-use Rattle.grammar.proofs.sessions.first_bad.Lts as lts
-use Rattle.grammar.proofs.sessions.operation.Reads as operation-reads
 
 abbrev Inv-loop : tie.InvT-loop
 Inv-loop input at₀ lines₀ at lines = (length input ≤ 65536) × (lines + (length input - at) ≤ length input) × (G.firstBad input ≡ badFrom lines (drop at input))
@@ -34,25 +26,68 @@ operation-requires : tie.Need-operation-requires Inv-loop μ-loop
 operation-requires c κs = tt
 
 add-result : tie.Need-add-result Inv-loop μ-loop
-add-result c = let l = c .before .before .before .before .before in let i = c .before .before .before .before .before .before .before .before .args .input .now in let v = l .loop .inv in let p = c .before .before .before .operation in let q = p .result in omega (arith, p .ensures .1)
+add-result c =
+    let l = c .before .before .before .before .before in
+    let i = c .before .before .before .before .before .before .before .before .args .input .now in
+    let v = l .loop .inv in
+    let p = c .before .before .before .operation in
+    let q = p .result in
+    omega (arith, p .ensures .1)
 
 add-result-2 : tie.Need-add-result-2 Inv-loop μ-loop
-add-result-2 c = let l = c .before .before .before .before .before in let i = c .before .before .before .before .before .before .before .before .args .input .now in let v = l .loop .inv in let p = c .before .before .before .operation in let q = p .result in omega (arith, p .ensures .1)
+add-result-2 c =
+    let l = c .before .before .before .before .before in
+    let i = c .before .before .before .before .before .before .before .before .args .input .now in
+    let v = l .loop .inv in
+    let p = c .before .before .before .operation in
+    let q = p .result in
+    omega (arith, p .ensures .1)
 
 returns-2 : tie.Need-returns-2 Inv-loop μ-loop
-returns-2 c = let l = c .before .before .before .before .before in let i = c .before .before .before .before .before .before .before .before .args .input .now in let v = l .loop .inv in let p = c .before .before .before .operation in let q = p .result in sym (v .2 ∙ bad-here (l .loop .lines) (drop (l .loop .at) i) (q .lines) (let d = length-drop (l .loop .at) i in λ z. omega arith) (told-bad-is (q .good) (q .lines) (G.callOf (q .kind) (q .engine) (q .model) (q .spec) (q .inputs) (q .«record»)) (drop (q .next) i) (p .ensures .0) (not-true (q .good) (c .before .if2 .taken))))
+returns-2 c =
+    let l = c .before .before .before .before .before in
+    let i = c .before .before .before .before .before .before .before .before .args .input .now in
+    let v = l .loop .inv in
+    let p = c .before .before .before .operation in
+    let q = p .result in
+    sym (v .2 ∙ bad-here (l .loop .lines) (drop (l .loop .at) i) (q .lines) (let d = length-drop (l .loop .at) i in λ z. omega arith) (told-bad-is (q .good) (q .lines) (G.callOf (q .kind) (q .engine) (q .model) (q .spec) (q .inputs) (q .«record»)) (drop (q .next) i) (p .ensures .0) (not-true (q .good) (c .before .if2 .taken))))
 
 add-lines : tie.Need-add-lines Inv-loop μ-loop
-add-lines c = let l = c .before .before .before .before .before in let i = c .before .before .before .before .before .before .before .before .args .input .now in let v = l .loop .inv in let p = c .before .before .before .operation in let q = p .result in omega (arith, p .ensures .1)
+add-lines c =
+    let l = c .before .before .before .before .before in
+    let i = c .before .before .before .before .before .before .before .before .args .input .now in
+    let v = l .loop .inv in
+    let p = c .before .before .before .operation in
+    let q = p .result in
+    omega (arith, p .ensures .1)
 
 loop-less : tie.Need-loop-less Inv-loop μ-loop
-loop-less c = let l = c .before .before .before .before .before in let i = c .before .before .before .before .before .before .before .before .args .input .now in let v = l .loop .inv in let p = c .before .before .before .operation in let q = p .result in let e = told-good-is (q .good) (q .lines) (G.callOf (q .kind) (q .engine) (q .model) (q .spec) (q .inputs) (q .«record»)) (drop (q .next) i) (p .ensures .0) (not-false (q .good) (c .before .if2 .left)) in let w = goes-on i (l .loop .at) (q .next) (q .lines) (G.callOf (q .kind) (q .engine) (q .model) (q .spec) (q .inputs) (q .«record»)) e in omega (arith, w .0, w .1)
+loop-less c =
+    let l = c .before .before .before .before .before in
+    let i = c .before .before .before .before .before .before .before .before .args .input .now in
+    let v = l .loop .inv in
+    let p = c .before .before .before .operation in
+    let q = p .result in
+    let e = told-good-is (q .good) (q .lines) (G.callOf (q .kind) (q .engine) (q .model) (q .spec) (q .inputs) (q .«record»)) (drop (q .next) i) (p .ensures .0) (not-false (q .good) (c .before .if2 .left)) in
+    let w = goes-on i (l .loop .at) (q .next) (q .lines) (G.callOf (q .kind) (q .engine) (q .model) (q .spec) (q .inputs) (q .«record»)) e in
+    omega (arith, w .0, w .1)
 
 loop-again : tie.Need-loop-again Inv-loop μ-loop
-loop-again c = let l = c .before .before .before .before .before in let i = c .before .before .before .before .before .before .before .before .args .input .now in let v = l .loop .inv in let p = c .before .before .before .operation in let q = p .result in let e = told-good-is (q .good) (q .lines) (G.callOf (q .kind) (q .engine) (q .model) (q .spec) (q .inputs) (q .«record»)) (drop (q .next) i) (p .ensures .0) (not-false (q .good) (c .before .if2 .left)) in let w = goes-on i (l .loop .at) (q .next) (q .lines) (G.callOf (q .kind) (q .engine) (q .model) (q .spec) (q .inputs) (q .«record»)) e in (v .0, omega (arith, w .0, v .1), v .2 ∙ bad-next (l .loop .lines) (drop (l .loop .at) i) (q .lines) (G.callOf (q .kind) (q .engine) (q .model) (q .spec) (q .inputs) (q .«record»)) (drop (q .next) i) e)
+loop-again c =
+    let l = c .before .before .before .before .before in
+    let i = c .before .before .before .before .before .before .before .before .args .input .now in
+    let v = l .loop .inv in
+    let p = c .before .before .before .operation in
+    let q = p .result in
+    let e = told-good-is (q .good) (q .lines) (G.callOf (q .kind) (q .engine) (q .model) (q .spec) (q .inputs) (q .«record»)) (drop (q .next) i) (p .ensures .0) (not-false (q .good) (c .before .if2 .left)) in
+    let w = goes-on i (l .loop .at) (q .next) (q .lines) (G.callOf (q .kind) (q .engine) (q .model) (q .spec) (q .inputs) (q .«record»)) e in
+    (v .0, omega (arith, w .0, v .1), v .2 ∙ bad-next (l .loop .lines) (drop (l .loop .at) i) (q .lines) (G.callOf (q .kind) (q .engine) (q .model) (q .spec) (q .inputs) (q .«record»)) (drop (q .next) i) e)
 
 returns-3 : tie.Need-returns-3 Inv-loop μ-loop
-returns-3 c = let l = c .before in let i = c .before .before .before .before .args .input .now in sym (l .loop .inv .2 ∙ bad-end (l .loop .lines) i (l .loop .at) (omega arith))
+returns-3 c =
+    let l = c .before in
+    let i = c .before .before .before .before .args .input .now in
+    sym (l .loop .inv .2 ∙ bad-end (l .loop .lines) i (l .loop .at) (omega arith))
 
 pub first-bad-spec : {M : Type 1} → statement M
 first-bad-spec =

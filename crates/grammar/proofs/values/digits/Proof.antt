@@ -1,16 +1,11 @@
-use Prim.Native.Nat.{ℕ, _+_, _-_, _*_, _≤_, _<_}
-use mathlib.Core.Path.{_≡_, refl, sym, ap, _∙_}
-use mathlib.Core.Bool.{Bool, true, false, cond, not, _&&_, _||_}
+use Prim.Native.Nat.{_-_, _≤_}
+use mathlib.Core.Path.{_≡_, refl, sym, _∙_}
 use native.Mathlib.Omega.{arith}
-use lib.ListN.{length, getD, drop}
+use lib.ListN.{length, drop}
 use Rattle.grammar.specs.Values.{digitsAfter}
-use Rattle.grammar.proofs.Texts.{digit-low, digit-high, digit-over, digit-more, digits-end, told-not, told-some}
-use borrow.Author.Needs.{needs}
+use Rattle.grammar.proofs.Texts.{digit-low, digit-high, digit-over, digit-more, digits-end, told-not}
 use Rattle.grammar.proofs.values.digits.Statement.{statement}
 use Rattle.grammar.proofs.values.digits.Tie as tie
-use Rattle.grammar.proofs.values.digits.Reads as reads
-use Rattle.grammar.proofs.values.digits.Lts as lts
-use Rattle.grammar.proofs.values.no_value.Reads as no-value-reads
 
 abbrev Inv-loop : tie.InvT-loop
 Inv-loop text most value₀ i₀ value i = (i ≤ length text) × (value ≤ most) × (digitsAfter most 0 text ≡ digitsAfter most value (drop i text))
@@ -28,13 +23,19 @@ no-value-requires : tie.Need-no-value-requires Inv-loop μ-loop
 no-value-requires c κs = tt
 
 returns : tie.Need-returns Inv-loop μ-loop
-returns c = let l = c .before .before .before .before in let a = l .before .before .args in (told-not (c .no-value .result .value) (c .no-value .ensures .0) (l .loop .inv .2 ∙ digit-low (a .most) (l .loop .value) (a .text .now) (l .loop .i) (omega arith) (c .before .if1 .taken)), omega (arith, c .no-value .ensures .1))
+returns c =
+    let l = c .before .before .before .before in
+    let a = l .before .before .args in
+    (told-not (c .no-value .result .value) (c .no-value .ensures .0) (l .loop .inv .2 ∙ digit-low (a .most) (l .loop .value) (a .text .now) (l .loop .i) (omega arith) (c .before .if1 .taken)), omega (arith, c .no-value .ensures .1))
 
 no-value-requires-2 : tie.Need-no-value-requires-2 Inv-loop μ-loop
 no-value-requires-2 c κs = tt
 
 returns-2 : tie.Need-returns-2 Inv-loop μ-loop
-returns-2 c = let l = c .before .before .before .before .before in let a = l .before .before .args in (told-not (c .no-value2 .result .value) (c .no-value2 .ensures .0) (l .loop .inv .2 ∙ digit-high (a .most) (l .loop .value) (a .text .now) (l .loop .i) (omega arith) (omega arith)), omega (arith, c .no-value2 .ensures .1))
+returns-2 c =
+    let l = c .before .before .before .before .before in
+    let a = l .before .before .args in
+    (told-not (c .no-value2 .result .value) (c .no-value2 .ensures .0) (l .loop .inv .2 ∙ digit-high (a .most) (l .loop .value) (a .text .now) (l .loop .i) (omega arith) (omega arith)), omega (arith, c .no-value2 .ensures .1))
 
 cast-low : tie.Need-cast-low Inv-loop μ-loop
 cast-low c = omega arith
@@ -43,13 +44,19 @@ no-value-requires-3 : tie.Need-no-value-requires-3 Inv-loop μ-loop
 no-value-requires-3 c κs = tt
 
 returns-3 : tie.Need-returns-3 Inv-loop μ-loop
-returns-3 c = let l = c .before .before .before .before .before .before in let a = l .before .before .args in (told-not (c .no-value3 .result .value) (c .no-value3 .ensures .0) (l .loop .inv .2 ∙ digit-over (a .most) (l .loop .value) (a .text .now) (l .loop .i) (omega arith) (omega arith) (omega arith) (omega arith)), omega (arith, c .no-value3 .ensures .1))
+returns-3 c =
+    let l = c .before .before .before .before .before .before in
+    let a = l .before .before .args in
+    (told-not (c .no-value3 .result .value) (c .no-value3 .ensures .0) (l .loop .inv .2 ∙ digit-over (a .most) (l .loop .value) (a .text .now) (l .loop .i) (omega arith) (omega arith) (omega arith) (omega arith)), omega (arith, c .no-value3 .ensures .1))
 
 no-value-requires-4 : tie.Need-no-value-requires-4 Inv-loop μ-loop
 no-value-requires-4 c κs = tt
 
 returns-4 : tie.Need-returns-4 Inv-loop μ-loop
-returns-4 c = let l = c .before .before .before .before .before .before .before in let a = l .before .before .args in (told-not (c .no-value4 .result .value) (c .no-value4 .ensures .0) (l .loop .inv .2 ∙ digit-over (a .most) (l .loop .value) (a .text .now) (l .loop .i) (omega arith) (omega arith) (omega arith) (omega arith)), omega (arith, c .no-value4 .ensures .1))
+returns-4 c =
+    let l = c .before .before .before .before .before .before .before in
+    let a = l .before .before .args in
+    (told-not (c .no-value4 .result .value) (c .no-value4 .ensures .0) (l .loop .inv .2 ∙ digit-over (a .most) (l .loop .value) (a .text .now) (l .loop .i) (omega arith) (omega arith) (omega arith) (omega arith)), omega (arith, c .no-value4 .ensures .1))
 
 mul-value : tie.Need-mul-value Inv-loop μ-loop
 mul-value c = omega arith
@@ -64,10 +71,16 @@ loop-less : tie.Need-loop-less Inv-loop μ-loop
 loop-less c = omega arith
 
 loop-again : tie.Need-loop-again Inv-loop μ-loop
-loop-again c = let l = c .before .before .before .before .before .before in let a = l .before .before .args in (omega arith, omega arith, l .loop .inv .2 ∙ digit-more (a .most) (l .loop .value) (a .text .now) (l .loop .i) (omega arith) (omega arith) (omega arith))
+loop-again c =
+    let l = c .before .before .before .before .before .before in
+    let a = l .before .before .args in
+    (omega arith, omega arith, l .loop .inv .2 ∙ digit-more (a .most) (l .loop .value) (a .text .now) (l .loop .i) (omega arith) (omega arith) (omega arith))
 
 returns-5 : tie.Need-returns-5 Inv-loop μ-loop
-returns-5 c = let l = c .before in let a = l .before .before .args in (sym (l .loop .inv .2 ∙ digits-end (a .most) (l .loop .value) (a .text .now) (l .loop .i) (omega arith) (l .loop .inv .1)), l .loop .inv .1)
+returns-5 c =
+    let l = c .before in
+    let a = l .before .before .args in
+    (sym (l .loop .inv .2 ∙ digits-end (a .most) (l .loop .value) (a .text .now) (l .loop .i) (omega arith) (l .loop .inv .1)), l .loop .inv .1)
 
 pub digits-spec : {M : Type 1} → statement M
 digits-spec =

@@ -1,15 +1,11 @@
-use Prim.Native.Nat.{ℕ, _+_, _-_, _*_, _≤_, _<_}
-use mathlib.Core.Path.{_≡_, refl, sym, ap, _∙_}
-use mathlib.Core.Bool.{Bool, true, false, cond, not, _&&_, _||_}
+use Prim.Native.Nat.{_+_, _-_, _≤_}
+use mathlib.Core.Path.{_≡_, refl, sym, _∙_}
 use native.Mathlib.Omega.{arith}
-use lib.ListN.{length, getD, drop}
+use lib.ListN.{length, drop}
 use Rattle.grammar.specs.Values.{indexOf}
 use Rattle.grammar.proofs.Texts.{index-here, index-more, index-end}
-use borrow.Author.Needs.{needs}
 use Rattle.grammar.proofs.values.find.Statement.{statement}
 use Rattle.grammar.proofs.values.find.Tie as tie
-use Rattle.grammar.proofs.values.find.Reads as reads
-use Rattle.grammar.proofs.values.find.Lts as lts
 
 abbrev Inv-loop : tie.InvT-loop
 Inv-loop s from c i₀ i = (from ≤ i) × (i ≤ length s) × (from + indexOf c (drop from s) ≡ i + indexOf c (drop i s))
@@ -24,7 +20,10 @@ shared-slice-read-if1 : tie.Need-shared-slice-read-if1 Inv-loop μ-loop
 shared-slice-read-if1 c = omega arith
 
 returns : tie.Need-returns Inv-loop μ-loop
-returns c = let l = c .before .before .before in let a = l .before .args in (sym (l .loop .inv .2 ∙ index-here (a .c) (a .s .now) (l .loop .i) (omega arith) (c .if1 .taken)), omega arith)
+returns c =
+    let l = c .before .before .before in
+    let a = l .before .args in
+    (sym (l .loop .inv .2 ∙ index-here (a .c) (a .s .now) (l .loop .i) (omega arith) (c .if1 .taken)), omega arith)
 
 add-i : tie.Need-add-i Inv-loop μ-loop
 add-i c = omega arith
@@ -33,10 +32,16 @@ loop-less : tie.Need-loop-less Inv-loop μ-loop
 loop-less c = omega arith
 
 loop-again : tie.Need-loop-again Inv-loop μ-loop
-loop-again c = let l = c .before .before .before in let a = l .before .args in (omega arith, omega arith, l .loop .inv .2 ∙ index-more (a .c) (a .s .now) (l .loop .i) (omega arith) (c .if1 .left))
+loop-again c =
+    let l = c .before .before .before in
+    let a = l .before .args in
+    (omega arith, omega arith, l .loop .inv .2 ∙ index-more (a .c) (a .s .now) (l .loop .i) (omega arith) (c .if1 .left))
 
 returns-2 : tie.Need-returns-2 Inv-loop μ-loop
-returns-2 c = let l = c .before in let a = l .before .args in (sym (l .loop .inv .2 ∙ index-end (a .c) (a .s .now) (l .loop .i) (omega arith)), omega arith)
+returns-2 c =
+    let l = c .before in
+    let a = l .before .args in
+    (sym (l .loop .inv .2 ∙ index-end (a .c) (a .s .now) (l .loop .i) (omega arith)), omega arith)
 
 pub find-spec : {M : Type 1} → statement M
 find-spec =

@@ -1,21 +1,13 @@
-use lib.ListN.{length-set}
-use Prim.Native.Nat.{ℕ, _+_, _-_, _*_, _≤_, _<_}
-use mathlib.Core.Path.{_≡_, refl, sym, ap, _∙_}
-use mathlib.Core.Bool.{Bool, true, false, cond, not, _&&_, _||_}
-use native.Mathlib.Omega.{arith}
-use lib.ListN.{length, getD, drop, take, set}
-use mathlib.Core.Option.{Option, none, some}
-use borrow.Author.Tests.{lt-ltb, le-ltb, eq-eqb, ne-eqb, not-true, not-false}
-use Rattle.grammar.proofs.Texts.{told-not, told-some, not-told, some-told}
+use Prim.Native.Nat.{_+_, _-_, _*_, _≤_}
+use mathlib.Core.Path.{_≡_, refl, sym, _∙_}
 use mathlib.Core.List.{_++_}
-use Rattle.grammar.specs.Values.{hex, hexBytes, mapped}
-use Rattle.grammar.proofs.Texts.{hex-due, hex-undue, hex-no-high, hex-no-low, hex-step, hex-end, mapped-nothing}
+use native.Mathlib.Omega.{arith}
+use lib.ListN.{length-set, length, drop, take}
 use borrow.Author.Needs.{needs}
+use Rattle.grammar.specs.Values.{hexBytes, mapped}
+use Rattle.grammar.proofs.Texts.{hex-due, hex-undue, hex-no-high, hex-no-low, hex-step, hex-end, mapped-nothing}
 use Rattle.grammar.proofs.values.hex.Statement.{statement}
 use Rattle.grammar.proofs.values.hex.Tie as tie
-use Rattle.grammar.proofs.values.hex.Reads as reads
-use Rattle.grammar.proofs.values.hex.Lts as lts
-use Rattle.grammar.proofs.values.nibble.Reads as nibble-reads
 
 abbrev Inv-loop : tie.InvT-loop
 Inv-loop text out₀ i₀ out i = (length text ≡ 2 * length out₀) × (length out ≡ length out₀) × (i ≤ length out₀) × (hexBytes text ≡ mapped (_++_ (take i out)) (hexBytes (drop (2 * i) text)))
@@ -27,10 +19,15 @@ returns : tie.Need-returns Inv-loop μ-loop
 returns c = let a = c .before .before .before .args in sym (hex-undue (length (a .out .now)) (a .text .now) (λ e. c .if1 .taken (omega arith)))
 
 returns-2 : tie.Need-returns-2 Inv-loop μ-loop
-returns-2 c = let a = c .before .before .before .before .args in sym (hex-undue (length (a .out .now)) (a .text .now) (λ e. c .if2 .taken (omega arith)))
+returns-2 c =
+    let a = c .before .before .before .before .args in
+    sym (hex-undue (length (a .out .now)) (a .text .now) (λ e. c .if2 .taken (omega arith)))
 
 loop-holds : tie.Need-loop-holds Inv-loop μ-loop
-loop-holds c = let p = c .if2 .left in let q = c .before .if1 .left in (omega arith, refl, omega arith, mapped-nothing (hexBytes (c .before .before .before .before .args .text .now)))
+loop-holds c =
+    let p = c .if2 .left in
+    let q = c .before .if1 .left in
+    (omega arith, refl, omega arith, mapped-nothing (hexBytes (c .before .before .before .before .args .text .now)))
 
 mul-nibble : tie.Need-mul-nibble Inv-loop μ-loop
 mul-nibble c = omega arith
@@ -57,13 +54,21 @@ same-length : tie.Need-same-length Inv-loop μ-loop
 same-length c = search needs
 
 returns-3 : tie.Need-returns-3 Inv-loop μ-loop
-returns-3 c = let l = c .before .before .before .before .before .before in let a = l .before .before .before .before .before .args in let i = l .loop .inv in sym (hex-due (length (a .out .now)) (a .text .now) (i .0) ∙ i .3 ∙ hex-no-high (a .text .now) (l .loop .out) (l .loop .i) (omega arith) (omega arith) (sym (c .before .before .before .nibble .ensures .0) ∙ c .if3 .taken))
+returns-3 c =
+    let l = c .before .before .before .before .before .before in
+    let a = l .before .before .before .before .before .args in
+    let i = l .loop .inv in
+    sym (hex-due (length (a .out .now)) (a .text .now) (i .0) ∙ i .3 ∙ hex-no-high (a .text .now) (l .loop .out) (l .loop .i) (omega arith) (omega arith) (sym (c .before .before .before .nibble .ensures .0) ∙ c .if3 .taken))
 
 same-length-2 : tie.Need-same-length-2 Inv-loop μ-loop
 same-length-2 c = search needs
 
 returns-4 : tie.Need-returns-4 Inv-loop μ-loop
-returns-4 c = let l = c .before .before .before .before .before .before .before in let a = l .before .before .before .before .before .args in let i = l .loop .inv in sym (hex-due (length (a .out .now)) (a .text .now) (i .0) ∙ i .3 ∙ hex-no-low (a .text .now) (l .loop .out) (l .loop .i) (omega arith) (omega arith) (sym (c .before .before .nibble2 .ensures .0) ∙ c .if4 .taken))
+returns-4 c =
+    let l = c .before .before .before .before .before .before .before in
+    let a = l .before .before .before .before .before .args in
+    let i = l .loop .inv in
+    sym (hex-due (length (a .out .now)) (a .text .now) (i .0) ∙ i .3 ∙ hex-no-low (a .text .now) (l .loop .out) (l .loop .i) (omega arith) (omega arith) (sym (c .before .before .nibble2 .ensures .0) ∙ c .if4 .taken))
 
 mul-out : tie.Need-mul-out Inv-loop μ-loop
 mul-out c = omega arith
@@ -81,13 +86,21 @@ loop-less : tie.Need-loop-less Inv-loop μ-loop
 loop-less c = omega arith
 
 loop-again : tie.Need-loop-again Inv-loop μ-loop
-loop-again c = let l = c .before .before .before .before .before .before .before in let a = l .before .before .before .before .before .args in let i = l .loop .inv in (i .0, length-set (l .loop .out) (l .loop .i) (c .before .before .before .before .nibble .result * 16 + c .before .before .nibble2 .result) ∙ i .1, omega arith, i .3 ∙ hex-step (a .text .now) (l .loop .out) (l .loop .i) (omega arith) (omega arith) (c .before .before .before .before .nibble .result) (c .before .before .nibble2 .result) (c .before .before .before .before .nibble .ensures .0) (c .before .before .nibble2 .ensures .0) (omega arith) (omega arith))
+loop-again c =
+    let l = c .before .before .before .before .before .before .before in
+    let a = l .before .before .before .before .before .args in
+    let i = l .loop .inv in
+    (i .0, length-set (l .loop .out) (l .loop .i) (c .before .before .before .before .nibble .result * 16 + c .before .before .nibble2 .result) ∙ i .1, omega arith, i .3 ∙ hex-step (a .text .now) (l .loop .out) (l .loop .i) (omega arith) (omega arith) (c .before .before .before .before .nibble .result) (c .before .before .nibble2 .result) (c .before .before .before .before .nibble .ensures .0) (c .before .before .nibble2 .ensures .0) (omega arith) (omega arith))
 
 same-length-3 : tie.Need-same-length-3 Inv-loop μ-loop
 same-length-3 c = search needs
 
 returns-5 : tie.Need-returns-5 Inv-loop μ-loop
-returns-5 c = let l = c .before in let a = l .before .before .before .before .before .args in let i = l .loop .inv in sym (hex-due (length (a .out .now)) (a .text .now) (i .0) ∙ i .3 ∙ hex-end (a .text .now) (l .loop .out) (l .loop .i) (omega arith) (omega arith))
+returns-5 c =
+    let l = c .before in
+    let a = l .before .before .before .before .before .args in
+    let i = l .loop .inv in
+    sym (hex-due (length (a .out .now)) (a .text .now) (i .0) ∙ i .3 ∙ hex-end (a .text .now) (l .loop .out) (l .loop .i) (omega arith) (omega arith))
 
 pub hex-spec : {M : Type 1} → statement M
 hex-spec =

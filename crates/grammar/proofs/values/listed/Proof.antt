@@ -1,23 +1,16 @@
-use Rattle.grammar.proofs.Texts.{list-none}
-use Prim.Native.Nat.{ℕ, _+_, _-_, _*_, _≤_, _<_}
+use Prim.Native.Nat.{ℕ, _+_, _-_, _≤_}
 use mathlib.Core.Path.{_≡_, refl, sym, ap, _∙_}
-use mathlib.Core.Bool.{Bool, true, false, cond, not, _&&_, _||_}
-use native.Mathlib.Omega.{arith}
-use lib.ListN.{length, getD, drop, take, set, length-set}
 use mathlib.Core.List.{List, [], _++_}
-use mathlib.Core.Option.{Option, none, some}
+use mathlib.Core.Option.{some}
+use native.Mathlib.Omega.{arith}
+use lib.ListN.{length, drop, take, length-set}
 use borrow.Author.Tests.{not-true, not-false}
-use Rattle.record.specs.Layout.{maxTags}
-use Rattle.grammar.specs.Values.{numbers, mapped, padded, Listed}
-use Rattle.grammar.proofs.Texts.{told-not, told-some, not-told, some-told, list-bad, list-last, list-more, list-over, padded-set, mapped-nothing, taken-set}
 use borrow.Author.Needs.{needs}
+use Rattle.record.specs.Layout.{maxTags}
+use Rattle.grammar.specs.Values.{numbers, mapped, padded}
+use Rattle.grammar.proofs.Texts.{list-none, not-told, some-told, list-bad, list-last, list-more, list-over, padded-set, mapped-nothing, taken-set}
 use Rattle.grammar.proofs.values.listed.Statement.{statement}
 use Rattle.grammar.proofs.values.listed.Tie as tie
-use Rattle.grammar.proofs.values.listed.Reads as reads
-use Rattle.grammar.proofs.values.listed.Lts as lts
-use Rattle.grammar.proofs.values.find.Reads as find-reads
-use Rattle.grammar.proofs.values.no_list.Reads as no-list-reads
-use Rattle.grammar.proofs.values.number.Reads as number-reads
 
 abbrev Inv-loop : tie.InvT-loop
 Inv-loop text most room values₀ count₀ from₀ values count from = (length values ≡ maxTags) × (count ≤ room) × (from ≤ length text) × (values ≡ padded maxTags (take count values)) × (numbers most room text ≡ mapped (_++_ (take count values)) (numbers most (room - count) (drop from text)))
@@ -26,7 +19,10 @@ abbrev μ-loop : tie.MeasureT-loop
 μ-loop text most room values₀ count₀ from₀ values count from = room - count
 
 loop-holds : tie.Need-loop-holds Inv-loop μ-loop
-loop-holds c = let a = c .before .args in let z : a .room - 0 ≡ a .room = omega arith in (refl, omega arith, omega arith, refl, mapped-nothing (numbers (a .most) (a .room) (a .text .now)) ∙ ap (λ (k : ℕ). mapped (_++_ []) (numbers (a .most) k (a .text .now))) (sym z))
+loop-holds c =
+    let a = c .before .args in
+    let z : a .room - 0 ≡ a .room = omega arith in
+    (refl, omega arith, omega arith, refl, mapped-nothing (numbers (a .most) (a .room) (a .text .now)) ∙ ap (λ (k : ℕ). mapped (_++_ []) (numbers (a .most) k (a .text .now))) (sym z))
 
 find-requires : tie.Need-find-requires Inv-loop μ-loop
 find-requires c κs = c .before .loop .inv .2
@@ -47,7 +43,16 @@ no-list-requires : tie.Need-no-list-requires Inv-loop μ-loop
 no-list-requires c κs = tt
 
 returns : tie.Need-returns Inv-loop μ-loop
-returns c = let l = c .before .before .before .before .before .before .before in let a = c .before .before .before .before .before .before .before .before .before .args in let i = l .loop .inv in let f = c .before .before .before .before .before .find in let n = c .before .before .before .number in let pre = c .before .before .before .before .before .before .before .before .before .pre in let e = c .no-list .ensures in let r = c .no-list .result in list-none (numbers (a .most) (a .room) (a .text .now)) (a .room) (r .good) (r .count) (r .values) (e .0) (e .1) (e .2) (i .4 ∙ list-bad (a .most) (a .room) (l .loop .count) (a .text .now) (l .loop .from) (f .result) (omega arith) (f .ensures .0) (take (l .loop .count) (l .loop .values)) (not-told (n .result .value) (n .ensures .0) (not-true (n .result .good) (c .before .if1 .taken))))
+returns c =
+    let l = c .before .before .before .before .before .before .before in
+    let a = c .before .before .before .before .before .before .before .before .before .args in
+    let i = l .loop .inv in
+    let f = c .before .before .before .before .before .find in
+    let n = c .before .before .before .number in
+    let pre = c .before .before .before .before .before .before .before .before .before .pre in
+    let e = c .no-list .ensures in
+    let r = c .no-list .result in
+    list-none (numbers (a .most) (a .room) (a .text .now)) (a .room) (r .good) (r .count) (r .values) (e .0) (e .1) (e .2) (i .4 ∙ list-bad (a .most) (a .room) (l .loop .count) (a .text .now) (l .loop .from) (f .result) (omega arith) (f .ensures .0) (take (l .loop .count) (l .loop .values)) (not-told (n .result .value) (n .ensures .0) (not-true (n .result .good) (c .before .if1 .taken))))
 
 mul-values : tie.Need-mul-values Inv-loop μ-loop
 mul-values c = omega arith
@@ -59,7 +64,14 @@ add-count : tie.Need-add-count Inv-loop μ-loop
 add-count c = omega arith
 
 returns-2 : tie.Need-returns-2 Inv-loop μ-loop
-returns-2 c = let l = c .before .before .before .before .before .before .before in let a = c .before .before .before .before .before .before .before .before .before .args in let i = l .loop .inv in let f = c .before .before .before .before .before .find in let n = c .before .before .before .number in let pre = c .before .before .before .before .before .before .before .before .before .pre in record { list = ap some (taken-set (l .loop .values) (l .loop .count) (n .result .value) (omega arith)) ∙ sym (i .4 ∙ list-last (a .most) (a .room) (l .loop .count) (a .text .now) (l .loop .from) (f .result) (omega arith) (f .ensures .0) (take (l .loop .count) (l .loop .values)) (n .result .value) (some-told (n .result .value) (n .ensures .0) (not-false (n .result .good) (c .before .if1 .left))) (c .if2 .taken)); fits = omega arith; rest = padded-set (l .loop .values) (l .loop .count) (n .result .value) (i .0) (omega arith) (i .3) }
+returns-2 c =
+    let l = c .before .before .before .before .before .before .before in
+    let a = c .before .before .before .before .before .before .before .before .before .args in
+    let i = l .loop .inv in
+    let f = c .before .before .before .before .before .find in
+    let n = c .before .before .before .number in
+    let pre = c .before .before .before .before .before .before .before .before .before .pre in
+    record { list = ap some (taken-set (l .loop .values) (l .loop .count) (n .result .value) (omega arith)) ∙ sym (i .4 ∙ list-last (a .most) (a .room) (l .loop .count) (a .text .now) (l .loop .from) (f .result) (omega arith) (f .ensures .0) (take (l .loop .count) (l .loop .values)) (n .result .value) (some-told (n .result .value) (n .ensures .0) (not-false (n .result .good) (c .before .if1 .left))) (c .if2 .taken)); fits = omega arith; rest = padded-set (l .loop .values) (l .loop .count) (n .result .value) (i .0) (omega arith) (i .3) }
 
 add-from : tie.Need-add-from Inv-loop μ-loop
 add-from c = omega arith
@@ -68,13 +80,26 @@ loop-less : tie.Need-loop-less Inv-loop μ-loop
 loop-less c = omega arith
 
 loop-again : tie.Need-loop-again Inv-loop μ-loop
-loop-again c = let l = c .before .before .before .before .before .before .before in let a = c .before .before .before .before .before .before .before .before .before .args in let i = l .loop .inv in let f = c .before .before .before .before .before .find in let n = c .before .before .before .number in let pre = c .before .before .before .before .before .before .before .before .before .pre in (length-set (l .loop .values) (l .loop .count) (n .result .value) ∙ i .0, omega arith, omega arith, padded-set (l .loop .values) (l .loop .count) (n .result .value) (i .0) (omega arith) (i .3), i .4 ∙ list-more (a .most) (a .room) (l .loop .count) (a .text .now) (l .loop .from) (f .result) (omega arith) (f .ensures .0) (take (l .loop .count) (l .loop .values)) (n .result .value) (some-told (n .result .value) (n .ensures .0) (not-false (n .result .good) (c .before .if1 .left))) (omega arith) ∙ ap (λ (p : List ℕ). mapped (_++_ p) (numbers (a .most) (a .room - (l .loop .count + 1)) (drop (f .result + 1) (a .text .now)))) (sym (taken-set (l .loop .values) (l .loop .count) (n .result .value) (omega arith))))
+loop-again c =
+    let l = c .before .before .before .before .before .before .before in
+    let a = c .before .before .before .before .before .before .before .before .before .args in
+    let i = l .loop .inv in
+    let f = c .before .before .before .before .before .find in
+    let n = c .before .before .before .number in
+    let pre = c .before .before .before .before .before .before .before .before .before .pre in
+    (length-set (l .loop .values) (l .loop .count) (n .result .value) ∙ i .0, omega arith, omega arith, padded-set (l .loop .values) (l .loop .count) (n .result .value) (i .0) (omega arith) (i .3), i .4 ∙ list-more (a .most) (a .room) (l .loop .count) (a .text .now) (l .loop .from) (f .result) (omega arith) (f .ensures .0) (take (l .loop .count) (l .loop .values)) (n .result .value) (some-told (n .result .value) (n .ensures .0) (not-false (n .result .good) (c .before .if1 .left))) (omega arith) ∙ ap (λ (p : List ℕ). mapped (_++_ p) (numbers (a .most) (a .room - (l .loop .count + 1)) (drop (f .result + 1) (a .text .now)))) (sym (taken-set (l .loop .values) (l .loop .count) (n .result .value) (omega arith))))
 
 no-list-requires-2 : tie.Need-no-list-requires-2 Inv-loop μ-loop
 no-list-requires-2 c κs = tt
 
 returns-3 : tie.Need-returns-3 Inv-loop μ-loop
-returns-3 c = let l = c .before .before in let a = c .before .before .before .before .args in let i = l .loop .inv in let e = c .no-list2 .ensures in let r = c .no-list2 .result in list-none (numbers (a .most) (a .room) (a .text .now)) (a .room) (r .good) (r .count) (r .values) (e .0) (e .1) (e .2) (i .4 ∙ list-over (a .most) (a .room) (l .loop .count) (take (l .loop .count) (l .loop .values)) (drop (l .loop .from) (a .text .now)) (omega arith))
+returns-3 c =
+    let l = c .before .before in
+    let a = c .before .before .before .before .args in
+    let i = l .loop .inv in
+    let e = c .no-list2 .ensures in
+    let r = c .no-list2 .result in
+    list-none (numbers (a .most) (a .room) (a .text .now)) (a .room) (r .good) (r .count) (r .values) (e .0) (e .1) (e .2) (i .4 ∙ list-over (a .most) (a .room) (l .loop .count) (take (l .loop .count) (l .loop .values)) (drop (l .loop .from) (a .text .now)) (omega arith))
 
 pub listed-spec : {M : Type 1} → statement M
 listed-spec =

@@ -1,17 +1,10 @@
-use Prim.Native.Nat.{ℕ, _+_, _-_, _*_, _≤_, _<_}
-use mathlib.Core.Path.{_≡_, refl, sym, ap, _∙_}
-use mathlib.Core.Bool.{Bool, true, false, cond, not, _&&_, _||_}
+use Prim.Native.Nat.{_-_}
+use mathlib.Core.Path.{sym}
 use native.Mathlib.Omega.{arith}
-use lib.ListN.{length, getD, drop}
-use mathlib.Core.Option.{Option, none, some}
-use borrow.Author.Tests.{lt-ltb, le-ltb, eq-eqb, ne-eqb, not-true, not-false}
-use Rattle.grammar.proofs.Texts.{told-not, told-some, not-told, some-told}
-use Rattle.grammar.proofs.Texts.{nibble-low, nibble-digit, nibble-between, nibble-letter, nibble-high}
 use borrow.Author.Needs.{needs}
+use Rattle.grammar.proofs.Texts.{nibble-low, nibble-digit, nibble-between, nibble-letter, nibble-high}
 use Rattle.grammar.proofs.values.nibble.Statement.{statement}
 use Rattle.grammar.proofs.values.nibble.Tie as tie
-use Rattle.grammar.proofs.values.nibble.Reads as reads
-use Rattle.grammar.proofs.values.nibble.Lts as lts
 
 returns : tie.Need-returns
 returns c = (sym (nibble-low (c .before .args .c) (c .if1 .taken)), omega arith)

@@ -1,21 +1,13 @@
-use Rattle.grammar.specs.Values.{number, leadingZero}
-use Prim.Native.Nat.{ℕ, _+_, _-_, _*_, _≤_, _<_}
-use mathlib.Core.Path.{_≡_, refl, sym, ap, _∙_}
-use mathlib.Core.Bool.{Bool, true, false, cond, not, _&&_, _||_}
+use Prim.Native.Nat.{_-_}
+use mathlib.Core.Path.{refl, sym, _∙_}
 use native.Mathlib.Omega.{arith}
-use lib.ListN.{length, getD, drop}
-use mathlib.Core.Option.{Option, none, some}
-use borrow.Author.Tests.{lt-ltb, le-ltb, eq-eqb, ne-eqb, not-true, not-false}
-use Rattle.grammar.specs.Values.{number, signedBits}
-use Rattle.grammar.proofs.Texts.{told-not, told-some, not-told, some-told}
+use lib.ListN.{length}
+use borrow.Author.Tests.{eq-eqb, ne-eqb}
 use borrow.Author.Needs.{needs}
+use Rattle.grammar.specs.Values.{number}
+use Rattle.grammar.proofs.Texts.{told-not}
 use Rattle.grammar.proofs.values.number.Statement.{statement}
 use Rattle.grammar.proofs.values.number.Tie as tie
-use Rattle.grammar.proofs.values.number.Reads as reads
-use Rattle.grammar.proofs.values.number.Lts as lts
-use Rattle.grammar.proofs.values.digits.Reads as digits-reads
-use Rattle.grammar.proofs.values.leading_zero.Reads as leading-zero-reads
-use Rattle.grammar.proofs.values.no_value.Reads as no-value-reads
 
 no-value-requires : tie.Need-no-value-requires
 no-value-requires c κs = search needs

@@ -1,21 +1,12 @@
-use Prim.Native.Nat.{ℕ, _+_, _-_, _*_, _≤_, _<_}
-use mathlib.Core.Path.{_≡_, refl, sym, ap, _∙_}
-use mathlib.Core.Bool.{Bool, true, false, cond, not, _&&_, _||_}
-use native.Mathlib.Omega.{arith}
-use lib.ListN.{length, getD, drop}
-use mathlib.Core.Option.{Option, none, some}
-use borrow.Author.Tests.{lt-ltb, le-ltb, eq-eqb, ne-eqb, not-true, not-false}
-use Rattle.grammar.proofs.Texts.{told-not, told-some, not-told, some-told}
-use Rattle.octets.proofs.Moves.{tail-lent}
-use Rattle.grammar.specs.Values.{number, negative, signedBits}
-use Rattle.grammar.proofs.Texts.{signed-empty, signed-plain, signed-minus, negative-zero, negative-some}
+use Prim.Native.Nat.{_-_}
+use mathlib.Core.Path.{sym, ap, _∙_}
+use borrow.Author.Tests.{not-true, not-false}
 use borrow.Author.Needs.{needs}
+use Rattle.octets.proofs.Moves.{tail-lent}
+use Rattle.grammar.specs.Values.{number, negative}
+use Rattle.grammar.proofs.Texts.{told-not, not-told, some-told, signed-empty, signed-plain, signed-minus, negative-zero, negative-some}
 use Rattle.grammar.proofs.values.signed.Statement.{statement}
 use Rattle.grammar.proofs.values.signed.Tie as tie
-use Rattle.grammar.proofs.values.signed.Reads as reads
-use Rattle.grammar.proofs.values.signed.Lts as lts
-use Rattle.grammar.proofs.values.no_value.Reads as no-value-reads
-use Rattle.grammar.proofs.values.number.Reads as number-reads
 
 no-value-requires : tie.Need-no-value-requires
 no-value-requires c κs = search needs

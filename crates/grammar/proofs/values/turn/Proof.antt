@@ -1,25 +1,13 @@
-use Prim.Native.Nat.{_%_}
-use lib.ListN.{replicate}
-use Prim.Native.Nat.{ℕ, _+_, _-_, _*_, _≤_, _<_}
+use Prim.Native.Nat.{_%_, ℕ, _+_, _-_, _*_, _≤_}
 use mathlib.Core.Path.{_≡_, refl, sym, ap, _∙_}
-use mathlib.Core.Bool.{Bool, true, false, cond, not, _&&_, _||_}
+use mathlib.Core.List.{List, _++_}
 use native.Mathlib.Omega.{arith}
-use lib.ListN.{length, getD, drop, take, set, length-set}
-use mathlib.Core.List.{List, [], _∷_, _++_}
-use mathlib.Core.Option.{Option, none, some}
-use borrow.Author.Tests.{not-true, not-false}
-use Rattle.grammar.specs.Values as Val
-use Rattle.grammar.specs.Reading.{Reading, bad, good, toldLine}
-use Rattle.grammar.specs.Grammar.{line, keyed, aLine, noLine}
-use Rattle.grammar.proofs.Texts.{told-not, told-some, not-told, some-told}
-use Rattle.grammar.proofs.Steps.{line-past, line-long, line-other, line-open, line-whole, cut-not, line-missing, line-wrong, line-right, told-bad}
+use lib.ListN.{replicate, length, getD, drop, take, set, length-set}
 use Rattle.octets.proofs.Moves.{up}
+use Rattle.grammar.specs.Values as Val
 use Rattle.grammar.proofs.Texts.{turned-at, length-turned, all-taken}
-use borrow.Author.Needs.{needs}
 use Rattle.grammar.proofs.values.turn.Statement.{statement}
 use Rattle.grammar.proofs.values.turn.Tie as tie
-use Rattle.grammar.proofs.values.turn.Reads as reads
-use Rattle.grammar.proofs.values.turn.Lts as lts
 
 abbrev Inv-loop : tie.InvT-loop
 Inv-loop s out₀ i₀ out i = (i ≤ 48) × (length s ≡ 48) × (length out ≡ 48) × (length out₀ ≡ 48) × (out ≡ take i (Val.turned 6 s) ++ drop i out₀)
@@ -58,7 +46,13 @@ loop-again c = let l = c .before .before in let s = c .before .before .before .a
     (omega arith, v .1, length-set (l .loop .out) j x ∙ v .2, refl, ap (λ (q : List ℕ). set q j x) (v .4) ∙ ap (λ (y : ℕ). set (take j (Val.turned 6 s) ++ drop j z) j y) (sym (turned-at 6 s j (v .1) (omega arith))) ∙ up (Val.turned 6 s) z j (omega arith) (omega arith))
 
 returns : tie.Need-returns Inv-loop μ-loop
-returns c = let l = c .before in let s = c .before .before .args .s .now in let v = l .loop .inv in let z : List ℕ = replicate 48 0 in let n = length-turned 6 s (v .1) in v .4 ∙ all-taken (Val.turned 6 s) z (l .loop .i) (omega arith) (omega arith)
+returns c =
+    let l = c .before in
+    let s = c .before .before .args .s .now in
+    let v = l .loop .inv in
+    let z : List ℕ = replicate 48 0 in
+    let n = length-turned 6 s (v .1) in
+    v .4 ∙ all-taken (Val.turned 6 s) z (l .loop .i) (omega arith) (omega arith)
 
 pub turn-spec : {M : Type 1} → statement M
 turn-spec =
