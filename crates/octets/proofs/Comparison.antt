@@ -1,14 +1,20 @@
--- Byte order is a strict order, and two strings neither of which comes before the other are equal.
-use Prim.Native.Nat.{ℕ, _≤_, _<_}
+-- Byte order is a strict order, and two strings neither of which comes before the other are equal. Then what a comparison goes by: bytes from a place
+-- on, and words of several bytes.
+use Prim.Native.Nat.{ℕ, zero, suc, _+_, _≤_, _<_}
 use mathlib.Core.Path.{_≡_, refl, sym, ap, ap₂, _∙_}
 use mathlib.Core.Bool.{Bool, true, false, not, _&&_, true≢false, false≢true}
 use mathlib.Core.Logic.{_⊎_, inl, inr, ⊎-elim}
-use mathlib.Core.List.{List, [], _∷_}
+use mathlib.Core.List.{List, [], _∷_, _++_}
 use native.Mathlib.Omega.{arith}
+use native.Mathlib.Numerals.{add-one}
 use lib.Dec.{ltb}
+use lib.ListN.{length, getD, take, drop, length-drop, drop-of-length-le}
+use lib.Seq.{take-add, drop-cons, length-take-le}
 use borrow.Author.Tests.{lt-ltb, le-ltb, ltb-true, ltb-false}
 use Rattle.octets.specs.Order.{isBefore, same, lesserOf}
+use Rattle.octets.specs.Words.{wordBytes, word, wordAt}
 use Rattle.octets.proofs.Cases.{by}
+use Rattle.octets.proofs.Numbers.{Bytes, bytes-take, bytes-drop, bytes-of-word}
 
 module _ (x y : ℕ) (xs ys : List ℕ) where
   first : x < y → isBefore (x ∷ xs) (y ∷ ys) ≡ true
@@ -120,3 +126,66 @@ same-cons x a b = rw (rest x x a b refl, rest x x b a refl) refl
 
 pub same-nil : same [] [] ≡ true
 same-nil = same-refl []
+
+-- ---- the comparison from a place on
+
+module _ (a b : List ℕ) (i : ℕ) (h : i < length a) (k : i < length b) where
+  pub before-here : (getD a i 0 ≡ getD b i 0 → ⊥) → isBefore (drop i a) (drop i b) ≡ ltb (getD a i 0) (getD b i 0)
+  before-here f =
+      let x = getD a i 0 in
+      let y = getD b i 0 in
+      rw (drop-cons a i 0 h, drop-cons b i 0 k)
+      (⊎-elim (λ l. first x y _ _ l ∙ sym (lt-ltb x y l)) (⊎-elim (λ e. absurd (f e)) (λ l. never x y _ _ l ∙ sym (le-ltb x y (omega arith)))) (either x y [] []))
+
+  pub before-next : getD a i 0 ≡ getD b i 0 → isBefore (drop i a) (drop i b) ≡ isBefore (drop (i + 1) a) (drop (i + 1) b)
+  before-next e = rw (add-one i, drop-cons a i 0 h, drop-cons b i 0 k) (rest _ _ _ _ e)
+
+  pub same-here : (getD a i 0 ≡ getD b i 0 → ⊥) → same (drop i a) (drop i b) ≡ false
+  same-here f = rw (drop-cons a i 0 h, drop-cons b i 0 k) (not-same (getD a i 0 ∷ drop (suc i) a) (getD b i 0 ∷ drop (suc i) b) (λ e. f (ap (λ (l : List ℕ). getD l 0 0) e)))
+
+  pub same-next : getD a i 0 ≡ getD b i 0 → same (drop i a) (drop i b) ≡ same (drop (i + 1) a) (drop (i + 1) b)
+  same-next e = rw (add-one i, drop-cons a i 0 h, drop-cons b i 0 k, e) (same-cons (getD b i 0) (drop (suc i) a) (drop (suc i) b))
+
+-- one of them ends there
+pub before-ended : (a b : List ℕ) (i : ℕ) → length a ≤ i → i < length b → isBefore (drop i a) (drop i b) ≡ true
+unfolding isBefore
+before-ended a b i h k = rw (drop-of-length-le a h, drop-cons b i 0 k) refl
+
+pub before-past : (a b : List ℕ) (i : ℕ) → length b ≤ i → isBefore a (drop i b) ≡ false
+unfolding isBefore
+before-past a b i h = rw (drop-of-length-le b h) refl
+
+pub same-past : (a b : List ℕ) (i : ℕ) → length a ≤ i → length b ≤ i → same (drop i a) (drop i b) ≡ true
+same-past a b i h k = rw (drop-of-length-le a h, drop-of-length-le b k) same-nil
+
+-- ---- bytes alike at the front decide nothing
+
+head-eq : (x y : ℕ) (a b : List ℕ) → x ∷ a ≡ y ∷ b → x ≡ y
+head-eq x y a b e = ap (λ (l : List ℕ). getD l 0 0) e
+
+tail-eq : (x y : ℕ) (a b : List ℕ) → x ∷ a ≡ y ∷ b → a ≡ b
+tail-eq x y a b e = ap (drop 1) e
+
+pub before-drop : (i : ℕ) (a b : List ℕ) → take i a ≡ take i b → isBefore a b ≡ isBefore (drop i a) (drop i b)
+before-drop zero a b e = refl
+before-drop (suc i) [] [] e = refl
+before-drop (suc i) [] (y ∷ b) e = absurd (omega (arith, ap length e))
+before-drop (suc i) (x ∷ a) [] e = absurd (omega (arith, ap length e))
+before-drop (suc i) (x ∷ a) (y ∷ b) e = rest x y a b (head-eq x y (take i a) (take i b) e) ∙ before-drop i a b (tail-eq x y (take i a) (take i b) e)
+
+pub same-drop : (i : ℕ) (a b : List ℕ) → take i a ≡ take i b → same a b ≡ same (drop i a) (drop i b)
+unfolding same
+same-drop i a b e = ap₂ (λ (p q : Bool). not p && not q) (before-drop i a b e) (before-drop i b a (sym e))
+
+-- ---- equal words are equal bytes
+
+pub word-same : (s t : List ℕ) → Bytes s → Bytes t → length s ≡ length t → word s ≡ word t → s ≡ t
+word-same s t p q l e = sym (bytes-of-word s p) ∙ ap₂ wordBytes l e ∙ bytes-of-word t q
+
+-- a run of bytes alike, and n more as one word
+pub take-word : (n i : ℕ) (a b : List ℕ) → Bytes a → Bytes b → i + n ≤ length a → i + n ≤ length b → take i a ≡ take i b → wordAt n i a ≡ wordAt n i b → take (i + n) a ≡ take (i + n) b
+take-word n i a b p q h k e w =
+    let l : length (take n (drop i a)) ≡ n = length-take-le n (drop i a) (rw length-drop (omega arith)) in
+    let m : length (take n (drop i b)) ≡ n = length-take-le n (drop i b) (rw length-drop (omega arith)) in
+    let t = word-same (take n (drop i a)) (take n (drop i b)) (bytes-take n (drop i a) (bytes-drop i a p)) (bytes-take n (drop i b) (bytes-drop i b q)) (l ∙ sym m) w in
+    take-add i n a ∙ ap₂ (λ (x y : List ℕ). x ++ y) e t ∙ sym (take-add i n b)

@@ -1,81 +1,48 @@
-use Prim.Native.Nat.{ℕ, suc, _+_, _-_, _≤_, _<_}
-use mathlib.Core.Path.{_≡_, refl, sym, ap, _∙_}
-use mathlib.Core.Bool.{Bool, true, false}
-use mathlib.Core.List.{List, [], _∷_}
+use mathlib.Core.Path.{_≡_, sym, ap, _∙_}
 use native.Mathlib.Omega.{arith}
-use native.Mathlib.Numerals.{add-one}
-use lib.ListN.{length, getD, drop, drop-of-length-le}
-use lib.Seq.{drop-cons}
+use lib.ListN.{length, drop}
 use Rattle.octets.specs.Order.{same}
-use Rattle.octets.proofs.Comparison.{not-same, same-cons, same-nil}
+use Rattle.octets.proofs.Comparison.{not-same, same-here, same-past, same-drop}
 use borrow.Author.Needs.{needs}
 use Rattle.octets.proofs.order.equal.Statement.{statement}
 use Rattle.octets.proofs.order.equal.Tie as tie
 
-abbrev Inv-loop : tie.InvT-loop
-Inv-loop a b i₀ i = (length a ≡ length b) × (i ≤ length b) × (same a b ≡ same (drop i a) (drop i b))
+returns : tie.Need-returns
+returns c = let s = c .before .before .before .args in sym (not-same (s .a .now) (s .b .now) (λ e. c .if1 .taken (ap length e)))
 
-abbrev μ-loop : tie.MeasureT-loop
-μ-loop a b i₀ i = length b - i
+returns-2 : tie.Need-returns-2
+returns-2 c = let s = c .before .before .before .before .args in sym (same-past (s .a .now) (s .b .now) 0 (omega arith) (omega arith))
 
-module _ (a b : List ℕ) (i : ℕ) (h : i < length a) (k : i < length b) where
-  apart : (getD a i 0 ≡ getD b i 0 → ⊥) → same (drop i a) (drop i b) ≡ false
-  apart f = rw (drop-cons a i 0 h, drop-cons b i 0 k) (not-same (getD a i 0 ∷ drop (suc i) a) (getD b i 0 ∷ drop (suc i) b) (λ e. f (ap (λ (l : List ℕ). getD l 0 0) e)))
+shared-slice-read-if3 : tie.Need-shared-slice-read-if3
+shared-slice-read-if3 c = search needs
 
-  alike : getD a i 0 ≡ getD b i 0 → same (drop i a) (drop i b) ≡ same (drop (i + 1) a) (drop (i + 1) b)
-  alike e = rw (add-one i, drop-cons a i 0 h, drop-cons b i 0 k, e) (same-cons (getD b i 0) (drop (suc i) a) (drop (suc i) b))
+shared-slice-read-if3-2 : tie.Need-shared-slice-read-if3-2
+shared-slice-read-if3-2 c = search needs
 
-past : (a b : List ℕ) (i : ℕ) → length a ≤ i → length b ≤ i → same (drop i a) (drop i b) ≡ true
-past a b i h k = rw (drop-of-length-le a h, drop-of-length-le b k) same-nil
+returns-3 : tie.Need-returns-3
+returns-3 c = let s = c .before .before .before .before .before .before .before .args in sym (same-here (s .a .now) (s .b .now) 0 (omega arith) (omega arith) (c .if3 .taken))
 
-returns : tie.Need-returns Inv-loop μ-loop
-returns c = let a = c .before .args in sym (not-same (a .a .now) (a .b .now) (λ e. c .if1 .taken (ap length e)))
+alike-requires : tie.Need-alike-requires
+alike-requires c κs = search needs
 
-loop-holds : tie.Need-loop-holds Inv-loop μ-loop
-loop-holds c = (c .if1 .left, omega arith, refl)
+equal-from-requires : tie.Need-equal-from-requires
+equal-from-requires c κs = search needs
 
-shared-slice-read-if2 : tie.Need-shared-slice-read-if2 Inv-loop μ-loop
-shared-slice-read-if2 c = omega arith
-
-shared-slice-read-if2-2 : tie.Need-shared-slice-read-if2-2 Inv-loop μ-loop
-shared-slice-read-if2-2 c = omega arith
-
-returns-2 : tie.Need-returns-2 Inv-loop μ-loop
-returns-2 c =
-    let l = c .before .before .before .before in
-    let a = l .before .before .args in
-    sym (l .loop .inv .2 ∙ apart (a .a .now) (a .b .now) (l .loop .i) (omega arith) (omega arith) (c .if2 .taken))
-
-add-i : tie.Need-add-i Inv-loop μ-loop
-add-i c = omega arith
-
-loop-less : tie.Need-loop-less Inv-loop μ-loop
-loop-less c = omega arith
-
-loop-again : tie.Need-loop-again Inv-loop μ-loop
-loop-again c =
-    let l = c .before .before .before .before in
-    let a = l .before .before .args in
-    (l .loop .inv .0, omega arith, l .loop .inv .2 ∙ alike (a .a .now) (a .b .now) (l .loop .i) (omega arith) (omega arith) (c .if2 .left))
-
-returns-3 : tie.Need-returns-3 Inv-loop μ-loop
-returns-3 c =
-    let l = c .before in
-    let a = l .before .before .args in
-    sym (l .loop .inv .2 ∙ past (a .a .now) (a .b .now) (l .loop .i) (omega arith) (c .loop-test .left))
+returns-4 : tie.Need-returns-4
+returns-4 c =
+    let s = c .before .before .before .before .before .before .before .before .before .args in
+    let r = c .before .alike in
+    _∙_ {b = same (drop (r .result) (s .a .now)) (drop (r .result) (s .b .now))} (c .equal-from .ensures) (sym (same-drop (r .result) (s .a .now) (s .b .now) (r .ensures .2)))
 
 pub equal-spec : {M : Type 1} → statement M
 equal-spec =
     tie.close
     (tie.spec
-    Inv-loop
-    μ-loop
     returns
-    loop-holds
-    shared-slice-read-if2
-    shared-slice-read-if2-2
     returns-2
-    add-i
-    loop-less
-    loop-again
-    returns-3)
+    shared-slice-read-if3
+    shared-slice-read-if3-2
+    returns-3
+    alike-requires
+    equal-from-requires
+    returns-4)
