@@ -20,8 +20,13 @@ every-at f k zero r j h = absurd (omega arith)
 every-at f k (suc m) r zero h = let e : k ≡ k + 0 = omega arith in ap f e
 every-at f k (suc m) r (suc j) h = let e : suc k + j ≡ k + suc j = omega arith in every-at f (suc k) m r j (omega arith) ∙ ap f e
 
+-- the label of each fix
+pub label-at : (t : List ℕ) (n j : ℕ) → j < n → getD (labelsOf t n) j 0 ≡ label (linkAt t) n j
+label-at t n j h =
+    every-at (label (linkAt t) n) 0 n (maxFixes - length (collect every (label (linkAt t) n) 0 n)) j h
+    ∙ (let e : 0 + j ≡ j = omega arith in ap (label (linkAt t) n) e)
+
 pub labels-same : (t l : List ℕ) (n : ℕ) → Cached 0 l (label (linkAt t) n) n → drawn t l n ≡ drawn t (labelsOf t n) n
 labels-same t l n c =
     drawn-same t l (labelsOf t n) n
-    (λ j h. cached-at 0 l (label (linkAt t) n) n j c h
-    ∙ sym (every-at (label (linkAt t) n) 0 n (maxFixes - length (collect every (label (linkAt t) n) 0 n)) j h ∙ (let e : 0 + j ≡ j = omega arith in ap (label (linkAt t) n) e)))
+    (λ j h. cached-at 0 l (label (linkAt t) n) n j c h ∙ sym (label-at t n j h))

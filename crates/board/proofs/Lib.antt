@@ -1,5 +1,6 @@
 pub mod Lent
 pub mod Labelled
+pub mod Members
 pub mod Fitting
 pub mod WholeLists
 pub mod Positions
