@@ -87,6 +87,10 @@ static void reports(void) {
     const uint8_t *place = memory + 8 + TL_MAX_SUMMARIES * 36;
     printf("convicted %08" PRIx64 ", %" PRIu64 " record, signers %08" PRIx64 "\n", get(memory, 4), get(memory + 6, 2),
            get(place + TL_RECORD_SIZE, 4));
+    static uint8_t out[TL_BOARD_SIZE];
+    uint32_t length = tl_board(memory, sizeof memory, out, sizeof out);
+    printf("board of %" PRIu32 " bytes:\n%.*s", length, (int)length, (const char *)out);
+    printf("board into too little: answer %" PRIu32 "\n", tl_board(memory, sizeof memory, out, 100));
 }
 
 int main(void) {
