@@ -146,7 +146,7 @@ def main():
         out = subprocess.run([peer], input=data, capture_output=True, check=True).stdout
         assert expected is None or out == expected.encode(), (number, text[:300], expected, out)
         inputs += len(data).to_bytes(4, "little") + data
-        outputs += b"session %d\n" % number + out
+        outputs += b"case %d\n" % number + out
     open(os.path.join(here, "stdin"), "wb").write(inputs)
     open(os.path.join(here, "stdout"), "wb").write(outputs)
     print(number, "sessions,", len(inputs), "bytes in,", len(outputs), "bytes out")

@@ -51,7 +51,7 @@ fn rehearse(size: usize)
 }
 
 fn announce(number: u64) {
-    io::write_all(STDOUT_FILENO, b"session ");
+    io::write_all(STDOUT_FILENO, b"case ");
     io::print_decimal(STDOUT_FILENO, number);
     io::write_all(STDOUT_FILENO, b"\n");
 }
