@@ -8,7 +8,9 @@ use lib.ListN.{length}
 use borrow.Author.Tests.{lt-ltb, le-ltb, eq-eqb, ne-eqb}
 use Rattle.octets.specs.Masks.{bit}
 use Rattle.record.specs.Formed as R
-use Rattle.models.specs.Summary.{summaryOf}
+use Rattle.models.specs.Summary.{summaryOf, inputsSize}
+use Rattle.record.specs.Layout.{maxModel}
+use Rattle.register.specs.Layout.{maxEngine}
 use Rattle.register.specs.Register.{Register, After, after, reported, signedInto, summarized, heldInto, convictedOf, struck}
 use Rattle.register.specs.Memory.{wellFormed, convictedIn, decode, encode, settled, onMemory}
 
@@ -26,43 +28,43 @@ module _ (f : Register → After Register) (m : List ℕ) where
   refused h n z q = on-register h (after n m) (rw (q, z) refl)
 
 module _ (e : ℕ) (r : List ℕ) (s : Register) where
-  pub report-2 : 31 < e → reported e r s ≡ after 2 s
-  report-2 h = rw (lt-ltb 31 e h) refl
+  pub report-2 : maxEngine < e → reported e r s ≡ after 2 s
+  report-2 h = rw (lt-ltb maxEngine e h) refl
 
-  module _ (a : e ≤ 31) where
+  module _ (a : e ≤ maxEngine) where
     pub report-3 : R.wellFormed r ≡ false → reported e r s ≡ after 3 s
-    report-3 h = rw (le-ltb 31 e a, h) refl
+    report-3 h = rw (le-ltb maxEngine e a, h) refl
 
     pub report-4 : R.wellFormed r ≡ true → bit (s .convicted) e ≡ true → reported e r s ≡ after 4 s
-    report-4 h c = rw (le-ltb 31 e a, h, c) refl
+    report-4 h c = rw (le-ltb maxEngine e a, h, c) refl
 
     pub report-rest : R.wellFormed r ≡ true → bit (s .convicted) e ≡ false → reported e r s ≡ signedInto e r s
-    report-rest h c = rw (le-ltb 31 e a, h, c) refl
+    report-rest h c = rw (le-ltb maxEngine e a, h, c) refl
 
 module _ (e model spec : ℕ) (inputs : List ℕ) (s : Register) where
-  pub summary-2 : 31 < e → summarized e model spec inputs s ≡ after 2 s
-  summary-2 h = rw (lt-ltb 31 e h) refl
+  pub summary-2 : maxEngine < e → summarized e model spec inputs s ≡ after 2 s
+  summary-2 h = rw (lt-ltb maxEngine e h) refl
 
-  module _ (a : e ≤ 31) where
-    pub summary-9-model : 63 < model → summarized e model spec inputs s ≡ after 9 s
-    summary-9-model h = rw (le-ltb 31 e a, lt-ltb 63 model h) refl
+  module _ (a : e ≤ maxEngine) where
+    pub summary-9-model : maxModel < model → summarized e model spec inputs s ≡ after 9 s
+    summary-9-model h = rw (le-ltb maxEngine e a, lt-ltb maxModel model h) refl
 
-    pub summary-9-inputs : model ≤ 63 → (length inputs ≡ 32 → ⊥) → summarized e model spec inputs s ≡ after 9 s
-    summary-9-inputs h g = rw (le-ltb 31 e a, le-ltb 63 model h, ne-eqb (length inputs) 32 g) refl
+    pub summary-9-inputs : model ≤ maxModel → (length inputs ≡ inputsSize → ⊥) → summarized e model spec inputs s ≡ after 9 s
+    summary-9-inputs h g = rw (le-ltb maxEngine e a, le-ltb maxModel model h, ne-eqb (length inputs) inputsSize g) refl
 
-    module _ (h : model ≤ 63) (g : length inputs ≡ 32) where
+    module _ (h : model ≤ maxModel) (g : length inputs ≡ inputsSize) where
       pub summary-4 : bit (s .convicted) e ≡ true → summarized e model spec inputs s ≡ after 4 s
-      summary-4 c = rw (le-ltb 31 e a, le-ltb 63 model h, g, c) refl
+      summary-4 c = rw (le-ltb maxEngine e a, le-ltb maxModel model h, g, c) refl
 
       pub summary-rest : bit (s .convicted) e ≡ false → summarized e model spec inputs s ≡ heldInto (summaryOf e model spec inputs) s
-      summary-rest c = rw (le-ltb 31 e a, le-ltb 63 model h, g, c) refl
+      summary-rest c = rw (le-ltb maxEngine e a, le-ltb maxModel model h, g, c) refl
 
 module _ (e : ℕ) (s : Register) where
-  pub conviction-2 : 31 < e → convictedOf e s ≡ after 2 s
-  conviction-2 h = rw (lt-ltb 31 e h) refl
+  pub conviction-2 : maxEngine < e → convictedOf e s ≡ after 2 s
+  conviction-2 h = rw (lt-ltb maxEngine e h) refl
 
-  pub conviction-0 : e ≤ 31 → convictedOf e s ≡ after 0 (struck e s)
-  conviction-0 h = rw (le-ltb 31 e h) refl
+  pub conviction-0 : e ≤ maxEngine → convictedOf e s ≡ after 0 (struck e s)
+  conviction-0 h = rw (le-ltb maxEngine e h) refl
 
 -- the convicted engines of what the bytes hold
 pub decoded-convicted : (m : List ℕ) → decode m .convicted ≡ convictedIn m

@@ -20,7 +20,9 @@ use Rattle.places.proofs.Keys.{holds-none, absent}
 use Rattle.places.proofs.Putting.{holds-put}
 use Rattle.places.proofs.Keeping.{holds-kept}
 use Rattle.record.specs.Formed as R
-use Rattle.models.specs.Summary.{engineOf, modelOf, summaryOf}
+use Rattle.models.specs.Summary.{engineOf, modelOf, summaryOf, summarySize, inputsSize}
+use Rattle.record.specs.Layout.{recordSize, maxModel}
+use Rattle.register.specs.Layout.{maxEngine, maxSummaries, maxRecords}
 use Rattle.register.specs.Register.{Register, After, after, signedBy, nothing, ofAnother, struck}
 use Rattle.register.specs.Memory.{summaryFormed}
 use Rattle.register.specs.Calls.{Call, report, summary, conviction, act, sound, convicts, reports, summariesOf, among}
@@ -43,7 +45,7 @@ roomy (c ∷ h) = not (eqb (act c (run h) .answer) 5) && roomy h
 
 -- a summary within the limits, by its bytes
 abbrev pub soundSummary : List ℕ → Bool
-soundSummary p = leb (engineOf p) 31 && (leb (modelOf p) 63 && eqb (length p) 36)
+soundSummary p = leb (engineOf p) maxEngine && (leb (modelOf p) maxModel && eqb (length p) summarySize)
 
 -- ---- laws of tests
 
@@ -81,29 +83,29 @@ pub data Way (fit full free : Bool) (s done : Register) (a : After Register) : T
   settled : a .left ≡ done → eqb (a .answer) 5 ≡ false → fit ≡ true → free ≡ true → full ≡ false → Way fit full free s done a
 
 module _ (s : Register) where
-  pub report-way : (e : ℕ) (r : List ℕ) → Way (sound (report e r)) (not (holds 222 r (s .records)) && leb 96 (length (s .records))) (not (bit (s .convicted) e)) s
-      (record { convicted = s .convicted; summaries = s .summaries; records = putPlace 222 (signedBy e) r (s .records) }) (act (report e r) s)
+  pub report-way : (e : ℕ) (r : List ℕ) → Way (sound (report e r)) (not (holds recordSize r (s .records)) && leb maxRecords (length (s .records))) (not (bit (s .convicted) e)) s
+      (record { convicted = s .convicted; summaries = s .summaries; records = putPlace recordSize (signedBy e) r (s .records) }) (act (report e r) s)
   report-way e r =
-      by (ltb 31 e) (λ a. refused (rw a refl) (rw a refl) (inl (rw (lt-leb e 31 (ltb-true 31 e a)) refl)))
+      by (ltb maxEngine e) (λ a. refused (rw a refl) (rw a refl) (inl (rw (lt-leb e maxEngine (ltb-true maxEngine e a)) refl)))
       (λ a. by (R.wellFormed r)
       (λ b. by (bit (s .convicted) e) (λ c. refused (rw (a, b, c) refl) (rw (a, b, c) refl) (inr (rw c refl)))
-      (λ c. by (not (holds 222 r (s .records)) && leb 96 (length (s .records)))
-      (λ d. filled (rw (a, b, c, d) refl) (rw (a, b, c, d) refl) (rw (le-leb e 31 (ltb-false 31 e a), b) refl) (rw c refl) d)
-      (λ d. settled (rw (a, b, c, d) refl) (rw (a, b, c, d) refl) (rw (le-leb e 31 (ltb-false 31 e a), b) refl) (rw c refl) d)))
+      (λ c. by (not (holds recordSize r (s .records)) && leb maxRecords (length (s .records)))
+      (λ d. filled (rw (a, b, c, d) refl) (rw (a, b, c, d) refl) (rw (le-leb e maxEngine (ltb-false maxEngine e a), b) refl) (rw c refl) d)
+      (λ d. settled (rw (a, b, c, d) refl) (rw (a, b, c, d) refl) (rw (le-leb e maxEngine (ltb-false maxEngine e a), b) refl) (rw c refl) d)))
       (λ b. refused (rw (a, b) refl) (rw (a, b) refl) (inl (rw (b, and-false) refl))))
 
   pub summary-way : (e model spec : ℕ) (inputs : List ℕ)
-      → Way (sound (summary e model spec inputs)) (not (holds 36 (summaryOf e model spec inputs) (s .summaries)) && leb 256 (length (s .summaries))) (not (bit (s .convicted) e)) s
-      (record { convicted = s .convicted; summaries = putPlace 36 nothing (summaryOf e model spec inputs) (s .summaries); records = s .records }) (act (summary e model spec inputs) s)
+      → Way (sound (summary e model spec inputs)) (not (holds summarySize (summaryOf e model spec inputs) (s .summaries)) && leb maxSummaries (length (s .summaries))) (not (bit (s .convicted) e)) s
+      (record { convicted = s .convicted; summaries = putPlace summarySize nothing (summaryOf e model spec inputs) (s .summaries); records = s .records }) (act (summary e model spec inputs) s)
   summary-way e model spec inputs =
-      by (ltb 31 e) (λ a. refused (rw a refl) (rw a refl) (inl (rw (lt-leb e 31 (ltb-true 31 e a)) refl)))
-      (λ a. by (ltb 63 model)
-      (λ b. refused (rw (a, b) refl) (rw (a, b) refl) (inl (rw (lt-leb model 63 (ltb-true 63 model b), and-false) refl)))
-      (λ b. by (eqb (length inputs) 32)
+      by (ltb maxEngine e) (λ a. refused (rw a refl) (rw a refl) (inl (rw (lt-leb e maxEngine (ltb-true maxEngine e a)) refl)))
+      (λ a. by (ltb maxModel model)
+      (λ b. refused (rw (a, b) refl) (rw (a, b) refl) (inl (rw (lt-leb model maxModel (ltb-true maxModel model b), and-false) refl)))
+      (λ b. by (eqb (length inputs) inputsSize)
       (λ g. by (bit (s .convicted) e) (λ c. refused (rw (a, b, g, c) refl) (rw (a, b, g, c) refl) (inr (rw c refl)))
-      (λ c. by (not (holds 36 (summaryOf e model spec inputs) (s .summaries)) && leb 256 (length (s .summaries)))
-      (λ d. filled (rw (a, b, g, c, d) refl) (rw (a, b, g, c, d) refl) (rw (le-leb e 31 (ltb-false 31 e a), le-leb model 63 (ltb-false 63 model b), g) refl) (rw c refl) d)
-      (λ d. settled (rw (a, b, g, c, d) refl) (rw (a, b, g, c, d) refl) (rw (le-leb e 31 (ltb-false 31 e a), le-leb model 63 (ltb-false 63 model b), g) refl) (rw c refl) d)))
+      (λ c. by (not (holds summarySize (summaryOf e model spec inputs) (s .summaries)) && leb maxSummaries (length (s .summaries)))
+      (λ d. filled (rw (a, b, g, c, d) refl) (rw (a, b, g, c, d) refl) (rw (le-leb e maxEngine (ltb-false maxEngine e a), le-leb model maxModel (ltb-false maxModel model b), g) refl) (rw c refl) d)
+      (λ d. settled (rw (a, b, g, c, d) refl) (rw (a, b, g, c, d) refl) (rw (le-leb e maxEngine (ltb-false maxEngine e a), le-leb model maxModel (ltb-false maxModel model b), g) refl) (rw c refl) d)))
       (λ g. refused (rw (a, b, g) refl) (rw (a, b, g) refl) (inl (rw (g, and-false, and-false) refl)))))
 
 -- ---- the claim
@@ -112,7 +114,7 @@ pub record Sum (h : List Call) (s : Register) : Type 0 where
   pub valid : Valid s
   pub struck-off : (e : ℕ) → bit (s .convicted) e ≡ convicts h e
   pub signed-by : (e : ℕ) (r : List ℕ) → bit (signersOf r s) e ≡ (reports h e r && (sound (report e r) && not (convicts h e)))
-  pub held : (p : List ℕ) → holds 36 p (s .summaries) ≡ (among p (summariesOf h) && (soundSummary p && not (convicts h (engineOf p))))
+  pub held : (p : List ℕ) → holds summarySize p (s .summaries) ≡ (among p (summariesOf h) && (soundSummary p && not (convicts h (engineOf p))))
 
 -- ---- one report
 
@@ -141,11 +143,11 @@ module _ (k : ℕ) (q : List ℕ) (h : List Call) (s : Register) (u : Sum h s) w
       rw (sym i, sym j, sym (u .struck-off k), w, c) refl
 
   module _ (w : sound (report k q) ≡ true) (c : bit (s .convicted) k ≡ false) where
-    a : k ≤ 31
-    a = leb-true k 31 (and-left (leb k 31) (R.wellFormed q) w)
+    a : k ≤ maxEngine
+    a = leb-true k maxEngine (and-left (leb k maxEngine) (R.wellFormed q) w)
 
     b : R.wellFormed q ≡ true
-    b = and-right (leb k 31) (R.wellFormed q) w
+    b = and-right (leb k maxEngine) (R.wellFormed q) w
 
     after-bit : (e : ℕ) (r : List ℕ) → bit (signersOf r (with-report s (u .valid) k q a b)) e ≡ (eqb k e && same q r || bit (signersOf r s) e)
     after-bit e r =
@@ -154,7 +156,7 @@ module _ (k : ℕ) (q : List ℕ) (h : List Call) (s : Register) (u : Sum h s) w
         (λ x. rw (x, bit-set (signersOf r s) k e, and-true) refl)
         (λ x. rw (x, and-false) refl)
 
-    report-done : (not (holds 222 q (s .records)) && leb 96 (length (s .records))) ≡ false → Sum (report k q ∷ h) (with-report s (u .valid) k q a b)
+    report-done : (not (holds recordSize q (s .records)) && leb maxRecords (length (s .records))) ≡ false → Sum (report k q ∷ h) (with-report s (u .valid) k q a b)
     unfolding convicts reports summariesOf among
     report-done f = record {
       valid = report-valid s (u .valid) k q a b c f;
@@ -167,19 +169,19 @@ module _ (k : ℕ) (q : List ℕ) (h : List Call) (s : Register) (u : Sum h s) w
 
 -- its bytes say whether it is malformed
 pub by-bytes : (k model spec : ℕ) (inputs : List ℕ) → sound (summary k model spec inputs) ≡ soundSummary (summaryOf k model spec inputs)
-by-bytes k model spec inputs = ap (λ (b : Bool). leb k 31 && (leb model 63 && b)) fit
+by-bytes k model spec inputs = ap (λ (b : Bool). leb k maxEngine && (leb model maxModel && b)) fit
   where
     q : List ℕ
     q = summaryOf k model spec inputs
 
-    back : length q ≡ 36 → length inputs ≡ 32
+    back : length q ≡ summarySize → length inputs ≡ inputsSize
     back y = let z = summary-longer k model spec inputs in omega arith
 
-    fit : eqb (length inputs) 32 ≡ eqb (length q) 36
+    fit : eqb (length inputs) inputsSize ≡ eqb (length q) summarySize
     fit =
-        by (eqb (length inputs) 32)
-        (λ z. z ∙ sym (eq-eqb (length q) 36 (summary-length k model spec inputs (eqb-true (length inputs) 32 z))))
-        (λ z. z ∙ sym (ne-eqb (length q) 36 (λ y. eqb-false (length inputs) 32 z (back y))))
+        by (eqb (length inputs) inputsSize)
+        (λ z. z ∙ sym (eq-eqb (length q) summarySize (summary-length k model spec inputs (eqb-true (length inputs) inputsSize z))))
+        (λ z. z ∙ sym (ne-eqb (length q) summarySize (λ y. eqb-false (length inputs) inputsSize z (back y))))
 
 module _ (k model spec : ℕ) (inputs : List ℕ) (h : List Call) (s : Register) (u : Sum h s) where
   abbrev q : List ℕ
@@ -201,22 +203,22 @@ module _ (k model spec : ℕ) (inputs : List ℕ) (h : List Call) (s : Register)
           (λ (z : not (bit (s .convicted) k) ≡ false). and-none (soundSummary q) (not (convicts h k)) (rw (sym (u .struck-off k)) z)) w)
 
   module _ (w : sound (summary k model spec inputs) ≡ true) (c : bit (s .convicted) k ≡ false) where
-    long : length q ≡ 36
-    long = summary-length k model spec inputs (eqb-true (length inputs) 32 (and-right (leb model 63) (eqb (length inputs) 32) (and-right (leb k 31) (leb model 63 && eqb (length inputs) 32) w)))
+    long : length q ≡ summarySize
+    long = summary-length k model spec inputs (eqb-true (length inputs) inputsSize (and-right (leb model maxModel) (eqb (length inputs) inputsSize) (and-right (leb k maxEngine) (leb model maxModel && eqb (length inputs) inputsSize) w)))
 
     formed : summaryFormed (s .convicted) q ≡ true
     formed =
-        let x = and-left (leb k 31) (leb model 63 && eqb (length inputs) 32) w in
-        let y = and-left (leb model 63) (eqb (length inputs) 32) (and-right (leb k 31) (leb model 63 && eqb (length inputs) 32) w) in
+        let x = and-left (leb k maxEngine) (leb model maxModel && eqb (length inputs) inputsSize) w in
+        let y = and-left (leb model maxModel) (eqb (length inputs) inputsSize) (and-right (leb k maxEngine) (leb model maxModel && eqb (length inputs) inputsSize) w) in
         rw (x, y, c) refl
 
-    summary-done : (not (holds 36 q (s .summaries)) && leb 256 (length (s .summaries))) ≡ false → Sum (summary k model spec inputs ∷ h) (with-summary s (u .valid) q long formed)
+    summary-done : (not (holds summarySize q (s .summaries)) && leb maxSummaries (length (s .summaries))) ≡ false → Sum (summary k model spec inputs ∷ h) (with-summary s (u .valid) q long formed)
     unfolding convicts reports summariesOf among
     summary-done f = record {
       valid = summary-valid s (u .valid) q long formed f;
       struck-off = u .struck-off;
       signed-by = u .signed-by;
-      held = λ p. holds-put 36 nothing q long p (s .summaries) ∙ rw (u .held p) (keep-or (same q p) (among p (summariesOf h)) (soundSummary p && not (convicts h (engineOf p))) (λ a. stays p (same-eq q p a)));
+      held = λ p. holds-put summarySize nothing q long p (s .summaries) ∙ rw (u .held p) (keep-or (same q p) (among p (summariesOf h)) (soundSummary p && not (convicts h (engineOf p))) (λ a. stays p (same-eq q p a)));
     }
       where
         stays : (p : List ℕ) → q ≡ p → (soundSummary p && not (convicts h (engineOf p))) ≡ true
@@ -229,26 +231,26 @@ module _ (k : ℕ) (h : List Call) (s : Register) (u : Sum h s) where
   v = u .valid
 
   -- a summary stays where it is of another engine
-  pub struck-holds : (p : List ℕ) → holds 36 p (struck k s .summaries) ≡ (not (eqb k (engineOf p)) && holds 36 p (s .summaries))
+  pub struck-holds : (p : List ℕ) → holds summarySize p (struck k s .summaries) ≡ (not (eqb k (engineOf p)) && holds summarySize p (s .summaries))
   struck-holds p =
-      holds-kept 36 (ofAnother k) nothing 36 all-of none-more p (s .summaries) (v .summaries-wide) (v .summaries-ascend)
-      ∙ ap (λ (l : List ℕ). holds 36 p (s .summaries) && ofAnother k (p ++ l)) empty
-      ∙ ap (λ (l : List ℕ). holds 36 p (s .summaries) && ofAnother k l) (append-nil p)
-      ∙ and-swap (holds 36 p (s .summaries)) (ofAnother k p)
-      ∙ ap (λ (b : Bool). not b && holds 36 p (s .summaries)) (eqb-swap (engineOf p) k)
+      holds-kept summarySize (ofAnother k) nothing summarySize all-of none-more p (s .summaries) (v .summaries-wide) (v .summaries-ascend)
+      ∙ ap (λ (l : List ℕ). holds summarySize p (s .summaries) && ofAnother k (p ++ l)) empty
+      ∙ ap (λ (l : List ℕ). holds summarySize p (s .summaries) && ofAnother k l) (append-nil p)
+      ∙ and-swap (holds summarySize p (s .summaries)) (ofAnother k p)
+      ∙ ap (λ (b : Bool). not b && holds summarySize p (s .summaries)) (eqb-swap (engineOf p) k)
     where
-      empty : lookup 36 p (s .summaries) ≡ []
+      empty : lookup summarySize p (s .summaries) ≡ []
       empty = nothing-follows p (s .summaries) (v .summaries-wide)
 
   conviction-step : Sum (conviction k ∷ h) (act (conviction k) s .left)
   unfolding convicts reports summariesOf among
   conviction-step =
-      by (ltb 31 k)
-      (λ a. let b = lt-leb k 31 (ltb-true 31 k a) in rw a (record { valid = v; struck-off = λ e. rw b (u .struck-off e); signed-by = λ e r. rw b (u .signed-by e r); held = λ p. rw b (u .held p) }))
-      (λ a. let b = le-leb k 31 (ltb-false 31 k a) in rw a (record {
-        valid = struck-valid s v k (ltb-false 31 k a);
+      by (ltb maxEngine k)
+      (λ a. let b = lt-leb k maxEngine (ltb-true maxEngine k a) in rw a (record { valid = v; struck-off = λ e. rw b (u .struck-off e); signed-by = λ e r. rw b (u .signed-by e r); held = λ p. rw b (u .held p) }))
+      (λ a. let b = le-leb k maxEngine (ltb-false maxEngine k a) in rw a (record {
+        valid = struck-valid s v k (ltb-false maxEngine k a);
         struck-off = λ e. rw b (bit-set (s .convicted) k e ∙ rw (u .struck-off e) refl);
-        signed-by = λ e r. rw b (ap (λ (n : ℕ). bit n e) (struck-signers s v k (ltb-false 31 k a) r) ∙ bit-clear (signersOf r s) k e
+        signed-by = λ e r. rw b (ap (λ (n : ℕ). bit n e) (struck-signers s v k (ltb-false maxEngine k a) r) ∙ bit-clear (signersOf r s) k e
             ∙ rw (u .signed-by e r) (struck-from (eqb k e) (reports h e r) (sound (report e r)) (convicts h e)));
         held = λ p. rw b (struck-holds p ∙ rw (u .held p) (struck-from (eqb k (engineOf p)) (among p (summariesOf h)) (soundSummary p) (convicts h (engineOf p))));
       }))

@@ -16,7 +16,9 @@ use Rattle.octets.proofs.Comparison.{same-refl}
 use Rattle.octets.proofs.Numbers.{Bytes, bytes-take, bytes-drop, bytes-of-word, word-lt}
 use Rattle.places.specs.Places.{places, allPlaces}
 use Rattle.record.specs.Formed as R
-use Rattle.models.specs.Summary.{summaryOf}
+use Rattle.models.specs.Summary.{summaryOf, summarySize, inputsSize}
+use Rattle.record.specs.Layout.{recordSize, maxModel}
+use Rattle.register.specs.Layout.{maxEngine, placeSize, recordsAt}
 use Rattle.register.specs.Register.{Register, After, after, signersIn}
 use Rattle.register.specs.Memory.{wellFormed, convictedIn, recordCount, recordBytes, placeFormed, summaryFormed, decode, encode, settled, onMemory}
 use Rattle.register.specs.Calls.{Call, report, summary, conviction, act}
@@ -29,22 +31,22 @@ use Rattle.register.proofs.History.{report-way, summary-way}
 -- ---- what bytes decode to is valid
 
 -- the signers of a place are its 4 last bytes
-signers-bytes : (t : List ℕ) → Bytes t → 226 ≤ length t → wordBytes 4 (signersIn (take 226 t)) ≡ drop 222 (take 226 t)
+signers-bytes : (t : List ℕ) → Bytes t → placeSize ≤ length t → wordBytes 4 (signersIn (take placeSize t)) ≡ drop recordSize (take placeSize t)
 signers-bytes t b l =
-    let d = drop 222 (take 226 t) in
+    let d = drop recordSize (take placeSize t) in
     let n : length d ≡ 4 = simp (length-drop, length-take) (omega arith) in
-    ap (λ (x : ℕ). wordBytes x (word d)) (sym n) ∙ bytes-of-word d (bytes-drop 222 (take 226 t) (bytes-take 226 t b))
+    ap (λ (x : ℕ). wordBytes x (word d)) (sym n) ∙ bytes-of-word d (bytes-drop recordSize (take placeSize t) (bytes-take placeSize t b))
 
-all-held : (c n : ℕ) (t : List ℕ) → Bytes t → n * 226 ≤ length t → allPlaces (placeFormed c) (places 226 n t) ≡ true → allPlaces (placeHeld c) (places 226 n t) ≡ true
+all-held : (c n : ℕ) (t : List ℕ) → Bytes t → n * placeSize ≤ length t → allPlaces (placeFormed c) (places placeSize n t) ≡ true → allPlaces (placeHeld c) (places placeSize n t) ≡ true
 unfolding allPlaces places
 all-held c zero t b l a = refl
 all-held c (suc n) t b l a =
-    let p = take 226 t in
-    let rest = places 226 n (drop 226 t) in
+    let p = take placeSize t in
+    let rest = places placeSize n (drop placeSize t) in
     and-both (placeHeld c p) (allPlaces (placeHeld c) rest)
-    (and-both (placeFormed c p) (same (wordBytes 4 (signersIn p)) (drop 222 p)) (and-left (placeFormed c p) (allPlaces (placeFormed c) rest) a)
-    (rw (signers-bytes t b (omega arith)) (same-refl (drop 222 p))))
-    (all-held c n (drop 226 t) (bytes-drop 226 t b) (rw length-drop (omega arith)) (and-right (placeFormed c p) (allPlaces (placeFormed c) rest) a))
+    (and-both (placeFormed c p) (same (wordBytes 4 (signersIn p)) (drop recordSize p)) (and-left (placeFormed c p) (allPlaces (placeFormed c) rest) a)
+    (rw (signers-bytes t b (omega arith)) (same-refl (drop recordSize p))))
+    (all-held c n (drop placeSize t) (bytes-drop placeSize t b) (rw length-drop (omega arith)) (and-right (placeFormed c p) (allPlaces (placeFormed c) rest) a))
 
 module _ (m : List ℕ) (o : Opened m) (b : Bytes m) where
   convicted-small : convictedIn m < 256 ^ 4
@@ -64,7 +66,7 @@ module _ (m : List ℕ) (o : Opened m) (b : Bytes m) where
     summaries-ascend = summaries-ascend m o;
     records-ascend = records-ascend m o;
     summaries-formed = o .summaries-formed;
-    records-held = all-held (convictedIn m) (recordCount m) (recordBytes m) (bytes-drop 9224 m b) (let f = o .few-records in rw (record-bytes-length m o) (omega arith)) (o .records-formed);
+    records-held = all-held (convictedIn m) (recordCount m) (recordBytes m) (bytes-drop recordsAt m b) (let f = o .few-records in rw (record-bytes-length m o) (omega arith)) (o .records-formed);
   }
 
 -- ---- every call leaves a valid register
@@ -74,7 +76,7 @@ act-valid (report e r) s v =
     elim (report-way s e r) [
       | H.refused l n w ↦ rw l v
       | H.filled a l w c f ↦ rw l v
-      | H.settled l n w c f ↦ rw l (report-valid s v e r (leb-true e 31 (and-left (leb e 31) (R.wellFormed r) w)) (and-right (leb e 31) (R.wellFormed r) w) (not-true (bit (s .convicted) e) c) f)
+      | H.settled l n w c f ↦ rw l (report-valid s v e r (leb-true e maxEngine (and-left (leb e maxEngine) (R.wellFormed r) w)) (and-right (leb e maxEngine) (R.wellFormed r) w) (not-true (bit (s .convicted) e) c) f)
     ]
 act-valid (summary e model spec inputs) s v =
     elim (summary-way s e model spec inputs) [
@@ -83,15 +85,15 @@ act-valid (summary e model spec inputs) s v =
       | H.settled l n w c f ↦ rw l (summary-valid s v (summaryOf e model spec inputs) (long w) (formed w (not-true (bit (s .convicted) e) c)) f)
     ]
   where
-    fit : (leb e 31 && (leb model 63 && eqb (length inputs) 32)) ≡ true → (leb model 63 && eqb (length inputs) 32) ≡ true
-    fit w = and-right (leb e 31) (leb model 63 && eqb (length inputs) 32) w
+    fit : (leb e maxEngine && (leb model maxModel && eqb (length inputs) inputsSize)) ≡ true → (leb model maxModel && eqb (length inputs) inputsSize) ≡ true
+    fit w = and-right (leb e maxEngine) (leb model maxModel && eqb (length inputs) inputsSize) w
 
-    long : (leb e 31 && (leb model 63 && eqb (length inputs) 32)) ≡ true → length (summaryOf e model spec inputs) ≡ 36
-    long w = summary-length e model spec inputs (eqb-true (length inputs) 32 (and-right (leb model 63) (eqb (length inputs) 32) (fit w)))
+    long : (leb e maxEngine && (leb model maxModel && eqb (length inputs) inputsSize)) ≡ true → length (summaryOf e model spec inputs) ≡ summarySize
+    long w = summary-length e model spec inputs (eqb-true (length inputs) inputsSize (and-right (leb model maxModel) (eqb (length inputs) inputsSize) (fit w)))
 
-    formed : (leb e 31 && (leb model 63 && eqb (length inputs) 32)) ≡ true → bit (s .convicted) e ≡ false → summaryFormed (s .convicted) (summaryOf e model spec inputs) ≡ true
-    formed w c = rw (and-left (leb e 31) (leb model 63 && eqb (length inputs) 32) w, and-left (leb model 63) (eqb (length inputs) 32) (fit w), c) refl
-act-valid (conviction e) s v = by (ltb 31 e) (λ a. rw a v) (λ a. rw a (struck-valid s v e (ltb-false 31 e a)))
+    formed : (leb e maxEngine && (leb model maxModel && eqb (length inputs) inputsSize)) ≡ true → bit (s .convicted) e ≡ false → summaryFormed (s .convicted) (summaryOf e model spec inputs) ≡ true
+    formed w c = rw (and-left (leb e maxEngine) (leb model maxModel && eqb (length inputs) inputsSize) w, and-left (leb model maxModel) (eqb (length inputs) inputsSize) (fit w), c) refl
+act-valid (conviction e) s v = by (ltb maxEngine e) (λ a. rw a v) (λ a. rw a (struck-valid s v e (ltb-false maxEngine e a)))
 
 -- ---- on the bytes
 

@@ -14,37 +14,40 @@ use Rattle.octets.proofs.Cases.{and-left, and-right}
 use Rattle.octets.proofs.Numbers.{Bytes, bytes-take, bytes-drop, bytes-of-word}
 use Rattle.places.specs.Places.{places, tableOf, isTable, ascending, allPlaces}
 use Rattle.places.proofs.Tables.{wide, places-wide, length-places, table-is}
+use Rattle.models.specs.Summary.{summarySize}
+use Rattle.record.specs.Layout.{recordSize}
+use Rattle.register.specs.Layout.{maxSummaries, maxRecords, placeSize, summariesAt, summariesSize, recordsSize, registerSize, summaryCountAt, recordCountAt}
 use Rattle.register.specs.Memory as M
 use Rattle.register.specs.Memory.{wellFormed, convictedIn, summaryCount, recordCount, summaryBytes, recordBytes, summariesIn, recordsIn, summaryFormed, placeFormed, decode, encode}
 use Rattle.register.proofs.Frames.{frame}
 
 pub record Opened (m : List ℕ) : Type 0 where
-  pub size : length m ≡ 30920
-  pub few-summaries : summaryCount m ≤ 256
-  pub few-records : recordCount m ≤ 96
-  pub summary-table : isTable 36 36 (summaryCount m) (summaryBytes m) ≡ true
+  pub size : length m ≡ registerSize
+  pub few-summaries : summaryCount m ≤ maxSummaries
+  pub few-records : recordCount m ≤ maxRecords
+  pub summary-table : isTable summarySize summarySize (summaryCount m) (summaryBytes m) ≡ true
   pub summaries-formed : allPlaces (summaryFormed (convictedIn m)) (summariesIn m) ≡ true
-  pub record-table : isTable 222 226 (recordCount m) (recordBytes m) ≡ true
+  pub record-table : isTable recordSize placeSize (recordCount m) (recordBytes m) ≡ true
   pub records-formed : allPlaces (placeFormed (convictedIn m)) (recordsIn m) ≡ true
 
 pub opened : (m : List ℕ) → wellFormed m ≡ true → Opened m
 unfolding wellFormed
 opened m h =
-    let a₂ = leb (summaryCount m) 256 in
-    let a₃ = leb (recordCount m) 96 in
-    let a₄ = isTable 36 36 (summaryCount m) (summaryBytes m) in
+    let a₂ = leb (summaryCount m) maxSummaries in
+    let a₃ = leb (recordCount m) maxRecords in
+    let a₄ = isTable summarySize summarySize (summaryCount m) (summaryBytes m) in
     let a₅ = allPlaces (summaryFormed (convictedIn m)) (summariesIn m) in
-    let a₆ = isTable 222 226 (recordCount m) (recordBytes m) in
+    let a₆ = isTable recordSize placeSize (recordCount m) (recordBytes m) in
     let a₇ = allPlaces (placeFormed (convictedIn m)) (recordsIn m) in
-    let h₂ = and-right (eqb (length m) 30920) (a₂ && (a₃ && (a₄ && (a₅ && (a₆ && a₇))))) h in
+    let h₂ = and-right (eqb (length m) registerSize) (a₂ && (a₃ && (a₄ && (a₅ && (a₆ && a₇))))) h in
     let h₃ = and-right a₂ (a₃ && (a₄ && (a₅ && (a₆ && a₇)))) h₂ in
     let h₄ = and-right a₃ (a₄ && (a₅ && (a₆ && a₇))) h₃ in
     let h₅ = and-right a₄ (a₅ && (a₆ && a₇)) h₄ in
     let h₆ = and-right a₅ (a₆ && a₇) h₅ in
     record {
-      size = eqb-true (length m) 30920 (and-left (eqb (length m) 30920) (a₂ && (a₃ && (a₄ && (a₅ && (a₆ && a₇))))) h);
-      few-summaries = leb-true (summaryCount m) 256 (and-left a₂ (a₃ && (a₄ && (a₅ && (a₆ && a₇)))) h₂);
-      few-records = leb-true (recordCount m) 96 (and-left a₃ (a₄ && (a₅ && (a₆ && a₇))) h₃);
+      size = eqb-true (length m) registerSize (and-left (eqb (length m) registerSize) (a₂ && (a₃ && (a₄ && (a₅ && (a₆ && a₇))))) h);
+      few-summaries = leb-true (summaryCount m) maxSummaries (and-left a₂ (a₃ && (a₄ && (a₅ && (a₆ && a₇)))) h₂);
+      few-records = leb-true (recordCount m) maxRecords (and-left a₃ (a₄ && (a₅ && (a₆ && a₇))) h₃);
       summary-table = and-left a₄ (a₅ && (a₆ && a₇)) h₄;
       summaries-formed = and-left a₅ (a₆ && a₇) h₅;
       record-table = and-left a₆ a₇ h₆;
@@ -52,38 +55,38 @@ opened m h =
     }
 
 module _ (m : List ℕ) (o : Opened m) where
-  pub summary-bytes-length : length (summaryBytes m) ≡ 9216
+  pub summary-bytes-length : length (summaryBytes m) ≡ summariesSize
   summary-bytes-length = let s = o .size in simp (length-take, length-drop) (omega arith)
 
-  pub record-bytes-length : length (recordBytes m) ≡ 21696
+  pub record-bytes-length : length (recordBytes m) ≡ recordsSize
   record-bytes-length = let s = o .size in rw length-drop (omega arith)
 
   pub summaries-length : length (summariesIn m) ≡ summaryCount m
-  summaries-length = length-places 36 (summaryCount m) (summaryBytes m)
+  summaries-length = length-places summarySize (summaryCount m) (summaryBytes m)
 
   pub records-length : length (recordsIn m) ≡ recordCount m
-  records-length = length-places 226 (recordCount m) (recordBytes m)
+  records-length = length-places placeSize (recordCount m) (recordBytes m)
 
-  pub summaries-wide : wide 36 (summariesIn m)
-  summaries-wide = let f = o .few-summaries in places-wide 36 (summaryCount m) (summaryBytes m) (rw summary-bytes-length (omega arith))
+  pub summaries-wide : wide summarySize (summariesIn m)
+  summaries-wide = let f = o .few-summaries in places-wide summarySize (summaryCount m) (summaryBytes m) (rw summary-bytes-length (omega arith))
 
-  pub records-wide : wide 226 (recordsIn m)
-  records-wide = let f = o .few-records in places-wide 226 (recordCount m) (recordBytes m) (rw record-bytes-length (omega arith))
+  pub records-wide : wide placeSize (recordsIn m)
+  records-wide = let f = o .few-records in places-wide placeSize (recordCount m) (recordBytes m) (rw record-bytes-length (omega arith))
 
-  pub summaries-ascend : ascending 36 (summariesIn m) ≡ true
-  summaries-ascend = and-left (ascending 36 (summariesIn m)) (allZero (drop (summaryCount m * 36) (summaryBytes m))) (o .summary-table)
+  pub summaries-ascend : ascending summarySize (summariesIn m) ≡ true
+  summaries-ascend = and-left (ascending summarySize (summariesIn m)) (allZero (drop (summaryCount m * summarySize) (summaryBytes m))) (o .summary-table)
 
-  pub records-ascend : ascending 222 (recordsIn m) ≡ true
-  records-ascend = and-left (ascending 222 (recordsIn m)) (allZero (drop (recordCount m * 226) (recordBytes m))) (o .record-table)
+  pub records-ascend : ascending recordSize (recordsIn m) ≡ true
+  records-ascend = and-left (ascending recordSize (recordsIn m)) (allZero (drop (recordCount m * placeSize) (recordBytes m))) (o .record-table)
 
-  pub summaries-are : summaryBytes m ≡ tableOf 36 256 (summariesIn m)
-  summaries-are = table-is 36 256 (summaryCount m) 36 (summaryBytes m) summary-bytes-length (o .few-summaries) (o .summary-table)
+  pub summaries-are : summaryBytes m ≡ tableOf summarySize maxSummaries (summariesIn m)
+  summaries-are = table-is summarySize maxSummaries (summaryCount m) summarySize (summaryBytes m) summary-bytes-length (o .few-summaries) (o .summary-table)
 
-  pub records-are : recordBytes m ≡ tableOf 226 96 (recordsIn m)
-  records-are = table-is 226 96 (recordCount m) 222 (recordBytes m) record-bytes-length (o .few-records) (o .record-table)
+  pub records-are : recordBytes m ≡ tableOf placeSize maxRecords (recordsIn m)
+  records-are = table-is placeSize maxRecords (recordCount m) recordSize (recordBytes m) record-bytes-length (o .few-records) (o .record-table)
 
   module _ (b : Bytes m) where
-    word-part : (at n : ℕ) → at + n ≤ 30920 → take n (drop at m) ≡ wordBytes n (wordAt n at m)
+    word-part : (at n : ℕ) → at + n ≤ registerSize → take n (drop at m) ≡ wordBytes n (wordAt n at m)
     word-part at n h =
         let s = o .size in
         let l : length (take n (drop at m)) ≡ n = length-take-le n (drop at m) (rw length-drop (omega arith)) in
@@ -93,14 +96,14 @@ module _ (m : List ℕ) (o : Opened m) where
     cut at n = sym (take-append-drop n (drop at m)) ∙ ap (λ (t : List ℕ). take n (drop at m) ++ t) (drop-drop n at m)
 
     -- the bytes are those of what they hold
-    pub framed : m ≡ frame (convictedIn m) (length (summariesIn m)) (length (recordsIn m)) (tableOf 36 256 (summariesIn m)) (tableOf 226 96 (recordsIn m))
+    pub framed : m ≡ frame (convictedIn m) (length (summariesIn m)) (length (recordsIn m)) (tableOf summarySize maxSummaries (summariesIn m)) (tableOf placeSize maxRecords (recordsIn m))
     framed =
-        let p₀ : drop 0 m ≡ wordBytes 4 (convictedIn m) ++ drop 4 m = cut 0 4 ∙ ap (λ (t : List ℕ). t ++ drop 4 m) (word-part 0 4 (omega arith)) in
-        let p₁ : drop 4 m ≡ wordBytes 2 (length (summariesIn m)) ++ drop 6 m =
-        cut 4 2 ∙ ap (λ (t : List ℕ). t ++ drop 6 m) (word-part 4 2 (omega arith) ∙ ap (wordBytes 2) (sym summaries-length)) in
-        let p₂ : drop 6 m ≡ wordBytes 2 (length (recordsIn m)) ++ drop 8 m =
-        cut 6 2 ∙ ap (λ (t : List ℕ). t ++ drop 8 m) (word-part 6 2 (omega arith) ∙ ap (wordBytes 2) (sym records-length)) in
-        let p₃ : drop 8 m ≡ tableOf 36 256 (summariesIn m) ++ tableOf 226 96 (recordsIn m) = cut 8 9216 ∙ ap₂ (λ (x y : List ℕ). x ++ y) summaries-are records-are in
+        let p₀ : drop 0 m ≡ wordBytes 4 (convictedIn m) ++ drop summaryCountAt m = cut 0 4 ∙ ap (λ (t : List ℕ). t ++ drop summaryCountAt m) (word-part 0 4 (omega arith)) in
+        let p₁ : drop summaryCountAt m ≡ wordBytes 2 (length (summariesIn m)) ++ drop recordCountAt m =
+        cut summaryCountAt 2 ∙ ap (λ (t : List ℕ). t ++ drop recordCountAt m) (word-part summaryCountAt 2 (omega arith) ∙ ap (wordBytes 2) (sym summaries-length)) in
+        let p₂ : drop recordCountAt m ≡ wordBytes 2 (length (recordsIn m)) ++ drop summariesAt m =
+        cut recordCountAt 2 ∙ ap (λ (t : List ℕ). t ++ drop summariesAt m) (word-part recordCountAt 2 (omega arith) ∙ ap (wordBytes 2) (sym records-length)) in
+        let p₃ : drop summariesAt m ≡ tableOf summarySize maxSummaries (summariesIn m) ++ tableOf placeSize maxRecords (recordsIn m) = cut summariesAt summariesSize ∙ ap₂ (λ (x y : List ℕ). x ++ y) summaries-are records-are in
         p₀ ∙ ap (λ (t : List ℕ). wordBytes 4 (convictedIn m) ++ t) (p₁ ∙ ap (λ (t : List ℕ). wordBytes 2 (length (summariesIn m)) ++ t) (p₂ ∙ ap (λ (t : List ℕ). wordBytes 2 (length (recordsIn m)) ++ t) p₃))
 
     -- a well-formed memory is the encoding of what it decodes to

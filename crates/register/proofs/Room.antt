@@ -13,7 +13,9 @@ use Rattle.octets.proofs.Cases.{by, and-left, and-right, and-both}
 use Rattle.octets.proofs.Comparison.{same-eq, same-refl, before-irrefl}
 use Rattle.places.specs.Places.{ascendingFrom, ascending, holds}
 use Rattle.places.proofs.Keys.{holds-none, holds-here, holds-later, none-below, ascending-from, from-ascending}
-use Rattle.models.specs.Summary.{summaryOf}
+use Rattle.models.specs.Summary.{summaryOf, summarySize}
+use Rattle.record.specs.Layout.{recordSize}
+use Rattle.register.specs.Layout.{maxEngine, maxSummaries, maxRecords}
 use Rattle.register.specs.Register.{Register, After}
 use Rattle.register.specs.Memory.{encode, fresh, onMemory}
 use Rattle.register.specs.Calls.{Call, report, summary, conviction, act, sound, convicts, keep, remaining, reports, recordsOf, summariesOf, among, different, fits, alwaysFits, noneFull}
@@ -128,51 +130,51 @@ module _ (h : List Call) (s : Register) (u : Sum h s) where
   signs : (e : ℕ) (r : List ℕ) → bit (signersOf r s) e ≡ reports (remaining h) e r
   signs e r = u .signed-by e r ∙ sym (kept-reports (convicts h) e r h)
 
-  held-records : (r : List ℕ) → holds 222 r (s .records) ≡ among r (recordsOf (remaining h))
+  held-records : (r : List ℕ) → holds recordSize r (s .records) ≡ among r (recordsOf (remaining h))
   held-records = record-held s (u .valid) (remaining h) signs
 
-  held-summaries : (p : List ℕ) → holds 36 p (s .summaries) ≡ among p (summariesOf (remaining h))
+  held-summaries : (p : List ℕ) → holds summarySize p (s .summaries) ≡ among p (summariesOf (remaining h))
   held-summaries p = u .held p ∙ sym (kept-summaries (convicts h) p h)
 
   record-count : length (different (recordsOf (remaining h))) ≡ length (s .records)
-  record-count = count-of 222 (s .records) (recordsOf (remaining h)) (u .valid .records-ascend) held-records
+  record-count = count-of recordSize (s .records) (recordsOf (remaining h)) (u .valid .records-ascend) held-records
 
   summary-count : length (different (summariesOf (remaining h))) ≡ length (s .summaries)
-  summary-count = count-of 36 (s .summaries) (summariesOf (remaining h)) (u .valid .summaries-ascend) held-summaries
+  summary-count = count-of summarySize (s .summaries) (summariesOf (remaining h)) (u .valid .summaries-ascend) held-summaries
 
   room : fits h ≡ true
   room =
-      and-both (leb (length (different (recordsOf (remaining h)))) 96) (leb (length (different (summariesOf (remaining h)))) 256)
-      (le-leb (length (different (recordsOf (remaining h)))) 96 (rw record-count (u .valid .few-records)))
-      (le-leb (length (different (summariesOf (remaining h)))) 256 (rw summary-count (u .valid .few-summaries)))
+      and-both (leb (length (different (recordsOf (remaining h)))) maxRecords) (leb (length (different (summariesOf (remaining h)))) maxSummaries)
+      (le-leb (length (different (recordsOf (remaining h)))) maxRecords (rw record-count (u .valid .few-records)))
+      (le-leb (length (different (summariesOf (remaining h)))) maxSummaries (rw summary-count (u .valid .few-summaries)))
 
   -- one that remains, more than there is room for
-  over-records : (k : ℕ) (q : List ℕ) → sound (report k q) ≡ true → not (bit (s .convicted) k) ≡ true → (not (holds 222 q (s .records)) && leb 96 (length (s .records))) ≡ true → fits (report k q ∷ h) ≡ false
+  over-records : (k : ℕ) (q : List ℕ) → sound (report k q) ≡ true → not (bit (s .convicted) k) ≡ true → (not (holds recordSize q (s .records)) && leb maxRecords (length (s .records))) ≡ true → fits (report k q ∷ h) ≡ false
   unfolding convicts keep recordsOf
   over-records k q w c f =
-      let n = not-true (holds 222 q (s .records)) (and-left (not (holds 222 q (s .records))) (leb 96 (length (s .records))) f) in
-      let m = leb-true 96 (length (s .records)) (and-right (not (holds 222 q (s .records))) (leb 96 (length (s .records))) f) in
+      let n = not-true (holds recordSize q (s .records)) (and-left (not (holds recordSize q (s .records))) (leb maxRecords (length (s .records))) f) in
+      let m = leb-true maxRecords (length (s .records)) (and-right (not (holds recordSize q (s .records))) (leb maxRecords (length (s .records))) f) in
       let a : among q (recordsOf (remaining h)) ≡ false = sym (held-records q) ∙ n in
       let x : not (convicts h k) ≡ true = ap not (sym (u .struck-off k)) ∙ c in
-      let l : leb (length (different (q ∷ recordsOf (remaining h)))) 96 ≡ false = lt-leb (length (different (q ∷ recordsOf (remaining h)))) 96 (rw (different-new q (recordsOf (remaining h)) a, record-count) (omega arith)) in
+      let l : leb (length (different (q ∷ recordsOf (remaining h)))) maxRecords ≡ false = lt-leb (length (different (q ∷ recordsOf (remaining h)))) maxRecords (rw (different-new q (recordsOf (remaining h)) a, record-count) (omega arith)) in
       rw (w, x, l) refl
 
   over-summaries : (k model spec : ℕ) (inputs : List ℕ) → sound (summary k model spec inputs) ≡ true → not (bit (s .convicted) k) ≡ true
-      → (not (holds 36 (summaryOf k model spec inputs) (s .summaries)) && leb 256 (length (s .summaries))) ≡ true → fits (summary k model spec inputs ∷ h) ≡ false
+      → (not (holds summarySize (summaryOf k model spec inputs) (s .summaries)) && leb maxSummaries (length (s .summaries))) ≡ true → fits (summary k model spec inputs ∷ h) ≡ false
   unfolding convicts keep summariesOf recordsOf
   over-summaries k model spec inputs w c f =
       let q = summaryOf k model spec inputs in
-      let n = not-true (holds 36 q (s .summaries)) (and-left (not (holds 36 q (s .summaries))) (leb 256 (length (s .summaries))) f) in
-      let m = leb-true 256 (length (s .summaries)) (and-right (not (holds 36 q (s .summaries))) (leb 256 (length (s .summaries))) f) in
+      let n = not-true (holds summarySize q (s .summaries)) (and-left (not (holds summarySize q (s .summaries))) (leb maxSummaries (length (s .summaries))) f) in
+      let m = leb-true maxSummaries (length (s .summaries)) (and-right (not (holds summarySize q (s .summaries))) (leb maxSummaries (length (s .summaries))) f) in
       let a : among q (summariesOf (remaining h)) ≡ false = sym (held-summaries q) ∙ n in
       let x : not (convicts h k) ≡ true = ap not (sym (u .struck-off k)) ∙ c in
-      let l : leb (length (different (q ∷ summariesOf (remaining h)))) 256 ≡ false = lt-leb (length (different (q ∷ summariesOf (remaining h)))) 256 (rw (different-new q (summariesOf (remaining h)) a, summary-count) (omega arith)) in
+      let l : leb (length (different (q ∷ summariesOf (remaining h)))) maxSummaries ≡ false = lt-leb (length (different (q ∷ summariesOf (remaining h)))) maxSummaries (rw (different-new q (summariesOf (remaining h)) a, summary-count) (omega arith)) in
       rw (w, x, l, and-false) refl
 
 -- ---- a history has room exactly when it fits throughout
 
 conviction-roomy : (k : ℕ) (s : Register) → eqb (act (conviction k) s .answer) 5 ≡ false
-conviction-roomy k s = by (ltb 31 k) (λ a. rw a refl) (λ a. rw a refl)
+conviction-roomy k s = by (ltb maxEngine k) (λ a. rw a refl) (λ a. rw a refl)
 
 here : (c : Call) (h : List Call) → roomy h ≡ true → eqb (act c (run h) .answer) 5 ≡ false → not (eqb (act c (run h) .answer) 5) ≡ fits (c ∷ h)
 here c h g n = rw n (sym (room (c ∷ h) (run (c ∷ h)) (history (c ∷ h) (unfold roomy in rw (n, g) refl))))

@@ -25,6 +25,9 @@ use Rattle.places.proofs.Tables.{wide, wide-at, table-length, place-at, replace
 use Rattle.places.proofs.Keys.{hasKey, rank-le, holds-at-rank}
 use Rattle.places.proofs.Putting.{put-new, put-held, put-length-held}
 use Rattle.places.proofs.Trying.{tried-table}
+use Rattle.models.specs.Summary.{summarySize}
+use Rattle.record.specs.Layout.{recordSize}
+use Rattle.register.specs.Layout.{maxSummaries, maxRecords, placeSize, summaryCountAt, recordCountAt, summariesAt, summariesSize, recordsAt}
 use Rattle.register.specs.Register.{Register, After, after, signedBy, signedInto, heldInto, nothing}
 use Rattle.register.specs.Memory.{wellFormed, convictedIn, summaryCount, recordCount, summaryBytes, recordBytes, summariesIn, recordsIn, decode, encode, settled}
 use Rattle.register.proofs.Frames.{frame, put-summary-count, put-record-count, frame-summaries, frame-records, frame-records-back, frame-summaries-back, put-in-records}
@@ -113,147 +116,147 @@ word-of-place w cap ps k i wd e h =
 
 -- ---- a record
 
-module _ (m : List ℕ) (o : Opened m) (b : Bytes m) (e : ℕ) (r : List ℕ) (lr : length r ≡ 222) where
+module _ (m : List ℕ) (o : Opened m) (b : Bytes m) (e : ℕ) (r : List ℕ) (lr : length r ≡ recordSize) where
   abbrev ps : List (List ℕ)
   ps = recordsIn m
 
   abbrev put : List (List ℕ)
-  put = putPlace 222 (signedBy e) r ps
+  put = putPlace recordSize (signedBy e) r ps
 
-  few : length ps ≤ 96
+  few : length ps ≤ maxRecords
   few = rw (records-length m o) (o .few-records)
 
-  pub place-length : length (r ++ signedBy e []) ≡ 226
+  pub place-length : length (r ++ signedBy e []) ≡ placeSize
   place-length = rw (length-append, lr, length-word-bytes 4 (withBit (word []) e)) refl
 
-  lent : take (length m - 9224) (drop 9224 m) ≡ tableOf 226 96 ps
-  lent = tail-lent m 9224 ∙ records-are m o
+  lent : take (length m - recordsAt) (drop recordsAt m) ≡ tableOf placeSize maxRecords ps
+  lent = tail-lent m recordsAt ∙ records-are m o
 
   -- what was tried, in terms of the records held
-  pub record-way : (n : ℕ) (p : List ℕ) (a : Put) (t′ : List ℕ) → n ≡ recordCount m → p ≡ r ++ signedBy e [] → putting a t′ ≡ tried n 96 226 222 p (take (length m - 9224) (drop 9224 m))
-      → Way (holds 222 r ps) (leb 96 (length ps)) (rank 222 r ps) (tableOf 226 96 ps) (tableOf 226 96 put) a t′
+  pub record-way : (n : ℕ) (p : List ℕ) (a : Put) (t′ : List ℕ) → n ≡ recordCount m → p ≡ r ++ signedBy e [] → putting a t′ ≡ tried n maxRecords placeSize recordSize p (take (length m - recordsAt) (drop recordsAt m))
+      → Way (holds recordSize r ps) (leb maxRecords (length ps)) (rank recordSize r ps) (tableOf placeSize maxRecords ps) (tableOf placeSize maxRecords put) a t′
   record-way n p a t′ en ep q =
-      way (holds 222 r ps) (leb 96 (length ps)) (rank 222 r ps) (tableOf 226 96 ps) (tableOf 226 96 put) a t′
-      (q ∙ ap₂ (λ (x : ℕ) (y : List ℕ). tried x 96 226 222 y (take (length m - 9224) (drop 9224 m))) (en ∙ sym (records-length m o)) ep
-      ∙ ap (tried (length ps) 96 226 222 (r ++ signedBy e [])) lent
-      ∙ tried-table 96 226 222 (signedBy e) r ps lr (omega arith) place-length (records-wide m o) (records-ascend m o) few)
+      way (holds recordSize r ps) (leb maxRecords (length ps)) (rank recordSize r ps) (tableOf placeSize maxRecords ps) (tableOf placeSize maxRecords put) a t′
+      (q ∙ ap₂ (λ (x : ℕ) (y : List ℕ). tried x maxRecords placeSize recordSize y (take (length m - recordsAt) (drop recordsAt m))) (en ∙ sym (records-length m o)) ep
+      ∙ ap (tried (length ps) maxRecords placeSize recordSize (r ++ signedBy e [])) lent
+      ∙ tried-table maxRecords placeSize recordSize (signedBy e) r ps lr (omega arith) place-length (records-wide m o) (records-ascend m o) few)
 
-  s-length : length (tableOf 36 256 (summariesIn m)) ≡ 9216
-  s-length = table-length 36 256 (summariesIn m) (summaries-wide m o) (rw (summaries-length m o) (o .few-summaries))
+  s-length : length (tableOf summarySize maxSummaries (summariesIn m)) ≡ summariesSize
+  s-length = table-length summarySize maxSummaries (summariesIn m) (summaries-wide m o) (rw (summaries-length m o) (o .few-summaries))
 
   abbrev with-records : Register
   with-records = record { convicted = convictedIn m; summaries = summariesIn m; records = put }
 
-  back : (t′ : List ℕ) → take 9224 m ++ (t′ ++ drop (length m - 9224) (drop 9224 m)) ≡ frame (convictedIn m) (length (summariesIn m)) (length ps) (tableOf 36 256 (summariesIn m)) t′
+  back : (t′ : List ℕ) → take recordsAt m ++ (t′ ++ drop (length m - recordsAt) (drop recordsAt m)) ≡ frame (convictedIn m) (length (summariesIn m)) (length ps) (tableOf summarySize maxSummaries (summariesIn m)) t′
   back t′ =
-      tail-back m t′ 9224 ∙ ap (λ (x : List ℕ). take 9224 x ++ t′) (framed m o b)
-      ∙ frame-records-back (convictedIn m) (length (summariesIn m)) (length ps) (tableOf 36 256 (summariesIn m)) (tableOf 226 96 ps) s-length t′
+      tail-back m t′ recordsAt ∙ ap (λ (x : List ℕ). take recordsAt x ++ t′) (framed m o b)
+      ∙ frame-records-back (convictedIn m) (length (summariesIn m)) (length ps) (tableOf summarySize maxSummaries (summariesIn m)) (tableOf placeSize maxRecords ps) s-length t′
 
   -- nothing was written
-  pub back-same : (t′ : List ℕ) → t′ ≡ tableOf 226 96 ps → take 9224 m ++ (t′ ++ drop (length m - 9224) (drop 9224 m)) ≡ m
-  back-same t′ q = back t′ ∙ ap (frame (convictedIn m) (length (summariesIn m)) (length ps) (tableOf 36 256 (summariesIn m))) q ∙ sym (framed m o b)
+  pub back-same : (t′ : List ℕ) → t′ ≡ tableOf placeSize maxRecords ps → take recordsAt m ++ (t′ ++ drop (length m - recordsAt) (drop recordsAt m)) ≡ m
+  back-same t′ q = back t′ ∙ ap (frame (convictedIn m) (length (summariesIn m)) (length ps) (tableOf summarySize maxSummaries (summariesIn m))) q ∙ sym (framed m o b)
 
-  pub record-new : (t′ x : List ℕ) (n : ℕ) → n ≡ recordCount m → holds 222 r ps ≡ false → leb 96 (length ps) ≡ false → t′ ≡ tableOf 226 96 put
-      → x ≡ putWord 2 6 (n + 1) (take 9224 m ++ (t′ ++ drop (length m - 9224) (drop 9224 m))) → after 0 x ≡ settled m (signedInto e r (decode m))
+  pub record-new : (t′ x : List ℕ) (n : ℕ) → n ≡ recordCount m → holds recordSize r ps ≡ false → leb maxRecords (length ps) ≡ false → t′ ≡ tableOf placeSize maxRecords put
+      → x ≡ putWord 2 recordCountAt (n + 1) (take recordsAt m ++ (t′ ++ drop (length m - recordsAt) (drop recordsAt m))) → after 0 x ≡ settled m (signedInto e r (decode m))
   unfolding decode encode
   record-new t′ x n en h f q z =
-      let l : n + 1 ≡ length put = ap (λ (i : ℕ). i + 1) (en ∙ sym (records-length m o)) ∙ sym (new-length 222 (signedBy e) r ps h) in
+      let l : n + 1 ≡ length put = ap (λ (i : ℕ). i + 1) (en ∙ sym (records-length m o)) ∙ sym (new-length recordSize (signedBy e) r ps h) in
       rw (h, f) (ap (after 0)
-      (z ∙ ap (putWord 2 6 (n + 1)) (back t′)
-      ∙ put-record-count (convictedIn m) (length (summariesIn m)) (length ps) (tableOf 36 256 (summariesIn m)) t′ (n + 1)
-      ∙ ap₂ (λ (i : ℕ) (y : List ℕ). frame (convictedIn m) (length (summariesIn m)) i (tableOf 36 256 (summariesIn m)) y) l q))
+      (z ∙ ap (putWord 2 recordCountAt (n + 1)) (back t′)
+      ∙ put-record-count (convictedIn m) (length (summariesIn m)) (length ps) (tableOf summarySize maxSummaries (summariesIn m)) t′ (n + 1)
+      ∙ ap₂ (λ (i : ℕ) (y : List ℕ). frame (convictedIn m) (length (summariesIn m)) i (tableOf summarySize maxSummaries (summariesIn m)) y) l q))
 
-  pub record-full : (t′ : List ℕ) → holds 222 r ps ≡ false → leb 96 (length ps) ≡ true → t′ ≡ tableOf 226 96 ps
-      → after 5 (take 9224 m ++ (t′ ++ drop (length m - 9224) (drop 9224 m))) ≡ settled m (signedInto e r (decode m))
+  pub record-full : (t′ : List ℕ) → holds recordSize r ps ≡ false → leb maxRecords (length ps) ≡ true → t′ ≡ tableOf placeSize maxRecords ps
+      → after 5 (take recordsAt m ++ (t′ ++ drop (length m - recordsAt) (drop recordsAt m))) ≡ settled m (signedInto e r (decode m))
   unfolding decode
   record-full t′ h f q = rw (h, f) (ap (after 5) (back-same t′ q))
 
-  pub record-again : (x : List ℕ) (i : ℕ) → i ≡ rank 222 r ps → holds 222 r ps ≡ true → x ≡ putWord 4 (9224 + i * 226 + 222) (withBit (wordAt 4 (9224 + i * 226 + 222) m) e) m
+  pub record-again : (x : List ℕ) (i : ℕ) → i ≡ rank recordSize r ps → holds recordSize r ps ≡ true → x ≡ putWord 4 (recordsAt + i * placeSize + recordSize) (withBit (wordAt 4 (recordsAt + i * placeSize + recordSize) m) e) m
       → after 0 x ≡ settled m (signedInto e r (decode m))
   unfolding decode encode
   record-again x i ei h z =
-      let at = held-at 222 r ps (records-ascend m o) h in
+      let at = held-at recordSize r ps (records-ascend m o) h in
       let il : i < length ps = rw ei (at .0) in
       let c = convictedIn m in
-      let s = tableOf 36 256 (summariesIn m) in
-      let t = tableOf 226 96 ps in
+      let s = tableOf summarySize maxSummaries (summariesIn m) in
+      let t = tableOf placeSize maxRecords ps in
       let n₁ = length (summariesIn m) in
       let n₂ = length ps in
-      let j : 9224 + i * 226 + 222 ≡ 9224 + (i * 226 + 222) = omega arith in
-      let v = withBit (wordAt 4 (9224 + i * 226 + 222) m) e in
+      let j : recordsAt + i * placeSize + recordSize ≡ recordsAt + (i * placeSize + recordSize) = omega arith in
+      let v = withBit (wordAt 4 (recordsAt + i * placeSize + recordSize) m) e in
       let f : m ≡ frame c n₁ n₂ s t = framed m o b in
-      let rd : wordAt 4 (9224 + i * 226 + 222) m ≡ word (drop 222 (getD ps i [])) =
-      ap (λ (a : ℕ). wordAt 4 a m) j ∙ ap word (ap (take 4) (sym (drop-drop (i * 226 + 222) 9224 m))) ∙ ap (λ (y : List ℕ). wordAt 4 (i * 226 + 222) y) (records-are m o)
-      ∙ word-of-place 226 96 ps 222 i (records-wide m o) refl il in
-      let g : putWord 4 (9224 + i * 226 + 222) v m ≡ frame c n₁ n₂ s (putWord 4 (i * 226 + 222) v t) =
-      ap (λ (a : ℕ). putWord 4 a v m) j ∙ ap (putWord 4 (9224 + (i * 226 + 222)) v) f ∙ put-in-records c n₁ n₂ s t s-length 4 (i * 226 + 222) v in
-      let w : putWord 4 (i * 226 + 222) v t ≡ tableOf 226 96 put =
-      word-in-place 226 96 ps 222 i v (records-wide m o) refl il few
-      ∙ ap (λ (y : ℕ). tableOf 226 96 (set ps i (take 222 (getD ps i []) ++ wordBytes 4 (withBit y e)))) rd
-      ∙ ap (λ (k : ℕ). tableOf 226 96 (set ps k (take 222 (getD ps k []) ++ signedBy e (drop 222 (getD ps k []))))) ei
-      ∙ ap (tableOf 226 96) (sym (put-held 222 (signedBy e) r ps (at .0) (at .1))) in
-      let l : n₂ ≡ length put = sym (put-length-held 222 (signedBy e) r lr ps (records-ascend m o) h) in
+      let rd : wordAt 4 (recordsAt + i * placeSize + recordSize) m ≡ word (drop recordSize (getD ps i [])) =
+      ap (λ (a : ℕ). wordAt 4 a m) j ∙ ap word (ap (take 4) (sym (drop-drop (i * placeSize + recordSize) recordsAt m))) ∙ ap (λ (y : List ℕ). wordAt 4 (i * placeSize + recordSize) y) (records-are m o)
+      ∙ word-of-place placeSize maxRecords ps recordSize i (records-wide m o) refl il in
+      let g : putWord 4 (recordsAt + i * placeSize + recordSize) v m ≡ frame c n₁ n₂ s (putWord 4 (i * placeSize + recordSize) v t) =
+      ap (λ (a : ℕ). putWord 4 a v m) j ∙ ap (putWord 4 (recordsAt + (i * placeSize + recordSize)) v) f ∙ put-in-records c n₁ n₂ s t s-length 4 (i * placeSize + recordSize) v in
+      let w : putWord 4 (i * placeSize + recordSize) v t ≡ tableOf placeSize maxRecords put =
+      word-in-place placeSize maxRecords ps recordSize i v (records-wide m o) refl il few
+      ∙ ap (λ (y : ℕ). tableOf placeSize maxRecords (set ps i (take recordSize (getD ps i []) ++ wordBytes 4 (withBit y e)))) rd
+      ∙ ap (λ (k : ℕ). tableOf placeSize maxRecords (set ps k (take recordSize (getD ps k []) ++ signedBy e (drop recordSize (getD ps k []))))) ei
+      ∙ ap (tableOf placeSize maxRecords) (sym (put-held recordSize (signedBy e) r ps (at .0) (at .1))) in
+      let l : n₂ ≡ length put = sym (put-length-held recordSize (signedBy e) r lr ps (records-ascend m o) h) in
       rw h (ap (after 0) (z ∙ g ∙ ap₂ (λ (k : ℕ) (y : List ℕ). frame c n₁ k s y) l w))
 
 -- ---- a summary
 
-module _ (m : List ℕ) (o : Opened m) (b : Bytes m) (p : List ℕ) (lp : length p ≡ 36) where
+module _ (m : List ℕ) (o : Opened m) (b : Bytes m) (p : List ℕ) (lp : length p ≡ summarySize) where
   abbrev ss : List (List ℕ)
   ss = summariesIn m
 
   abbrev put-summary : List (List ℕ)
-  put-summary = putPlace 36 nothing p ss
+  put-summary = putPlace summarySize nothing p ss
 
-  few-ss : length ss ≤ 256
+  few-ss : length ss ≤ maxSummaries
   few-ss = rw (summaries-length m o) (o .few-summaries)
 
   whole-place : p ++ nothing [] ≡ p
   whole-place = append-nil p
 
   -- what was tried, in terms of the summaries held
-  pub summary-way : (n : ℕ) (a : Put) (t′ : List ℕ) → n ≡ summaryCount m → putting a t′ ≡ tried n 256 36 36 p (take 9216 (drop 8 m))
-      → Way (holds 36 p ss) (leb 256 (length ss)) (rank 36 p ss) (tableOf 36 256 ss) (tableOf 36 256 put-summary) a t′
+  pub summary-way : (n : ℕ) (a : Put) (t′ : List ℕ) → n ≡ summaryCount m → putting a t′ ≡ tried n maxSummaries summarySize summarySize p (take summariesSize (drop summariesAt m))
+      → Way (holds summarySize p ss) (leb maxSummaries (length ss)) (rank summarySize p ss) (tableOf summarySize maxSummaries ss) (tableOf summarySize maxSummaries put-summary) a t′
   summary-way n a t′ en q =
-      way (holds 36 p ss) (leb 256 (length ss)) (rank 36 p ss) (tableOf 36 256 ss) (tableOf 36 256 put-summary) a t′
-      (q ∙ ap₂ (λ (x : ℕ) (y : List ℕ). tried x 256 36 36 y (take 9216 (drop 8 m))) (en ∙ sym (summaries-length m o)) (sym whole-place)
-      ∙ ap (tried (length ss) 256 36 36 (p ++ nothing [])) (summaries-are m o)
-      ∙ tried-table 256 36 36 nothing p ss lp (omega arith) (ap length whole-place ∙ lp) (summaries-wide m o) (summaries-ascend m o) few-ss)
+      way (holds summarySize p ss) (leb maxSummaries (length ss)) (rank summarySize p ss) (tableOf summarySize maxSummaries ss) (tableOf summarySize maxSummaries put-summary) a t′
+      (q ∙ ap₂ (λ (x : ℕ) (y : List ℕ). tried x maxSummaries summarySize summarySize y (take summariesSize (drop summariesAt m))) (en ∙ sym (summaries-length m o)) (sym whole-place)
+      ∙ ap (tried (length ss) maxSummaries summarySize summarySize (p ++ nothing [])) (summaries-are m o)
+      ∙ tried-table maxSummaries summarySize summarySize nothing p ss lp (omega arith) (ap length whole-place ∙ lp) (summaries-wide m o) (summaries-ascend m o) few-ss)
 
-  ss-length : length (tableOf 36 256 ss) ≡ 9216
-  ss-length = table-length 36 256 ss (summaries-wide m o) few-ss
+  ss-length : length (tableOf summarySize maxSummaries ss) ≡ summariesSize
+  ss-length = table-length summarySize maxSummaries ss (summaries-wide m o) few-ss
 
-  summary-back : (t′ : List ℕ) → take 8 m ++ (t′ ++ drop 9216 (drop 8 m)) ≡ frame (convictedIn m) (length ss) (length (recordsIn m)) t′ (tableOf 226 96 (recordsIn m))
+  summary-back : (t′ : List ℕ) → take summariesAt m ++ (t′ ++ drop summariesSize (drop summariesAt m)) ≡ frame (convictedIn m) (length ss) (length (recordsIn m)) t′ (tableOf placeSize maxRecords (recordsIn m))
   summary-back t′ =
-      ap (λ (x : List ℕ). take 8 x ++ (t′ ++ drop 9216 (drop 8 x))) (framed m o b)
-      ∙ frame-summaries-back (convictedIn m) (length ss) (length (recordsIn m)) (tableOf 36 256 ss) (tableOf 226 96 (recordsIn m)) ss-length t′
+      ap (λ (x : List ℕ). take summariesAt x ++ (t′ ++ drop summariesSize (drop summariesAt x))) (framed m o b)
+      ∙ frame-summaries-back (convictedIn m) (length ss) (length (recordsIn m)) (tableOf summarySize maxSummaries ss) (tableOf placeSize maxRecords (recordsIn m)) ss-length t′
 
-  pub summary-same : (t′ : List ℕ) → t′ ≡ tableOf 36 256 ss → take 8 m ++ (t′ ++ drop 9216 (drop 8 m)) ≡ m
-  summary-same t′ q = summary-back t′ ∙ ap (λ (x : List ℕ). frame (convictedIn m) (length ss) (length (recordsIn m)) x (tableOf 226 96 (recordsIn m))) q ∙ sym (framed m o b)
+  pub summary-same : (t′ : List ℕ) → t′ ≡ tableOf summarySize maxSummaries ss → take summariesAt m ++ (t′ ++ drop summariesSize (drop summariesAt m)) ≡ m
+  summary-same t′ q = summary-back t′ ∙ ap (λ (x : List ℕ). frame (convictedIn m) (length ss) (length (recordsIn m)) x (tableOf placeSize maxRecords (recordsIn m))) q ∙ sym (framed m o b)
 
   -- a summary that is held changes nothing
-  same-put : holds 36 p ss ≡ true → put-summary ≡ ss
+  same-put : holds summarySize p ss ≡ true → put-summary ≡ ss
   same-put h =
-      let at = held-at 36 p ss (summaries-ascend m o) h in
-      let i = rank 36 p ss in
-      let l : length (getD ss i []) ≡ 36 = wide-at 36 i ss (summaries-wide m o) (at .0) in
-      put-held 36 nothing p ss (at .0) (at .1) ∙ ap (set ss i) (append-nil (take 36 (getD ss i [])) ∙ take-all 36 (getD ss i []) (omega arith)) ∙ set-getD ss i []
+      let at = held-at summarySize p ss (summaries-ascend m o) h in
+      let i = rank summarySize p ss in
+      let l : length (getD ss i []) ≡ summarySize = wide-at summarySize i ss (summaries-wide m o) (at .0) in
+      put-held summarySize nothing p ss (at .0) (at .1) ∙ ap (set ss i) (append-nil (take summarySize (getD ss i [])) ∙ take-all summarySize (getD ss i []) (omega arith)) ∙ set-getD ss i []
 
-  pub summary-held : (t′ : List ℕ) → holds 36 p ss ≡ true → t′ ≡ tableOf 36 256 ss → after 0 (take 8 m ++ (t′ ++ drop 9216 (drop 8 m))) ≡ settled m (heldInto p (decode m))
+  pub summary-held : (t′ : List ℕ) → holds summarySize p ss ≡ true → t′ ≡ tableOf summarySize maxSummaries ss → after 0 (take summariesAt m ++ (t′ ++ drop summariesSize (drop summariesAt m))) ≡ settled m (heldInto p (decode m))
   unfolding decode encode
   summary-held t′ h q =
-      rw h (ap (after 0) (summary-same t′ q ∙ framed m o b ∙ ap (λ (x : List (List ℕ)). frame (convictedIn m) (length x) (length (recordsIn m)) (tableOf 36 256 x) (tableOf 226 96 (recordsIn m))) (sym (same-put h))))
+      rw h (ap (after 0) (summary-same t′ q ∙ framed m o b ∙ ap (λ (x : List (List ℕ)). frame (convictedIn m) (length x) (length (recordsIn m)) (tableOf summarySize maxSummaries x) (tableOf placeSize maxRecords (recordsIn m))) (sym (same-put h))))
 
-  pub summary-full : (t′ : List ℕ) → holds 36 p ss ≡ false → leb 256 (length ss) ≡ true → t′ ≡ tableOf 36 256 ss
-      → after 5 (take 8 m ++ (t′ ++ drop 9216 (drop 8 m))) ≡ settled m (heldInto p (decode m))
+  pub summary-full : (t′ : List ℕ) → holds summarySize p ss ≡ false → leb maxSummaries (length ss) ≡ true → t′ ≡ tableOf summarySize maxSummaries ss
+      → after 5 (take summariesAt m ++ (t′ ++ drop summariesSize (drop summariesAt m))) ≡ settled m (heldInto p (decode m))
   unfolding decode
   summary-full t′ h f q = rw (h, f) (ap (after 5) (summary-same t′ q))
 
-  pub summary-new : (t′ x : List ℕ) (n : ℕ) → n ≡ summaryCount m → holds 36 p ss ≡ false → leb 256 (length ss) ≡ false → t′ ≡ tableOf 36 256 put-summary
-      → x ≡ putWord 2 4 (n + 1) (take 8 m ++ (t′ ++ drop 9216 (drop 8 m))) → after 0 x ≡ settled m (heldInto p (decode m))
+  pub summary-new : (t′ x : List ℕ) (n : ℕ) → n ≡ summaryCount m → holds summarySize p ss ≡ false → leb maxSummaries (length ss) ≡ false → t′ ≡ tableOf summarySize maxSummaries put-summary
+      → x ≡ putWord 2 summaryCountAt (n + 1) (take summariesAt m ++ (t′ ++ drop summariesSize (drop summariesAt m))) → after 0 x ≡ settled m (heldInto p (decode m))
   unfolding decode encode
   summary-new t′ x n en h f q z =
-      let l : n + 1 ≡ length put-summary = ap (λ (i : ℕ). i + 1) (en ∙ sym (summaries-length m o)) ∙ sym (new-length 36 nothing p ss h) in
+      let l : n + 1 ≡ length put-summary = ap (λ (i : ℕ). i + 1) (en ∙ sym (summaries-length m o)) ∙ sym (new-length summarySize nothing p ss h) in
       rw (h, f) (ap (after 0)
-      (z ∙ ap (putWord 2 4 (n + 1)) (summary-back t′)
-      ∙ put-summary-count (convictedIn m) (length ss) (length (recordsIn m)) t′ (tableOf 226 96 (recordsIn m)) (n + 1)
-      ∙ ap₂ (λ (i : ℕ) (y : List ℕ). frame (convictedIn m) i (length (recordsIn m)) y (tableOf 226 96 (recordsIn m))) l q))
+      (z ∙ ap (putWord 2 summaryCountAt (n + 1)) (summary-back t′)
+      ∙ put-summary-count (convictedIn m) (length ss) (length (recordsIn m)) t′ (tableOf placeSize maxRecords (recordsIn m)) (n + 1)
+      ∙ ap₂ (λ (i : ℕ) (y : List ℕ). frame (convictedIn m) i (length (recordsIn m)) y (tableOf placeSize maxRecords (recordsIn m))) l q))

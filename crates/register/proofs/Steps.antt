@@ -23,7 +23,9 @@ use Rattle.places.proofs.Keys.{holds-none, holds-here, holds-later, lookup-here
 use Rattle.places.proofs.Putting.{lookup-put, lookup-put-other, put-ascending, put-length, put-length-held, put-wide, put-all}
 use Rattle.places.proofs.Keeping.{changed, kept-length, kept-wide, kept-ascending, kept-all, lookup-kept}
 use Rattle.record.specs.Formed as R
-use Rattle.models.specs.Summary.{engineOf, modelOf, summaryOf}
+use Rattle.models.specs.Summary.{engineOf, modelOf, summaryOf, summarySize, inputsSize}
+use Rattle.record.specs.Layout.{recordSize}
+use Rattle.register.specs.Layout.{maxEngine, maxSummaries, maxRecords, placeSize}
 use Rattle.register.specs.Register.{Register, signersIn, signedBy, unsignedBy, nothing, ofAnother, signedByAnother, struck}
 use Rattle.register.specs.Memory.{summaryFormed, placeFormed}
 use Rattle.register.specs.Claims.{signersOf}
@@ -67,36 +69,36 @@ pub no-word : word [] ≡ 0
 unfolding word
 no-word = refl
 
-module _ (r : List ℕ) (l : length r ≡ 222) (x : ℕ) (b : x < 256 ^ 4) where
+module _ (r : List ℕ) (l : length r ≡ recordSize) (x : ℕ) (b : x < 256 ^ 4) where
   signers-of : signersIn (r ++ wordBytes 4 x) ≡ x
-  signers-of = ap word (drop-at r (wordBytes 4 x) 222 l) ∙ word-of-bytes 4 x b
+  signers-of = ap word (drop-at r (wordBytes 4 x) recordSize l) ∙ word-of-bytes 4 x b
 
   -- a record with signers that are some, none of them convicted
   held-place : (c : ℕ) → R.wellFormed r ≡ true → eqb x 0 ≡ false → eqb (bitAnd x c) 0 ≡ true → placeHeld c (r ++ wordBytes 4 x) ≡ true
-  held-place c w n a = rw (signers-of, take-at r (wordBytes 4 x) 222 l, drop-at r (wordBytes 4 x) 222 l, w, n, a) (same-refl (wordBytes 4 x))
+  held-place c w n a = rw (signers-of, take-at r (wordBytes 4 x) recordSize l, drop-at r (wordBytes 4 x) recordSize l, w, n, a) (same-refl (wordBytes 4 x))
 
-pub record-length : (r : List ℕ) → R.wellFormed r ≡ true → length r ≡ 222
+pub record-length : (r : List ℕ) → R.wellFormed r ≡ true → length r ≡ recordSize
 unfolding R.wellFormed
-record-length r h = eqb-true (length r) 222 (and-left (eqb (length r) 222) _ h)
+record-length r h = eqb-true (length r) recordSize (and-left (eqb (length r) recordSize) _ h)
 
 pub record Place (c : ℕ) (p : List ℕ) : Type 0 where
-  pub formed : R.wellFormed (take 222 p) ≡ true
+  pub formed : R.wellFormed (take recordSize p) ≡ true
   pub some : eqb (signersIn p) 0 ≡ false
   pub free : eqb (bitAnd (signersIn p) c) 0 ≡ true
-  pub bytes : drop 222 p ≡ wordBytes 4 (signersIn p)
+  pub bytes : drop recordSize p ≡ wordBytes 4 (signersIn p)
 
 pub place : (c : ℕ) (p : List ℕ) → placeHeld c p ≡ true → Place c p
 place c p h =
-    let a = R.wellFormed (take 222 p) in
+    let a = R.wellFormed (take recordSize p) in
     let b = not (eqb (signersIn p) 0) in
     let d = eqb (bitAnd (signersIn p) c) 0 in
-    let q = same (wordBytes 4 (signersIn p)) (drop 222 p) in
+    let q = same (wordBytes 4 (signersIn p)) (drop recordSize p) in
     let f : (a && (b && d)) ≡ true = and-left (a && (b && d)) q h in
     record {
       formed = and-left a (b && d) f;
       some = not-true (eqb (signersIn p) 0) (and-left b d (and-right a (b && d) f));
       free = and-right b d (and-right a (b && d) f);
-      bytes = sym (same-eq (wordBytes 4 (signersIn p)) (drop 222 p) (and-right (a && (b && d)) q h));
+      bytes = sym (same-eq (wordBytes 4 (signersIn p)) (drop recordSize p) (and-right (a && (b && d)) q h));
     }
 
 place-small : (c : ℕ) (p : List ℕ) → Place c p → signersIn p < 256 ^ 4
@@ -134,57 +136,57 @@ held-long k w key (p ∷ ps) m x h =
     (λ s. held-long k w key ps m (x .1) (sym (holds-later k key p ps s) ∙ h))
 
 module _ (s : Register) (v : Valid s) (r : List ℕ) where
-  pub unheld : holds 222 r (s .records) ≡ false → lookup 222 r (s .records) ≡ []
-  unheld h = absent 222 r (s .records) h
+  pub unheld : holds recordSize r (s .records) ≡ false → lookup recordSize r (s .records) ≡ []
+  unheld h = absent recordSize r (s .records) h
 
-  pub unsigned : holds 222 r (s .records) ≡ false → signersOf r s ≡ 0
+  pub unsigned : holds recordSize r (s .records) ≡ false → signersOf r s ≡ 0
   unsigned h = ap word (unheld h) ∙ no-word
 
-  module _ (h : holds 222 r (s .records) ≡ true) where
-    long : length r ≡ 222
-    long = held-long 222 226 r (s .records) key-of (v .records-wide) h
+  module _ (h : holds recordSize r (s .records) ≡ true) where
+    long : length r ≡ recordSize
+    long = held-long recordSize placeSize r (s .records) key-of (v .records-wide) h
 
-    rest : drop 222 (r ++ lookup 222 r (s .records)) ≡ lookup 222 r (s .records)
-    rest = drop-at r (lookup 222 r (s .records)) 222 long
+    rest : drop recordSize (r ++ lookup recordSize r (s .records)) ≡ lookup recordSize r (s .records)
+    rest = drop-at r (lookup recordSize r (s .records)) recordSize long
 
-    pub held-is : Place (s .convicted) (r ++ lookup 222 r (s .records))
-    held-is = place (s .convicted) (r ++ lookup 222 r (s .records)) (held-passes 222 r (placeHeld (s .convicted)) (s .records) (v .records-held) h)
+    pub held-is : Place (s .convicted) (r ++ lookup recordSize r (s .records))
+    held-is = place (s .convicted) (r ++ lookup recordSize r (s .records)) (held-passes recordSize r (placeHeld (s .convicted)) (s .records) (v .records-held) h)
 
     pub signed : eqb (signersOf r s) 0 ≡ false
     signed = ap (λ (x : List ℕ). eqb (word x) 0) (sym rest) ∙ held-is .some
 
-    pub held-bytes : lookup 222 r (s .records) ≡ wordBytes 4 (signersOf r s)
+    pub held-bytes : lookup recordSize r (s .records) ≡ wordBytes 4 (signersOf r s)
     held-bytes = sym rest ∙ held-is .bytes ∙ ap (λ (x : List ℕ). wordBytes 4 (word x)) rest
 
     held-small : signersOf r s < 256 ^ 4
-    held-small = subst (λ (x : List ℕ). word x < 256 ^ 4) rest (place-small (s .convicted) (r ++ lookup 222 r (s .records)) held-is)
+    held-small = subst (λ (x : List ℕ). word x < 256 ^ 4) rest (place-small (s .convicted) (r ++ lookup recordSize r (s .records)) held-is)
 
   pub signers-small : signersOf r s < 256 ^ 4
-  signers-small = by (holds 222 r (s .records)) held-small (λ h. rw (unsigned h) (omega arith))
+  signers-small = by (holds recordSize r (s .records)) held-small (λ h. rw (unsigned h) (omega arith))
 
   -- a record is held exactly when it has signers
-  pub held-signed : holds 222 r (s .records) ≡ not (eqb (signersOf r s) 0)
-  held-signed = by (holds 222 r (s .records)) (λ h. h ∙ sym (ap not (signed h))) (λ h. h ∙ sym (ap (λ (n : ℕ). not (eqb n 0)) (unsigned h)))
+  pub held-signed : holds recordSize r (s .records) ≡ not (eqb (signersOf r s) 0)
+  held-signed = by (holds recordSize r (s .records)) (λ h. h ∙ sym (ap not (signed h))) (λ h. h ∙ sym (ap (λ (n : ℕ). not (eqb n 0)) (unsigned h)))
 
   -- and what follows it is told by them
-  pub lookup-signed : lookup 222 r (s .records) ≡ cond (eqb (signersOf r s) 0) [] (wordBytes 4 (signersOf r s))
+  pub lookup-signed : lookup recordSize r (s .records) ≡ cond (eqb (signersOf r s) 0) [] (wordBytes 4 (signersOf r s))
   lookup-signed =
-      by (holds 222 r (s .records))
+      by (holds recordSize r (s .records))
       (λ h. held-bytes h ∙ sym (ap (λ (b : Bool). cond b [] (wordBytes 4 (signersOf r s))) (signed h)))
       (λ h. unheld h ∙ sym (ap (λ (n : ℕ). cond (eqb n 0) [] (wordBytes 4 (signersOf r s))) (unsigned h)))
 
 -- ---- a report
 
 -- signers with one more
-pub with-small : (x e : ℕ) → e ≤ 31 → x < 256 ^ 4 → withBit x e < 256 ^ 4
+pub with-small : (x e : ℕ) → e ≤ maxEngine → x < 256 ^ 4 → withBit x e < 256 ^ 4
 with-small x e h b = with-lt 32 x e (omega arith) b
 
 without-small : (x e : ℕ) → x < 256 ^ 4 → withoutBit x e < 256 ^ 4
 without-small x e b = lt-of-le-of-lt (without-le x e) b
 
-module _ (s : Register) (v : Valid s) (e : ℕ) (q : List ℕ) (a : e ≤ 31) (w : R.wellFormed q ≡ true) where
+module _ (s : Register) (v : Valid s) (e : ℕ) (q : List ℕ) (a : e ≤ maxEngine) (w : R.wellFormed q ≡ true) where
   abbrev pub reported-records : List (List ℕ)
-  reported-records = putPlace 222 (signedBy e) q (s .records)
+  reported-records = putPlace recordSize (signedBy e) q (s .records)
 
   abbrev pub with-report : Register
   with-report = record { convicted = s .convicted; summaries = s .summaries; records = reported-records }
@@ -193,105 +195,105 @@ module _ (s : Register) (v : Valid s) (e : ℕ) (q : List ℕ) (a : e ≤ 31) (w
   pub report-signers : (r : List ℕ) → signersOf r with-report ≡ cond (same q r) (withBit (signersOf r s) e) (signersOf r s)
   report-signers r =
       by (same q r)
-      (λ h. ap (λ (x : List ℕ). word (lookup 222 x reported-records)) (sym (same-eq q r h)) ∙ ap word (lookup-put 222 (signedBy e) q (record-length q w) (s .records) (v .records-ascend))
+      (λ h. ap (λ (x : List ℕ). word (lookup recordSize x reported-records)) (sym (same-eq q r h)) ∙ ap word (lookup-put recordSize (signedBy e) q (record-length q w) (s .records) (v .records-ascend))
       ∙ word-of-bytes 4 (withBit (signersOf q s) e) (with-small (signersOf q s) e a (signers-small s v q))
       ∙ ap (λ (x : List ℕ). withBit (signersOf x s) e) (same-eq q r h) ∙ sym (ap (λ (b : Bool). cond b (withBit (signersOf r s) e) (signersOf r s)) h))
-      (λ h. ap word (lookup-put-other 222 (signedBy e) q (record-length q w) r (s .records) h) ∙ sym (ap (λ (b : Bool). cond b (withBit (signersOf r s) e) (signersOf r s)) h))
+      (λ h. ap word (lookup-put-other recordSize (signedBy e) q (record-length q w) r (s .records) h) ∙ sym (ap (λ (b : Bool). cond b (withBit (signersOf r s) e) (signersOf r s)) h))
 
   new-held : bit (s .convicted) e ≡ false → placeHeld (s .convicted) (q ++ signedBy e []) ≡ true
   new-held z =
       held-place q (record-length q w) (withBit (word []) e) (with-small (word []) e a (rw no-word (omega arith))) (s .convicted) w (with-some (word []) e)
       (with-apart (word []) (s .convicted) e (rw no-word (nothing-apart (s .convicted))) z)
 
-  again-held : bit (s .convicted) e ≡ false → (p : List ℕ) → take 222 p ≡ q → placeHeld (s .convicted) p ≡ true → placeHeld (s .convicted) (take 222 p ++ signedBy e (drop 222 p)) ≡ true
+  again-held : bit (s .convicted) e ≡ false → (p : List ℕ) → take recordSize p ≡ q → placeHeld (s .convicted) p ≡ true → placeHeld (s .convicted) (take recordSize p ++ signedBy e (drop recordSize p)) ≡ true
   again-held z p k h =
       let o = place (s .convicted) p h in
       rw k (held-place q (record-length q w) (withBit (signersIn p) e) (with-small (signersIn p) e a (place-small (s .convicted) p o)) (s .convicted) w (with-some (signersIn p) e)
       (with-apart (signersIn p) (s .convicted) e (o .free) z))
 
-  pub report-valid : bit (s .convicted) e ≡ false → (not (holds 222 q (s .records)) && leb 96 (length (s .records))) ≡ false → Valid with-report
+  pub report-valid : bit (s .convicted) e ≡ false → (not (holds recordSize q (s .records)) && leb maxRecords (length (s .records))) ≡ false → Valid with-report
   report-valid z f = record {
     small = v .small;
     few-summaries = v .few-summaries;
     few-records = few;
     summaries-wide = v .summaries-wide;
-    records-wide = put-wide 222 (signedBy e) q (record-length q w) 226 (λ x l. wide-signed x) (λ x l. wide-signed x) (s .records) key-of (v .records-wide);
+    records-wide = put-wide recordSize (signedBy e) q (record-length q w) placeSize (λ x l. wide-signed x) (λ x l. wide-signed x) (s .records) key-of (v .records-wide);
     summaries-ascend = v .summaries-ascend;
-    records-ascend = put-ascending 222 (signedBy e) q (record-length q w) (s .records) (v .records-ascend);
+    records-ascend = put-ascending recordSize (signedBy e) q (record-length q w) (s .records) (v .records-ascend);
     summaries-formed = v .summaries-formed;
-    records-held = put-all 222 (signedBy e) q (placeHeld (s .convicted)) (s .records) (new-held z) (again-held z) (v .records-held);
+    records-held = put-all recordSize (signedBy e) q (placeHeld (s .convicted)) (s .records) (new-held z) (again-held z) (v .records-held);
   }
     where
-      wide-signed : (x : List ℕ) → 222 + length (signedBy e x) ≡ 226
-      wide-signed x = ap (λ (n : ℕ). 222 + n) (length-word-bytes 4 (withBit (word x) e))
+      wide-signed : (x : List ℕ) → recordSize + length (signedBy e x) ≡ placeSize
+      wide-signed x = ap (λ (n : ℕ). recordSize + n) (length-word-bytes 4 (withBit (word x) e))
 
-      few : length reported-records ≤ 96
+      few : length reported-records ≤ maxRecords
       few =
-          by (holds 222 q (s .records))
-          (λ h. rw (put-length-held 222 (signedBy e) q (record-length q w) (s .records) (v .records-ascend) h) (v .few-records))
-          (λ h. let n = leb-false 96 (length (s .records)) (sym (rw h refl) ∙ f) in let m = put-length 222 (signedBy e) q (record-length q w) (s .records) in omega arith)
+          by (holds recordSize q (s .records))
+          (λ h. rw (put-length-held recordSize (signedBy e) q (record-length q w) (s .records) (v .records-ascend) h) (v .few-records))
+          (λ h. let n = leb-false maxRecords (length (s .records)) (sym (rw h refl) ∙ f) in let m = put-length recordSize (signedBy e) q (record-length q w) (s .records) in omega arith)
 
 -- ---- a summary
 
-pub summary-length : (e model spec : ℕ) (inputs : List ℕ) → length inputs ≡ 32 → length (summaryOf e model spec inputs) ≡ 36
+pub summary-length : (e model spec : ℕ) (inputs : List ℕ) → length inputs ≡ inputsSize → length (summaryOf e model spec inputs) ≡ summarySize
 summary-length e model spec inputs h = rw (length-append, length-word-bytes 2 spec, h) refl
 
 pub summary-longer : (e model spec : ℕ) (inputs : List ℕ) → length (summaryOf e model spec inputs) ≡ 4 + length inputs
 summary-longer e model spec inputs = rw (length-append, length-word-bytes 2 spec) (omega arith)
 
 -- nothing follows a summary
-pub nothing-follows : (p : List ℕ) (ps : List (List ℕ)) → wide 36 ps → lookup 36 p ps ≡ []
-nothing-follows p [] x = absent 36 p [] (holds-none 36 p)
+pub nothing-follows : (p : List ℕ) (ps : List (List ℕ)) → wide summarySize ps → lookup summarySize p ps ≡ []
+nothing-follows p [] x = absent summarySize p [] (holds-none summarySize p)
 nothing-follows p (q ∷ ps) x =
-    by (same (take 36 q) p)
-    (λ s. lookup-here 36 p q ps s ∙ drop-of-length-le q (le-of-eq (x .0)))
-    (λ s. lookup-later 36 p q ps s ∙ nothing-follows p ps (x .1))
+    by (same (take summarySize q) p)
+    (λ s. lookup-here summarySize p q ps s ∙ drop-of-length-le q (le-of-eq (x .0)))
+    (λ s. lookup-later summarySize p q ps s ∙ nothing-follows p ps (x .1))
   where
     le-of-eq : {a b : ℕ} → a ≡ b → a ≤ b
     le-of-eq h = omega arith
 
-module _ (s : Register) (v : Valid s) (p : List ℕ) (l : length p ≡ 36) (g : summaryFormed (s .convicted) p ≡ true) where
+module _ (s : Register) (v : Valid s) (p : List ℕ) (l : length p ≡ summarySize) (g : summaryFormed (s .convicted) p ≡ true) where
   abbrev pub with-summary : Register
-  with-summary = record { convicted = s .convicted; summaries = putPlace 36 nothing p (s .summaries); records = s .records }
+  with-summary = record { convicted = s .convicted; summaries = putPlace summarySize nothing p (s .summaries); records = s .records }
 
-  pub summary-valid : (not (holds 36 p (s .summaries)) && leb 256 (length (s .summaries))) ≡ false → Valid with-summary
+  pub summary-valid : (not (holds summarySize p (s .summaries)) && leb maxSummaries (length (s .summaries))) ≡ false → Valid with-summary
   summary-valid f = record {
     small = v .small;
     few-summaries = few;
     few-records = v .few-records;
-    summaries-wide = put-wide 36 nothing p l 36 (λ x h. refl) (λ x h. refl) (s .summaries) all-of (v .summaries-wide);
+    summaries-wide = put-wide summarySize nothing p l summarySize (λ x h. refl) (λ x h. refl) (s .summaries) all-of (v .summaries-wide);
     records-wide = v .records-wide;
-    summaries-ascend = put-ascending 36 nothing p l (s .summaries) (v .summaries-ascend);
+    summaries-ascend = put-ascending summarySize nothing p l (s .summaries) (v .summaries-ascend);
     records-ascend = v .records-ascend;
-    summaries-formed = put-all 36 nothing p (summaryFormed (s .convicted)) (s .summaries) (rw (append-nil p) g) (λ x h k. rw (h, append-nil p) g) (v .summaries-formed);
+    summaries-formed = put-all summarySize nothing p (summaryFormed (s .convicted)) (s .summaries) (rw (append-nil p) g) (λ x h k. rw (h, append-nil p) g) (v .summaries-formed);
     records-held = v .records-held;
   }
     where
-      few : length (putPlace 36 nothing p (s .summaries)) ≤ 256
+      few : length (putPlace summarySize nothing p (s .summaries)) ≤ maxSummaries
       few =
-          by (holds 36 p (s .summaries))
-          (λ h. rw (put-length-held 36 nothing p l (s .summaries) (v .summaries-ascend) h) (v .few-summaries))
-          (λ h. let n = leb-false 256 (length (s .summaries)) (sym (rw h refl) ∙ f) in let m = put-length 36 nothing p l (s .summaries) in omega arith)
+          by (holds summarySize p (s .summaries))
+          (λ h. rw (put-length-held summarySize nothing p l (s .summaries) (v .summaries-ascend) h) (v .few-summaries))
+          (λ h. let n = leb-false maxSummaries (length (s .summaries)) (sym (rw h refl) ∙ f) in let m = put-length summarySize nothing p l (s .summaries) in omega arith)
 
 -- ---- a conviction
 
-engine-kept : (p : List ℕ) → engineOf (take 36 p ++ []) ≡ engineOf p
+engine-kept : (p : List ℕ) → engineOf (take summarySize p ++ []) ≡ engineOf p
 engine-kept [] = refl
 engine-kept (x ∷ p) = refl
 
-model-kept : (p : List ℕ) → modelOf (take 36 p ++ []) ≡ modelOf p
+model-kept : (p : List ℕ) → modelOf (take summarySize p ++ []) ≡ modelOf p
 model-kept [] = refl
 model-kept (x ∷ []) = refl
 model-kept (x ∷ (y ∷ p)) = refl
 
-module _ (s : Register) (v : Valid s) (e : ℕ) (a : e ≤ 31) where
+module _ (s : Register) (v : Valid s) (e : ℕ) (a : e ≤ maxEngine) where
   abbrev struck-records : List (List ℕ)
-  struck-records = keptPlaces 222 (signedByAnother e) (unsignedBy e) (s .records)
+  struck-records = keptPlaces recordSize (signedByAnother e) (unsignedBy e) (s .records)
 
   pub struck-signers : (r : List ℕ) → signersOf r (struck e s) ≡ withoutBit (signersOf r s) e
   struck-signers r =
-      ap word (lookup-kept 222 (signedByAnother e) (unsignedBy e) 226 key-of (signers-wide e) r (s .records) (v .records-wide) (v .records-ascend))
-      ∙ by (holds 222 r (s .records))
+      ap word (lookup-kept recordSize (signedByAnother e) (unsignedBy e) placeSize key-of (signers-wide e) r (s .records) (v .records-wide) (v .records-ascend))
+      ∙ by (holds recordSize r (s .records))
       (λ h. by (eqb (withoutBit (signersOf r s) e) 0)
       (λ z. rw (h, ap word (rest s v r h), z, no-word) (sym (eqb-true (withoutBit (signersOf r s) e) 0 z)))
       (λ z. rw (h, ap word (rest s v r h), z) (word-of-bytes 4 (withoutBit (signersOf r s) e) (without-small (signersOf r s) e (signers-small s v r)))))
@@ -300,27 +302,27 @@ module _ (s : Register) (v : Valid s) (e : ℕ) (a : e ≤ 31) where
       clear-zero : (e : ℕ) → withoutBit 0 e ≡ 0
       clear-zero e = let h = without-le 0 e in omega arith
 
-  kept-summary : (p : List ℕ) → summaryFormed (s .convicted) p ≡ true → ofAnother e p ≡ true → summaryFormed (withBit (s .convicted) e) (changed 36 (ofAnother e) nothing p) ≡ true
+  kept-summary : (p : List ℕ) → summaryFormed (s .convicted) p ≡ true → ofAnother e p ≡ true → summaryFormed (withBit (s .convicted) e) (changed summarySize (ofAnother e) nothing p) ≡ true
   kept-summary p h o =
       let x = engineOf p in
       let n : eqb e x ≡ false = ne-eqb e x (λ z. eqb-false x e (not-true (eqb x e) o) (sym z)) in
       rw (engine-kept p, model-kept p, bit-set (s .convicted) e x, n) h
 
-  kept-record : (p : List ℕ) → placeHeld (s .convicted) p ≡ true → signedByAnother e p ≡ true → placeHeld (withBit (s .convicted) e) (changed 222 (signedByAnother e) (unsignedBy e) p) ≡ true
+  kept-record : (p : List ℕ) → placeHeld (s .convicted) p ≡ true → signedByAnother e p ≡ true → placeHeld (withBit (s .convicted) e) (changed recordSize (signedByAnother e) (unsignedBy e) p) ≡ true
   kept-record p h o =
       let u = place (s .convicted) p h in
-      held-place (take 222 p) (record-length (take 222 p) (u .formed)) (withoutBit (signersIn p) e) (without-small (signersIn p) e (place-small (s .convicted) p u))
+      held-place (take recordSize p) (record-length (take recordSize p) (u .formed)) (withoutBit (signersIn p) e) (without-small (signersIn p) e (place-small (s .convicted) p u))
       (withBit (s .convicted) e) (u .formed) (not-true (eqb (withoutBit (signersIn p) e) 0) o) (without-apart (signersIn p) (s .convicted) e (u .free))
 
   pub struck-valid : Valid (struck e s)
   struck-valid = record {
     small = with-small (s .convicted) e a (v .small);
-    few-summaries = le-trans (kept-length 36 (ofAnother e) nothing (s .summaries)) (v .few-summaries);
-    few-records = le-trans (kept-length 222 (signedByAnother e) (unsignedBy e) (s .records)) (v .few-records);
-    summaries-wide = kept-wide 36 (ofAnother e) nothing 36 all-of none-more (s .summaries) (v .summaries-wide);
-    records-wide = kept-wide 222 (signedByAnother e) (unsignedBy e) 226 key-of (signers-wide e) (s .records) (v .records-wide);
-    summaries-ascend = kept-ascending 36 (ofAnother e) nothing 36 all-of none-more (s .summaries) (v .summaries-wide) (v .summaries-ascend);
-    records-ascend = kept-ascending 222 (signedByAnother e) (unsignedBy e) 226 key-of (signers-wide e) (s .records) (v .records-wide) (v .records-ascend);
-    summaries-formed = kept-all 36 (ofAnother e) nothing (summaryFormed (s .convicted)) (summaryFormed (withBit (s .convicted) e)) kept-summary (s .summaries) (v .summaries-formed);
-    records-held = kept-all 222 (signedByAnother e) (unsignedBy e) (placeHeld (s .convicted)) (placeHeld (withBit (s .convicted) e)) kept-record (s .records) (v .records-held);
+    few-summaries = le-trans (kept-length summarySize (ofAnother e) nothing (s .summaries)) (v .few-summaries);
+    few-records = le-trans (kept-length recordSize (signedByAnother e) (unsignedBy e) (s .records)) (v .few-records);
+    summaries-wide = kept-wide summarySize (ofAnother e) nothing summarySize all-of none-more (s .summaries) (v .summaries-wide);
+    records-wide = kept-wide recordSize (signedByAnother e) (unsignedBy e) placeSize key-of (signers-wide e) (s .records) (v .records-wide);
+    summaries-ascend = kept-ascending summarySize (ofAnother e) nothing summarySize all-of none-more (s .summaries) (v .summaries-wide) (v .summaries-ascend);
+    records-ascend = kept-ascending recordSize (signedByAnother e) (unsignedBy e) placeSize key-of (signers-wide e) (s .records) (v .records-wide) (v .records-ascend);
+    summaries-formed = kept-all summarySize (ofAnother e) nothing (summaryFormed (s .convicted)) (summaryFormed (withBit (s .convicted) e)) kept-summary (s .summaries) (v .summaries-formed);
+    records-held = kept-all recordSize (signedByAnother e) (unsignedBy e) (placeHeld (s .convicted)) (placeHeld (withBit (s .convicted) e)) kept-record (s .records) (v .records-held);
   }

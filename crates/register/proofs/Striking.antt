@@ -16,6 +16,9 @@ use Rattle.octets.proofs.Numbers.{length-word-bytes}
 use Rattle.places.specs.Places.{places, flat, keptPlaces}
 use Rattle.places.proofs.Tables.{length-places}
 use Rattle.places.proofs.Keeping.{changed, Compacted, kept-length}
+use Rattle.record.specs.Layout.{recordSize}
+use Rattle.models.specs.Summary.{summarySize}
+use Rattle.register.specs.Layout.{placeSize}
 use Rattle.register.specs.Register.{nothing, ofAnother, unsignedBy, signedByAnother, signersIn}
 use Rattle.register.specs.Strikes.{Struck, keptAt}
 use Rattle.register.proofs.Walks.{room}
@@ -62,40 +65,40 @@ module _ (k : ℕ) (test : List ℕ → Bool) (f : List ℕ → List ℕ) (w : �
 
 -- ---- summaries
 
-pub all-of : 36 ≤ 36
+pub all-of : summarySize ≤ summarySize
 all-of = omega arith
 
-pub none-more : (v : List ℕ) → 36 + length v ≡ 36 → 36 + length (nothing v) ≡ 36
+pub none-more : (v : List ℕ) → summarySize + length v ≡ summarySize → summarySize + length (nothing v) ≡ summarySize
 none-more v h = refl
 
 -- the engine of a summary is its first byte
-pub first-byte : (t : List ℕ) (at : ℕ) → getD (take 36 (drop at t)) 0 0 ≡ getD t at 0
-first-byte t at = getD-take 36 (drop at t) 0 0 (omega arith) ∙ getD-drop at t 0 0 ∙ ap (λ (x : ℕ). getD t x 0) (add-zero at)
+pub first-byte : (t : List ℕ) (at : ℕ) → getD (take summarySize (drop at t)) 0 0 ≡ getD t at 0
+first-byte t at = getD-take summarySize (drop at t) 0 0 (omega arith) ∙ getD-drop at t 0 0 ∙ ap (λ (x : ℕ). getD t x 0) (add-zero at)
 
-module _ (e : ℕ) (p t : List ℕ) (at : ℕ) (q : take 36 (drop at t) ≡ p) where
+module _ (e : ℕ) (p t : List ℕ) (at : ℕ) (q : take summarySize (drop at t) ≡ p) where
   pub of-engine : getD t at 0 ≡ e → ofAnother e p ≡ false
   of-engine z = rw (eq-eqb (getD p 0 0) e (ap (λ (x : List ℕ). getD x 0 0) (sym q) ∙ first-byte t at ∙ z)) refl
 
   pub of-another : (getD t at 0 ≡ e → ⊥) → ofAnother e p ≡ true
   of-another z = rw (ne-eqb (getD p 0 0) e (λ y. z (sym (ap (λ (x : List ℕ). getD x 0 0) (sym q) ∙ first-byte t at) ∙ y))) refl
 
-pub whole-summary : (p : List ℕ) → length p ≡ 36 → changed 36 (ofAnother 0) nothing p ≡ p
-whole-summary p l = append-nil (take 36 p) ∙ take-all 36 p (omega arith)
+pub whole-summary : (p : List ℕ) → length p ≡ summarySize → changed summarySize (ofAnother 0) nothing p ≡ p
+whole-summary p l = append-nil (take summarySize p) ∙ take-all summarySize p (omega arith)
 
 -- ---- records
 
-pub key-of : 222 ≤ 226
+pub key-of : recordSize ≤ placeSize
 key-of = omega arith
 
-pub signers-wide : (e : ℕ) (v : List ℕ) → 222 + length v ≡ 226 → 222 + length (unsignedBy e v) ≡ 226
-signers-wide e v h = ap (λ (x : ℕ). 222 + x) (length-word-bytes 4 (withoutBit (word v) e))
+pub signers-wide : (e : ℕ) (v : List ℕ) → recordSize + length v ≡ placeSize → recordSize + length (unsignedBy e v) ≡ placeSize
+signers-wide e v h = ap (λ (x : ℕ). recordSize + x) (length-word-bytes 4 (withoutBit (word v) e))
 
 -- the signers of a place are its last 4 bytes
-pub last-word : (t p : List ℕ) (at : ℕ) → at + 226 ≤ length t → take 226 (drop at t) ≡ p → wordAt 4 (at + 222) t ≡ signersIn p
+pub last-word : (t p : List ℕ) (at : ℕ) → at + placeSize ≤ length t → take placeSize (drop at t) ≡ p → wordAt 4 (at + recordSize) t ≡ signersIn p
 last-word t p at h q =
-    let l : length (take 222 (drop at t)) ≡ 222 = length-take-le 222 (drop at t) (rw length-drop (omega arith)) in
-    let d : drop 222 (take 226 (drop at t)) ≡ take 4 (drop 222 (drop at t)) = ap (drop 222) (take-add 222 4 (drop at t)) ∙ drop-at (take 222 (drop at t)) (take 4 (drop 222 (drop at t))) 222 l in
-    ap word (ap (take 4) (sym (drop-drop 222 at t)) ∙ sym d ∙ ap (drop 222) q)
+    let l : length (take recordSize (drop at t)) ≡ recordSize = length-take-le recordSize (drop at t) (rw length-drop (omega arith)) in
+    let d : drop recordSize (take placeSize (drop at t)) ≡ take 4 (drop recordSize (drop at t)) = ap (drop recordSize) (take-add recordSize 4 (drop at t)) ∙ drop-at (take recordSize (drop at t)) (take 4 (drop recordSize (drop at t))) recordSize l in
+    ap word (ap (take 4) (sym (drop-drop recordSize at t)) ∙ sym d ∙ ap (drop recordSize) q)
 
 module _ (e : ℕ) (p : List ℕ) (v : ℕ) (q : v ≡ withoutBit (signersIn p) e) where
   pub unsigned : v ≡ 0 → signedByAnother e p ≡ false
@@ -104,5 +107,5 @@ module _ (e : ℕ) (p : List ℕ) (v : ℕ) (q : v ≡ withoutBit (signersIn p) 
   pub still-signed : (v ≡ 0 → ⊥) → signedByAnother e p ≡ true
   still-signed z = rw (ne-eqb (withoutBit (signersIn p) e) 0 (λ y. z (q ∙ y))) refl
 
-  pub changed-record : (t : List ℕ) (from : ℕ) → take 226 (drop from t) ≡ p → take 222 (drop from t) ++ wordBytes 4 v ≡ changed 222 (signedByAnother e) (unsignedBy e) p
-  changed-record t from r = ap₂ (λ (x : List ℕ) (y : ℕ). x ++ wordBytes 4 y) (sym (take-take 222 226 (drop from t) (omega arith)) ∙ ap (take 222) r) q
+  pub changed-record : (t : List ℕ) (from : ℕ) → take placeSize (drop from t) ≡ p → take recordSize (drop from t) ++ wordBytes 4 v ≡ changed recordSize (signedByAnother e) (unsignedBy e) p
+  changed-record t from r = ap₂ (λ (x : List ℕ) (y : ℕ). x ++ wordBytes 4 y) (sym (take-take recordSize placeSize (drop from t) (omega arith)) ∙ ap (take recordSize) r) q

@@ -12,6 +12,9 @@ use Rattle.octets.proofs.Numbers.{Bytes}
 use Rattle.places.specs.Places.{places, flat, tableOf, keptPlaces}
 use Rattle.places.proofs.Tables.{table-length, wide}
 use Rattle.places.proofs.Keeping.{kept-length, kept-wide}
+use Rattle.models.specs.Summary.{summarySize}
+use Rattle.record.specs.Layout.{recordSize}
+use Rattle.register.specs.Layout.{maxSummaries, maxRecords, placeSize, summaryCountAt, recordCountAt, summariesAt, summariesSize, recordsAt}
 use Rattle.register.specs.Register.{Register, nothing, ofAnother, unsignedBy, signedByAnother, struck}
 use Rattle.register.specs.Memory.{convictedIn, summaryCount, recordCount, summaryBytes, recordBytes, summariesIn, recordsIn, decode, encode}
 use Rattle.register.specs.Strikes.{Struck}
@@ -27,19 +30,19 @@ left-table w cap kept t n t′ l s =
 
 module _ (m : List ℕ) (o : Opened m) (b : Bytes m) (e : ℕ) where
   abbrev ss : List (List ℕ)
-  ss = keptPlaces 36 (ofAnother e) nothing (summariesIn m)
+  ss = keptPlaces summarySize (ofAnother e) nothing (summariesIn m)
 
   abbrev rs : List (List ℕ)
-  rs = keptPlaces 222 (signedByAnother e) (unsignedBy e) (recordsIn m)
+  rs = keptPlaces recordSize (signedByAnother e) (unsignedBy e) (recordsIn m)
 
-  few : length ss ≤ 256
-  few = omega (arith, kept-length 36 (ofAnother e) nothing (summariesIn m), summaries-length m o, o .few-summaries)
+  few : length ss ≤ maxSummaries
+  few = omega (arith, kept-length summarySize (ofAnother e) nothing (summariesIn m), summaries-length m o, o .few-summaries)
 
-  table-ss : length (tableOf 36 256 ss) ≡ 9216
-  table-ss = table-length 36 256 ss (kept-wide 36 (ofAnother e) nothing 36 all-of none-more (summariesIn m) (summaries-wide m o)) few
+  table-ss : length (tableOf summarySize maxSummaries ss) ≡ summariesSize
+  table-ss = table-length summarySize maxSummaries ss (kept-wide summarySize (ofAnother e) nothing summarySize all-of none-more (summariesIn m) (summaries-wide m o)) few
 
-  table-s : length (tableOf 36 256 (summariesIn m)) ≡ 9216
-  table-s = table-length 36 256 (summariesIn m) (summaries-wide m o) (rw (summaries-length m o) (o .few-summaries))
+  table-s : length (tableOf summarySize maxSummaries (summariesIn m)) ≡ summariesSize
+  table-s = table-length summarySize maxSummaries (summariesIn m) (summaries-wide m o) (rw (summaries-length m o) (o .few-summaries))
 
   abbrev c : ℕ
   c = convictedIn m
@@ -51,45 +54,45 @@ module _ (m : List ℕ) (o : Opened m) (b : Bytes m) (e : ℕ) where
   nr = length (recordsIn m)
 
   -- the memory after the summaries, m₁, and after the records
-  module _ (n : ℕ) (n-is : n ≡ summaryCount m) (a : ℕ) (s′ : List ℕ) (p : Struck 36 (keptPlaces 36 (ofAnother e) nothing (places 36 n (take 9216 (drop 8 m)))) (take 9216 (drop 8 m)) a s′)
-      (m₁ : List ℕ) (q : m₁ ≡ take 8 m ++ (s′ ++ drop 9216 (drop 8 m))) where
-    p′ : Struck 36 ss (summaryBytes m) a s′
+  module _ (n : ℕ) (n-is : n ≡ summaryCount m) (a : ℕ) (s′ : List ℕ) (p : Struck summarySize (keptPlaces summarySize (ofAnother e) nothing (places summarySize n (take summariesSize (drop summariesAt m)))) (take summariesSize (drop summariesAt m)) a s′)
+      (m₁ : List ℕ) (q : m₁ ≡ take summariesAt m ++ (s′ ++ drop summariesSize (drop summariesAt m))) where
+    p′ : Struck summarySize ss (summaryBytes m) a s′
     p′ = rw n-is at p
 
-    pub first : m₁ ≡ frame c ns nr (tableOf 36 256 ss) (tableOf 226 96 (recordsIn m))
+    pub first : m₁ ≡ frame c ns nr (tableOf summarySize maxSummaries ss) (tableOf placeSize maxRecords (recordsIn m))
     first =
-        q ∙ ap (λ (x : List ℕ). take 8 x ++ (s′ ++ drop 9216 (drop 8 x))) (framed m o b)
-        ∙ frame-summaries-back c ns nr (tableOf 36 256 (summariesIn m)) (tableOf 226 96 (recordsIn m)) table-s s′
-        ∙ ap (λ (x : List ℕ). frame c ns nr x (tableOf 226 96 (recordsIn m))) (left-table 36 256 ss (summaryBytes m) a s′ (summary-bytes-length m o) p′)
+        q ∙ ap (λ (x : List ℕ). take summariesAt x ++ (s′ ++ drop summariesSize (drop summariesAt x))) (framed m o b)
+        ∙ frame-summaries-back c ns nr (tableOf summarySize maxSummaries (summariesIn m)) (tableOf placeSize maxRecords (recordsIn m)) table-s s′
+        ∙ ap (λ (x : List ℕ). frame c ns nr x (tableOf placeSize maxRecords (recordsIn m))) (left-table summarySize maxSummaries ss (summaryBytes m) a s′ (summary-bytes-length m o) p′)
 
-    pub summaries-left : a ≤ 256
+    pub summaries-left : a ≤ maxSummaries
     summaries-left = rw (p′ .count) few
 
-    pub lent-records : take (length m₁ - 9224) (drop 9224 m₁) ≡ recordBytes m
-    lent-records = tail-lent m₁ 9224 ∙ ap (drop 9224) first ∙ frame-records c ns nr (tableOf 36 256 ss) (tableOf 226 96 (recordsIn m)) table-ss ∙ sym (records-are m o)
+    pub lent-records : take (length m₁ - recordsAt) (drop recordsAt m₁) ≡ recordBytes m
+    lent-records = tail-lent m₁ recordsAt ∙ ap (drop recordsAt) first ∙ frame-records c ns nr (tableOf summarySize maxSummaries ss) (tableOf placeSize maxRecords (recordsIn m)) table-ss ∙ sym (records-are m o)
 
     module _ (k : ℕ) (k-is : k ≡ recordCount m) (d : ℕ) (r′ : List ℕ)
-        (u : Struck 226 (keptPlaces 222 (signedByAnother e) (unsignedBy e) (places 226 k (take (length m₁ - 9224) (drop 9224 m₁)))) (take (length m₁ - 9224) (drop 9224 m₁)) d r′)
-        (m₂ : List ℕ) (v : m₂ ≡ take 9224 m₁ ++ (r′ ++ drop (length m₁ - 9224) (drop 9224 m₁))) where
-      u′ : Struck 226 rs (recordBytes m) d r′
+        (u : Struck placeSize (keptPlaces recordSize (signedByAnother e) (unsignedBy e) (places placeSize k (take (length m₁ - recordsAt) (drop recordsAt m₁)))) (take (length m₁ - recordsAt) (drop recordsAt m₁)) d r′)
+        (m₂ : List ℕ) (v : m₂ ≡ take recordsAt m₁ ++ (r′ ++ drop (length m₁ - recordsAt) (drop recordsAt m₁))) where
+      u′ : Struck placeSize rs (recordBytes m) d r′
       u′ = rw (lent-records, k-is) at u
 
-      pub records-left : d ≤ 96
-      records-left = rw (u′ .count) (omega (arith, kept-length 222 (signedByAnother e) (unsignedBy e) (recordsIn m), records-length m o, o .few-records))
+      pub records-left : d ≤ maxRecords
+      records-left = rw (u′ .count) (omega (arith, kept-length recordSize (signedByAnother e) (unsignedBy e) (recordsIn m), records-length m o, o .few-records))
 
-      second : m₂ ≡ frame c ns nr (tableOf 36 256 ss) (tableOf 226 96 rs)
+      second : m₂ ≡ frame c ns nr (tableOf summarySize maxSummaries ss) (tableOf placeSize maxRecords rs)
       second =
-          v ∙ tail-back m₁ r′ 9224 ∙ ap (λ (x : List ℕ). take 9224 x ++ r′) first
-          ∙ frame-records-back c ns nr (tableOf 36 256 ss) (tableOf 226 96 (recordsIn m)) table-ss r′
-          ∙ ap (frame c ns nr (tableOf 36 256 ss)) (left-table 226 96 rs (recordBytes m) d r′ (record-bytes-length m o) u′)
+          v ∙ tail-back m₁ r′ recordsAt ∙ ap (λ (x : List ℕ). take recordsAt x ++ r′) first
+          ∙ frame-records-back c ns nr (tableOf summarySize maxSummaries ss) (tableOf placeSize maxRecords (recordsIn m)) table-ss r′
+          ∙ ap (frame c ns nr (tableOf summarySize maxSummaries ss)) (left-table placeSize maxRecords rs (recordBytes m) d r′ (record-bytes-length m o) u′)
 
-      pub third : (y : ℕ) (x : List ℕ) → y ≡ withBit c e → x ≡ putWord 2 6 d (putWord 2 4 a (putWord 4 0 y m₂)) → x ≡ encode (struck e (decode m))
+      pub third : (y : ℕ) (x : List ℕ) → y ≡ withBit c e → x ≡ putWord 2 recordCountAt d (putWord 2 summaryCountAt a (putWord 4 0 y m₂)) → x ≡ encode (struck e (decode m))
       unfolding encode decode
       third y x ey z =
-          z ∙ ap (λ (t : List ℕ). putWord 2 6 d (putWord 2 4 a t)) (ap (putWord 4 0 y) second ∙ put-convicted c ns nr (tableOf 36 256 ss) (tableOf 226 96 rs) y)
-          ∙ ap (putWord 2 6 d) (put-summary-count y ns nr (tableOf 36 256 ss) (tableOf 226 96 rs) a)
-          ∙ put-record-count y a nr (tableOf 36 256 ss) (tableOf 226 96 rs) d
-          ∙ header (frame-of (tableOf 36 256 ss) (tableOf 226 96 rs)) ey (p′ .count) (u′ .count)
+          z ∙ ap (λ (t : List ℕ). putWord 2 recordCountAt d (putWord 2 summaryCountAt a t)) (ap (putWord 4 0 y) second ∙ put-convicted c ns nr (tableOf summarySize maxSummaries ss) (tableOf placeSize maxRecords rs) y)
+          ∙ ap (putWord 2 recordCountAt d) (put-summary-count y ns nr (tableOf summarySize maxSummaries ss) (tableOf placeSize maxRecords rs) a)
+          ∙ put-record-count y a nr (tableOf summarySize maxSummaries ss) (tableOf placeSize maxRecords rs) d
+          ∙ header (frame-of (tableOf summarySize maxSummaries ss) (tableOf placeSize maxRecords rs)) ey (p′ .count) (u′ .count)
         where
           frame-of : List ℕ → List ℕ → ℕ → ℕ → ℕ → List ℕ
           frame-of s r x y z = frame x y z s r

@@ -19,7 +19,9 @@ use Rattle.octets.proofs.Numbers.{length-word-bytes}
 use Rattle.places.specs.Places.{flat, tableOf, holds, lookup}
 use Rattle.places.proofs.Keys.{ascending-ext}
 use Rattle.record.specs.Formed as R
-use Rattle.models.specs.Summary.{engineOf, summaryOf}
+use Rattle.models.specs.Summary.{engineOf, summaryOf, summarySize, inputsSize}
+use Rattle.record.specs.Layout.{recordSize, maxModel}
+use Rattle.register.specs.Layout.{maxEngine, maxSummaries, maxRecords, placeSize, summariesAt, summariesSize, recordsSize}
 use Rattle.register.specs.Register.{Register, After, after}
 use Rattle.register.specs.Memory.{decode, encode, fresh, settled, onMemory, wellFormed}
 use Rattle.register.specs.Calls.{Call, report, summary, conviction, act, sound, callEngine, runs, noneFull, convicts, keep, remaining, reports, recordsOf, summariesOf, among}
@@ -32,18 +34,18 @@ use Rattle.register.proofs.History.{run, roomy, start, Sum, history, so
 
 -- a refusal leaves the register
 pub written : (c : Call) (s : Register) → settled (encode s) (act c s) ≡ after (act c s .answer) (encode (act c s .left))
-written (conviction e) s = by (ltb 31 e) (λ a. rw a refl) (λ a. rw a refl)
+written (conviction e) s = by (ltb maxEngine e) (λ a. rw a refl) (λ a. rw a refl)
 written (report e r) s =
-    by (ltb 31 e) (λ a. rw a refl)
+    by (ltb maxEngine e) (λ a. rw a refl)
     (λ a. by (R.wellFormed r)
     (λ b. by (bit (s .convicted) e) (λ c. rw (a, b, c) refl)
-    (λ c. by (not (holds 222 r (s .records)) && leb 96 (length (s .records))) (λ d. rw (a, b, c, d) refl) (λ d. rw (a, b, c, d) refl)))
+    (λ c. by (not (holds recordSize r (s .records)) && leb maxRecords (length (s .records))) (λ d. rw (a, b, c, d) refl) (λ d. rw (a, b, c, d) refl)))
     (λ b. rw (a, b) refl))
 written (summary e model spec inputs) s =
-    by (ltb 31 e) (λ a. rw a refl)
-    (λ a. by (ltb 63 model || not (eqb (length inputs) 32)) (λ b. rw (a, b) refl)
+    by (ltb maxEngine e) (λ a. rw a refl)
+    (λ a. by (ltb maxModel model || not (eqb (length inputs) inputsSize)) (λ b. rw (a, b) refl)
     (λ b. by (bit (s .convicted) e) (λ c. rw (a, b, c) refl)
-    (λ c. by (not (holds 36 (summaryOf e model spec inputs) (s .summaries)) && leb 256 (length (s .summaries))) (λ d. rw (a, b, c, d) refl) (λ d. rw (a, b, c, d) refl))))
+    (λ c. by (not (holds summarySize (summaryOf e model spec inputs) (s .summaries)) && leb maxSummaries (length (s .summaries))) (λ d. rw (a, b, c, d) refl) (λ d. rw (a, b, c, d) refl))))
 
 module _ (h : List Call) (g : roomy h ≡ true) where
   u : Sum h (run h)
@@ -74,7 +76,7 @@ zeros n = replicate n 0
 -- fresh bytes are those of the empty register
 pub fresh-is : encode start ≡ fresh
 unfolding encode flat wordBytes
-fresh-is = ap (λ (t : List ℕ). zeros 8 ++ t) (replicate-append-replicate 9216 21696 0) ∙ replicate-append-replicate 8 30912 0
+fresh-is = ap (λ (t : List ℕ). zeros summariesAt ++ t) (replicate-append-replicate summariesSize recordsSize 0) ∙ replicate-append-replicate summariesAt (summariesSize + recordsSize) 0
 
 -- ---- the order of a list does not matter to what it has
 
@@ -102,7 +104,7 @@ unfolding convicts
 convicts-back [] h e = refl
 convicts-back (report k q ∷ cs) h e = convicts-back cs (report k q ∷ h) e
 convicts-back (summary k model spec inputs ∷ cs) h e = convicts-back cs (summary k model spec inputs ∷ h) e
-convicts-back (conviction k ∷ cs) h e = convicts-back cs (conviction k ∷ h) e ∙ swap (leb k 31 && eqb k e) (convicts cs e) (convicts h e)
+convicts-back (conviction k ∷ cs) h e = convicts-back cs (conviction k ∷ h) e ∙ swap (leb k maxEngine && eqb k e) (convicts cs e) (convicts h e)
 
 -- ---- what remains
 
@@ -174,7 +176,7 @@ some-bit = bin-ind (λ (n : ℕ). (n ≡ 0 → ⊥) → (e : ℕ) × (bit n e �
 
 -- a record that some engine signs is held
 pub record-held : (s : Register) → Valid s → (cs : List Call) → ((e : ℕ) (r : List ℕ) → bit (signersOf r s) e ≡ reports cs e r)
-    → (r : List ℕ) → holds 222 r (s .records) ≡ among r (recordsOf cs)
+    → (r : List ℕ) → holds recordSize r (s .records) ≡ among r (recordsOf cs)
 record-held s v cs b r =
     held-signed s v r
     ∙ by (eqb (signersOf r s) 0)
@@ -206,7 +208,7 @@ module _ (cs : List Call) (f : noneFull fresh cs ≡ true) where
       let a : reports (reverse cs) e r ≡ reports cs e r = reports-back cs [] e r ∙ (unfold reports in or-false (reports cs e r)) in
       sum .signed-by e r ∙ rw (a, struck e) (sym (kept-reports (convicts cs) e r cs))
 
-  pub summarized : (p : List ℕ) → holds 36 p (last .summaries) ≡ among p (summariesOf (remaining cs))
+  pub summarized : (p : List ℕ) → holds summarySize p (last .summaries) ≡ among p (summariesOf (remaining cs))
   summarized p =
       let a : among p (summariesOf (reverse cs)) ≡ among p (summariesOf cs) = summaries-back cs [] p ∙ (unfold among summariesOf in or-false (among p (summariesOf cs))) in
       sum .held p ∙ rw (a, struck (engineOf p)) (sym (kept-summaries (convicts cs) p cs))
@@ -218,12 +220,12 @@ module _ (cs : List Call) (f : noneFull fresh cs ≡ true) where
   whole-of = record {
     formed = rw (both .0) (formed-encode last (sum .valid));
     convicted = λ e. ap (λ (s : Register). bit (s .convicted) e) decoded ∙ sum .struck-off e ∙ struck e;
-    summaries = λ p. ap (λ (s : Register). holds 36 p (s .summaries)) decoded ∙ summarized p;
-    records = λ r. ap (λ (s : Register). holds 222 r (s .records)) decoded ∙ record-held last (sum .valid) (remaining cs) signs r;
+    summaries = λ p. ap (λ (s : Register). holds summarySize p (s .summaries)) decoded ∙ summarized p;
+    records = λ r. ap (λ (s : Register). holds recordSize r (s .records)) decoded ∙ record-held last (sum .valid) (remaining cs) signs r;
     signers = λ e r. ap (λ (s : Register). bit (signersOf r s) e) decoded ∙ signs e r;
   }
 
-  rest-is : drop 4 (runs fresh cs) ≡ wordBytes 2 (length (last .summaries)) ++ (wordBytes 2 (length (last .records)) ++ (tableOf 36 256 (last .summaries) ++ tableOf 226 96 (last .records)))
+  rest-is : drop 4 (runs fresh cs) ≡ wordBytes 2 (length (last .summaries)) ++ (wordBytes 2 (length (last .records)) ++ (tableOf summarySize maxSummaries (last .summaries) ++ tableOf placeSize maxRecords (last .records)))
   unfolding encode
   rest-is = ap (drop 4) (both .0) ∙ drop-at (wordBytes 4 (last .convicted)) _ 4 (length-word-bytes 4 (last .convicted))
 
@@ -240,7 +242,7 @@ module _ (cs ds : List Call) (f : noneFull fresh cs ≡ true) (g : noneFull fres
 
   pub same-summaries : s .summaries ≡ t .summaries
   same-summaries =
-      ascending-ext 36 (s .summaries) (t .summaries) (sum cs f .valid .summaries-ascend) (sum ds g .valid .summaries-ascend)
+      ascending-ext summarySize (s .summaries) (t .summaries) (sum cs f .valid .summaries-ascend) (sum ds g .valid .summaries-ascend)
       (λ p. summarized cs f p ∙ q .summaries p ∙ sym (summarized ds g p))
       (λ p. nothing-follows p (s .summaries) (sum cs f .valid .summaries-wide) ∙ sym (nothing-follows p (t .summaries) (sum ds g .valid .summaries-wide)))
 
@@ -249,14 +251,14 @@ module _ (cs ds : List Call) (f : noneFull fresh cs ≡ true) (g : noneFull fres
 
   pub same-records : s .records ≡ t .records
   same-records =
-      ascending-ext 222 (s .records) (t .records) (sum cs f .valid .records-ascend) (sum ds g .valid .records-ascend)
+      ascending-ext recordSize (s .records) (t .records) (sum cs f .valid .records-ascend) (sum ds g .valid .records-ascend)
       (λ r. held-signed s (sum cs f .valid) r ∙ ap (λ (n : ℕ). not (eqb n 0)) (same-signers r) ∙ sym (held-signed t (sum ds g .valid) r))
       (λ r. lookup-signed s (sum cs f .valid) r ∙ ap (λ (n : ℕ). cond (eqb n 0) [] (wordBytes 4 n)) (same-signers r) ∙ sym (lookup-signed t (sum ds g .valid) r))
 
   same-rest : drop 4 (runs fresh cs) ≡ drop 4 (runs fresh ds)
   same-rest =
       rest-is cs f
-      ∙ ap₂ (λ (x y : List (List ℕ)). wordBytes 2 (length x) ++ (wordBytes 2 (length y) ++ (tableOf 36 256 x ++ tableOf 226 96 y))) same-summaries same-records
+      ∙ ap₂ (λ (x y : List (List ℕ)). wordBytes 2 (length x) ++ (wordBytes 2 (length y) ++ (tableOf summarySize maxSummaries x ++ tableOf placeSize maxRecords y))) same-summaries same-records
       ∙ sym (rest-is ds g)
 
 pub same-bytes : SameBytes

@@ -33,8 +33,14 @@ recordCountAt = summaryCountAt + 2
 abbrev pub summariesAt : ℕ
 summariesAt = recordCountAt + 2
 
+abbrev pub summariesSize : ℕ
+summariesSize = maxSummaries * summarySize
+
 abbrev pub recordsAt : ℕ
-recordsAt = summariesAt + maxSummaries * summarySize
+recordsAt = summariesAt + summariesSize
+
+abbrev pub recordsSize : ℕ
+recordsSize = maxRecords * placeSize
 
 abbrev pub registerSize : ℕ
-registerSize = recordsAt + maxRecords * placeSize
+registerSize = recordsAt + recordsSize

@@ -1,5 +1,5 @@
 -- A register in memory (document 01, 'The register (30,920 bytes)'): which bytes are one, the register that bytes are, its bytes, and an operation on bytes.
-use Prim.Native.Nat.{ℕ, _+_, _*_}
+use Prim.Native.Nat.{ℕ}
 use mathlib.Core.Bool.{Bool, true, false, cond, not, _&&_}
 use mathlib.Core.List.{List, _++_}
 use lib.Bits.{bitAnd}
@@ -26,7 +26,7 @@ abbrev pub recordCount : List ℕ → ℕ
 recordCount m = wordAt 2 L.recordCountAt m
 
 abbrev pub summaryBytes : List ℕ → List ℕ
-summaryBytes m = take (L.maxSummaries * summarySize) (drop L.summariesAt m)
+summaryBytes m = take L.summariesSize (drop L.summariesAt m)
 
 abbrev pub recordBytes : List ℕ → List ℕ
 recordBytes m = drop L.recordsAt m

@@ -7,26 +7,28 @@ use lib.ListN.{length, getD, take, drop, length-append, length-take, length-drop
 use lib.Seq.{take-at, drop-at, take-add, take-take, drop-drop, length-take-le}
 use borrow.Rule.Slice.PartMut.{same-len-mid}
 use Rattle.octets.specs.Words.{wordBytes, putWord}
+use Rattle.record.specs.Layout.{recordSize}
+use Rattle.register.specs.Layout.{placeSize}
 use Rattle.register.specs.Strikes.{keptAt}
 use Rattle.register.proofs.Frames.{mid-put}
 use borrow.Author.Needs.{needs}
 use Rattle.register.proofs.convictions.keep_place.Statement.{statement}
 use Rattle.register.proofs.convictions.keep_place.Tie as tie
 
-kept : (t : List ℕ) (from to v : ℕ) → to ≤ from → from + 226 ≤ length t
-    → putWord 4 (to + 222) v (take to t ++ (take 226 (drop from t) ++ drop (to + 226) t)) ≡ keptAt from to v t
+kept : (t : List ℕ) (from to v : ℕ) → to ≤ from → from + placeSize ≤ length t
+    → putWord 4 (to + recordSize) v (take to t ++ (take placeSize (drop from t) ++ drop (to + placeSize) t)) ≡ keptAt from to v t
 kept t from to v h l =
     let a = take to t in
-    let p = take 222 (drop from t) in
-    let q = take 4 (drop 222 (drop from t)) in
-    let z = drop (to + 226) t in
+    let p = take recordSize (drop from t) in
+    let q = take 4 (drop recordSize (drop from t)) in
+    let z = drop (to + placeSize) t in
     let al : length a ≡ to = length-take-le to t (omega arith) in
-    let pl : length p ≡ 222 = length-take-le 222 (drop from t) (rw length-drop (omega arith)) in
-    let ql : length q ≡ 4 = length-take-le 4 (drop 222 (drop from t)) (rw (length-drop, length-drop) (omega arith)) in
-    let e : a ++ (take 226 (drop from t) ++ z) ≡ (a ++ p) ++ (q ++ z) =
-    ap (λ (x : List ℕ). a ++ (x ++ z)) (take-add 222 4 (drop from t)) ∙ ap (λ (x : List ℕ). a ++ x) (append-assoc p q z) ∙ sym (append-assoc a p (q ++ z)) in
-    let apl : length (a ++ p) ≡ to + 222 = length-append a p ∙ ap₂ (λ (x y : ℕ). x + y) al pl in
-    ap (putWord 4 (to + 222) v) e ∙ mid-put (a ++ p) q z (to + 222) 4 apl ql v
+    let pl : length p ≡ recordSize = length-take-le recordSize (drop from t) (rw length-drop (omega arith)) in
+    let ql : length q ≡ 4 = length-take-le 4 (drop recordSize (drop from t)) (rw (length-drop, length-drop) (omega arith)) in
+    let e : a ++ (take placeSize (drop from t) ++ z) ≡ (a ++ p) ++ (q ++ z) =
+    ap (λ (x : List ℕ). a ++ (x ++ z)) (take-add recordSize 4 (drop from t)) ∙ ap (λ (x : List ℕ). a ++ x) (append-assoc p q z) ∙ sym (append-assoc a p (q ++ z)) in
+    let apl : length (a ++ p) ≡ to + recordSize = length-append a p ∙ ap₂ (λ (x y : ℕ). x + y) al pl in
+    ap (putWord 4 (to + recordSize) v) e ∙ mid-put (a ++ p) q z (to + recordSize) 4 apl ql v
     ∙ append-assoc a p (wordBytes 4 v ++ z) ∙ ap (λ (x : List ℕ). a ++ x) (sym (append-assoc p (wordBytes 4 v) z))
 
 copy-down-requires : tie.Need-copy-down-requires

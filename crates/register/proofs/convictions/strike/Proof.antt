@@ -8,6 +8,7 @@ use borrow.Author.Tests.{not-true, not-false}
 use borrow.Rule.Slice.PartMut.{same-len-mid}
 use Rattle.octets.specs.Masks.{withBit}
 use Rattle.octets.proofs.Numbers.{all-bytes}
+use Rattle.register.specs.Layout.{summariesAt, summariesSize, recordsAt}
 use Rattle.register.proofs.Opened.{opened, summary-bytes-length, record-bytes-length}
 use Rattle.register.proofs.Struck.{summaries-left, lent-records, records-left, third}
 use borrow.Author.Needs.{needs}
@@ -45,10 +46,10 @@ strike-summaries-requires : tie.Need-strike-summaries-requires
 strike-summaries-requires c κs = let s = c .before .before .before .before .before .before .before .before in let m = s .args .memory .now in let o = opened m (s .pre .0) in rw (summary-bytes-length m o) (omega (arith, o .few-summaries, c .before .before .before .u16-at .ensures))
 
 sub-strike-records : tie.Need-sub-strike-records
-sub-strike-records c = let s = c .before .before .before .before .before .before .before .before .before .before .before in let m = s .args .memory .now in let o = opened m (s .pre .0) in let y = all-bytes m (λ i. c .before .before .before .before .before .before .before .before .before .before .slice-known .given i .fits) in let x = c .before .before .strike-summaries in omega (arith, same-len-mid 8 9216 m (x .last .0) (x .kept .0), o .size)
+sub-strike-records c = let s = c .before .before .before .before .before .before .before .before .before .before .before in let m = s .args .memory .now in let o = opened m (s .pre .0) in let y = all-bytes m (λ i. c .before .before .before .before .before .before .before .before .before .before .slice-known .given i .fits) in let x = c .before .before .strike-summaries in omega (arith, same-len-mid summariesAt summariesSize m (x .last .0) (x .kept .0), o .size)
 
 part-strike-records-start : tie.Need-part-strike-records-start
-part-strike-records-start c = let s = c .before .before .before .before .before .before .before .before .before .before .before in let m = s .args .memory .now in let o = opened m (s .pre .0) in let y = all-bytes m (λ i. c .before .before .before .before .before .before .before .before .before .before .slice-known .given i .fits) in let x = c .before .before .strike-summaries in omega (arith, same-len-mid 8 9216 m (x .last .0) (x .kept .0), o .size)
+part-strike-records-start c = let s = c .before .before .before .before .before .before .before .before .before .before .before in let m = s .args .memory .now in let o = opened m (s .pre .0) in let y = all-bytes m (λ i. c .before .before .before .before .before .before .before .before .before .before .slice-known .given i .fits) in let x = c .before .before .strike-summaries in omega (arith, same-len-mid summariesAt summariesSize m (x .last .0) (x .kept .0), o .size)
 
 part-strike-records-end : tie.Need-part-strike-records-end
 part-strike-records-end c = search needs
@@ -67,11 +68,11 @@ cast-put-header-2 c = let s = c .before .before .before .before .before .before 
 
 put-header-requires : tie.Need-put-header-requires
 put-header-requires c κs =
-    let s = c .before .before .before .before .before .before .before .before .before .before .before .before .before .before .before .before .before in let m = s .args .memory .now in let o = opened m (s .pre .0) in let y = all-bytes m (λ i. c .before .before .before .before .before .before .before .before .before .before .before .before .before .before .before .before .slice-known .given i .fits) in let x = c .before .before .before .before .before .before .before .before .strike-summaries in let r = c .before .before .before .before .strike-records in let m₁ = take 8 m ++ (x .last .0 ++ drop 9216 (drop 8 m)) in omega (arith, same-len-mid 8 9216 m (x .last .0) (x .kept .0), same-len-mid 9224 (length m₁ - 9224) m₁ (r .last .0) (r .kept .0), o .size)
+    let s = c .before .before .before .before .before .before .before .before .before .before .before .before .before .before .before .before .before in let m = s .args .memory .now in let o = opened m (s .pre .0) in let y = all-bytes m (λ i. c .before .before .before .before .before .before .before .before .before .before .before .before .before .before .before .before .slice-known .given i .fits) in let x = c .before .before .before .before .before .before .before .before .strike-summaries in let r = c .before .before .before .before .strike-records in let m₁ = take summariesAt m ++ (x .last .0 ++ drop summariesSize (drop summariesAt m)) in omega (arith, same-len-mid summariesAt summariesSize m (x .last .0) (x .kept .0), same-len-mid recordsAt (length m₁ - recordsAt) m₁ (r .last .0) (r .kept .0), o .size)
 
 same-length : tie.Need-same-length
 same-length c =
-    let s = c .before .before .before .before .before .before .before .before .before .before .before .before .before .before .before .before .before .before .before .before in let m = s .args .memory .now in let o = opened m (s .pre .0) in let y = all-bytes m (λ i. c .before .before .before .before .before .before .before .before .before .before .before .before .before .before .before .before .before .before .before .slice-known .given i .fits) in let x = c .before .before .before .before .before .before .before .before .before .before .before .strike-summaries in let r = c .before .before .before .before .before .before .before .strike-records in let m₁ = take 8 m ++ (x .last .0 ++ drop 9216 (drop 8 m)) in c .before .before .put-header .kept .0 ∙ same-len-mid 9224 (length m₁ - 9224) m₁ (r .last .0) (r .kept .0) ∙ same-len-mid 8 9216 m (x .last .0) (x .kept .0)
+    let s = c .before .before .before .before .before .before .before .before .before .before .before .before .before .before .before .before .before .before .before .before in let m = s .args .memory .now in let o = opened m (s .pre .0) in let y = all-bytes m (λ i. c .before .before .before .before .before .before .before .before .before .before .before .before .before .before .before .before .before .before .before .slice-known .given i .fits) in let x = c .before .before .before .before .before .before .before .before .before .before .before .strike-summaries in let r = c .before .before .before .before .before .before .before .strike-records in let m₁ = take summariesAt m ++ (x .last .0 ++ drop summariesSize (drop summariesAt m)) in c .before .before .put-header .kept .0 ∙ same-len-mid recordsAt (length m₁ - recordsAt) m₁ (r .last .0) (r .kept .0) ∙ same-len-mid summariesAt summariesSize m (x .last .0) (x .kept .0)
 
 returns : tie.Need-returns
 returns c =

@@ -8,6 +8,7 @@ use lib.Seq.{take-at, drop-at, take-add, take-take, drop-drop, length-take-le}
 use borrow.Rule.Slice.PartMut.{same-len-mid}
 use Rattle.places.specs.Places.{places}
 use Rattle.places.proofs.Keeping.{Compacted, compact-none, compact-gone, compact-stays}
+use Rattle.models.specs.Summary.{summarySize}
 use Rattle.register.specs.Register.{nothing, ofAnother}
 use Rattle.register.proofs.Striking.{here, lower, inside, among, ends, struck-end, all-of, none-more, of-engine, of-another, whole-summary}
 use Rattle.register.proofs.Walks.{next-room}
@@ -16,19 +17,19 @@ use Rattle.register.proofs.convictions.strike_summaries.Statement.{stat
 use Rattle.register.proofs.convictions.strike_summaries.Tie as tie
 
 abbrev Inv-loop : tie.InvT-loop
-Inv-loop t₀ n engine i₀ j₀ t i j = (i ≤ n) × Compacted 36 (ofAnother engine) nothing 36 all-of none-more (places 36 n t₀) t₀ t i j
+Inv-loop t₀ n engine i₀ j₀ t i j = (i ≤ n) × Compacted summarySize (ofAnother engine) nothing summarySize all-of none-more (places summarySize n t₀) t₀ t i j
 
 abbrev μ-loop : tie.MeasureT-loop
 μ-loop t₀ n engine i₀ j₀ t i j = n - i
 
 loop-holds : tie.Need-loop-holds Inv-loop μ-loop
-loop-holds c = let a = c .before .args in (omega arith, compact-none 36 (ofAnother (a .engine)) nothing 36 all-of none-more (places 36 (a .n) (a .t .now)) (a .t .now))
+loop-holds c = let a = c .before .args in (omega arith, compact-none summarySize (ofAnother (a .engine)) nothing summarySize all-of none-more (places summarySize (a .n) (a .t .now)) (a .t .now))
 
 mul-at : tie.Need-mul-at Inv-loop μ-loop
-mul-at c = let l = c .before in let s = l .before .before in let a = s .args in let q = inside 36 (ofAnother (a .engine)) nothing 36 all-of none-more (a .n) (a .t .now) (l .loop .t) (l .loop .i) (l .loop .j) (s .pre) (l .loop .inv .1) (c .loop-test .taken) in let z = l .loop .inv .1 .size in omega (arith, s .good)
+mul-at c = let l = c .before in let s = l .before .before in let a = s .args in let q = inside summarySize (ofAnother (a .engine)) nothing summarySize all-of none-more (a .n) (a .t .now) (l .loop .t) (l .loop .i) (l .loop .j) (s .pre) (l .loop .inv .1) (c .loop-test .taken) in let z = l .loop .inv .1 .size in omega (arith, s .good)
 
 slice-read-if1 : tie.Need-slice-read-if1 Inv-loop μ-loop
-slice-read-if1 c = let l = c .before .before in let s = l .before .before in let a = s .args in let q = inside 36 (ofAnother (a .engine)) nothing 36 all-of none-more (a .n) (a .t .now) (l .loop .t) (l .loop .i) (l .loop .j) (s .pre) (l .loop .inv .1) (c .before .loop-test .taken) in omega arith
+slice-read-if1 c = let l = c .before .before in let s = l .before .before in let a = s .args in let q = inside summarySize (ofAnother (a .engine)) nothing summarySize all-of none-more (a .n) (a .t .now) (l .loop .t) (l .loop .i) (l .loop .j) (s .pre) (l .loop .inv .1) (c .before .loop-test .taken) in omega arith
 
 add-i : tie.Need-add-i Inv-loop μ-loop
 add-i c = omega arith
@@ -41,15 +42,15 @@ loop-again c =
     let l = c .before .before .before in let s = l .before .before in let a = s .args in
     let k : l .loop .i < a .n = c .before .before .loop-test .taken in (
       omega arith,
-      compact-gone 36 (ofAnother (a .engine)) nothing 36 all-of none-more (places 36 (a .n) (a .t .now)) (a .t .now) (l .loop .t) (l .loop .i) (l .loop .j) (among 36 (ofAnother (a .engine)) nothing 36 all-of none-more (a .n) (a .t .now) (l .loop .t) (l .loop .i) (l .loop .j) (s .pre) (l .loop .inv .1) k) (l .loop .inv .1)
-          (of-engine (a .engine) (getD (places 36 (a .n) (a .t .now)) (l .loop .i) []) (l .loop .t) (l .loop .i * 36) (here 36 (ofAnother (a .engine)) nothing 36 all-of none-more (a .n) (a .t .now) (l .loop .t) (l .loop .i) (l .loop .j) (s .pre) (l .loop .inv .1) k) (c .if1 .taken)),
+      compact-gone summarySize (ofAnother (a .engine)) nothing summarySize all-of none-more (places summarySize (a .n) (a .t .now)) (a .t .now) (l .loop .t) (l .loop .i) (l .loop .j) (among summarySize (ofAnother (a .engine)) nothing summarySize all-of none-more (a .n) (a .t .now) (l .loop .t) (l .loop .i) (l .loop .j) (s .pre) (l .loop .inv .1) k) (l .loop .inv .1)
+          (of-engine (a .engine) (getD (places summarySize (a .n) (a .t .now)) (l .loop .i) []) (l .loop .t) (l .loop .i * summarySize) (here summarySize (ofAnother (a .engine)) nothing summarySize all-of none-more (a .n) (a .t .now) (l .loop .t) (l .loop .i) (l .loop .j) (s .pre) (l .loop .inv .1) k) (c .if1 .taken)),
     )
 
 mul-copy-down : tie.Need-mul-copy-down Inv-loop μ-loop
-mul-copy-down c = let l = c .before .before .before .before in let s = l .before .before in let a = s .args in let q = inside 36 (ofAnother (a .engine)) nothing 36 all-of none-more (a .n) (a .t .now) (l .loop .t) (l .loop .i) (l .loop .j) (s .pre) (l .loop .inv .1) (c .before .before .before .loop-test .taken) in let v = lower 36 (ofAnother (a .engine)) nothing 36 all-of none-more (a .n) (a .t .now) (l .loop .t) (l .loop .i) (l .loop .j) (s .pre) (l .loop .inv .1) in let z = l .loop .inv .1 .size in omega (arith, s .good)
+mul-copy-down c = let l = c .before .before .before .before in let s = l .before .before in let a = s .args in let q = inside summarySize (ofAnother (a .engine)) nothing summarySize all-of none-more (a .n) (a .t .now) (l .loop .t) (l .loop .i) (l .loop .j) (s .pre) (l .loop .inv .1) (c .before .before .before .loop-test .taken) in let v = lower summarySize (ofAnother (a .engine)) nothing summarySize all-of none-more (a .n) (a .t .now) (l .loop .t) (l .loop .i) (l .loop .j) (s .pre) (l .loop .inv .1) in let z = l .loop .inv .1 .size in omega (arith, s .good)
 
 copy-down-requires : tie.Need-copy-down-requires Inv-loop μ-loop
-copy-down-requires c κs = let l = c .before .before .before .before in let s = l .before .before in let a = s .args in (lower 36 (ofAnother (a .engine)) nothing 36 all-of none-more (a .n) (a .t .now) (l .loop .t) (l .loop .i) (l .loop .j) (s .pre) (l .loop .inv .1), inside 36 (ofAnother (a .engine)) nothing 36 all-of none-more (a .n) (a .t .now) (l .loop .t) (l .loop .i) (l .loop .j) (s .pre) (l .loop .inv .1) (c .before .before .before .loop-test .taken))
+copy-down-requires c κs = let l = c .before .before .before .before in let s = l .before .before in let a = s .args in (lower summarySize (ofAnother (a .engine)) nothing summarySize all-of none-more (a .n) (a .t .now) (l .loop .t) (l .loop .i) (l .loop .j) (s .pre) (l .loop .inv .1), inside summarySize (ofAnother (a .engine)) nothing summarySize all-of none-more (a .n) (a .t .now) (l .loop .t) (l .loop .i) (l .loop .j) (s .pre) (l .loop .inv .1) (c .before .before .before .loop-test .taken))
 
 add-i-2 : tie.Need-add-i-2 Inv-loop μ-loop
 add-i-2 c = omega arith
@@ -64,25 +65,25 @@ loop-again-2 : tie.Need-loop-again-2 Inv-loop μ-loop
 loop-again-2 c =
     let l = c .before .before .before .before .before .before .before in let s = l .before .before in let a = s .args in
     let k : l .loop .i < a .n = c .before .before .before .before .before .before .loop-test .taken in
-    let p = getD (places 36 (a .n) (a .t .now)) (l .loop .i) [] in
-    let q = here 36 (ofAnother (a .engine)) nothing 36 all-of none-more (a .n) (a .t .now) (l .loop .t) (l .loop .i) (l .loop .j) (s .pre) (l .loop .inv .1) k in
-    let ins = inside 36 (ofAnother (a .engine)) nothing 36 all-of none-more (a .n) (a .t .now) (l .loop .t) (l .loop .i) (l .loop .j) (s .pre) (l .loop .inv .1) k in
-    let pl : length p ≡ 36 = ap length (sym q) ∙ length-take-le 36 (drop (l .loop .i * 36) (l .loop .t)) (rw length-drop (omega arith)) in
+    let p = getD (places summarySize (a .n) (a .t .now)) (l .loop .i) [] in
+    let q = here summarySize (ofAnother (a .engine)) nothing summarySize all-of none-more (a .n) (a .t .now) (l .loop .t) (l .loop .i) (l .loop .j) (s .pre) (l .loop .inv .1) k in
+    let ins = inside summarySize (ofAnother (a .engine)) nothing summarySize all-of none-more (a .n) (a .t .now) (l .loop .t) (l .loop .i) (l .loop .j) (s .pre) (l .loop .inv .1) k in
+    let pl : length p ≡ summarySize = ap length (sym q) ∙ length-take-le summarySize (drop (l .loop .i * summarySize) (l .loop .t)) (rw length-drop (omega arith)) in
     let w = whole-summary p pl in (
       omega arith,
-      compact-stays 36 (ofAnother (a .engine)) nothing 36 all-of none-more (places 36 (a .n) (a .t .now)) (a .t .now) (l .loop .t) (l .loop .i) (l .loop .j) (among 36 (ofAnother (a .engine)) nothing 36 all-of none-more (a .n) (a .t .now) (l .loop .t) (l .loop .i) (l .loop .j) (s .pre) (l .loop .inv .1) k) (l .loop .inv .1)
-          (c .before .before .copy-down .last .0) (of-another (a .engine) p (l .loop .t) (l .loop .i * 36) q (c .before .before .before .before .if1 .left)) (ap length w ∙ pl) (next-room (l .loop .i) 36 (length (l .loop .t)) ins)
-          (c .before .before .copy-down .ensures ∙ ap (λ (x : List ℕ). take (l .loop .j * 36) (l .loop .t) ++ (x ++ drop (l .loop .j * 36 + 36) (l .loop .t))) (q ∙ sym w)),
+      compact-stays summarySize (ofAnother (a .engine)) nothing summarySize all-of none-more (places summarySize (a .n) (a .t .now)) (a .t .now) (l .loop .t) (l .loop .i) (l .loop .j) (among summarySize (ofAnother (a .engine)) nothing summarySize all-of none-more (a .n) (a .t .now) (l .loop .t) (l .loop .i) (l .loop .j) (s .pre) (l .loop .inv .1) k) (l .loop .inv .1)
+          (c .before .before .copy-down .last .0) (of-another (a .engine) p (l .loop .t) (l .loop .i * summarySize) q (c .before .before .before .before .if1 .left)) (ap length w ∙ pl) (next-room (l .loop .i) summarySize (length (l .loop .t)) ins)
+          (c .before .before .copy-down .ensures ∙ ap (λ (x : List ℕ). take (l .loop .j * summarySize) (l .loop .t) ++ (x ++ drop (l .loop .j * summarySize + summarySize) (l .loop .t))) (q ∙ sym w)),
     )
 
 mul-end : tie.Need-mul-end Inv-loop μ-loop
-mul-end c = let l = c .before in let s = l .before .before in let a = s .args in let q = ends 36 (ofAnother (a .engine)) nothing 36 all-of none-more (a .n) (a .t .now) (l .loop .t) (l .loop .i) (l .loop .j) (s .pre) (l .loop .inv .1) (l .loop .inv .0) in let z = l .loop .inv .1 .size in omega (arith, s .good)
+mul-end c = let l = c .before in let s = l .before .before in let a = s .args in let q = ends summarySize (ofAnother (a .engine)) nothing summarySize all-of none-more (a .n) (a .t .now) (l .loop .t) (l .loop .i) (l .loop .j) (s .pre) (l .loop .inv .1) (l .loop .inv .0) in let z = l .loop .inv .1 .size in omega (arith, s .good)
 
 sub-clear : tie.Need-sub-clear Inv-loop μ-loop
-sub-clear c = let l = c .before in let s = l .before .before in let a = s .args in let q = ends 36 (ofAnother (a .engine)) nothing 36 all-of none-more (a .n) (a .t .now) (l .loop .t) (l .loop .i) (l .loop .j) (s .pre) (l .loop .inv .1) (l .loop .inv .0) in omega arith
+sub-clear c = let l = c .before in let s = l .before .before in let a = s .args in let q = ends summarySize (ofAnother (a .engine)) nothing summarySize all-of none-more (a .n) (a .t .now) (l .loop .t) (l .loop .i) (l .loop .j) (s .pre) (l .loop .inv .1) (l .loop .inv .0) in omega arith
 
 part-clear-start : tie.Need-part-clear-start Inv-loop μ-loop
-part-clear-start c = let l = c .before in let s = l .before .before in let a = s .args in let q = ends 36 (ofAnother (a .engine)) nothing 36 all-of none-more (a .n) (a .t .now) (l .loop .t) (l .loop .i) (l .loop .j) (s .pre) (l .loop .inv .1) (l .loop .inv .0) in omega arith
+part-clear-start c = let l = c .before in let s = l .before .before in let a = s .args in let q = ends summarySize (ofAnother (a .engine)) nothing summarySize all-of none-more (a .n) (a .t .now) (l .loop .t) (l .loop .i) (l .loop .j) (s .pre) (l .loop .inv .1) (l .loop .inv .0) in omega arith
 
 part-clear-end : tie.Need-part-clear-end Inv-loop μ-loop
 part-clear-end c = omega arith
@@ -93,11 +94,11 @@ clear-requires c κs = search needs
 same-length : tie.Need-same-length Inv-loop μ-loop
 same-length c =
     let l = c .before .before .before .before .before in let s = l .before .before in let a = s .args in
-    let k = l .loop .j * 36 in
+    let k = l .loop .j * summarySize in
     same-len-mid k (length (l .loop .t) - k) (l .loop .t) (c .before .before .clear .last .0) (c .before .before .clear .kept .0) ∙ l .loop .inv .1 .size
 
 returns : tie.Need-returns Inv-loop μ-loop
-returns c = let l = c .before .before .before .before .before in let s = l .before .before in let a = s .args in struck-end 36 (ofAnother (a .engine)) nothing 36 all-of none-more (a .n) (a .t .now) (l .loop .t) (l .loop .i) (l .loop .j) (s .pre) (l .loop .inv .1) (c .before .before .before .before .loop-test .left) (c .before .before .clear .last .0) (c .before .before .clear .ensures)
+returns c = let l = c .before .before .before .before .before in let s = l .before .before in let a = s .args in struck-end summarySize (ofAnother (a .engine)) nothing summarySize all-of none-more (a .n) (a .t .now) (l .loop .t) (l .loop .i) (l .loop .j) (s .pre) (l .loop .inv .1) (c .before .before .before .before .loop-test .left) (c .before .before .clear .last .0) (c .before .before .clear .ensures)
 
 pub strike-summaries-spec : {M : Type 1} → statement M
 strike-summaries-spec =

@@ -9,17 +9,19 @@ use lib.Seq.{length-take-le, take-all}
 use lib.Dec.{ltb, leb, eqb}
 use borrow.Author.Tests.{lt-ltb, le-ltb, le-leb, lt-leb, eq-eqb, ne-eqb, not-true, not-false}
 use Rattle.octets.specs.Words.{word, wordAt}
+use Rattle.record.specs.Layout.{recordSize}
+use Rattle.register.specs.Layout.{placeSize}
 use Rattle.register.specs.Register.{signersIn}
 use borrow.Author.Needs.{needs}
 use Rattle.register.proofs.formed.place_formed.Statement.{statement}
 use Rattle.register.proofs.formed.place_formed.Tie as tie
 
 -- all that follows the record are its signers
-signers : (p : List ℕ) (x : ℕ) → length p ≡ 226 → x ≡ wordAt 4 222 p → x ≡ signersIn p
-signers p x h e = e ∙ ap word (take-all 4 (drop 222 p) (rw length-drop (omega arith)))
+signers : (p : List ℕ) (x : ℕ) → length p ≡ placeSize → x ≡ wordAt 4 recordSize p → x ≡ signersIn p
+signers p x h e = e ∙ ap word (take-all 4 (drop recordSize p) (rw length-drop (omega arith)))
 
 slice-aggregate-well-formed : tie.Need-slice-aggregate-well-formed
-slice-aggregate-well-formed c = let s = c .before .before in sym (length-take-le 222 (s .args .p .now) (omega (arith, s .pre)))
+slice-aggregate-well-formed c = let s = c .before .before in sym (length-take-le recordSize (s .args .p .now) (omega (arith, s .pre)))
 
 well-formed-requires : tie.Need-well-formed-requires
 well-formed-requires c κs = search needs

@@ -9,6 +9,7 @@ use lib.Seq.{length-take-le, take-all}
 use lib.Dec.{ltb, leb, eqb}
 use borrow.Author.Tests.{lt-ltb, le-ltb, le-leb, lt-leb, eq-eqb, ne-eqb, not-true, not-false}
 use Rattle.places.specs.Places.{places, allPlaces}
+use Rattle.models.specs.Summary.{summarySize}
 use Rattle.register.specs.Memory.{summaryFormed}
 use Rattle.register.proofs.Walks.{room, step-at, walk-next, walk-end}
 use borrow.Author.Needs.{needs}
@@ -16,7 +17,7 @@ use Rattle.register.proofs.formed.summaries_formed.Statement.{statement
 use Rattle.register.proofs.formed.summaries_formed.Tie as tie
 
 abbrev Inv-loop : tie.InvT-loop
-Inv-loop t n convicted i₀ at₀ i at = (i ≤ n) × (at ≡ i * 36) × (allPlaces (summaryFormed convicted) (places 36 n t) ≡ allPlaces (summaryFormed convicted) (places 36 (n - i) (drop at t)))
+Inv-loop t n convicted i₀ at₀ i at = (i ≤ n) × (at ≡ i * summarySize) × (allPlaces (summaryFormed convicted) (places summarySize n t) ≡ allPlaces (summaryFormed convicted) (places summarySize (n - i) (drop at t)))
 
 abbrev μ-loop : tie.MeasureT-loop
 μ-loop t n convicted i₀ at₀ i at = n - i
@@ -25,7 +26,7 @@ loop-holds : tie.Need-loop-holds Inv-loop μ-loop
 loop-holds c = (omega arith, omega arith, rw sub-zero refl)
 
 add-e : tie.Need-add-e Inv-loop μ-loop
-add-e c = omega (arith, room (c .before .loop .i) (c .before .before .before .args .n) 36 (c .loop-test .taken))
+add-e c = omega (arith, room (c .before .loop .i) (c .before .before .before .args .n) summarySize (c .loop-test .taken))
 
 sub-summary-formed : tie.Need-sub-summary-formed Inv-loop μ-loop
 sub-summary-formed c = omega arith
@@ -34,16 +35,16 @@ part-summary-formed-start : tie.Need-part-summary-formed-start Inv-loop μ-loop
 part-summary-formed-start c = omega arith
 
 part-summary-formed-end : tie.Need-part-summary-formed-end Inv-loop μ-loop
-part-summary-formed-end c = omega (arith, room (c .before .loop .i) (c .before .before .before .args .n) 36 (c .loop-test .taken))
+part-summary-formed-end c = omega (arith, room (c .before .loop .i) (c .before .before .before .args .n) summarySize (c .loop-test .taken))
 
 summary-formed-requires : tie.Need-summary-formed-requires Inv-loop μ-loop
-summary-formed-requires c κs = simp (length-take, length-drop) (omega (arith, room (c .before .before .loop .i) (c .before .before .before .before .args .n) 36 (c .before .loop-test .taken)))
+summary-formed-requires c κs = simp (length-take, length-drop) (omega (arith, room (c .before .before .loop .i) (c .before .before .before .before .args .n) summarySize (c .before .loop-test .taken)))
 
 returns : tie.Need-returns Inv-loop μ-loop
 returns c =
     let l = c .before .before .before .before in
     let a = l .before .before .args in
-    sym (l .loop .inv .2 ∙ walk-next (summaryFormed (a .convicted)) 36 (a .n) (l .loop .i) (l .loop .at) (a .t .now) (omega arith) ∙ rw (sym (c .before .summary-formed .ensures) ∙ not-true _ (c .if1 .taken)) refl)
+    sym (l .loop .inv .2 ∙ walk-next (summaryFormed (a .convicted)) summarySize (a .n) (l .loop .i) (l .loop .at) (a .t .now) (omega arith) ∙ rw (sym (c .before .summary-formed .ensures) ∙ not-true _ (c .if1 .taken)) refl)
 
 add-i : tie.Need-add-i Inv-loop μ-loop
 add-i c = omega arith
@@ -56,15 +57,15 @@ loop-again c =
     let l = c .before .before .before .before in
     let a = l .before .before .args in (
       omega arith,
-      step-at (l .loop .i) 36 (l .loop .at) (l .loop .inv .1),
-      l .loop .inv .2 ∙ walk-next (summaryFormed (a .convicted)) 36 (a .n) (l .loop .i) (l .loop .at) (a .t .now) (omega arith) ∙ rw (sym (c .before .summary-formed .ensures) ∙ not-false _ (c .if1 .left)) refl,
+      step-at (l .loop .i) summarySize (l .loop .at) (l .loop .inv .1),
+      l .loop .inv .2 ∙ walk-next (summaryFormed (a .convicted)) summarySize (a .n) (l .loop .i) (l .loop .at) (a .t .now) (omega arith) ∙ rw (sym (c .before .summary-formed .ensures) ∙ not-false _ (c .if1 .left)) refl,
     )
 
 returns-2 : tie.Need-returns-2 Inv-loop μ-loop
 returns-2 c =
     let l = c .before in
     let a = l .before .before .args in
-    sym (l .loop .inv .2 ∙ walk-end (summaryFormed (a .convicted)) 36 (a .n) (l .loop .i) (l .loop .at) (a .t .now) (c .loop-test .left))
+    sym (l .loop .inv .2 ∙ walk-end (summaryFormed (a .convicted)) summarySize (a .n) (l .loop .i) (l .loop .at) (a .t .now) (c .loop-test .left))
 
 pub summaries-formed-spec : {M : Type 1} → statement M
 summaries-formed-spec =

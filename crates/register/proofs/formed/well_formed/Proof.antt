@@ -8,62 +8,65 @@ use lib.Dec.{leb, eqb}
 use borrow.Author.Tests.{le-leb, lt-leb, eq-eqb, ne-eqb, not-true, not-false}
 use Rattle.octets.proofs.Moves.{tail-lent}
 use Rattle.places.specs.Places.{places, isTable, allPlaces}
+use Rattle.models.specs.Summary.{summarySize}
+use Rattle.record.specs.Layout.{recordSize}
+use Rattle.register.specs.Layout.{maxSummaries, maxRecords, placeSize, recordsAt, registerSize}
 use Rattle.register.specs.Memory.{convictedIn, summaryCount, recordCount, summaryBytes, recordBytes, summariesIn, recordsIn, summaryFormed, placeFormed, wellFormed}
 use borrow.Author.Needs.{needs}
 use Rattle.register.proofs.formed.well_formed.Statement.{statement}
 use Rattle.register.proofs.formed.well_formed.Tie as tie
 
 module _ (m : List ℕ) where
-  fails-1 : (length m ≡ 30920 → ⊥) → wellFormed m ≡ false
+  fails-1 : (length m ≡ registerSize → ⊥) → wellFormed m ≡ false
   unfolding wellFormed
-  fails-1 f = rw (ne-eqb (length m) 30920 f) refl
+  fails-1 f = rw (ne-eqb (length m) registerSize f) refl
 
-  module _ (e : length m ≡ 30920) (c n k : ℕ) (ec : c ≡ convictedIn m) (en : n ≡ summaryCount m) where
-    fails-2 : 256 < n → wellFormed m ≡ false
+  module _ (e : length m ≡ registerSize) (c n k : ℕ) (ec : c ≡ convictedIn m) (en : n ≡ summaryCount m) where
+    fails-2 : maxSummaries < n → wellFormed m ≡ false
     unfolding wellFormed
-    fails-2 h = rw (eq-eqb (length m) 30920 e, lt-leb (summaryCount m) 256 (rw en at h)) refl
+    fails-2 h = rw (eq-eqb (length m) registerSize e, lt-leb (summaryCount m) maxSummaries (rw en at h)) refl
 
-    module _ (h₂ : n ≤ 256) (ek : k ≡ recordCount m) where
-      a₂ : leb (summaryCount m) 256 ≡ true
-      a₂ = le-leb (summaryCount m) 256 (rw en at h₂)
+    module _ (h₂ : n ≤ maxSummaries) (ek : k ≡ recordCount m) where
+      a₂ : leb (summaryCount m) maxSummaries ≡ true
+      a₂ = le-leb (summaryCount m) maxSummaries (rw en at h₂)
 
-      fails-3 : 96 < k → wellFormed m ≡ false
+      fails-3 : maxRecords < k → wellFormed m ≡ false
       unfolding wellFormed
-      fails-3 h = rw (eq-eqb (length m) 30920 e, a₂, lt-leb (recordCount m) 96 (rw ek at h)) refl
+      fails-3 h = rw (eq-eqb (length m) registerSize e, a₂, lt-leb (recordCount m) maxRecords (rw ek at h)) refl
 
-      module _ (h₃ : k ≤ 96) where
-        a₃ : leb (recordCount m) 96 ≡ true
-        a₃ = le-leb (recordCount m) 96 (rw ek at h₃)
+      module _ (h₃ : k ≤ maxRecords) where
+        a₃ : leb (recordCount m) maxRecords ≡ true
+        a₃ = le-leb (recordCount m) maxRecords (rw ek at h₃)
 
-        t₄ : (r : Bool) → r ≡ isTable 36 36 n (summaryBytes m) → isTable 36 36 (summaryCount m) (summaryBytes m) ≡ r
-        t₄ r q = ap (λ (x : ℕ). isTable 36 36 x (summaryBytes m)) (sym en) ∙ sym q
+        t₄ : (r : Bool) → r ≡ isTable summarySize summarySize n (summaryBytes m) → isTable summarySize summarySize (summaryCount m) (summaryBytes m) ≡ r
+        t₄ r q = ap (λ (x : ℕ). isTable summarySize summarySize x (summaryBytes m)) (sym en) ∙ sym q
 
-        t₅ : (r : Bool) → r ≡ allPlaces (summaryFormed c) (places 36 n (summaryBytes m)) → allPlaces (summaryFormed (convictedIn m)) (summariesIn m) ≡ r
-        t₅ r q = ap₂ (λ (x y : ℕ). allPlaces (summaryFormed x) (places 36 y (summaryBytes m))) (sym ec) (sym en) ∙ sym q
+        t₅ : (r : Bool) → r ≡ allPlaces (summaryFormed c) (places summarySize n (summaryBytes m)) → allPlaces (summaryFormed (convictedIn m)) (summariesIn m) ≡ r
+        t₅ r q = ap₂ (λ (x y : ℕ). allPlaces (summaryFormed x) (places summarySize y (summaryBytes m))) (sym ec) (sym en) ∙ sym q
 
-        t₆ : (r : Bool) → r ≡ isTable 222 226 k (take (length m - 9224) (drop 9224 m)) → isTable 222 226 (recordCount m) (recordBytes m) ≡ r
-        t₆ r q = ap₂ (λ (x : ℕ) (y : List ℕ). isTable 222 226 x y) (sym ek) (sym (tail-lent m 9224)) ∙ sym q
+        t₆ : (r : Bool) → r ≡ isTable recordSize placeSize k (take (length m - recordsAt) (drop recordsAt m)) → isTable recordSize placeSize (recordCount m) (recordBytes m) ≡ r
+        t₆ r q = ap₂ (λ (x : ℕ) (y : List ℕ). isTable recordSize placeSize x y) (sym ek) (sym (tail-lent m recordsAt)) ∙ sym q
 
-        t₇ : (r : Bool) → r ≡ allPlaces (placeFormed c) (places 226 k (take (length m - 9224) (drop 9224 m))) → allPlaces (placeFormed (convictedIn m)) (recordsIn m) ≡ r
-        t₇ r q = ap₂ (λ (x y : ℕ). allPlaces (placeFormed x) (places 226 y (recordBytes m))) (sym ec) (sym ek) ∙ ap (λ (y : List ℕ). allPlaces (placeFormed c) (places 226 k y)) (sym (tail-lent m 9224)) ∙ sym q
+        t₇ : (r : Bool) → r ≡ allPlaces (placeFormed c) (places placeSize k (take (length m - recordsAt) (drop recordsAt m))) → allPlaces (placeFormed (convictedIn m)) (recordsIn m) ≡ r
+        t₇ r q = ap₂ (λ (x y : ℕ). allPlaces (placeFormed x) (places placeSize y (recordBytes m))) (sym ec) (sym ek) ∙ ap (λ (y : List ℕ). allPlaces (placeFormed c) (places placeSize k y)) (sym (tail-lent m recordsAt)) ∙ sym q
 
-        fails-4 : (r : Bool) → r ≡ isTable 36 36 n (summaryBytes m) → r ≡ false → wellFormed m ≡ false
+        fails-4 : (r : Bool) → r ≡ isTable summarySize summarySize n (summaryBytes m) → r ≡ false → wellFormed m ≡ false
         unfolding wellFormed
-        fails-4 r q z = rw (eq-eqb (length m) 30920 e, a₂, a₃, t₄ r q, z) refl
+        fails-4 r q z = rw (eq-eqb (length m) registerSize e, a₂, a₃, t₄ r q, z) refl
 
-        fails-5 : (r₄ r : Bool) → r₄ ≡ isTable 36 36 n (summaryBytes m) → r₄ ≡ true → r ≡ allPlaces (summaryFormed c) (places 36 n (summaryBytes m)) → r ≡ false → wellFormed m ≡ false
+        fails-5 : (r₄ r : Bool) → r₄ ≡ isTable summarySize summarySize n (summaryBytes m) → r₄ ≡ true → r ≡ allPlaces (summaryFormed c) (places summarySize n (summaryBytes m)) → r ≡ false → wellFormed m ≡ false
         unfolding wellFormed
-        fails-5 r₄ r q₄ z₄ q z = rw (eq-eqb (length m) 30920 e, a₂, a₃, t₄ r₄ q₄, z₄, t₅ r q, z) refl
+        fails-5 r₄ r q₄ z₄ q z = rw (eq-eqb (length m) registerSize e, a₂, a₃, t₄ r₄ q₄, z₄, t₅ r q, z) refl
 
-        fails-6 : (r₄ r₅ r : Bool) → r₄ ≡ isTable 36 36 n (summaryBytes m) → r₄ ≡ true → r₅ ≡ allPlaces (summaryFormed c) (places 36 n (summaryBytes m)) → r₅ ≡ true
-            → r ≡ isTable 222 226 k (take (length m - 9224) (drop 9224 m)) → r ≡ false → wellFormed m ≡ false
+        fails-6 : (r₄ r₅ r : Bool) → r₄ ≡ isTable summarySize summarySize n (summaryBytes m) → r₄ ≡ true → r₅ ≡ allPlaces (summaryFormed c) (places summarySize n (summaryBytes m)) → r₅ ≡ true
+            → r ≡ isTable recordSize placeSize k (take (length m - recordsAt) (drop recordsAt m)) → r ≡ false → wellFormed m ≡ false
         unfolding wellFormed
-        fails-6 r₄ r₅ r q₄ z₄ q₅ z₅ q z = rw (eq-eqb (length m) 30920 e, a₂, a₃, t₄ r₄ q₄, z₄, t₅ r₅ q₅, z₅, t₆ r q, z) refl
+        fails-6 r₄ r₅ r q₄ z₄ q₅ z₅ q z = rw (eq-eqb (length m) registerSize e, a₂, a₃, t₄ r₄ q₄, z₄, t₅ r₅ q₅, z₅, t₆ r q, z) refl
 
-        last-7 : (r₄ r₅ r₆ r : Bool) → r₄ ≡ isTable 36 36 n (summaryBytes m) → r₄ ≡ true → r₅ ≡ allPlaces (summaryFormed c) (places 36 n (summaryBytes m)) → r₅ ≡ true
-            → r₆ ≡ isTable 222 226 k (take (length m - 9224) (drop 9224 m)) → r₆ ≡ true → r ≡ allPlaces (placeFormed c) (places 226 k (take (length m - 9224) (drop 9224 m))) → r ≡ wellFormed m
+        last-7 : (r₄ r₅ r₆ r : Bool) → r₄ ≡ isTable summarySize summarySize n (summaryBytes m) → r₄ ≡ true → r₅ ≡ allPlaces (summaryFormed c) (places summarySize n (summaryBytes m)) → r₅ ≡ true
+            → r₆ ≡ isTable recordSize placeSize k (take (length m - recordsAt) (drop recordsAt m)) → r₆ ≡ true → r ≡ allPlaces (placeFormed c) (places placeSize k (take (length m - recordsAt) (drop recordsAt m))) → r ≡ wellFormed m
         unfolding wellFormed
-        last-7 r₄ r₅ r₆ r q₄ z₄ q₅ z₅ q₆ z₆ q = sym (rw (eq-eqb (length m) 30920 e, a₂, a₃, t₄ r₄ q₄, z₄, t₅ r₅ q₅, z₅, t₆ r₆ q₆, z₆) (t₇ r q))
+        last-7 r₄ r₅ r₆ r q₄ z₄ q₅ z₅ q₆ z₆ q = sym (rw (eq-eqb (length m) registerSize e, a₂, a₃, t₄ r₄ q₄, z₄, t₅ r₅ q₅, z₅, t₆ r₆ q₆, z₆) (t₇ r q))
 
 returns : tie.Need-returns
 returns c = sym (fails-1 (c .before .before .args .m .now) (c .if1 .taken))

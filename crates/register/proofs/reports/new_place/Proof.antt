@@ -9,17 +9,19 @@ use lib.Seq.{take-at, drop-at, take-length, length-take-le}
 use borrow.Author.Tests.{lt-ltb, le-ltb, le-leb, lt-leb, eq-eqb, ne-eqb, not-true, not-false, leb-false, ltb-true}
 use Rattle.octets.specs.Words.{word, wordBytes, putWord}
 use Rattle.octets.specs.Masks.{withBit}
+use Rattle.record.specs.Layout.{recordSize}
+use Rattle.register.specs.Layout.{placeSize}
 use Rattle.register.specs.Register.{signedBy}
 use borrow.Author.Needs.{needs}
 use Rattle.register.proofs.reports.new_place.Statement.{statement}
 use Rattle.register.proofs.reports.new_place.Tie as tie
 
-made : (r : List ℕ) (e : ℕ) → length r ≡ 222 → putWord 4 222 (withBit 0 e) (take (length r) r ++ drop (length r) (replicate 226 0)) ≡ r ++ signedBy e []
+made : (r : List ℕ) (e : ℕ) → length r ≡ recordSize → putWord 4 recordSize (withBit 0 e) (take (length r) r ++ drop (length r) (replicate placeSize 0)) ≡ r ++ signedBy e []
 unfolding word
 made r e l =
-    let d : List ℕ = drop (length r) (replicate 226 0) in
-    let k : length (r ++ d) ≤ 226 = rw (length-append, length-drop, length-replicate, l) (omega arith) in
-    rw (take-length r, take-at r d 222 l, drop-of-length-le (r ++ d) k, append-nil) refl
+    let d : List ℕ = drop (length r) (replicate placeSize 0) in
+    let k : length (r ++ d) ≤ placeSize = rw (length-append, length-drop, length-replicate, l) (omega arith) in
+    rw (take-length r, take-at r d recordSize l, drop-of-length-le (r ++ d) k, append-nil) refl
 
 slice-aggregate-copy : tie.Need-slice-aggregate-copy
 slice-aggregate-copy c = search needs

@@ -15,6 +15,8 @@ use Rattle.places.specs.Places.{holds, rank, tableOf, putPlace}
 use Rattle.places.specs.declared.Put.{Put}
 use Rattle.places.specs.declared.Put.the-variants.{Held, Full, New}
 use Rattle.record.proofs.Parts.{formed}
+use Rattle.record.specs.Layout.{recordSize}
+use Rattle.register.specs.Layout.{maxRecords, placeSize, recordCountAt, recordsAt, recordsSize}
 use Rattle.register.specs.Register.{after, signedBy, signedInto}
 use Rattle.register.specs.Memory.{recordsIn, recordCount, settled, decode}
 use Rattle.register.proofs.Opened.{Opened, opened, record-bytes-length, records-length, records-ascend}
@@ -23,31 +25,31 @@ use borrow.Author.Needs.{needs}
 use Rattle.register.proofs.reports.sign.Statement.{statement}
 use Rattle.register.proofs.reports.sign.Tie as tie
 
-module _ (m : List ℕ) (o : Opened m) (y : Bytes m) (e : ℕ) (r : List ℕ) (l : length r ≡ 222) where
-  full : (t′ : List ℕ) {a : Put} → Way (holds 222 r (recordsIn m)) (leb 96 (length (recordsIn m))) (rank 222 r (recordsIn m)) (tableOf 226 96 (recordsIn m)) (tableOf 226 96 (putPlace 222 (signedBy e) r (recordsIn m))) a t′
-      → a ≡ Full → after 5 (take 9224 m ++ (t′ ++ drop (length m - 9224) (drop 9224 m))) ≡ settled m (signedInto e r (decode m))
+module _ (m : List ℕ) (o : Opened m) (y : Bytes m) (e : ℕ) (r : List ℕ) (l : length r ≡ recordSize) where
+  full : (t′ : List ℕ) {a : Put} → Way (holds recordSize r (recordsIn m)) (leb maxRecords (length (recordsIn m))) (rank recordSize r (recordsIn m)) (tableOf placeSize maxRecords (recordsIn m)) (tableOf placeSize maxRecords (putPlace recordSize (signedBy e) r (recordsIn m))) a t′
+      → a ≡ Full → after 5 (take recordsAt m ++ (t′ ++ drop (length m - recordsAt) (drop recordsAt m))) ≡ settled m (signedInto e r (decode m))
   full t′ (held h q z) f = absurd (held-not-full q f)
   full t′ (none h g q z) f = record-full m o y e r l t′ h g z
   full t′ (new h g q z) f = absurd (full-not-new f q)
 
   fresh : (t′ x : List ℕ) (n : ℕ) → n ≡ recordCount m → {a : Put}
-      → Way (holds 222 r (recordsIn m)) (leb 96 (length (recordsIn m))) (rank 222 r (recordsIn m)) (tableOf 226 96 (recordsIn m)) (tableOf 226 96 (putPlace 222 (signedBy e) r (recordsIn m))) a t′
-      → a ≡ New → x ≡ putWord 2 6 (n + 1) (take 9224 m ++ (t′ ++ drop (length m - 9224) (drop 9224 m))) → after 0 x ≡ settled m (signedInto e r (decode m))
+      → Way (holds recordSize r (recordsIn m)) (leb maxRecords (length (recordsIn m))) (rank recordSize r (recordsIn m)) (tableOf placeSize maxRecords (recordsIn m)) (tableOf placeSize maxRecords (putPlace recordSize (signedBy e) r (recordsIn m))) a t′
+      → a ≡ New → x ≡ putWord 2 recordCountAt (n + 1) (take recordsAt m ++ (t′ ++ drop (length m - recordsAt) (drop recordsAt m))) → after 0 x ≡ settled m (signedInto e r (decode m))
   fresh t′ x n en (held h q z) f u = absurd (held-not-new q f)
   fresh t′ x n en (none h g q z) f u = absurd (full-not-new q f)
   fresh t′ x n en (new h g q z) f u = record-new m o y e r l t′ x n en h g z u
 
-module _ (m : List ℕ) (o : Opened m) (y : Bytes m) (e : ℕ) (r : List ℕ) (l : length r ≡ 222) {a : Put} {t′ : List ℕ}
-    (w : Way (holds 222 r (recordsIn m)) (leb 96 (length (recordsIn m))) (rank 222 r (recordsIn m)) (tableOf 226 96 (recordsIn m)) (tableOf 226 96 (putPlace 222 (signedBy e) r (recordsIn m))) a t′)
+module _ (m : List ℕ) (o : Opened m) (y : Bytes m) (e : ℕ) (r : List ℕ) (l : length r ≡ recordSize) {a : Put} {t′ : List ℕ}
+    (w : Way (holds recordSize r (recordsIn m)) (leb maxRecords (length (recordsIn m))) (rank recordSize r (recordsIn m)) (tableOf placeSize maxRecords (recordsIn m)) (tableOf placeSize maxRecords (putPlace recordSize (signedBy e) r (recordsIn m))) a t′)
     (j : ℕ) (q : a ≡ Held j) where
   -- the place lies within the table, of which nothing was written
-  within : j < 96
+  within : j < maxRecords
   within =
       let v = held-index w j q in
-      let at = held-at 222 r (recordsIn m) (records-ascend m o) (v .1 .0) .0 in
+      let at = held-at recordSize r (recordsIn m) (records-ascend m o) (v .1 .0) .0 in
       rw (v .0) (omega (arith, records-length m o, o .few-records))
 
-  unwritten : take 9224 m ++ (t′ ++ drop (length m - 9224) (drop 9224 m)) ≡ m
+  unwritten : take recordsAt m ++ (t′ ++ drop (length m - recordsAt) (drop recordsAt m)) ≡ m
   unwritten = back-same m o y e r l t′ (held-index w j q .1 .1)
 
 u16-at-requires : tie.Need-u16-at-requires
@@ -77,7 +79,7 @@ put-by-key-requires c κs =
     let m = s .args .memory .now in
     let o = opened m (s .pre .0) in
     let y = all-bytes m (λ i. c .before .before .before .before .before .before .slice-known .given i .fits) in
-    let z : length (take (length m - 9224) (drop 9224 m)) ≡ 21696 = ap length (tail-lent m 9224) ∙ record-bytes-length m o in
+    let z : length (take (length m - recordsAt) (drop recordsAt m)) ≡ recordsSize = ap length (tail-lent m recordsAt) ∙ record-bytes-length m o in
     (rw z (omega (arith, o .few-records, c .before .before .before .u16-at .ensures)), (omega arith, (ap length (c .before .before .new-place .ensures) ∙ place-length m o y (s .args .engine) (s .args .r .now) (formed (s .args .r .now) (s .pre .1 .1) .size), z)))
 
 enum-known-tried : tie.Need-enum-known-tried
@@ -170,7 +172,7 @@ returns c =
     let v = held-index w i h in
     let z = unwritten m o y (s .args .engine) r l w i h in
     record-again m o y (s .args .engine) r l (c .before .before .add-signer .last .0) i (v .0) (v .1 .0)
-    (c .before .before .add-signer .ensures ∙ ap (λ (x : List ℕ). putWord 4 (9224 + i * 226 + 222) (withBit (wordAt 4 (9224 + i * 226 + 222) x) (s .args .engine)) x) z)
+    (c .before .before .add-signer .ensures ∙ ap (λ (x : List ℕ). putWord 4 (recordsAt + i * placeSize + recordSize) (withBit (wordAt 4 (recordsAt + i * placeSize + recordSize) x) (s .args .engine)) x) z)
 
 same-length-2 : tie.Need-same-length-2
 same-length-2 c = search needs

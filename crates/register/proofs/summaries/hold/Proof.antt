@@ -11,6 +11,8 @@ use Rattle.octets.proofs.Numbers.{Bytes, all-bytes}
 use Rattle.places.specs.Places.{holds, rank, tableOf, putPlace}
 use Rattle.places.specs.declared.Put.{Put}
 use Rattle.places.specs.declared.Put.the-variants.{Held, Full, New}
+use Rattle.models.specs.Summary.{summarySize}
+use Rattle.register.specs.Layout.{maxSummaries, summaryCountAt, summariesAt, summariesSize}
 use Rattle.register.specs.Register.{after, nothing, heldInto}
 use Rattle.register.specs.Memory.{summariesIn, summaryCount, settled, decode}
 use Rattle.register.proofs.Opened.{Opened, opened, summary-bytes-length}
@@ -19,19 +21,19 @@ use borrow.Author.Needs.{needs}
 use Rattle.register.proofs.summaries.hold.Statement.{statement}
 use Rattle.register.proofs.summaries.hold.Tie as tie
 
-module _ (m : List ℕ) (o : Opened m) (y : Bytes m) (p : List ℕ) (l : length p ≡ 36) where
-  again : (t′ : List ℕ) {a : Put} {j : ℕ} → Way (holds 36 p (summariesIn m)) (leb 256 (length (summariesIn m))) (rank 36 p (summariesIn m)) (tableOf 36 256 (summariesIn m)) (tableOf 36 256 (putPlace 36 nothing p (summariesIn m))) a t′
-      → a ≡ Held j → after 0 (take 8 m ++ (t′ ++ drop 9216 (drop 8 m))) ≡ settled m (heldInto p (decode m))
+module _ (m : List ℕ) (o : Opened m) (y : Bytes m) (p : List ℕ) (l : length p ≡ summarySize) where
+  again : (t′ : List ℕ) {a : Put} {j : ℕ} → Way (holds summarySize p (summariesIn m)) (leb maxSummaries (length (summariesIn m))) (rank summarySize p (summariesIn m)) (tableOf summarySize maxSummaries (summariesIn m)) (tableOf summarySize maxSummaries (putPlace summarySize nothing p (summariesIn m))) a t′
+      → a ≡ Held j → after 0 (take summariesAt m ++ (t′ ++ drop summariesSize (drop summariesAt m))) ≡ settled m (heldInto p (decode m))
   again t′ {a} {j} w f = let v = held-index w j f in summary-held m o y p l t′ (v .1 .0) (v .1 .1)
 
-  full : (t′ : List ℕ) {a : Put} → Way (holds 36 p (summariesIn m)) (leb 256 (length (summariesIn m))) (rank 36 p (summariesIn m)) (tableOf 36 256 (summariesIn m)) (tableOf 36 256 (putPlace 36 nothing p (summariesIn m))) a t′
-      → a ≡ Full → after 5 (take 8 m ++ (t′ ++ drop 9216 (drop 8 m))) ≡ settled m (heldInto p (decode m))
+  full : (t′ : List ℕ) {a : Put} → Way (holds summarySize p (summariesIn m)) (leb maxSummaries (length (summariesIn m))) (rank summarySize p (summariesIn m)) (tableOf summarySize maxSummaries (summariesIn m)) (tableOf summarySize maxSummaries (putPlace summarySize nothing p (summariesIn m))) a t′
+      → a ≡ Full → after 5 (take summariesAt m ++ (t′ ++ drop summariesSize (drop summariesAt m))) ≡ settled m (heldInto p (decode m))
   full t′ (held h q z) f = absurd (held-not-full q f)
   full t′ (none h g q z) f = summary-full m o y p l t′ h g z
   full t′ (new h g q z) f = absurd (full-not-new f q)
 
-  fresh : (t′ x : List ℕ) (n : ℕ) → n ≡ summaryCount m → {a : Put} → Way (holds 36 p (summariesIn m)) (leb 256 (length (summariesIn m))) (rank 36 p (summariesIn m)) (tableOf 36 256 (summariesIn m)) (tableOf 36 256 (putPlace 36 nothing p (summariesIn m))) a t′
-      → a ≡ New → x ≡ putWord 2 4 (n + 1) (take 8 m ++ (t′ ++ drop 9216 (drop 8 m))) → after 0 x ≡ settled m (heldInto p (decode m))
+  fresh : (t′ x : List ℕ) (n : ℕ) → n ≡ summaryCount m → {a : Put} → Way (holds summarySize p (summariesIn m)) (leb maxSummaries (length (summariesIn m))) (rank summarySize p (summariesIn m)) (tableOf summarySize maxSummaries (summariesIn m)) (tableOf summarySize maxSummaries (putPlace summarySize nothing p (summariesIn m))) a t′
+      → a ≡ New → x ≡ putWord 2 summaryCountAt (n + 1) (take summariesAt m ++ (t′ ++ drop summariesSize (drop summariesAt m))) → after 0 x ≡ settled m (heldInto p (decode m))
   fresh t′ x n en (held h q z) f u = absurd (held-not-new q f)
   fresh t′ x n en (none h g q z) f u = absurd (full-not-new q f)
   fresh t′ x n en (new h g q z) f u = summary-new m o y p l t′ x n en h g z u

@@ -7,16 +7,16 @@ use lib.Dec.{leb}
 use lib.ListN.{length, take, drop, set, replicate, length-append, length-take, length-drop}
 use lib.Seq.{take-length}
 use Rattle.octets.specs.Words.{wordBytes, putWord}
-use Rattle.models.specs.Summary.{summaryOf}
+use Rattle.models.specs.Summary.{summaryOf, inputsSize, summarySize, inputsAt}
 use borrow.Author.Needs.{needs}
 use Rattle.register.proofs.summaries.new_summary.Statement.{statement}
 use Rattle.register.proofs.summaries.new_summary.Tie as tie
 
-made : (e model spec : ℕ) (inputs p y : List ℕ) → p ≡ putWord 2 2 spec (set (set (replicate 36 0) 0 e) 1 model)
-    → y ≡ take (length inputs) inputs ++ drop (length inputs) (take 32 (drop 4 p)) → length inputs ≡ 32 → take 4 p ++ (y ++ drop 32 (drop 4 p)) ≡ summaryOf e model spec inputs
+made : (e model spec : ℕ) (inputs p y : List ℕ) → p ≡ putWord 2 2 spec (set (set (replicate summarySize 0) 0 e) 1 model)
+    → y ≡ take (length inputs) inputs ++ drop (length inputs) (take inputsSize (drop inputsAt p)) → length inputs ≡ inputsSize → take inputsAt p ++ (y ++ drop inputsSize (drop inputsAt p)) ≡ summaryOf e model spec inputs
 unfolding wordBytes
 made e model spec inputs p y u v l =
-    let u′ : p ≡ e ∷ model ∷ (spec % 256 ∷ (spec / 256 % 256 ∷ replicate 32 0)) = u in
+    let u′ : p ≡ e ∷ model ∷ (spec % 256 ∷ (spec / 256 % 256 ∷ replicate inputsSize 0)) = u in
     let v′ : y ≡ inputs = v ∙ rw (take-length inputs, l, u′) (append-nil inputs) in
     rw (u′, v′) (ap (λ (t : List ℕ). e ∷ model ∷ (spec % 256 ∷ (spec / 256 % 256 ∷ t))) (append-nil inputs))
 

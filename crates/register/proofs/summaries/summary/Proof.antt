@@ -11,13 +11,13 @@ use Rattle.register.specs.Register.{summarized, heldInto}
 use Rattle.register.specs.Memory.{decode, convictedIn, settled}
 use Rattle.register.proofs.Opened.{opened}
 use Rattle.register.proofs.Answers.{no-register, on-register, refused, summary-2, summary-9-model, summary-9-inputs, summary-4, summary-rest, decoded-convicted}
-use Rattle.models.specs.Summary.{summaryOf}
+use Rattle.models.specs.Summary.{summaryOf, summarySize, inputsSize}
 use Rattle.octets.specs.Words.{wordBytes}
 use borrow.Author.Needs.{needs}
 use Rattle.register.proofs.summaries.summary.Statement.{statement}
 use Rattle.register.proofs.summaries.summary.Tie as tie
 
-wide-summary : (e model spec : ℕ) (inputs : List ℕ) → length inputs ≡ 32 → length (summaryOf e model spec inputs) ≡ 36
+wide-summary : (e model spec : ℕ) (inputs : List ℕ) → length inputs ≡ inputsSize → length (summaryOf e model spec inputs) ≡ summarySize
 wide-summary e model spec inputs l = let z : length (wordBytes 2 spec) ≡ 2 = length-word-bytes 2 spec in rw length-append (omega arith)
 
 well-formed-requires : tie.Need-well-formed-requires
