@@ -4,3 +4,4 @@ pub mod Soundness
 pub mod Entering
 pub mod Walking
 pub mod Holding
+pub mod Distinct
