@@ -1,5 +1,5 @@
 -- Fixes in the order of their identities have different identities: of two places whose keys ascend, the key of the earlier comes first.
-use Prim.Native.Nat.{ℕ, zero, suc, _*_, _≤_, _<_}
+use Prim.Native.Nat.{ℕ, zero, suc, _*_, _<_}
 use mathlib.Core.Path.{_≡_, sym, ap, _∙_}
 use mathlib.Core.Bool.{true, false}
 use mathlib.Core.List.{List, [], _∷_}
@@ -16,7 +16,6 @@ use Rattle.models.proofs.Walks.{place-of}
 use Rattle.items.specs.Layout.{hashSize}
 use Rattle.fixes.specs.Layout.{fixSize, identityOf}
 use Rattle.representatives.specs.Gathered.{Gathered}
-use Rattle.representatives.proofs.Gathering.{Ordered}
 use Rattle.representatives.proofs.Soundness.{gathered-ordered}
 
 -- ---- of places, for every width of key
