@@ -4,3 +4,4 @@ pub mod Members
 pub mod Fitting
 pub mod WholeLists
 pub mod Positions
+pub mod Decided

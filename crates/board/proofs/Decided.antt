@@ -1,0 +1,168 @@
+-- Every transmission of a well-formed register's board is decided, never refused with 8: one of its fixes is ranked first, and each of its fixes has
+-- exactly one line. Every fix is of one of them.
+use Prim.Native.Nat.{ℕ, zero, suc, _+_, _*_, _/_, _≤_, _<_}
+use mathlib.Core.Path.{_≡_, refl, sym, ap, ap₂, _∙_}
+use mathlib.Core.Bool.{Bool, true, false, cond}
+use mathlib.Core.List.{List, [], _∷_, map, List·Permᴰ, List·Permᴰ·nil, List·Permᴰ·cons, List·Permᴰ·swap, List·Permᴰ·trans}
+use native.Mathlib.Omega.{arith}
+use native.Mathlib.Nat.{eq-or-lt-of-le}
+use lib.Dec.{eqb}
+use lib.ListN.{length, getD}
+use borrow.Author.Tests.{eq-eqb, ne-eqb}
+use Rattle.places.specs.Places.{allPlaces, tableOf}
+use Rattle.ranges.specs.Bools.{by, or}
+use Rattle.ranges.specs.Range.{collect}
+use Rattle.ranges.specs.Tables.{itself}
+use Rattle.items.specs.Layout.{itemSize}
+use Rattle.fixes.specs.Layout.{maxFixes, fixSize}
+use Rattle.decision.specs.Related.{rel}
+use Rattle.decision.specs.Answer.{bad, indices, decision}
+use Rattle.decision.proofs.Decided.{Lawful, lawful}
+use Rattle.links.specs.Links.{linkAt}
+use Rattle.links.specs.Walk.{label, times}
+use Rattle.links.proofs.Transmissions.{label-below, label-label}
+use Rattle.representatives.specs.Gathered.{placeFormed, Gathered}
+use Rattle.representatives.specs.Representatives.{representatives}
+use Rattle.representatives.proofs.Soundness.{record-formed, representatives-gathered}
+use Rattle.representatives.proofs.Distinct.{identities-differ}
+use Rattle.transmissions.specs.Transmission.{belongs, membersOf, nth, itemsOf, outcomeOf, leaderOf}
+use Rattle.transmissions.proofs.Items.{collect-in, items-length, members-good}
+use Rattle.transmissions.proofs.Lined.{listing, listed-all, lined-once, answered, first-ranked, nth-is}
+use Rattle.drawing.specs.Drawing.{linesIn}
+use Rattle.register.specs.Memory.{wellFormed, decode}
+use Rattle.board.specs.Board.{labelsOf}
+use Rattle.board.proofs.Labelled.{label-at}
+use Rattle.board.proofs.Lent.{few-held, formed-held}
+
+-- the fixes of a transmission's lines, in their order: `decidedText` of drawing writes one line for each
+abbrev pub linedFixes : List ℕ → List ℕ → ℕ → ℕ → List ℕ
+linedFixes t l n s = map (nth (indices (membersOf l n s))) (listing (outcomeOf t l n s))
+
+-- the transmission s of n fixes in the table t, with the labels l
+pub record Decided (t l : List ℕ) (n s : ℕ) : Type 0 where
+  -- it is not refused
+  pub accepted : outcomeOf t l n s .answer ≡ 0
+  -- some fix is ranked, and the first of them is a fix of the transmission
+  pub ranks : 1 ≤ outcomeOf t l n s .ranked .count
+  pub leads : (leaderOf t l n s < n) × (belongs l s (leaderOf t l n s) ≡ true)
+  -- a fix of the transmission has exactly one line among ranked, dominated and refused, any other fix none
+  pub one-line : (j : ℕ) → j < n → times j (linedFixes t l n s) ≡ cond (belongs l s j) 1 0
+  -- so there are as many lines as fixes
+  pub lines : linesIn (outcomeOf t l n s) ≡ length (membersOf l n s)
+  -- it is what is decided of its items, by the relations that the laws of a decision hold of
+  pub decides : outcomeOf t l n s ≡ decision (rel (itemsOf t (membersOf l n s)) (length (membersOf l n s)))
+  pub laws : Lawful (itemsOf t (membersOf l n s)) (length (membersOf l n s))
+
+-- all transmissions of the fixes fs on a board
+pub record AllDecided (fs : List (List ℕ)) : Type 0 where
+  -- each fix is of a transmission: that of its label, which heads it
+  pub headed : (j : ℕ) → j < length fs
+      → let l = labelsOf (tableOf fixSize maxFixes fs) (length fs) in
+      let s = getD l j 0 in
+      (s < length fs) × (belongs l s s ≡ true)
+  -- each transmission, by the fix that heads it, is decided
+  pub each : (s : ℕ) → s < length fs
+      → let l = labelsOf (tableOf fixSize maxFixes fs) (length fs) in
+      belongs l s s ≡ true → Decided (tableOf fixSize maxFixes fs) l (length fs) s
+
+-- ---- how often a fix is listed
+
+times-perm : (x : ℕ) {l m : List ℕ} → List·Permᴰ l m → times x l ≡ times x m
+unfolding times
+times-perm x List·Permᴰ·nil = refl
+times-perm x (List·Permᴰ·cons e p) = ap₂ (λ (a k : ℕ). cond (eqb x a) 1 0 + k) e (times-perm x p)
+times-perm x (List·Permᴰ·swap d e) = rw (d, e) (omega arith)
+times-perm x (List·Permᴰ·trans p q) = times-perm x p ∙ times-perm x q
+
+times-before : (x : ℕ) (g : ℕ → Bool) (k f : ℕ) → x < k → times x (collect g itself k f) ≡ 0
+unfolding collect times
+times-before x g k zero h = refl
+times-before x g k (suc f) h =
+    let r = times-before x g (suc k) f (omega arith) in
+    by (g k) (λ p. rw (p, ne-eqb x k (λ q. omega arith)) (omega arith)) (λ p. rw p r)
+
+times-collect : (x : ℕ) (g : ℕ → Bool) (k f : ℕ) → k ≤ x → x < k + f → times x (collect g itself k f) ≡ cond (g x) 1 0
+unfolding collect times
+times-collect x g k zero u v = absurd (omega arith)
+times-collect x g k (suc f) u v =
+    or (eq-or-lt-of-le u)
+    (λ q. let r = times-before x g (suc k) f (omega arith) in
+    rw (ap g (sym q)) (by (g k) (λ p. rw (p, eq-eqb x k (sym q)) (omega arith)) (λ p. rw p r)))
+    (λ q. let r = times-collect x g (suc k) f q (omega arith) in
+    by (g k) (λ p. rw (p, ne-eqb x k (λ z. omega arith)) (omega arith)) (λ p. rw p r))
+
+times-some : (x : ℕ) (l : List ℕ) → times x l ≡ 1 → 0 < length l
+unfolding times
+times-some x [] e = absurd (omega arith)
+times-some x (y ∷ l) e = omega arith
+
+-- ---- a transmission of a table
+
+module _ (t l : List ℕ) (n s : ℕ) (g : Gathered n t) where
+  abbrev ms : List ℕ
+  ms = membersOf l n s
+
+  good : bad (itemsOf t ms) ≡ false
+  good = members-good t l n s (g .size) (g .few) (record-formed n t g) (identities-differ n t g)
+
+  items-are : length (itemsOf t ms) ≡ length ms * itemSize
+  items-are = let f = g .few in items-length t (g .size) ms (λ i p. let r = collect-in (belongs l s) 0 n i p in omega arith)
+
+  count : length (itemsOf t ms) / itemSize ≡ length ms
+  count = let e = items-are in omega arith
+
+  once : (j : ℕ) → j < n → times j (linedFixes t l n s) ≡ cond (belongs l s j) 1 0
+  unfolding outcomeOf
+  once j h = times-perm j (lined-once t ms items-are good) ∙ times-collect j (belongs l s) 0 n (omega arith) (omega arith)
+
+  leading : nth (outcomeOf t l n s .ranked) 0 < length ms → (leaderOf t l n s < n) × (belongs l s (leaderOf t l n s) ≡ true)
+  unfolding leaderOf
+  leading h =
+      let i = nth (outcomeOf t l n s .ranked) 0 in
+      let r = collect-in (belongs l s) 0 n i h in
+      rw (nth-is ms i h) (omega arith, r .2)
+
+  some-member : s < n → belongs l s s ≡ true → 0 < length ms
+  some-member h b = times-some s ms (times-collect s (belongs l s) 0 n (omega arith) (omega arith) ∙ rw b refl)
+
+  pub transmission-decided : s < n → belongs l s s ≡ true → Decided t l n s
+  unfolding outcomeOf
+  transmission-decided h b =
+      let m = some-member h b in
+      let r = first-ranked (itemsOf t ms) good (rw count m) in
+      record {
+        accepted = answered (itemsOf t ms) good;
+        ranks = r .0;
+        leads = leading (rw count at (r .1));
+        one-line = once;
+        lines = listed-all (itemsOf t ms) good ∙ count;
+        decides = rw count at (lawful (itemsOf t ms) good .0);
+        laws = rw count at (lawful (itemsOf t ms) good .1);
+      }
+
+-- ---- the board
+
+-- the fix that a label names heads a transmission
+label-heads : (t : List ℕ) (n j : ℕ) → n ≤ maxFixes → j < n
+    → let s = getD (labelsOf t n) j 0 in
+    (s < n) × (belongs (labelsOf t n) s s ≡ true)
+label-heads t n j few h =
+    let l = labelsOf t n in
+    let k = label (linkAt t) n j in
+    let e : getD l j 0 ≡ k = label-at t n j h in
+    let b : k < n = label-below (linkAt t) n few j h in
+    rw e (b, eq-eqb (getD l k 0) k (label-at t n k b ∙ label-label (linkAt t) n few j h))
+
+pub board-decided : (ss ps : List (List ℕ)) → allPlaces placeFormed ps ≡ true → length ps ≤ maxFixes → AllDecided (representatives ss ps)
+board-decided ss ps h f =
+    let fs = representatives ss ps in
+    let t = tableOf fixSize maxFixes fs in
+    let g = representatives-gathered ss ps h f in
+    record {
+      headed = λ j p. label-heads t (length fs) j (g .few) p;
+      each = λ s p b. transmission-decided t (labelsOf t (length fs)) (length fs) s g p b;
+    }
+
+-- the board of a well-formed register
+pub register-decided : (m : List ℕ) → wellFormed m ≡ true → AllDecided (representatives (decode m .summaries) (decode m .records))
+register-decided m w = board-decided (decode m .summaries) (decode m .records) (formed-held m w) (few-held m w)
