@@ -7,9 +7,12 @@ use lib.ListN.{length, take, drop}
 use borrow.Author.Tests.{not-true, not-false}
 use borrow.Rule.Slice.PartMut.{same-len-mid}
 use Rattle.octets.specs.Masks.{withBit}
-use Rattle.octets.proofs.Numbers.{all-bytes}
-use Rattle.register.specs.Layout.{summariesAt, summariesSize, recordsAt}
-use Rattle.register.proofs.Opened.{opened, summary-bytes-length, record-bytes-length}
+use Rattle.octets.specs.Words.{putWord}
+use Rattle.octets.proofs.Numbers.{Bytes, all-bytes}
+use Rattle.register.specs.Layout.{maxSummaries, maxRecords, convictedAt, summaryCountAt, recordCountAt, summariesAt, summariesSize, recordsAt, recordsSize, registerSize}
+use Rattle.register.specs.Register.{struck}
+use Rattle.register.specs.Memory.{convictedIn, summaryCount, recordCount, decode, encode}
+use Rattle.register.proofs.Opened.{Opened, opened, summary-bytes-length, record-bytes-length}
 use Rattle.register.proofs.Struck.{summaries-left, lent-records, records-left, third}
 use borrow.Author.Needs.{needs}
 use Rattle.register.proofs.convictions.strike.Statement.{statement}
@@ -45,41 +48,110 @@ cast-strike-summaries c = search needs
 strike-summaries-requires : tie.Need-strike-summaries-requires
 strike-summaries-requires c κs = let s = c .before .before .before .before .before .before .before .before in let m = s .args .memory .now in let o = opened m (s .pre .0) in rw (summary-bytes-length m o) (omega (arith, o .few-summaries, c .before .before .before .u16-at .ensures))
 
+-- ---- once the summaries are struck
+
+module _ (a : tie.After-strike-summaries) where
+  abbrev s : tie.Start
+  s = a .before .before .before .before .before .before .before .before .before
+
+  abbrev m : List ℕ
+  m = s .args .memory .now
+
+  abbrev e : ℕ
+  e = s .args .engine
+
+  o : Opened m
+  o = opened m (s .pre .0)
+
+  b : Bytes m
+  b = all-bytes m (λ i. a .before .before .before .before .before .before .before .before .slice-known .given i .fits)
+
+  abbrev m₁ : List ℕ
+  m₁ = take summariesAt m ++ (a .strike-summaries .last .0 ++ drop summariesSize (drop summariesAt m))
+
+  size₁ : length m₁ ≡ registerSize
+  size₁ = same-len-mid summariesAt summariesSize m (a .strike-summaries .last .0) (a .strike-summaries .kept .0) ∙ o .size
+
+  -- what the summaries' part has become
+  abbrev n : ℕ
+  n = a .before .before .before .before .u16-at .result
+
+  n-is : n ≡ summaryCount m
+  n-is = a .before .before .before .before .u16-at .ensures
+
+  few-summaries : a .strike-summaries .result ≤ maxSummaries
+  few-summaries = summaries-left m o b e n n-is (a .strike-summaries .result) (a .strike-summaries .last .0) (a .strike-summaries .ensures) m₁ refl
+
+  records-lent : length (take (length m₁ - recordsAt) (drop recordsAt m₁)) ≡ recordsSize
+  records-lent = ap length (lent-records m o b e n n-is (a .strike-summaries .result) (a .strike-summaries .last .0) (a .strike-summaries .ensures) m₁ refl) ∙ record-bytes-length m o
+
+  abbrev k : ℕ
+  k = a .before .before .u16-at2 .result
+
+  k-is : k ≡ recordCount m
+  k-is = a .before .before .u16-at2 .ensures
+
 sub-strike-records : tie.Need-sub-strike-records
-sub-strike-records c = let s = c .before .before .before .before .before .before .before .before .before .before .before in let m = s .args .memory .now in let o = opened m (s .pre .0) in let y = all-bytes m (λ i. c .before .before .before .before .before .before .before .before .before .before .slice-known .given i .fits) in let x = c .before .before .strike-summaries in omega (arith, same-len-mid summariesAt summariesSize m (x .last .0) (x .kept .0), o .size)
+sub-strike-records c = omega (arith, size₁ (c .before .before))
 
 part-strike-records-start : tie.Need-part-strike-records-start
-part-strike-records-start c = let s = c .before .before .before .before .before .before .before .before .before .before .before in let m = s .args .memory .now in let o = opened m (s .pre .0) in let y = all-bytes m (λ i. c .before .before .before .before .before .before .before .before .before .before .slice-known .given i .fits) in let x = c .before .before .strike-summaries in omega (arith, same-len-mid summariesAt summariesSize m (x .last .0) (x .kept .0), o .size)
+part-strike-records-start c = omega (arith, size₁ (c .before .before))
 
 part-strike-records-end : tie.Need-part-strike-records-end
 part-strike-records-end c = search needs
 
 strike-records-requires : tie.Need-strike-records-requires
-strike-records-requires c κs = let s = c .before .before .before .before .before .before .before .before .before .before .before .before in let m = s .args .memory .now in let o = opened m (s .pre .0) in let y = all-bytes m (λ i. c .before .before .before .before .before .before .before .before .before .before .before .slice-known .given i .fits) in let x = c .before .before .before .strike-summaries in let z = ap length (lent-records m o y (s .args .engine) (c .before .before .before .before .before .before .before .u16-at .result) (c .before .before .before .before .before .before .before .u16-at .ensures) (x .result) (x .last .0) (x .ensures) _ refl) ∙ record-bytes-length m o in (rw z (omega (arith, o .few-records, c .before .before .before .before .before .u16-at2 .ensures)), s .pre .1)
+strike-records-requires c κs =
+    let a = c .before .before .before in
+    (rw (records-lent a) (omega (arith, o a .few-records, k-is a)), s a .pre .1)
 
 with-u32-requires : tie.Need-with-u32-requires
 with-u32-requires c κs = search needs
 
+-- ---- once the records are
+
+module _ (r : tie.After-strike-records) where
+  abbrev a : tie.After-strike-summaries
+  a = r .before .before .before .before
+
+  abbrev m₂ : List ℕ
+  m₂ = take recordsAt (m₁ a) ++ (r .strike-records .last .0 ++ drop (length (m₁ a) - recordsAt) (drop recordsAt (m₁ a)))
+
+  size₂ : length m₂ ≡ registerSize
+  size₂ = same-len-mid recordsAt (length (m₁ a) - recordsAt) (m₁ a) (r .strike-records .last .0) (r .strike-records .kept .0) ∙ size₁ a
+
+  few-records : r .strike-records .result ≤ maxRecords
+  few-records =
+      records-left (m a) (o a) (b a) (e a) (n a) (n-is a) (a .strike-summaries .result) (a .strike-summaries .last .0) (a .strike-summaries .ensures) (m₁ a) refl (k a) (k-is a)
+      (r .strike-records .result) (r .strike-records .last .0) (r .strike-records .ensures) m₂ refl
+
+  -- with the header put anew it is the register without the engine
+  struck-is : (y : ℕ) (x : List ℕ) → y ≡ withBit (convictedIn (m a)) (e a)
+      → x ≡ putWord 2 recordCountAt (r .strike-records .result) (putWord 2 summaryCountAt (a .strike-summaries .result) (putWord 4 convictedAt y m₂)) → x ≡ encode (struck (e a) (decode (m a)))
+  struck-is =
+      third (m a) (o a) (b a) (e a) (n a) (n-is a) (a .strike-summaries .result) (a .strike-summaries .last .0) (a .strike-summaries .ensures) (m₁ a) refl (k a) (k-is a)
+      (r .strike-records .result) (r .strike-records .last .0) (r .strike-records .ensures) m₂ refl
+
 cast-put-header : tie.Need-cast-put-header
-cast-put-header c = let s = c .before .before .before .before .before .before .before .before .before .before .before .before .before .before .before .before .before in let m = s .args .memory .now in let o = opened m (s .pre .0) in let y = all-bytes m (λ i. c .before .before .before .before .before .before .before .before .before .before .before .before .before .before .before .before .slice-known .given i .fits) in let x = c .before .before .before .before .before .before .before .before .strike-summaries in let z = summaries-left m o y (s .args .engine) (c .before .before .before .before .before .before .before .before .before .before .before .before .u16-at .result) (c .before .before .before .before .before .before .before .before .before .before .before .before .u16-at .ensures) (x .result) (x .last .0) (x .ensures) _ refl in omega arith
+cast-put-header c = omega (arith, few-summaries (a (c .before .before .before .before)))
 
 cast-put-header-2 : tie.Need-cast-put-header-2
-cast-put-header-2 c = let s = c .before .before .before .before .before .before .before .before .before .before .before .before .before .before .before .before .before in let m = s .args .memory .now in let o = opened m (s .pre .0) in let y = all-bytes m (λ i. c .before .before .before .before .before .before .before .before .before .before .before .before .before .before .before .before .slice-known .given i .fits) in let x = c .before .before .before .before .before .before .before .before .strike-summaries in let r = c .before .before .before .before .strike-records in let z = records-left m o y (s .args .engine) (c .before .before .before .before .before .before .before .before .before .before .before .before .u16-at .result) (c .before .before .before .before .before .before .before .before .before .before .before .before .u16-at .ensures) (x .result) (x .last .0) (x .ensures) _ refl (c .before .before .before .before .before .before .before .before .before .before .u16-at2 .result) (c .before .before .before .before .before .before .before .before .before .before .u16-at2 .ensures) (r .result) (r .last .0) (r .ensures) _ refl in omega arith
+cast-put-header-2 c = omega (arith, few-records (c .before .before .before .before))
 
 put-header-requires : tie.Need-put-header-requires
-put-header-requires c κs =
-    let s = c .before .before .before .before .before .before .before .before .before .before .before .before .before .before .before .before .before in let m = s .args .memory .now in let o = opened m (s .pre .0) in let y = all-bytes m (λ i. c .before .before .before .before .before .before .before .before .before .before .before .before .before .before .before .before .slice-known .given i .fits) in let x = c .before .before .before .before .before .before .before .before .strike-summaries in let r = c .before .before .before .before .strike-records in let m₁ = take summariesAt m ++ (x .last .0 ++ drop summariesSize (drop summariesAt m)) in omega (arith, same-len-mid summariesAt summariesSize m (x .last .0) (x .kept .0), same-len-mid recordsAt (length m₁ - recordsAt) m₁ (r .last .0) (r .kept .0), o .size)
+put-header-requires c κs = omega (arith, size₂ (c .before .before .before .before))
 
 same-length : tie.Need-same-length
 same-length c =
-    let s = c .before .before .before .before .before .before .before .before .before .before .before .before .before .before .before .before .before .before .before .before in let m = s .args .memory .now in let o = opened m (s .pre .0) in let y = all-bytes m (λ i. c .before .before .before .before .before .before .before .before .before .before .before .before .before .before .before .before .before .before .before .slice-known .given i .fits) in let x = c .before .before .before .before .before .before .before .before .before .before .before .strike-summaries in let r = c .before .before .before .before .before .before .before .strike-records in let m₁ = take summariesAt m ++ (x .last .0 ++ drop summariesSize (drop summariesAt m)) in c .before .before .put-header .kept .0 ∙ same-len-mid recordsAt (length m₁ - recordsAt) m₁ (r .last .0) (r .kept .0) ∙ same-len-mid summariesAt summariesSize m (x .last .0) (x .kept .0)
+    let r = c .before .before .before .before .before .before .before in
+    c .before .before .put-header .kept .0 ∙ size₂ r ∙ sym (o (a r) .size)
 
 returns : tie.Need-returns
 returns c =
-    let s = c .before .before .before .before .before .before .before .before .before .before .before .before .before .before .before .before .before .before .before .before in let m = s .args .memory .now in let o = opened m (s .pre .0) in let y = all-bytes m (λ i. c .before .before .before .before .before .before .before .before .before .before .before .before .before .before .before .before .before .before .before .slice-known .given i .fits) in let x = c .before .before .before .before .before .before .before .before .before .before .before .strike-summaries in
-    let r = c .before .before .before .before .before .before .before .strike-records in
-    third m o y (s .args .engine) (c .before .before .before .before .before .before .before .before .before .before .before .before .before .before .before .u16-at .result) (c .before .before .before .before .before .before .before .before .before .before .before .before .before .before .before .u16-at .ensures) (x .result) (x .last .0) (x .ensures) _ refl (c .before .before .before .before .before .before .before .before .before .before .before .before .before .u16-at2 .result) (c .before .before .before .before .before .before .before .before .before .before .before .before .before .u16-at2 .ensures) (r .result) (r .last .0) (r .ensures) _ refl
-    (c .before .before .before .with-u32 .result) (c .before .before .put-header .last .0) (c .before .before .before .with-u32 .ensures ∙ ap (λ (x : ℕ). withBit x (s .args .engine)) (c .before .before .before .before .before .before .before .before .before .before .before .before .before .before .before .before .before .u32-at .ensures)) (c .before .before .put-header .ensures)
+    let w = c .before .before .before in
+    let r = w .before .before .before .before in
+    struck-is r (w .with-u32 .result) (c .before .before .put-header .last .0)
+    (w .with-u32 .ensures ∙ ap (λ (x : ℕ). withBit x (e (a r))) (a r .before .before .before .before .before .before .u32-at .ensures)) (c .before .before .put-header .ensures)
 
 pub strike-spec : {M : Type 1} → statement M
 strike-spec =
