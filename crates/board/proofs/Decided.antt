@@ -10,7 +10,7 @@ use lib.Dec.{eqb}
 use lib.ListN.{length, getD}
 use borrow.Author.Tests.{eq-eqb, ne-eqb}
 use Rattle.places.specs.Places.{allPlaces, tableOf}
-use Rattle.ranges.specs.Bools.{by, or}
+use Rattle.ranges.proofs.Bools.{by, or}
 use Rattle.ranges.specs.Range.{collect}
 use Rattle.ranges.specs.Tables.{itself}
 use Rattle.items.specs.Layout.{itemSize}

@@ -5,7 +5,8 @@ use mathlib.Core.List.{List, [], _∷_, _++_}
 use native.Mathlib.Omega.{arith}
 use lib.ListN.{length, getD, replicate}
 use Rattle.ranges.specs.Range.{collect}
-use Rattle.ranges.specs.Tables.{Cached, cached-at}
+use Rattle.ranges.specs.Tables.{Cached}
+use Rattle.ranges.proofs.Tables.{cached-at}
 use Rattle.fixes.specs.Layout.{maxFixes}
 use Rattle.links.specs.Links.{linkAt}
 use Rattle.links.specs.Walk.{label}

@@ -7,8 +7,9 @@ use native.Mathlib.Omega.{arith}
 use lib.Dec.{eqb}
 use lib.ListN.{length}
 use borrow.Author.Tests.{eqb-false, eq-eqb}
-use Rattle.ranges.specs.Bools.{and-l, by, or}
-use Rattle.ranges.specs.Range.{least, least-in, collect}
+use Rattle.ranges.proofs.Bools.{and-l, by, or}
+use Rattle.ranges.specs.Range.{least, collect}
+use Rattle.ranges.proofs.Range.{least-in}
 use Rattle.ranges.specs.Tables.{itself}
 use Rattle.items.specs.Layout.{itemSize}
 use Rattle.decision.specs.declared.Decision.{Decision}

@@ -7,7 +7,7 @@ use native.Mathlib.Omega.{arith}
 use lib.Dec.{ltb, eqb}
 use lib.ListN.{length}
 use borrow.Author.Tests.{ltb-false}
-use Rattle.ranges.specs.Bools.{by}
+use Rattle.ranges.proofs.Bools.{by}
 use Rattle.ranges.specs.Range.{any, filt, collect}
 use Rattle.ranges.specs.Tables.{itself}
 use Rattle.arithmetic.specs.Agree.{agreesOf}

@@ -9,9 +9,10 @@ use native.Mathlib.Omega.{arith}
 use native.Mathlib.Nat.{le-trans, le-of-lt, eq-or-lt-of-le}
 use lib.Dec.{leb, eqb}
 use borrow.Author.Tests.{leb-true, leb-false, eqb-false, eqb-true, ne-eqb, eq-eqb}
-use Rattle.ranges.specs.Bools.{clash, no-true, and-true, and-l, and-r, not-t, not-f, by, or}
-use Rattle.ranges.specs.Range.{any, least, any-of, any-at, least-in, least-some, best-of, filt-mem, filt-at}
-use Rattle.ranges.specs.Least.{Strict, First, nothing, found, least-is}
+use Rattle.ranges.proofs.Bools.{clash, no-true, and-true, and-l, and-r, not-t, not-f, by, or}
+use Rattle.ranges.specs.Range.{any, least}
+use Rattle.ranges.proofs.Range.{any-of, any-at, least-in, least-some, best-of, filt-mem, filt-at}
+use Rattle.ranges.proofs.Least.{Strict, First, nothing, found, least-is}
 use Rattle.decision.specs.Decide.{Rel, none, resists, supersedes, beats, superseded, superBy, blames, contested, against, refused, covers, dominated, stands, order, ranked, dominatedList, refusedList}
 
 total : (a b : ℕ) → (a ≤ b) ⊎ (b ≤ a)

@@ -1,4 +1,5 @@
 pub mod Tests
+pub mod Ranking
 pub mod Arrays
 pub mod Passed
 pub mod Laws

@@ -5,8 +5,9 @@ use mathlib.Core.List.{List}
 use Prim.Native.Nat.{ℕ, _*_, _≤_}
 use native.Mathlib.Omega.{arith}
 use lib.ListN.{length}
-use Rattle.ranges.specs.Bools.{not-false-t}
-use Rattle.ranges.specs.Range.{any, any-no}
+use Rattle.ranges.proofs.Bools.{not-false-t}
+use Rattle.ranges.specs.Range.{any}
+use Rattle.ranges.proofs.Range.{any-no}
 use Rattle.record.specs.Formed.{wellFormed}
 use Rattle.items.specs.Layout.{maxItems, itemSize}
 use Rattle.items.specs.Items.{recordOf, sameIdentity}

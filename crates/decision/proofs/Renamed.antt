@@ -8,9 +8,10 @@ use Prim.Native.Nat.{ℕ, zero, suc, _≤_, _<_}
 use native.Mathlib.Omega.{arith}
 use lib.Dec.{eqb}
 use borrow.Author.Tests.{eqb-false, eqb-true, ne-eqb, eq-eqb}
-use Rattle.ranges.specs.Bools.{by, or, clash, same-test}
-use Rattle.ranges.specs.Range.{any, any-of, any-at, least, least-in}
-use Rattle.ranges.specs.Least.{Strict, First, nothing, found, least-is, only-first}
+use Rattle.ranges.proofs.Bools.{by, or, clash, same-test}
+use Rattle.ranges.specs.Range.{any, least}
+use Rattle.ranges.proofs.Range.{any-of, any-at, least-in}
+use Rattle.ranges.proofs.Least.{Strict, First, nothing, found, least-is, only-first}
 use Rattle.decision.specs.declared.Refusal.{Refusal}
 use Rattle.decision.specs.Decide.{Rel, none, resists, supersedes, beats, superseded, superBy, blames, contested, against, refused, covers, dominated, stands, refusal, order, ranked}
 use Rattle.decision.proofs.Tests.{super-in, against-in, superseded-no}

@@ -14,8 +14,9 @@ use Rattle.octets.proofs.Comparison.{before-trans, before-irrefl, tri, same-ref
 use Rattle.record.specs.Fields.{tagCount}
 use Rattle.record.specs.Formed.{wellFormed}
 use Rattle.record.proofs.Laws.{subset-fewer}
-use Rattle.ranges.specs.Bools.{by, or, and-l, and-r, not-t}
-use Rattle.ranges.specs.Range.{any, any-no}
+use Rattle.ranges.proofs.Bools.{by, or, and-l, and-r, not-t}
+use Rattle.ranges.specs.Range.{any}
+use Rattle.ranges.proofs.Range.{any-no}
 use Rattle.arithmetic.specs.Agree.{agreesOf}
 use Rattle.items.specs.Layout.{maxItems}
 use Rattle.items.specs.Items.{recordOf, identityOf, standingOf, weightOf, consistentOf, preferredOf, subsetAt, agreementAt, disagreesAt, withinAt, sameInputs, sameIdentity, lowerAt, moreFirst, aheadByWeight, aheadByStanding, aheadAt}

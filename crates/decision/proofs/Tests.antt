@@ -6,8 +6,9 @@ use Prim.Native.Nat.{ℕ, _-_, _≤_, _<_}
 use native.Mathlib.Omega.{arith}
 use lib.Dec.{eqb}
 use borrow.Author.Tests.{eqb-false, ne-eqb, eq-eqb}
-use Rattle.ranges.specs.Bools.{clash, and-l, and-r, not-t, by, or, not-false-t}
-use Rattle.ranges.specs.Range.{any, least, any-no, least-in, least-some}
+use Rattle.ranges.proofs.Bools.{clash, and-l, and-r, not-t, by, or, not-false-t}
+use Rattle.ranges.specs.Range.{any, least}
+use Rattle.ranges.proofs.Range.{any-no, least-in, least-some}
 use Rattle.decision.specs.Decide.{Rel, none, supersedes, beats, superseded, superBy, blames, contested, against, refused, refusal, contestedBy}
 
 -- ---- what a search for the least shows of a test at some index

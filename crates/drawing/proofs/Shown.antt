@@ -9,8 +9,9 @@ use lib.ListN.{length, getD, set, replicate, length-append, length-replicate, le
 use lib.Seq.{getD-set-same, getD-set-other}
 use borrow.Author.Tests.{eqb-true, eqb-false}
 use Rattle.octets.proofs.Cases.{by}
-use Rattle.ranges.specs.Bools.{or}
-use Rattle.ranges.specs.Range.{collect, least-in}
+use Rattle.ranges.proofs.Bools.{or}
+use Rattle.ranges.specs.Range.{collect}
+use Rattle.ranges.proofs.Range.{least-in}
 use Rattle.ranges.specs.Tables.{marked, itself}
 use Rattle.fixes.specs.Layout.{maxFixes}
 use Rattle.lines.specs.Lines.{headerWidth, refusedWidth}

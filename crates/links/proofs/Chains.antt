@@ -9,8 +9,9 @@ use lib.Dec.{ltb}
 use lib.ListN.{length, set, length-set}
 use lib.Seq.{getD-set-same}
 use borrow.Author.Tests.{ltb-true, ltb-false, lt-ltb, le-ltb}
-use Rattle.ranges.specs.Bools.{by, or, clash, and-true, and-l, and-r, not-t, not-f}
-use Rattle.ranges.specs.Range.{first, first-le, first-is, first-no}
+use Rattle.ranges.proofs.Bools.{by, or, clash, and-true, and-l, and-r, not-t, not-f}
+use Rattle.ranges.specs.Range.{first}
+use Rattle.ranges.proofs.Range.{first-le, first-is, first-no}
 use Rattle.ranges.specs.Tables.{marked}
 use Rattle.fixes.specs.Layout.{maxFixes}
 use Rattle.links.specs.Walk.{Chain, here, more, Symmetric, noMarks, unmarked, waits, spread, walked, reached}

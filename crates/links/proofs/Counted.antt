@@ -7,7 +7,7 @@ use native.Mathlib.Omega.{arith}
 use lib.Dec.{eqb}
 use lib.ListN.{length}
 use borrow.Author.Tests.{eqb-true, eqb-false}
-use Rattle.ranges.specs.Bools.{by, or}
+use Rattle.ranges.proofs.Bools.{by, or}
 use Rattle.ranges.specs.Range.{filt}
 use Rattle.fixes.specs.Layout.{maxFixes}
 use Rattle.links.specs.Walk.{label, isHead, isMember, heads, members, membersOf, times, Distinct}

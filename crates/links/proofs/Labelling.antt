@@ -10,7 +10,7 @@ use lib.Dec.{ltb}
 use lib.ListN.{length, getD, set, replicate, length-set}
 use lib.Seq.{getD-set-same, getD-set-other}
 use borrow.Author.Tests.{ltb-true, ltb-false, lt-ltb, le-ltb}
-use Rattle.ranges.specs.Bools.{by, or, clash}
+use Rattle.ranges.proofs.Bools.{by, or, clash}
 use Rattle.ranges.specs.Tables.{Cached, marked}
 use Rattle.fixes.specs.Layout.{maxFixes}
 use Rattle.links.specs.Labels.{none, labelled}

@@ -9,7 +9,7 @@ use native.Mathlib.Nat.{eq-or-lt-of-le, sub-zero}
 use native.Mathlib.Numerals.{add-one}
 use lib.ListN.{length, set, replicate, length-set}
 use lib.Seq.{getD-set-same}
-use Rattle.ranges.specs.Bools.{by, or, clash}
+use Rattle.ranges.proofs.Bools.{by, or, clash}
 use Rattle.ranges.specs.Tables.{marked}
 use Rattle.links.specs.Walk.{unmarked, spread}
 

@@ -7,8 +7,9 @@ use Prim.Native.Nat.{ℕ, zero, suc, _+_, _≤_, _<_}
 use native.Mathlib.Omega.{arith}
 use native.Mathlib.Nat.{eq-or-lt-of-le}
 use borrow.Author.Tests.{eqb-true, eq-eqb}
-use Rattle.ranges.specs.Bools.{by, or, clash}
-use Rattle.ranges.specs.Range.{first, first-is, filt-mem, filt-at}
+use Rattle.ranges.proofs.Bools.{by, or, clash}
+use Rattle.ranges.specs.Range.{first}
+use Rattle.ranges.proofs.Range.{first-is, filt-mem, filt-at}
 use Rattle.ranges.specs.Tables.{marked}
 use Rattle.fixes.specs.Layout.{maxFixes}
 use Rattle.links.specs.Walk.{Chain, here, Symmetric, reached, label, isHead, isMember, heads, members}

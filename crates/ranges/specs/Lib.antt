@@ -1,5 +1,3 @@
 -- What is said of a range of indices.
-pub mod Bools
 pub mod Range
 pub mod Tables
-pub mod Least

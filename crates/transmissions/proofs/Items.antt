@@ -11,8 +11,9 @@ use Rattle.octets.specs.Order.{same}
 use Rattle.octets.proofs.Cases.{by}
 use Rattle.record.specs.Layout.{recordSize}
 use Rattle.record.specs.Formed.{wellFormed}
-use Rattle.ranges.specs.Bools.{clash, no-true}
-use Rattle.ranges.specs.Range.{any, any-at, collect}
+use Rattle.ranges.proofs.Bools.{clash, no-true}
+use Rattle.ranges.specs.Range.{any, collect}
+use Rattle.ranges.proofs.Range.{any-at}
 use Rattle.ranges.specs.Tables.{itself}
 use Rattle.items.specs.Layout.{maxItems, itemSize, hashSize, identityAt}
 use Rattle.items.specs.Items as I

@@ -9,8 +9,9 @@ use lib.Dec.{ltb, eqb}
 use lib.ListN.{length, getD, take, replicate, length-append, length-map, List·getD-append}
 use lib.Seq.{take-append-seam}
 use borrow.Author.Tests.{eq-eqb, ne-eqb, ltb-false}
-use Rattle.ranges.specs.Bools.{by, or, clash}
-use Rattle.ranges.specs.Range.{any, any-no, least, least-in, filt, collect}
+use Rattle.ranges.proofs.Bools.{by, or, clash}
+use Rattle.ranges.specs.Range.{any, least, filt, collect}
+use Rattle.ranges.proofs.Range.{any-no, least-in}
 use Rattle.ranges.specs.Tables.{itself}
 use Rattle.items.specs.Layout.{maxItems, itemSize}
 use Rattle.decision.specs.declared.Refusal.{Refusal}

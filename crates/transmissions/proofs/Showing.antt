@@ -8,8 +8,8 @@ use native.Mathlib.Numerals.{add-one}
 use lib.Dec.{eqb}
 use lib.ListN.{length, set, drop, replicate, length-set}
 use borrow.Author.Tests.{ne-eqb, eq-eqb}
-use Rattle.ranges.specs.Bools.{or}
-use Rattle.ranges.specs.Range.{least-in}
+use Rattle.ranges.proofs.Bools.{or}
+use Rattle.ranges.proofs.Range.{least-in}
 use Rattle.ranges.specs.Tables.{marked}
 use Rattle.fixes.specs.Layout.{maxFixes}
 use Rattle.transmissions.specs.Transmission.{none}

@@ -5,7 +5,7 @@ use mathlib.Core.List.{List, _∷_}
 use Prim.Native.Nat.{ℕ, zero, suc}
 use native.Mathlib.Numerals.{add-one}
 use lib.Dec.{eqb}
-use Rattle.ranges.specs.Bools.{by}
+use Rattle.ranges.proofs.Bools.{by}
 use Rattle.ranges.specs.Range.{any, collect, Collected, Filled}
 use Rattle.record.specs.Layout.{maxTags}
 use Rattle.record.specs.Fields.{tags, tagsFrom, tagAt, tagCount}

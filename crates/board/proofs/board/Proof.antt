@@ -4,7 +4,7 @@ use mathlib.Core.Bool.{true}
 use native.Mathlib.Omega.{arith}
 use native.Mathlib.Nat.{le-trans}
 use borrow.Author.Tests.{lt-ltb, le-ltb}
-use Rattle.ranges.specs.Bools.{not-t, not-false-t}
+use Rattle.ranges.proofs.Bools.{not-t, not-false-t}
 use Rattle.register.specs.Memory.{wellFormed}
 use Rattle.board.specs.Board.{boarded}
 use Rattle.board.proofs.Fitting.{fits-board, put-written}

@@ -1,7 +1,7 @@
 -- `bad_at` meets its contract.
 use mathlib.Core.Path.{refl, sym, _∙_}
 use borrow.Author.Needs.{needs}
-use Rattle.ranges.specs.Bools.{not-t, not-false-t}
+use Rattle.ranges.proofs.Bools.{not-t, not-false-t}
 use Rattle.decision.specs.Answer.{badAt}
 use Rattle.decision.proofs.bad_at.Statement.{statement}
 use Rattle.decision.proofs.bad_at.Tie as tie

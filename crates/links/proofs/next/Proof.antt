@@ -2,7 +2,8 @@
 use Prim.Native.Nat.{_-_, _≤_}
 use mathlib.Core.Path.{_≡_, sym, _∙_}
 use native.Mathlib.Omega.{arith}
-use Rattle.ranges.specs.Range.{first, first-start, first-hit, first-miss, first-end}
+use Rattle.ranges.specs.Range.{first}
+use Rattle.ranges.proofs.Range.{first-start, first-hit, first-miss, first-end}
 use Rattle.links.specs.Walk.{waits}
 use borrow.Author.Needs.{needs}
 use Rattle.links.proofs.next.Statement.{statement}

@@ -1,7 +1,7 @@
 -- `records_link` meets its contract.
 use borrow.Author.Needs.{needs}
 use borrow.Author.Tests.{not-true, not-false}
-use Rattle.ranges.specs.Bools.{ret-f, ret-t}
+use Rattle.ranges.proofs.Bools.{ret-f, ret-t}
 use Rattle.links.specs.Links.{linked}
 use Rattle.links.proofs.records_link.Statement.{statement}
 use Rattle.links.proofs.records_link.Tie as tie

@@ -1,6 +1,6 @@
 -- `waits` meets its contract.
 use Rattle.ranges.specs.Tables.{marked}
-use Rattle.ranges.specs.Bools.{ret-f, ret-t}
+use Rattle.ranges.proofs.Bools.{ret-f, ret-t}
 use mathlib.Core.Path.{refl}
 use borrow.Author.Tests.{not-true, not-false}
 use borrow.Author.Needs.{needs}

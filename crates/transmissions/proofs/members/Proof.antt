@@ -5,7 +5,8 @@ use native.Mathlib.Omega.{arith}
 use lib.ListN.{length, length-set}
 use borrow.Author.Tests.{eq-eqb, ne-eqb}
 use borrow.Author.Needs.{needs}
-use Rattle.ranges.specs.Range.{Collected, collected-none, collected-hit, collected-miss, collected-done}
+use Rattle.ranges.specs.Range.{Collected}
+use Rattle.ranges.proofs.Range.{collected-none, collected-hit, collected-miss, collected-done}
 use Rattle.ranges.specs.Tables.{itself}
 use Rattle.fixes.specs.Layout.{maxFixes}
 use Rattle.decision.proofs.Arrays.{collected-indices}

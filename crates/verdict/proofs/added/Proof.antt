@@ -4,7 +4,8 @@ use mathlib.Core.Path.{_≡_, refl}
 use native.Mathlib.Omega.{arith}
 use lib.ListN.{length, length-set}
 use borrow.Author.Needs.{needs}
-use Rattle.ranges.specs.Range.{Collected, collected-none, collected-hit, collected-miss, collected-done}
+use Rattle.ranges.specs.Range.{Collected}
+use Rattle.ranges.proofs.Range.{collected-none, collected-hit, collected-miss, collected-done}
 use Rattle.record.specs.Fields.{tagAt, tagCount}
 use Rattle.record.specs.Layout.{maxTags}
 use Rattle.verdict.specs.Supersets.{isAdded}

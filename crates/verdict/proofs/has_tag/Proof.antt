@@ -4,7 +4,8 @@ use mathlib.Core.Path.{_≡_, sym, _∙_}
 use native.Mathlib.Omega.{arith}
 use borrow.Author.Needs.{needs}
 use borrow.Author.Tests.{eq-eqb, ne-eqb}
-use Rattle.ranges.specs.Range.{any, any-start, any-hit, any-miss, any-end}
+use Rattle.ranges.specs.Range.{any}
+use Rattle.ranges.proofs.Range.{any-start, any-hit, any-miss, any-end}
 use Rattle.record.specs.Fields.{tagCount}
 use Rattle.verdict.specs.Supersets.{hasTag}
 use Rattle.verdict.proofs.has_tag.Statement.{statement}

@@ -1,7 +1,7 @@
 -- `superset_verdict` meets its contract.
 use mathlib.Core.Path.{sym, _∙_}
 use borrow.Author.Needs.{needs}
-use Rattle.ranges.specs.Bools.{not-t, not-false-t}
+use Rattle.ranges.proofs.Bools.{not-t, not-false-t}
 use Rattle.verdict.specs.Supersets.{verdictOf}
 use Rattle.verdict.proofs.superset_verdict.Statement.{statement}
 use Rattle.verdict.proofs.superset_verdict.Tie as tie

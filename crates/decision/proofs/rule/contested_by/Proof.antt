@@ -4,8 +4,8 @@ use mathlib.Core.Logic.{inl, inr}
 use native.Mathlib.Omega.{arith}
 use borrow.Author.Needs.{needs}
 use borrow.Author.Tests.{eq-eqb, ne-eqb}
-use Rattle.ranges.specs.Bools.{not-t, not-false-t}
-use Rattle.ranges.specs.Tables.{cached-at}
+use Rattle.ranges.proofs.Bools.{not-t, not-false-t}
+use Rattle.ranges.proofs.Tables.{cached-at}
 use Rattle.decision.specs.Decide.{against, contestedBy}
 use Rattle.decision.specs.Related.{rel}
 use Rattle.decision.proofs.Tests.{by-test, contested-not, against-contested}

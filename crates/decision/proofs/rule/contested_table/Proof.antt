@@ -4,7 +4,8 @@ use mathlib.Core.Path.{_≡_}
 use native.Mathlib.Omega.{arith}
 use lib.ListN.{length}
 use borrow.Author.Needs.{needs}
-use Rattle.ranges.specs.Tables.{Cached, tables}
+use Rattle.ranges.specs.Tables.{Cached}
+use Rattle.ranges.proofs.Tables.{tables}
 use Rattle.decision.specs.Decide.{contestedBy}
 use Rattle.decision.specs.Related.{rel}
 use Rattle.items.specs.Layout.{maxItems}

@@ -4,8 +4,9 @@ use mathlib.Core.Path.{_≡_, refl, sym, _∙_}
 use native.Mathlib.Omega.{arith}
 use lib.ListN.{length, length-set}
 use borrow.Author.Needs.{needs}
-use Rattle.ranges.specs.Bools.{not-t, not-false-t}
-use Rattle.ranges.specs.Range.{Collected, collected-none, collected-hit, collected-miss, collected-done}
+use Rattle.ranges.proofs.Bools.{not-t, not-false-t}
+use Rattle.ranges.specs.Range.{Collected}
+use Rattle.ranges.proofs.Range.{collected-none, collected-hit, collected-miss, collected-done}
 use Rattle.ranges.specs.Tables.{itself}
 use Rattle.decision.specs.Decide.{dominated}
 use Rattle.decision.specs.Related.{rel}

@@ -1,6 +1,6 @@
 -- `dominated_at` meets its contract.
 use borrow.Author.Needs.{needs}
-use Rattle.ranges.specs.Bools.{answers}
+use Rattle.ranges.proofs.Bools.{answers}
 use Rattle.decision.specs.Decide.{dominated}
 use Rattle.decision.proofs.rule.dominated_at.Statement.{statement}
 use Rattle.decision.proofs.rule.dominated_at.Tie as tie

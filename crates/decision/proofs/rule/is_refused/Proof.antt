@@ -1,6 +1,6 @@
 -- `is_refused` meets its contract.
 use borrow.Author.Needs.{needs}
-use Rattle.ranges.specs.Tables.{cached-at}
+use Rattle.ranges.proofs.Tables.{cached-at}
 use Rattle.decision.proofs.rule.is_refused.Statement.{statement}
 use Rattle.decision.proofs.rule.is_refused.Tie as tie
 

@@ -3,7 +3,7 @@ use Prim.Native.Nat.{_-_}
 use native.Mathlib.Omega.{arith}
 use borrow.Author.Needs.{needs}
 use Rattle.decision.specs.Related.{rel}
-use Rattle.decision.specs.Rank.{Ranking, ranking-none, ranking-more, ranking-end, ranking-full, found}
+use Rattle.decision.proofs.Ranking.{Ranking, ranking-none, ranking-more, ranking-end, ranking-full, found}
 use Rattle.decision.proofs.rule.rank_all.Statement.{statement}
 use Rattle.decision.proofs.rule.rank_all.Tie as tie
 

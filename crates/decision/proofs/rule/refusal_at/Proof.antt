@@ -2,7 +2,7 @@
 use mathlib.Core.Path.{refl, sym, _∙_}
 use native.Mathlib.Omega.{arith}
 use borrow.Author.Needs.{needs}
-use Rattle.ranges.specs.Tables.{cached-at}
+use Rattle.ranges.proofs.Tables.{cached-at}
 use Rattle.decision.specs.Related.{rel}
 use Rattle.decision.proofs.Tests.{refusal-free, refusal-taken, super-in, super-disagrees, contested-in, contested-disagrees}
 use Rattle.decision.proofs.rule.refusal_at.Statement.{statement}

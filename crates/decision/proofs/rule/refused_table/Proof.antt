@@ -5,7 +5,8 @@ use mathlib.Core.Bool.{false}
 use native.Mathlib.Omega.{arith}
 use lib.ListN.{length}
 use borrow.Author.Needs.{needs}
-use Rattle.ranges.specs.Tables.{Cached, tables}
+use Rattle.ranges.specs.Tables.{Cached}
+use Rattle.ranges.proofs.Tables.{tables}
 use Rattle.decision.specs.Decide.{refused}
 use Rattle.decision.specs.Related.{rel}
 use Rattle.items.specs.Layout.{maxItems}

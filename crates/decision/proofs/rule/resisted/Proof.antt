@@ -3,7 +3,8 @@ use Prim.Native.Nat.{_-_, _≤_}
 use mathlib.Core.Path.{_≡_}
 use native.Mathlib.Omega.{arith}
 use borrow.Author.Needs.{needs}
-use Rattle.ranges.specs.Range.{any, anys}
+use Rattle.ranges.specs.Range.{any}
+use Rattle.ranges.proofs.Range.{anys}
 use Rattle.decision.specs.Decide.{resists}
 use Rattle.decision.specs.Related.{rel}
 use Rattle.decision.proofs.rule.resisted.Statement.{statement}

@@ -1,6 +1,6 @@
 -- `resists_at` meets its contract.
 use borrow.Author.Needs.{needs}
-use Rattle.ranges.specs.Bools.{answers}
+use Rattle.ranges.proofs.Bools.{answers}
 use Rattle.decision.proofs.rule.resists_at.Statement.{statement}
 use Rattle.decision.proofs.rule.resists_at.Tie as tie
 

@@ -1,6 +1,6 @@
 -- `stands_at` meets its contract.
 use borrow.Author.Needs.{needs}
-use Rattle.ranges.specs.Bools.{answers}
+use Rattle.ranges.proofs.Bools.{answers}
 use Rattle.decision.specs.Decide.{stands}
 use Rattle.decision.proofs.rule.stands_at.Statement.{statement}
 use Rattle.decision.proofs.rule.stands_at.Tie as tie

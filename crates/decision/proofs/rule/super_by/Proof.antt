@@ -3,7 +3,8 @@ use Prim.Native.Nat.{_-_, _≤_}
 use mathlib.Core.Path.{_≡_}
 use native.Mathlib.Omega.{arith}
 use borrow.Author.Needs.{needs}
-use Rattle.ranges.specs.Range.{least, leasts, valids, Valid}
+use Rattle.ranges.specs.Range.{least, Valid}
+use Rattle.ranges.proofs.Range.{leasts, valids}
 use Rattle.decision.specs.Decide.{none, superBy, beats}
 use Rattle.decision.specs.Related.{rel}
 use Rattle.decision.proofs.rule.super_by.Statement.{statement}

@@ -1,7 +1,7 @@
 -- `super_step` meets its contract.
 use mathlib.Core.Path.{refl}
 use borrow.Author.Needs.{needs}
-use Rattle.ranges.specs.Tables.{cached-at}
+use Rattle.ranges.proofs.Tables.{cached-at}
 use Rattle.decision.proofs.rule.super_step.Statement.{statement}
 use Rattle.decision.proofs.rule.super_step.Tie as tie
 

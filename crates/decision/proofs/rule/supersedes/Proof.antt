@@ -1,6 +1,6 @@
 -- `supersedes` meets its contract.
 use borrow.Author.Needs.{needs}
-use Rattle.ranges.specs.Bools.{answers}
+use Rattle.ranges.proofs.Bools.{answers}
 use Rattle.decision.specs.Decide.{supersedes}
 use Rattle.decision.proofs.rule.supersedes.Statement.{statement}
 use Rattle.decision.proofs.rule.supersedes.Tie as tie

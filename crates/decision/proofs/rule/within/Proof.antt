@@ -1,6 +1,6 @@
 -- `within` meets its contract.
 use borrow.Author.Needs.{needs}
-use Rattle.ranges.specs.Bools.{answers}
+use Rattle.ranges.proofs.Bools.{answers}
 use Rattle.items.specs.Items.{withinAt}
 use Rattle.decision.proofs.rule.within.Statement.{statement}
 use Rattle.decision.proofs.rule.within.Tie as tie

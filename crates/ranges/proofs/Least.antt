@@ -6,7 +6,7 @@ use Prim.Native.Nat.{ℕ, zero, suc, _+_, _≤_, _<_}
 use native.Mathlib.Omega.{arith}
 use native.Mathlib.Nat.{eq-or-lt-of-le}
 use borrow.Author.Tests.{ne-eqb, eq-eqb}
-use Rattle.ranges.specs.Bools.{by, or, clash}
+use Rattle.ranges.proofs.Bools.{by, or, clash}
 use Rattle.ranges.specs.Range.{least, better}
 
 -- a strict total order of the indices below n

@@ -1,0 +1,298 @@
+-- Laws of tests over a range of indices: a turn of a loop over them, and what the first, the least and the list of those at which a test holds mean.
+use mathlib.Core.Path.{_≡_, refl, sym, ap, ap₂, _∙_, subst}
+use mathlib.Core.Bool.{Bool, true, false, cond, _||_, true≢false, false≢true}
+use mathlib.Core.Logic.{_⊎_, inl, inr, ⊎-elim}
+use mathlib.Core.List.{List, [], _∷_, _++_, List·Memᴰ, List·Memᴰ·head, List·Memᴰ·tail, List·Memᴰ·not-nil, List·Memᴰ·cases-cons}
+use borrow.Author.Tests.{eqb-false}
+use Prim.Native.Nat.{ℕ, zero, suc, _+_, _-_, _≤_, _<_}
+use native.Mathlib.Omega.{arith}
+use native.Mathlib.Nat.{eq-or-lt-of-le, sub-zero, add-zero, zero-add}
+use lib.ListN.{length, replicate, set, length-append, length-replicate}
+use lib.Seq.{set-at, append-snoc}
+use mathlib.Core.List.{append-nil}
+use native.Mathlib.Numerals.{add-one}
+use lib.Dec.{eqb}
+use Rattle.ranges.specs.Range.{any, first, filt, better, least, collect, Filled, Collected, Valid}
+use Rattle.ranges.proofs.Bools.{decide, clash, no-true, by, or}
+
+-- ---- a turn of a loop: the index is i, the end n
+
+turn : (i n : ℕ) → i < n → n - i ≡ suc (n - (i + 1))
+turn i n h = omega arith
+
+pub any-hit : (g : ℕ → Bool) (i n : ℕ) → i < n → g i ≡ true → any g i (n - i) ≡ true
+unfolding any
+any-hit g i n h e = rw (turn i n h, e) refl
+
+pub any-miss : (g : ℕ → Bool) (i n : ℕ) → i < n → g i ≡ false → any g i (n - i) ≡ any g (i + 1) (n - (i + 1))
+unfolding any
+any-miss g i n h e = rw (turn i n h, e, add-one) refl
+
+pub any-end : (g : ℕ → Bool) (i n : ℕ) → n ≤ i → any g i (n - i) ≡ false
+unfolding any
+any-end g i n h = let z : n - i ≡ 0 = omega arith in rw z refl
+
+pub first-hit : (g : ℕ → Bool) (i n : ℕ) → i < n → g i ≡ true → first g i (n - i) ≡ i
+unfolding first
+first-hit g i n h e = rw (turn i n h, e) refl
+
+pub first-miss : (g : ℕ → Bool) (i n : ℕ) → i < n → g i ≡ false → first g i (n - i) ≡ first g (i + 1) (n - (i + 1))
+unfolding first
+first-miss g i n h e = rw (turn i n h, e, add-one) refl
+
+pub first-end : (g : ℕ → Bool) (i n : ℕ) → n ≤ i → first g i (n - i) ≡ i
+unfolding first
+first-end g i n h = let z : n - i ≡ 0 = omega arith in rw z refl
+
+-- ---- what they mean
+
+pub any-of : (g : ℕ → Bool) (k f i : ℕ) → k ≤ i → i < k + f → g i ≡ true → any g k f ≡ true
+unfolding any
+any-of g k zero i h l e = absurd (omega arith)
+any-of g k (suc f) i h l e =
+    ⊎-elim (λ p. rw p refl)
+    (λ p. rw p (⊎-elim (λ q. clash (ap g q ∙ e) p) (λ q. any-of g (suc k) f i q (omega arith) e) (eq-or-lt-of-le h)))
+    (decide (g k))
+
+pub any-at : (g : ℕ → Bool) (k f : ℕ) → any g k f ≡ true → (i : ℕ) × (k ≤ i) × (i < k + f) × (g i ≡ true)
+unfolding any
+any-at g k zero e = absurd (false≢true e)
+any-at g k (suc f) e =
+    ⊎-elim (λ p. (k, omega arith, omega arith, p))
+    (λ p. let r = any-at g (suc k) f (rw p at e) in (r .0, omega arith, omega arith, r .3))
+    (decide (g k))
+
+pub any-no : (g : ℕ → Bool) (k f i : ℕ) → any g k f ≡ false → k ≤ i → i < k + f → g i ≡ false
+any-no g k f i e h l = no-true (g i) (λ p. true≢false (sym (any-of g k f i h l p) ∙ e))
+
+pub first-ge : (g : ℕ → Bool) (k f : ℕ) → k ≤ first g k f
+unfolding first
+first-ge g k zero = omega arith
+first-ge g k (suc f) =
+    ⊎-elim (λ p. rw p (omega arith)) (λ p. rw p (let r = first-ge g (suc k) f in omega arith)) (decide (g k))
+
+pub first-le : (g : ℕ → Bool) (k f : ℕ) → first g k f ≤ k + f
+unfolding first
+first-le g k zero = omega arith
+first-le g k (suc f) =
+    ⊎-elim (λ p. rw p (omega arith)) (λ p. rw p (let r = first-le g (suc k) f in omega arith)) (decide (g k))
+
+-- g holds at the first, unless that is the end
+pub first-is : (g : ℕ → Bool) (k f : ℕ) → first g k f < k + f → g (first g k f) ≡ true
+unfolding first
+first-is g k zero h = absurd (omega arith)
+first-is g k (suc f) h =
+    ⊎-elim (λ p. rw p p) (λ p. rw p (first-is g (suc k) f (let h′ = rw p at h in omega arith))) (decide (g k))
+
+-- where the first is the end, g holds nowhere
+pub first-no : (g : ℕ → Bool) (k f i : ℕ) → first g k f ≡ k + f → k ≤ i → i < k + f → g i ≡ false
+unfolding first
+first-no g k zero i e h l = absurd (omega arith)
+first-no g k (suc f) i e h l =
+    ⊎-elim (λ p. absurd (let e′ = rw p at e in omega arith))
+    (λ p. ⊎-elim (λ q. ap g (sym q) ∙ p) (λ q. first-no g (suc k) f i (let e′ = rw p at e in omega arith) q (omega arith)) (eq-or-lt-of-le h))
+    (decide (g k))
+
+pub any-start : (g : ℕ → Bool) (n : ℕ) → any g 0 n ≡ any g 0 (n - 0)
+any-start g n = rw sub-zero refl
+
+pub first-start : (g : ℕ → Bool) (n : ℕ) → first g 0 n ≡ first g 0 (n - 0)
+first-start g n = rw sub-zero refl
+
+-- ---- tests that agree over a range
+
+pub any-ext : (g h : ℕ → Bool) (k f : ℕ) → ((i : ℕ) → k ≤ i → i < k + f → g i ≡ h i) → any g k f ≡ any h k f
+unfolding any
+any-ext g h k zero e = refl
+any-ext g h k (suc f) e = ap₂ _||_ (e k (omega arith) (omega arith)) (any-ext g h (suc k) f (λ i p q. e i (omega arith) (omega arith)))
+
+module _ (before : ℕ → ℕ → Bool) (none : ℕ) where
+  pub least-ext : (g h : ℕ → Bool) (best k f : ℕ) → ((i : ℕ) → k ≤ i → i < k + f → g i ≡ h i) → least before none g best k f ≡ least before none h best k f
+  unfolding least
+  least-ext g h best k zero e = refl
+  least-ext g h best k (suc f) e =
+      ap (λ (b : Bool). least before none g (cond b (better before none best k) best) (suc k) f) (e k (omega arith) (omega arith))
+      ∙ least-ext g h _ (suc k) f (λ i p q. e i (omega arith) (omega arith))
+
+  better-is : (best k : ℕ) → (better before none best k ≡ k) ⊎ (better before none best k ≡ best)
+  unfolding better
+  better-is best k = by (eqb best none) (λ p. inl (rw p refl)) (λ p. by (before k best) (λ q. inl (rw (p, q) refl)) (λ q. inr (rw (p, q) refl)))
+
+  better-some : (best k : ℕ) → k < none → best ≤ none → better before none best k < none
+  unfolding better
+  better-some best k h b =
+      by (eqb best none) (λ p. rw p h) (λ p. by (before k best) (λ q. rw (p, q) h) (λ q. rw (p, q) (or (eq-or-lt-of-le b) (λ e. absurd (eqb-false best none p e)) (λ l. l))))
+
+  -- the least is where it began, or one at which g holds
+  pub least-in : (g : ℕ → Bool) (best k f : ℕ) → let r = least before none g best k f in (r ≡ best) ⊎ ((k ≤ r) × (r < k + f) × (g r ≡ true))
+  unfolding least
+  least-in g best k zero = inl refl
+  least-in g best k (suc f) =
+      ⊎-elim
+      (λ p. rw p (⊎-elim
+      (λ e. ⊎-elim (λ q. inr (let z = e ∙ q in (omega arith, omega arith, ap g z ∙ p))) (λ q. inl (e ∙ q)) (better-is best k))
+      (λ t. inr (omega arith, omega arith, t .2))
+      (least-in g (better before none best k) (suc k) f)))
+      (λ p. rw p (⊎-elim (λ e. inl e) (λ t. inr (omega arith, omega arith, t .2)) (least-in g best (suc k) f)))
+      (decide (g k))
+
+  -- there is a least where there is any
+  pub least-some : (g : ℕ → Bool) (best k f : ℕ) → k + f ≤ none → best ≤ none → (best < none) ⊎ (any g k f ≡ true) → least before none g best k f < none
+  unfolding least any
+  least-some g best k zero h b (inl l) = l
+  least-some g best k zero h b (inr e) = absurd (false≢true e)
+  least-some g best k (suc f) h b s =
+      ⊎-elim
+      (λ p. rw p (let l = better-some best k (omega arith) b in least-some g (better before none best k) (suc k) f (omega arith) (omega arith) (inl l)))
+      (λ p. rw p (least-some g best (suc k) f (omega arith) b (⊎-elim (λ l. inl l) (λ e. inr (rw p at e)) s)))
+      (decide (g k))
+
+-- ---- the best by a relation that is total and transitive
+module _ (R : ℕ → ℕ → Type 0) (tot : (a b : ℕ) → R a b ⊎ R b a) (trans : (a b c : ℕ) → R a b → R b c → R a c) where
+  pub best-of : (g : ℕ → Bool) (k f : ℕ) → any g k f ≡ true → (i : ℕ) × (k ≤ i) × (i < k + f) × (g i ≡ true) × ((j : ℕ) → k ≤ j → j < k + f → g j ≡ true → R i j)
+  unfolding any
+  best-of g k zero e = absurd (false≢true e)
+  best-of g k (suc f) e =
+      by (any g (suc k) f)
+      (λ p. let r = best-of g (suc k) f p in
+      by (g k)
+      (λ q. or (tot k (r .0))
+      (λ u. (k, omega arith, omega arith, q, λ j a b c. or (eq-or-lt-of-le a) (λ z. subst (R k) z (refl-R k)) (λ l. trans k (r .0) j u (r .4 j l (omega arith) c))))
+      (λ u. (r .0, omega arith, omega arith, r .3, λ j a b c. or (eq-or-lt-of-le a) (λ z. subst (R (r .0)) z u) (λ l. r .4 j l (omega arith) c))))
+      (λ q. (r .0, omega arith, omega arith, r .3, λ j a b c. or (eq-or-lt-of-le a) (λ z. clash (ap g z ∙ c) q) (λ l. r .4 j l (omega arith) c))))
+      (λ p. by (g k)
+      (λ q. (k, omega arith, omega arith, q, λ j a b c. or (eq-or-lt-of-le a) (λ z. subst (R k) z (refl-R k)) (λ l. clash c (any-no g (suc k) f j p l (omega arith)))))
+      (λ q. absurd (false≢true (sym (rw (q, p) refl) ∙ e))))
+    where
+      refl-R : (a : ℕ) → R a a
+      refl-R a = or (tot a a) (λ x. x) (λ x. x)
+
+-- ---- the list of the indices at which a test holds
+pub filt-mem : (g : ℕ → Bool) (k f i : ℕ) → k ≤ i → i < k + f → g i ≡ true → List·Memᴰ i (filt g k f)
+unfolding filt
+filt-mem g k zero i h l e = absurd (omega arith)
+filt-mem g k (suc f) i h l e =
+    by (g k)
+    (λ p. rw p (or (eq-or-lt-of-le h) (λ q. List·Memᴰ·head (sym q)) (λ q. List·Memᴰ·tail (filt-mem g (suc k) f i q (omega arith) e))))
+    (λ p. rw p (or (eq-or-lt-of-le h) (λ q. clash (ap g q ∙ e) p) (λ q. filt-mem g (suc k) f i q (omega arith) e)))
+
+pub filt-at : (g : ℕ → Bool) (k f i : ℕ) → List·Memᴰ i (filt g k f) → (k ≤ i) × (i < k + f) × (g i ≡ true)
+unfolding filt
+filt-at g k zero i m = absurd (List·Memᴰ·not-nil m)
+filt-at g k (suc f) i m =
+    by (g k)
+    (λ p. or (List·Memᴰ·cases-cons (rw p at m)) (λ q. (omega arith, omega arith, ap g q ∙ p)) (λ r. let z = filt-at g (suc k) f i r in (omega arith, omega arith, z .2)))
+    (λ p. let z = filt-at g (suc k) f i (rw p at m) in (omega arith, omega arith, z .2))
+
+pub least-start : (before : ℕ → ℕ → Bool) (none : ℕ) (g : ℕ → Bool) (best n : ℕ) → least before none g best 0 n ≡ least before none g best 0 (n - 0)
+least-start before none g best n = rw sub-zero refl
+
+pub least-turn : (before : ℕ → ℕ → Bool) (none : ℕ) (g : ℕ → Bool) (best i n : ℕ) → i < n
+    → least before none g best i (n - i) ≡ least before none g (cond (g i) (better before none best i) best) (i + 1) (n - (i + 1))
+unfolding least
+least-turn before none g best i n h = rw (turn i n h, add-one) refl
+
+pub least-end : (before : ℕ → ℕ → Bool) (none : ℕ) (g : ℕ → Bool) (best i n : ℕ) → n ≤ i → least before none g best i (n - i) ≡ best
+unfolding least
+least-end before none g best i n h = let z : n - i ≡ 0 = omega arith in rw z refl
+
+-- the same where an `if` of the loop set best
+pub least-either : (before : ℕ → ℕ → Bool) (none : ℕ) (g : ℕ → Bool) (best i n b′ : ℕ) → i < n
+    → ((g i ≡ true) × (b′ ≡ better before none best i)) ⊎ ((g i ≡ false) × (b′ ≡ best))
+    → least before none g best i (n - i) ≡ least before none g b′ (i + 1) (n - (i + 1))
+least-either before none g best i n b′ h (inl p) = least-turn before none g best i n h ∙ rw (p .0, p .1) refl
+least-either before none g best i n b′ h (inr p) = least-turn before none g best i n h ∙ rw (p .0, p .1) refl
+
+-- ---- h of each index at which g holds, and a counted array that holds them
+module _ {A : Type 0} where
+  pub collect-snoc : (g : ℕ → Bool) (h : ℕ → A) (k f : ℕ) → collect g h k (suc f) ≡ collect g h k f ++ cond (g (k + f)) (h (k + f) ∷ []) []
+  unfolding collect
+  collect-snoc g h k zero = rw (add-zero k) (by (g k) (λ p. rw p refl) (λ p. rw p refl))
+  collect-snoc g h k (suc f) =
+      let r = collect-snoc g h (suc k) f in
+      let e : suc k + f ≡ k + suc f = omega arith in
+      by (g k) (λ p. rw (p, ← e) (ap (λ (l : List A). h k ∷ l) r)) (λ p. rw (p, ← e) r)
+
+  pub filled-none : (N : ℕ) (d : A) → Filled N d (replicate N d) []
+  unfolding Filled
+  filled-none N d = rw sub-zero refl
+
+  pub filled-length : (N : ℕ) (d : A) (a l : List A) → length l ≤ N → Filled N d a l → length a ≡ N
+  unfolding Filled
+  filled-length N d a l h e = ap length e ∙ length-append l (replicate (N - length l) d) ∙ ap (λ (k : ℕ). length l + k) (length-replicate (N - length l) d) ∙ omega arith
+
+  -- a value more
+  pub filled-more : (N : ℕ) (d : A) (a l : List A) (k : ℕ) (v : A) → k ≡ length l → k < N → Filled N d a l → Filled N d (set a k v) (l ++ (v ∷ []))
+  unfolding Filled
+  filled-more N d a l k v q h e =
+      let z : N - length l ≡ suc (N - (length l + 1)) = omega arith in
+      let y : length (l ++ (v ∷ [])) ≡ length l + 1 = length-append l (v ∷ []) in
+      ap (λ (b : List A). set b k v) (e ∙ ap (λ (m : ℕ). l ++ replicate m d) z)
+      ∙ set-at l d (replicate (N - (length l + 1)) d) v k (sym q)
+      ∙ sym (append-snoc l v (replicate (N - (length l + 1)) d))
+      ∙ ap (λ (m : ℕ). (l ++ (v ∷ [])) ++ replicate (N - m) d) (sym y)
+
+  pub collected-none : (g : ℕ → Bool) (h : ℕ → A) (N : ℕ) (d : A) → Collected g h N d (replicate N d) 0 0
+  unfolding collect
+  collected-none g h N d = record { count = refl; few = omega arith; filled = filled-none N d }
+
+  snoc : (g : ℕ → Bool) (h : ℕ → A) (i : ℕ) → collect g h 0 (i + 1) ≡ collect g h 0 i ++ cond (g i) (h i ∷ []) []
+  snoc g h i = rw add-one (rw (zero-add i) at (collect-snoc g h 0 i))
+
+  pub collected-hit : (g : ℕ → Bool) (h : ℕ → A) (N : ℕ) (d : A) (a : List A) (k i : ℕ) (v : A) → i < N → g i ≡ true → v ≡ h i → Collected g h N d a k i → Collected g h N d (set a k v) (k + 1) (i + 1)
+  collected-hit g h N d a k i v l p q c =
+      let e : collect g h 0 (i + 1) ≡ collect g h 0 i ++ (v ∷ []) = snoc g h i ∙ rw (p, q) refl in
+      let s = c .few in
+      record {
+        count = ap (λ (m : ℕ). m + 1) (c .count) ∙ sym (ap length e ∙ length-append (collect g h 0 i) (v ∷ []));
+        few = omega arith;
+        filled = rw e (filled-more N d a (collect g h 0 i) k v (c .count) (omega arith) (c .filled));
+      }
+
+  pub collected-miss : (g : ℕ → Bool) (h : ℕ → A) (N : ℕ) (d : A) (a : List A) (k i : ℕ) → g i ≡ false → Collected g h N d a k i → Collected g h N d a k (i + 1)
+  collected-miss g h N d a k i p c =
+      let e : collect g h 0 (i + 1) ≡ collect g h 0 i = snoc g h i ∙ rw p (append-nil (collect g h 0 i)) in
+      let s = c .few in
+      record { count = c .count ∙ ap length (sym e); few = omega arith; filled = rw e (c .filled) }
+
+  pub collected-done : (g : ℕ → Bool) (h : ℕ → A) (N : ℕ) (d : A) (a : List A) (k i n : ℕ) → n ≤ i → i ≤ n → Collected g h N d a k i → Collected g h N d a k n
+  collected-done g h N d a k i n p q c = let e : i ≡ n = omega arith in subst (λ (j : ℕ). Collected g h N d a k j) e c
+
+-- ---- the same laws as a `search` finds them: t is what is computed, r what the called test gave
+pub any-ret : (t : Bool) (g : ℕ → Bool) (i n : ℕ) (r : Bool) → t ≡ any g i (n - i) → i < n → r ≡ g i → r ≡ true → true ≡ t
+any-ret t g i n r e h p q = sym (e ∙ any-hit g i n h (sym p ∙ q))
+
+pub any-go : (t : Bool) (g : ℕ → Bool) (i n : ℕ) (r : Bool) → t ≡ any g i (n - i) → i < n → r ≡ g i → r ≡ false → t ≡ any g (i + 1) (n - (i + 1))
+any-go t g i n r e h p q = e ∙ any-miss g i n h (sym p ∙ q)
+
+pub any-out : (t : Bool) (g : ℕ → Bool) (i n : ℕ) → t ≡ any g i (n - i) → n ≤ i → false ≡ t
+any-out t g i n e h = sym (e ∙ any-end g i n h)
+
+pub ruleset anys = (any-start, any-ret, any-go, any-out)
+
+pub least-go : (t : ℕ) (before : ℕ → ℕ → Bool) (none : ℕ) (g : ℕ → Bool) (best i n r : ℕ) → t ≡ least before none g best i (n - i) → i < n
+    → r ≡ cond (g i) (better before none best i) best → t ≡ least before none g r (i + 1) (n - (i + 1))
+least-go t before none g best i n r e h q = rw q (e ∙ least-turn before none g best i n h)
+
+pub least-out : (t : ℕ) (before : ℕ → ℕ → Bool) (none : ℕ) (g : ℕ → Bool) (best i n : ℕ) → t ≡ least before none g best i (n - i) → n ≤ i → best ≡ t
+least-out t before none g best i n e h = sym (e ∙ least-end before none g best i n h)
+
+pub ruleset leasts = (least-start, least-go, least-out)
+
+-- ---- an index below n, or none
+pub valid-none : (none n : ℕ) → Valid none n none
+valid-none none n = record { below = λ f. absurd (f refl) }
+
+pub valid-better : (before : ℕ → ℕ → Bool) (none n best k r : ℕ) → Valid none n best → k < n → r ≡ better before none best k → Valid none n r
+valid-better before none n best k r v h e =
+    or (better-is before none best k)
+    (λ p. record { below = λ f. let q = e ∙ p in omega arith })
+    (λ p. subst (Valid none n) (sym (e ∙ p)) v)
+
+pub valid-step : (before : ℕ → ℕ → Bool) (b : Bool) (none n best k r : ℕ) → Valid none n best → k < n → r ≡ cond b (better before none best k) best → Valid none n r
+valid-step before b none n best k r v h e =
+    by b
+    (λ p. valid-better before none n best k r v h (e ∙ ap (λ (t : Bool). cond t (better before none best k) best) p))
+    (λ p. subst (Valid none n) (sym (e ∙ ap (λ (t : Bool). cond t (better before none best k) best) p)) v)
+
+pub ruleset valids = (valid-none, valid-better, valid-step)
