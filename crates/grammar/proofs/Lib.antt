@@ -4,3 +4,4 @@ pub mod Steps
 pub mod Filling
 pub mod Whole
 pub mod Printed
+pub mod Shortest

@@ -89,7 +89,7 @@ report-shrinks s =
     then-shrinks (length s₂) (sightingOf s₂) _ (sighting-shrinks s₂) λ g s₃.
     then-shrinks (length s₃) (citedOf s₃) _ (cited-shrinks s₃) λ v s₄. omega arith
 
-lines-shrinks : (k : Kind) (s : List ℕ) → Shrinks (length s) (lines k s)
+pub lines-shrinks : (k : Kind) (s : List ℕ) → Shrinks (length s) (lines k s)
 lines-shrinks isSummary s = summary-shrinks s
 lines-shrinks isConviction s = conviction-shrinks s
 lines-shrinks isReport s = report-shrinks s
