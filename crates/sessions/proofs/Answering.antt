@@ -1,12 +1,12 @@
 -- What the loop over a session's operations leaves: the answers so far, and the register, with the rest of the operations before them.
-use Prim.Native.Nat.{ℕ, zero, suc, _+_, _-_, _*_, _≤_, _<_}
+use Prim.Native.Nat.{ℕ, _+_, _-_, _≤_, _<_}
 use mathlib.Core.Path.{_≡_, refl, sym, ap, _∙_}
 use mathlib.Core.Bool.{Bool, true, false, cond}
 use mathlib.Core.List.{List, [], _∷_, _++_, append-assoc, append-nil}
 use native.Mathlib.Omega.{arith}
 use lib.Dec.{eqb}
 use lib.ListN.{length, drop, length-drop, drop-of-length-le}
-use borrow.Author.Tests.{eq-eqb, ne-eqb, eqb-true, eqb-false}
+use borrow.Author.Tests.{ne-eqb, eqb-true}
 use Rattle.octets.proofs.Cases.{by}
 use Rattle.octets.proofs.Numbers.{Bytes}
 use Rattle.text.specs.Buffer.{Put}
@@ -18,8 +18,10 @@ use Rattle.register.proofs.Kept.{still-formed}
 use Rattle.grammar.specs.Reading.{Reading, bad, good, told}
 use Rattle.grammar.specs.Grammar.{Session, badAt, calls, sessionOf, operations, asSession, operationOf, firstBad, badLine}
 use Rattle.grammar.proofs.Steps.{told-bad-is, told-good-is}
-use Rattle.grammar.proofs.Whole.{andThen, session-step, badFrom, bad-start, bad-here, bad-next, goes-on}
-use Rattle.sessions.specs.Output.{answerLine, answerWidth, answers, callsIn, callsFrom}
+use Rattle.grammar.proofs.Shortest.{goes-far}
+use Rattle.grammar.proofs.Whole.{andThen, session-step, badFrom, bad-here, bad-next, goes-on}
+use Rattle.sessions.specs.Output.{answerLine, maxAnswer, answerWidth, answers, callsIn, callsFrom}
+use Rattle.sessions.proofs.Digits.{answer-digit, answer-width}
 
 -- a session without a bad line is one of calls
 calls-then : (n : ℕ) (c : Call) (m : Reading (List Call)) → badLine (asSession m) ≡ 0 → callsIn (andThen n c (asSession m)) ≡ c ∷ callsIn (asSession m)
@@ -60,7 +62,7 @@ module _ (input m₀ out₀ : List ℕ) where
     pub put : Put out₀ 0 text end out
     pub answered : answers m₀ (callsFrom input) ≡ text ++ answers m (callsFrom (drop at input))
     pub left : runs m₀ (callsFrom input) ≡ runs m (callsFrom (drop at input))
-    pub room : end + (length input - at) * answerWidth ≤ length input * answerWidth
+    pub room : end + (length input - at) ≤ length input
     pub rest : badFrom 0 (drop at input) ≡ 0
     pub formed : wellFormed m ≡ true
     pub bytes : Bytes m
@@ -89,26 +91,36 @@ module _ (input m₀ out₀ : List ℕ) where
       → told g n c (drop next input) ≡ operationOf (drop at input) → length input - next < length input - at
   advances m out at end h s g n c next e = let t = goes-on input at next n c (good-here m out at end h s g n c (drop next input) e) in omega (arith, t .0, t .1)
 
+  -- an answer is a digit, and its line no longer than its operation
+  pub answer-fits : (m out : List ℕ) (at end : ℕ) → at < length input → Answered m out at end
+      → (g : Bool) (n : ℕ) (c : Call) (next : ℕ) → told g n c (drop next input) ≡ operationOf (drop at input)
+      → (a : ℕ) (m′ : List ℕ) → after a m′ ≡ onMemory (act c) m → (a ≤ maxAnswer) × (end + answerWidth ≤ length input)
+  answer-fits m out at end h s g n c next e a m′ p =
+      let x : onMemory (act c) m .answer ≡ a = ap (λ (y : After (List ℕ)). y .answer) (sym p) in
+      let o = good-here m out at end h s g n c (drop next input) e in
+      (rw x at (answer-digit c m), omega (arith, s .room, goes-far input at next n c o))
+
   pub answered-more : (m out : List ℕ) (at end : ℕ) → at < length input → Answered m out at end
       → (g : Bool) (n : ℕ) (c : Call) (next : ℕ) → told g n c (drop next input) ≡ operationOf (drop at input)
       → (a : ℕ) (m′ : List ℕ) → Bytes m′ → after a m′ ≡ onMemory (act c) m
-      → (end′ : ℕ) (out′ : List ℕ) → end′ ≤ end + answerWidth → Put out end (answerLine a) end′ out′
+      → (end′ : ℕ) (out′ : List ℕ) → Put out end (answerLine a) end′ out′
       → Answered m′ out′ next end′
   unfolding answers runs
-  answered-more m out at end h s g n c next e a m′ b p end′ out′ k q =
+  answered-more m out at end h s g n c next e a m′ b p end′ out′ q =
       let o = good-here m out at end h s g n c (drop next input) e in
       let d = length-drop at input in
       let t = goes-on input at next n c o in
       let w = calls-step (drop at input) n c (drop next input) (t .1) (λ z. omega arith) o (s .rest) in
       let x : onMemory (act c) m .answer ≡ a = ap (λ (y : After (List ℕ)). y .answer) (sym p) in
       let y : onMemory (act c) m .left ≡ m′ = ap (λ (z : After (List ℕ)). z .left) (sym p) in
-      let rm = s .room in
+      let f = answer-fits m out at end h s g n c next e a m′ p in
+      let l = answer-width a (f .0) in
       record {
         text = s .text ++ answerLine a;
         put = put-put (s .put) q;
         answered = s .answered ∙ ap (λ (cs : List Call). s .text ++ answers m cs) (w .0) ∙ rw (x, y) (sym (append-assoc (s .text) (answerLine a) (answers m′ (callsFrom (drop next input)))));
         left = s .left ∙ ap (runs m) (w .0) ∙ ap (λ (z : List ℕ). runs z (callsFrom (drop next input))) y;
-        room = omega (arith, rm, k, t .0, t .1);
+        room = omega (arith, s .room, goes-far input at next n c o, l, q .next);
         rest = w .1;
         formed = rw (← y) (still-formed c m (s .bytes) (s .formed));
         bytes = b;

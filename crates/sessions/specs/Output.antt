@@ -1,6 +1,6 @@
 -- What a session prints (document 01, 'The track and the session' and 'Answers and refusals'): "Prints only `refused=12` if input is over 65,536 bytes, else
 -- only `refused=11 line=N` for the first bad line"; else "Each operation prints `answer=` and its register answer, then comes the board".
-use Prim.Native.Nat.{ℕ, _+_, _*_}
+use Prim.Native.Nat.{ℕ, _+_}
 use mathlib.Core.Bool.{Bool, cond}
 use mathlib.Core.List.{List, [], _∷_, _++_}
 use lib.Dec.{ltb, eqb}
@@ -20,13 +20,17 @@ maxInput = 65536
 unfoldable pub answerLine : ℕ → List ℕ
 answerLine n = (ascii "answer=" ++ decimal n) ++ ascii "\n"
 
--- its widest
-abbrev pub answerWidth : ℕ
-answerWidth = 28
+-- the greatest answer of a register
+abbrev pub maxAnswer : ℕ
+maxAnswer = 9
 
--- what a session may print: an answer for each operation, which has a byte or more, and a board
+-- the bytes of an answer's line, for an answer is one digit
+abbrev pub answerWidth : ℕ
+answerWidth = 9
+
+-- what a session may print: the answers, each shorter than its operation, and a board
 abbrev pub outputSize : ℕ
-outputSize = maxInput * answerWidth + boardSize
+outputSize = maxInput + boardSize
 
 -- the answers of calls on a register, first to last
 unfoldable pub answers : List ℕ → List Call → List ℕ

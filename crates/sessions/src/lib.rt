@@ -3,7 +3,7 @@ use grammar::operations::Operation;
 use register::layout::REGISTER_SIZE;
 ghost use mathlib.Core.Path.{_≡_};
 ghost use mathlib.Core.Bool.{true};
-ghost use Prim.Native.Nat.{_+_, _*_, _≤_};
+ghost use Prim.Native.Nat.{_+_, _≤_};
 ghost use lib.ListN.{length};
 ghost use Rattle.text.specs.Buffer.{Put};
 ghost use Rattle.drawing.specs.Drawing.{boardSize};
@@ -16,19 +16,17 @@ ghost use Rattle.sessions.specs.Output as O;
 // The longest input that is read.
 pub const MAX_INPUT: usize = 65536;
 
-// An answer's line has at most so many bytes.
-const ANSWER_WIDTH: usize = 28;
+// What a session may print: the answers, each shorter than its operation, and a board.
+pub const OUTPUT_SIZE: usize = MAX_INPUT + board::BOARD_SIZE;
 
-// What a session may print: an answer for each operation, which has a byte or more, and a board.
-pub const OUTPUT_SIZE: usize = MAX_INPUT * ANSWER_WIDTH + board::BOARD_SIZE;
-
-// The line of an answer.
+// The line of an answer, which is one digit.
 fn put_answer(out: &mut [u8], at: usize, n: u32) -> usize
+    requires { ⌜ n ≤ O.maxAnswer ⌝ }
     requires { ⌜ at + O.answerWidth ≤ length (now out) ⌝ }
-    ensures { λ x. ⌜ (x ≤ at + O.answerWidth) × Put (now (out .entry)) at (O.answerLine n) x (now (out .exit)) ⌝ }
+    ensures { λ x. ⌜ Put (now (out .entry)) at (O.answerLine n) x (now (out .exit)) ⌝ }
 {
     let a = text::put_bytes(out, at, b"answer=");
-    let b = text::put_u64(out, a, n as u64);
+    let b = text::put_digits(out, a, 0, n as u64);
     text::put_bytes(out, b, b"\n")
 }
 
@@ -76,8 +74,8 @@ fn perform_one(memory: &mut [u8], o: Operation) -> u32
 fn answer_all(input: &[u8], memory: &mut [u8], out: &mut [u8]) -> usize
     requires { ⌜ firstBad (now input) ≡ 0 ⌝ }
     requires { ⌜ wellFormed (now memory) ≡ true ⌝ }
-    requires { ⌜ length (now input) * O.answerWidth ≤ length (now out) ⌝ }
-    ensures { λ x. ⌜ (x ≤ length (now (input .entry)) * O.answerWidth) × Put (now (out .entry)) 0 (O.answers (now (memory .entry)) (O.callsFrom (now (input .entry)))) x (now (out .exit)) ⌝ }
+    requires { ⌜ length (now input) ≤ length (now out) ⌝ }
+    ensures { λ x. ⌜ (x ≤ length (now (input .entry))) × Put (now (out .entry)) 0 (O.answers (now (memory .entry)) (O.callsFrom (now (input .entry)))) x (now (out .exit)) ⌝ }
     ensures { λ _. ⌜ (now (memory .exit) ≡ runs (now (memory .entry)) (O.callsFrom (now (input .entry)))) × (wellFormed (now (memory .exit)) ≡ true) ⌝ }
 {
     let mut at: usize = 0;
@@ -94,8 +92,8 @@ fn answer_all(input: &[u8], memory: &mut [u8], out: &mut [u8]) -> usize
 // Runs a good session from a fresh register: the answers, then the board.
 fn perform_all(input: &[u8], out: &mut [u8]) -> usize
     requires { ⌜ firstBad (now input) ≡ 0 ⌝ }
-    requires { ⌜ length (now input) * O.answerWidth + boardSize ≤ length (now out) ⌝ }
-    ensures { λ x. ⌜ (x ≤ length (now (input .entry)) * O.answerWidth + boardSize) × Put (now (out .entry)) 0 (O.performed fresh (O.callsFrom (now (input .entry)))) x (now (out .exit)) ⌝ }
+    requires { ⌜ length (now input) + boardSize ≤ length (now out) ⌝ }
+    ensures { λ x. ⌜ (x ≤ length (now (input .entry)) + boardSize) × Put (now (out .entry)) 0 (O.performed fresh (O.callsFrom (now (input .entry)))) x (now (out .exit)) ⌝ }
 {
     let mut memory = [0u8; REGISTER_SIZE];
     let at = answer_all(input, &mut memory, out);

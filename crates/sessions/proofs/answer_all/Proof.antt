@@ -5,7 +5,7 @@ use native.Mathlib.Omega.{arith}
 use lib.ListN.{length}
 use Rattle.octets.proofs.Numbers.{all-bytes}
 use Rattle.text.proofs.Writing.{put-length}
-use Rattle.sessions.proofs.Answering.{Answered, answered-none, advances, answered-more, answered-put, answered-left}
+use Rattle.sessions.proofs.Answering.{Answered, answered-none, advances, answer-fits, answered-more, answered-put, answered-left}
 use borrow.Author.Needs.{needs}
 use Rattle.sessions.proofs.answer_all.Statement.{statement}
 use Rattle.sessions.proofs.answer_all.Tie as tie
@@ -33,8 +33,10 @@ perform-one-requires c κs = search needs
 put-answer-requires : tie.Need-put-answer-requires Inv-loop μ-loop
 put-answer-requires c κs =
     let s = c .before .before .before .before .before .before .before .loop .inv .1 in
+    let o = c .before .before .before .before .before .operation in
+    let f = answer-fits _ _ _ _ _ _ _ (c .before .before .before .before .before .before .loop-test .taken) s (o .result .good) (o .result .lines) _ (o .result .next) (o .ensures .0) _ _ (c .before .before .before .perform-one .ensures) in
     let w = put-length (s .put) in
-    omega (arith, s .room, w, c .before .before .before .before .before .before .loop-test .taken, c .before .before .before .before .before .before .before .before .before .before .before .pre .1 .1)
+    (f .0, omega (arith, f .1, w, c .before .before .before .before .before .before .before .before .before .before .before .pre .1 .1))
 
 loop-less : tie.Need-loop-less Inv-loop μ-loop
 loop-less c = advances _ _ _ _ _ _ _ (c .before .before .before .before .before .before .before .before .before .loop-test .taken) (c .before .before .before .before .before .before .before .before .before .before .loop .inv .1) (c .before .before .before .before .before .before .before .before .operation .result .good) (c .before .before .before .before .before .before .before .before .operation .result .lines) _ (c .before .before .before .before .before .before .before .before .operation .result .next) (c .before .before .before .before .before .before .before .before .operation .ensures .0)
@@ -46,7 +48,7 @@ loop-again c =
     let p = c .before .before .put-answer .ensures in (
       c .before .before .before .before .before .before .perform-one .kept .0 ∙ l .inv .0,
       answered-more _ _ _ _ _ _ _ (c .before .before .before .before .before .before .before .before .before .loop-test .taken) s (c .before .before .before .before .before .before .before .before .operation .result .good) (c .before .before .before .before .before .before .before .before .operation .result .lines) _ (c .before .before .before .before .before .before .before .before .operation .result .next) (c .before .before .before .before .before .before .before .before .operation .ensures .0) _ _
-          (all-bytes (c .before .before .before .before .before .before .perform-one .last .0) (λ i. c .before .before .before .before .slice-known3 .given i .fits)) (c .before .before .before .before .before .before .perform-one .ensures) _ _ (p .0) (p .1),
+          (all-bytes (c .before .before .before .before .before .before .perform-one .last .0) (λ i. c .before .before .before .before .slice-known3 .given i .fits)) (c .before .before .before .before .before .before .perform-one .ensures) _ _ p,
     )
 
 same-length : tie.Need-same-length Inv-loop μ-loop

@@ -1,15 +1,15 @@
 -- `put_answer` meets its contract.
-use native.Mathlib.Omega.{arith}
-use Rattle.text.proofs.Writing.{put-put}
+use Rattle.text.proofs.Writing.{put-put, put-as}
 use Rattle.lines.specs.Ascii.{ascii}
 use Rattle.sessions.specs.Output.{answerLine}
+use Rattle.sessions.proofs.Digits.{one-digit}
 use borrow.Author.Needs.{needs}
 use Rattle.sessions.proofs.put_answer.Statement.{statement}
 use Rattle.sessions.proofs.put_answer.Tie as tie
 use Rattle.sessions.proofs.put_answer.Reads as reads
 use Rattle.sessions.proofs.put_answer.Lts as lts
 use Rattle.text.proofs.put_bytes.Reads as put-bytes-reads
-use Rattle.text.proofs.put_u64.Reads as put-u64-reads
+use Rattle.text.proofs.put_digits.Reads as put-digits-reads
 
 slice-aggregate-put-bytes : tie.Need-slice-aggregate-put-bytes
 slice-aggregate-put-bytes c = search needs
@@ -17,8 +17,8 @@ slice-aggregate-put-bytes c = search needs
 put-bytes-requires : tie.Need-put-bytes-requires
 put-bytes-requires c κs = search needs
 
-put-u64-requires : tie.Need-put-u64-requires
-put-u64-requires c κs = search needs
+put-digits-requires : tie.Need-put-digits-requires
+put-digits-requires c κs = search needs
 
 slice-aggregate-put-bytes-2 : tie.Need-slice-aggregate-put-bytes-2
 slice-aggregate-put-bytes-2 c = search needs
@@ -33,9 +33,10 @@ returns : tie.Need-returns
 unfolding answerLine ascii
 returns c =
     let p = c .before .before .before .before .before .before .before .before .before .before .before .put-bytes .ensures in
-    let q = c .before .before .before .before .before .before .before .put-u64 .ensures in
+    let q = c .before .before .before .before .before .before .before .put-digits .ensures in
     let e = c .before .before .put-bytes2 .ensures in
-    (omega (arith, p .next, q .0, e .next), put-put (put-put p (q .1)) e)
+    let d = one-digit _ (c .before .before .before .before .before .before .before .before .before .before .before .before .before .before .before .pre .0) in
+    put-put (put-put p (put-as d (q .1))) e
 
 pub put-answer-spec : {M : Type 1} → statement M
 put-answer-spec =
@@ -43,7 +44,7 @@ put-answer-spec =
     (tie.spec
     slice-aggregate-put-bytes
     put-bytes-requires
-    put-u64-requires
+    put-digits-requires
     slice-aggregate-put-bytes-2
     put-bytes-requires-2
     same-length
