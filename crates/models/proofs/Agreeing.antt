@@ -11,12 +11,12 @@ use borrow.Author.Tests.{ltb-true, ltb-false, leb-true, leb-false}
 use Rattle.octets.proofs.Cases.{by}
 use Rattle.places.specs.Places.{places, allPlaces}
 use Rattle.places.proofs.Tables.{length-places}
+use Rattle.places.proofs.Walks.{room, place-of, places-from, part-of}
 use Rattle.octets.specs.Words.{wordAt}
 use Rattle.models.specs.Summary.{summarySize, specAt, inputsAt, inputsSize, modelOf, specOf, inputsOf}
 use Rattle.models.specs.Models.{State, missing, agreed, disputed, summariesOf, claims, settled, stateOf, concurs, firstOf, answer, valueOf, isMissing}
 use Rattle.models.specs.declared.states.ModelState.{ModelState}
 use Rattle.models.specs.declared.states.ModelState.the-variants.{Missing, Agreed, Disputed}
-use Rattle.models.proofs.Walks.{room, place-of, places-from, part-of}
 
 -- ---- the first summary and those after it
 

@@ -13,11 +13,11 @@ use Rattle.octets.specs.Order.{same}
 use Rattle.octets.proofs.Cases.{by, and-left, and-right, and-both}
 use Rattle.octets.proofs.Comparison.{same-refl, same-eq}
 use Rattle.places.specs.Places.{holds, allPlaces}
+use Rattle.places.proofs.Walks.{part-in}
 use Rattle.record.specs.Fields.{models, spec}
 use Rattle.models.specs.Summary.{summarySize, modelAt, specAt, inputsAt, inputsSize, modelOf, specOf, inputsOf}
 use Rattle.models.specs.Models.{State, missing, agreed, disputed, summariesOf, claims, settled, stateOf, concurs, agreedAs, isMissing, allAgreed, anyMissing, counts, citesMissing}
 use Rattle.models.specs.Identity.{agreedInputs, inputsInOrder, citedInputs, setHash, identityOf, identity}
-use Rattle.models.proofs.Walks.{part-in}
 use Rattle.models.proofs.Agreeing.{concur-all}
 
 -- ---- agreed exactly when

@@ -1,3 +1,4 @@
+pub mod Walks
 pub mod Tables
 pub mod Keys
 pub mod Putting

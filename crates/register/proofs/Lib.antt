@@ -1,4 +1,3 @@
-pub mod Walks
 pub mod Frames
 pub mod Opened
 pub mod Signing

@@ -1,10 +1,10 @@
 -- The loop of a conviction over a table, for every width: what a turn reads, where it stays within the table, and what the end leaves.
-use Prim.Native.Nat.{ℕ, zero, suc, _+_, _*_, _-_, _≤_, _<_}
+use Prim.Native.Nat.{ℕ, _+_, _*_, _-_, _≤_, _<_}
 use mathlib.Core.Path.{_≡_, refl, sym, ap, ap₂, _∙_}
 use mathlib.Core.Bool.{Bool, true, false, not}
 use mathlib.Core.List.{List, [], _∷_, _++_, append-nil, append-assoc}
 use native.Mathlib.Omega.{arith}
-use native.Mathlib.Nat.{not-suc-le-zero, le-of-suc-le-suc, mul-le-mul-right, suc-mul, add-zero, zero-mul}
+use native.Mathlib.Nat.{mul-le-mul-right, add-zero}
 use lib.Dec.{eqb}
 use lib.ListN.{length, getD, take, drop, replicate, length-append, length-take, length-drop}
 use lib.Seq.{take-all, take-take, take-at, drop-at, drop-drop, take-add, length-take-le, getD-take, getD-drop}
@@ -14,6 +14,7 @@ use Rattle.octets.specs.Words.{word, wordBytes, wordAt, putWord}
 use Rattle.octets.proofs.Moves.{tail-back}
 use Rattle.octets.proofs.Numbers.{length-word-bytes}
 use Rattle.places.specs.Places.{places, flat, keptPlaces}
+use Rattle.places.proofs.Walks.{room, place-of}
 use Rattle.places.proofs.Tables.{length-places}
 use Rattle.places.proofs.Keeping.{changed, Compacted, kept-length}
 use Rattle.record.specs.Layout.{recordSize}
@@ -21,24 +22,12 @@ use Rattle.models.specs.Summary.{summarySize}
 use Rattle.register.specs.Layout.{placeSize}
 use Rattle.register.specs.Register.{nothing, ofAnother, unsignedBy, signedByAnother, signersIn}
 use Rattle.register.specs.Strikes.{Struck, keptAt}
-use Rattle.register.proofs.Walks.{room}
-
-pub places-at : (w n i : ℕ) (t : List ℕ) → i < n → getD (places w n t) i [] ≡ take w (drop (i * w) t)
-unfolding places
-places-at w zero i t h = absurd (not-suc-le-zero h)
-places-at w (suc n) zero t h = rw (zero-mul w) refl
-places-at w (suc n) (suc i) t h =
-    let e : suc i * w ≡ w + i * w = suc-mul i w ∙ plus (i * w) w in
-    places-at w n i (drop w t) (le-of-suc-le-suc h) ∙ ap (take w) (drop-drop (i * w) w t ∙ ap (λ (x : ℕ). drop x t) (sym e))
-  where
-    plus : (a b : ℕ) → a + b ≡ b + a
-    plus a b = omega arith
 
 module _ (k : ℕ) (test : List ℕ → Bool) (f : List ℕ → List ℕ) (w : ℕ) (m : k ≤ w) (g : (v : List ℕ) → k + length v ≡ w → k + length (f v) ≡ w)
     (n : ℕ) (t₀ t : List ℕ) (i j : ℕ) (h : n * w ≤ length t₀) (c : Compacted k test f w m g (places w n t₀) t₀ t i j) where
   -- the place that a turn looks at
   pub here : i < n → take w (drop (i * w) t) ≡ getD (places w n t₀) i []
-  here l = ap (take w) (c .rest) ∙ sym (places-at w n i t₀ l)
+  here l = ap (take w) (c .rest) ∙ sym (place-of w n i t₀ l)
 
   pub lower : j * w ≤ i * w
   lower = mul-le-mul-right w (c .few)

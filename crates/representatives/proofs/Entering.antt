@@ -18,6 +18,7 @@ use Rattle.places.specs.Places.{places, tableOf, rank, holds}
 use Rattle.places.specs.Put.{Putting, putting, tried}
 use Rattle.places.specs.declared.Put.{Put}
 use Rattle.places.specs.declared.Put.the-variants.{Held, Full, New}
+use Rattle.places.proofs.Walks.{place-of, part-of}
 use Rattle.places.proofs.Tables.{length-places, wide-at, replace-table}
 use Rattle.places.proofs.Keys.{hasKey, rank-le, holds-at-rank}
 use Rattle.places.proofs.Putting.{put-new, put-held, put-length-held}
@@ -26,7 +27,6 @@ use Rattle.record.specs.Layout.{recordSize}
 use Rattle.record.specs.Formed.{wellFormed}
 use Rattle.models.specs.Models.{counts}
 use Rattle.models.specs.Identity.{citedInputs, setHash, identityOf, identity}
-use Rattle.models.proofs.Walks.{place-of, part-of}
 use Rattle.items.specs.Layout.{hashSize}
 use Rattle.fixes.specs.Layout.{maxFixes, fixSize, recordAt, signersAt, recordOf, signersOf}
 use Rattle.representatives.specs.Representatives.{valueOf, joined, signedIn, represented}

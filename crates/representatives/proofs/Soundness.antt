@@ -9,10 +9,10 @@ use lib.ListN.{length, getD, take, drop}
 use Rattle.octets.specs.Runs.{allZero}
 use Rattle.octets.proofs.Cases.{and-left, and-right}
 use Rattle.places.specs.Places.{places, tableOf, ascending, allPlaces}
+use Rattle.places.proofs.Walks.{place-of, part-of}
 use Rattle.places.proofs.Tables.{length-places, places-wide, table-length, table-is, is-table-of, places-of-table}
 use Rattle.record.specs.Layout.{recordSize}
 use Rattle.record.specs.Formed.{wellFormed}
-use Rattle.models.proofs.Walks.{place-of, part-of}
 use Rattle.items.specs.Layout.{hashSize}
 use Rattle.fixes.specs.Layout.{maxFixes, fixSize, recordAt, recordOf}
 use Rattle.links.specs.Links.{Sound}

@@ -7,9 +7,9 @@ use native.Mathlib.Omega.{arith}
 use native.Mathlib.Nat.{sub-zero}
 use lib.ListN.{length, take, drop, replicate}
 use Rattle.places.specs.Places.{places, flat, tableOf, allPlaces}
+use Rattle.places.proofs.Walks.{places-next, places-end, step-at}
 use Rattle.places.proofs.Tables.{length-places, places-of-table}
 use Rattle.record.specs.Layout.{recordSize}
-use Rattle.models.proofs.Walks.{places-next, places-end, step-at}
 use Rattle.fixes.specs.Layout.{maxFixes, fixSize}
 use Rattle.representatives.specs.Representatives.{represented, representedAll, representatives}
 use Rattle.representatives.specs.Gathered.{placeFormed, Gathered}

@@ -1,15 +1,16 @@
+-- `ascends` meets its contract.
 use Prim.Native.Nat.{ℕ, zero, suc, _+_, _*_, _-_, _≤_, _<_}
 use mathlib.Core.Path.{_≡_, refl, sym, ap, _∙_}
 use mathlib.Core.Bool.{Bool, true, false, _&&_}
 use mathlib.Core.List.{List, [], _∷_}
 use native.Mathlib.Omega.{arith}
-use native.Mathlib.Nat.{zero-add, suc-mul, one-mul, mul-le-mul-right, le-trans, le-of-eq}
-use native.Mathlib.Numerals.{add-one}
+use native.Mathlib.Nat.{zero-add}
 use borrow.Author.Tests.{not-true, not-false}
 use lib.ListN.{length, take, drop}
 use lib.Seq.{take-take, drop-drop}
 use Rattle.octets.specs.Order.{isBefore}
 use Rattle.places.specs.Places.{places, ascending, ascendingFrom}
+use Rattle.places.proofs.Walks.{room, step-at}
 use borrow.Author.Needs.{needs}
 use Rattle.places.proofs.ascends.Statement.{statement}
 use Rattle.places.proofs.ascends.Tie as tie
@@ -19,13 +20,6 @@ Inv-loop t n w k i₀ at₀ i at = (1 ≤ i) × (i ≤ n) × (at + w ≡ i * w) 
 
 abbrev μ-loop : tie.MeasureT-loop
 μ-loop t n w k i₀ at₀ i at = n - i
-
--- the next place ends within the table
-room : (i n w : ℕ) → i < n → i * w + w ≤ n * w
-room i n w h = le-trans (le-of-eq (sym (suc-mul i w))) (mul-le-mul-right w h)
-
-step-at : (i w at : ℕ) → at + w ≡ i * w → at + w + w ≡ (i + 1) * w
-step-at i w at e = ap (λ (x : ℕ). x + w) e ∙ sym (suc-mul i w) ∙ ap (λ (x : ℕ). x * w) (sym (add-one i))
 
 positive : (n : ℕ) → (n ≡ 0 → ⊥) → 1 ≤ n
 positive zero f = absurd (f refl)
@@ -113,7 +107,7 @@ loop-again c =
     let a = s .args in (
       omega arith,
       omega arith,
-      step-at (l .loop .i) (a .w) (l .loop .at) (l .loop .inv .2),
+      step-at (l .loop .i) (a .w) (l .loop .at + a .w) (l .loop .inv .2),
       l .loop .inv .3 ∙ next (a .k) (a .w) (a .n) (l .loop .i) (l .loop .at) (a .t .now) (omega arith) (s .pre .1) ∙ rw (sym (c .before .precedes .ensures) ∙ not-false _ (c .if2 .left)) refl,
     )
 

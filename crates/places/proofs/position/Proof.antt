@@ -10,6 +10,7 @@ use lib.ListN.{length, take, drop}
 use lib.Seq.{take-take, drop-drop}
 use Rattle.octets.specs.Order.{isBefore}
 use Rattle.places.specs.Places.{places, rank}
+use Rattle.places.proofs.Walks.{room}
 use borrow.Author.Needs.{needs}
 use Rattle.places.proofs.position.Statement.{statement}
 use Rattle.places.proofs.position.Tie as tie
@@ -19,10 +20,6 @@ Inv-loop t n w k key i₀ at₀ i at = (i ≤ n) × (at ≡ i * w) × (rank k ke
 
 abbrev μ-loop : tie.MeasureT-loop
 μ-loop t n w k key i₀ at₀ i at = n - i
-
--- the next place ends within the table
-room : (i n w : ℕ) → i < n → i * w + w ≤ n * w
-room i n w h = le-trans (le-of-eq (sym (suc-mul i w))) (mul-le-mul-right w h)
 
 module _ (k : ℕ) (r t : List ℕ) (n w i at : ℕ) where
   next : i < n → k ≤ w → rank k r (places w (n - i) (drop at t)) ≡ cond (isBefore (take (at + k - at) (drop at t)) r) (suc (rank k r (places w (n - (i + 1)) (drop (at + w) t)))) 0

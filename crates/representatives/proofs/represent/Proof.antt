@@ -4,9 +4,9 @@ use mathlib.Core.Path.{sym, ap, _∙_}
 use native.Mathlib.Omega.{arith}
 use lib.ListN.{length, length-take, length-drop, length-replicate}
 use Rattle.places.specs.Places.{places}
+use Rattle.places.proofs.Walks.{room}
 use Rattle.record.specs.Layout.{recordSize}
 use Rattle.models.specs.Summary.{summarySize}
-use Rattle.models.proofs.Walks.{room}
 use Rattle.fixes.specs.Layout.{maxFixes, fixSize}
 use Rattle.representatives.proofs.Walking.{Walked, walk-start, walk-formed, walk-next, walk-end}
 use Rattle.representatives.proofs.represent.Statement.{statement}

@@ -5,10 +5,10 @@ use mathlib.Core.List.{List, _++_}
 use native.Mathlib.Omega.{arith}
 use lib.ListN.{length, take, drop}
 use Rattle.places.specs.Places.{places}
+use Rattle.places.proofs.Walks.{room}
 use Rattle.record.proofs.Parts.{formed}
 use Rattle.models.specs.Summary.{summarySize}
 use Rattle.models.proofs.Sets.{cited-length, identity-length}
-use Rattle.models.proofs.Walks.{room}
 use Rattle.fixes.specs.Layout.{fixSize}
 use Rattle.representatives.specs.Gathered.{jointAt}
 use Rattle.representatives.proofs.Soundness.{gathered-long, record-formed}

@@ -6,9 +6,9 @@ use native.Mathlib.Nat.{sub-zero}
 use lib.ListN.{drop, length-take, length-drop}
 use borrow.Author.Tests.{not-true, not-false}
 use Rattle.places.specs.Places.{places, allPlaces}
+use Rattle.places.proofs.Walks.{room, step-at, all-next, all-end}
 use Rattle.models.specs.Summary.{summarySize, specOf, inputsOf}
 use Rattle.models.specs.Models.{concurs}
-use Rattle.models.proofs.Walks.{room, step-at, all-next, all-end}
 use Rattle.models.proofs.states.all_concur.Statement.{statement}
 use Rattle.models.proofs.states.all_concur.Tie as tie
 

@@ -8,12 +8,12 @@ use lib.Seq.{take-at, drop-at, take-add, take-take, drop-drop, length-take-le}
 use borrow.Rule.Slice.PartMut.{same-len-mid}
 use Rattle.octets.specs.Masks.{withoutBit}
 use Rattle.places.specs.Places.{places}
+use Rattle.places.proofs.Walks.{next-room}
 use Rattle.places.proofs.Keeping.{Compacted, compact-none, compact-gone, compact-stays, changed-length}
 use Rattle.record.specs.Layout.{recordSize}
 use Rattle.register.specs.Layout.{placeSize}
 use Rattle.register.specs.Register.{unsignedBy, signedByAnother}
 use Rattle.register.proofs.Striking.{here, lower, inside, among, ends, struck-end, key-of, signers-wide, last-word, unsigned, still-signed, changed-record}
-use Rattle.register.proofs.Walks.{next-room}
 use borrow.Author.Needs.{needs}
 use Rattle.register.proofs.convictions.strike_records.Statement.{statement}
 use Rattle.register.proofs.convictions.strike_records.Tie as tie

@@ -7,11 +7,11 @@ use lib.ListN.{length, getD, take, drop, length-append, length-take, length-drop
 use lib.Seq.{take-at, drop-at, take-add, take-take, drop-drop, length-take-le}
 use borrow.Rule.Slice.PartMut.{same-len-mid}
 use Rattle.places.specs.Places.{places}
+use Rattle.places.proofs.Walks.{next-room}
 use Rattle.places.proofs.Keeping.{Compacted, compact-none, compact-gone, compact-stays}
 use Rattle.models.specs.Summary.{summarySize}
 use Rattle.register.specs.Register.{nothing, ofAnother}
 use Rattle.register.proofs.Striking.{here, lower, inside, among, ends, struck-end, all-of, none-more, of-engine, of-another, whole-summary}
-use Rattle.register.proofs.Walks.{next-room}
 use borrow.Author.Needs.{needs}
 use Rattle.register.proofs.convictions.strike_summaries.Statement.{statement}
 use Rattle.register.proofs.convictions.strike_summaries.Tie as tie

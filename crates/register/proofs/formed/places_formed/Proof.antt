@@ -9,9 +9,9 @@ use lib.Seq.{length-take-le, take-all}
 use lib.Dec.{ltb, leb, eqb}
 use borrow.Author.Tests.{lt-ltb, le-ltb, le-leb, lt-leb, eq-eqb, ne-eqb, not-true, not-false}
 use Rattle.places.specs.Places.{places, allPlaces}
+use Rattle.places.proofs.Walks.{room, step-at, all-next, all-end}
 use Rattle.register.specs.Layout.{placeSize}
 use Rattle.register.specs.Memory.{placeFormed}
-use Rattle.register.proofs.Walks.{room, step-at, walk-next, walk-end}
 use borrow.Author.Needs.{needs}
 use Rattle.register.proofs.formed.places_formed.Statement.{statement}
 use Rattle.register.proofs.formed.places_formed.Tie as tie
@@ -44,7 +44,7 @@ returns : tie.Need-returns Inv-loop μ-loop
 returns c =
     let l = c .before .before .before .before in
     let a = l .before .before .args in
-    sym (l .loop .inv .2 ∙ walk-next (placeFormed (a .convicted)) placeSize (a .n) (l .loop .i) (l .loop .at) (a .t .now) (omega arith) ∙ rw (sym (c .before .place-formed .ensures) ∙ not-true _ (c .if1 .taken)) refl)
+    sym (l .loop .inv .2 ∙ all-next (placeFormed (a .convicted)) placeSize (a .n) (l .loop .i) (l .loop .at) (a .t .now) (omega arith) ∙ rw (sym (c .before .place-formed .ensures) ∙ not-true _ (c .if1 .taken)) refl)
 
 add-i : tie.Need-add-i Inv-loop μ-loop
 add-i c = omega arith
@@ -58,14 +58,14 @@ loop-again c =
     let a = l .before .before .args in (
       omega arith,
       step-at (l .loop .i) placeSize (l .loop .at) (l .loop .inv .1),
-      l .loop .inv .2 ∙ walk-next (placeFormed (a .convicted)) placeSize (a .n) (l .loop .i) (l .loop .at) (a .t .now) (omega arith) ∙ rw (sym (c .before .place-formed .ensures) ∙ not-false _ (c .if1 .left)) refl,
+      l .loop .inv .2 ∙ all-next (placeFormed (a .convicted)) placeSize (a .n) (l .loop .i) (l .loop .at) (a .t .now) (omega arith) ∙ rw (sym (c .before .place-formed .ensures) ∙ not-false _ (c .if1 .left)) refl,
     )
 
 returns-2 : tie.Need-returns-2 Inv-loop μ-loop
 returns-2 c =
     let l = c .before in
     let a = l .before .before .args in
-    sym (l .loop .inv .2 ∙ walk-end (placeFormed (a .convicted)) placeSize (a .n) (l .loop .i) (l .loop .at) (a .t .now) (c .loop-test .left))
+    sym (l .loop .inv .2 ∙ all-end (placeFormed (a .convicted)) placeSize (a .n) (l .loop .i) (l .loop .at) (a .t .now) (c .loop-test .left))
 
 pub places-formed-spec : {M : Type 1} → statement M
 places-formed-spec =
