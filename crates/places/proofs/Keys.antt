@@ -6,7 +6,9 @@ use mathlib.Core.Bool.{Bool, true, false, cond, not, _&&_, _||_, true≢false, f
 use mathlib.Core.Logic.{_⊎_, inl, inr, ⊎-elim}
 use mathlib.Core.List.{List, [], _∷_, _++_}
 use native.Mathlib.Omega.{arith}
+use native.Mathlib.Nat.{not-suc-le-zero, le-of-suc-le-suc}
 use native.Mathlib.Numerals.{add-one}
+use borrow.Author.Tests.{ltb-true, ltb-false}
 use lib.Dec.{ltb, leb·suc-suc, leb·zero}
 use lib.ListN.{length, getD, take, drop, take-append-drop}
 use lib.Seq.{take-nil, drop-nil}
@@ -125,6 +127,29 @@ rank-stops k key (p ∷ ps) h =
   where
     less : (r : ℕ) → suc r < suc (length ps) → r < length ps
     less r h = omega arith
+
+-- places that ascend from a key all come after it
+from-each : (k : ℕ) (from : List ℕ) (ps : List (List ℕ)) (i : ℕ) → ascendingFrom k from ps ≡ true → i < length ps → isBefore from (take k (getD ps i [])) ≡ true
+from-each k from [] i h l = absurd (not-suc-le-zero l)
+from-each k from (p ∷ ps) zero h l = from-head k from p ps h
+from-each k from (p ∷ ps) (suc i) h l = from-each k from ps i (from-weaken k from (take k p) ps (from-head k from p ps h) (from-tail k from p ps h)) (le-of-suc-le-suc l)
+
+-- where places ascend, one that comes before the key lies below its position
+pub rank-above : (k : ℕ) (key : List ℕ) (ps : List (List ℕ)) (i : ℕ) → ascending k ps ≡ true → i < length ps → isBefore (take k (getD ps i [])) key ≡ true → i < rank k key ps
+rank-above k key [] i h l b = absurd (not-suc-le-zero l)
+rank-above k key (p ∷ ps) zero h l b = rw (rank-more k key p ps b) (omega arith)
+rank-above k key (p ∷ ps) (suc i) h l b =
+    let t : ascendingFrom k (take k p) ps ≡ true = sym (ascending-from k p ps) ∙ h in
+    let f = before-trans (take k p) (take k (getD ps i [])) key (from-each k (take k p) ps i t (le-of-suc-le-suc l)) b in
+    let ih = rank-above k key ps i (from-ascending k (take k p) ps t) (le-of-suc-le-suc l) b in
+    rw (rank-more k key p ps f) (omega arith)
+
+-- and one that does not, at it or after it
+pub rank-below : (k : ℕ) (key : List ℕ) (ps : List (List ℕ)) (i : ℕ) → isBefore (take k (getD ps i [])) key ≡ false → rank k key ps ≤ i
+rank-below k key ps i b =
+    by (ltb i (rank k key ps))
+    (λ l. absurd (true≢false (sym (rank-before k key ps i (ltb-true i (rank k key ps) l)) ∙ b)))
+    (λ l. ltb-false i (rank k key ps) l)
 
 -- place i has the key
 abbrev pub hasKey : ℕ → List ℕ → List (List ℕ) → ℕ → Bool

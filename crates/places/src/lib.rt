@@ -5,7 +5,7 @@
 // A caller keeps the count, and shows that n places lie within the slice and that a key is no wider
 // than its place.
 ghost use mathlib.Core.Path.{_≡_};
-ghost use mathlib.Core.Bool.{_&&_};
+ghost use mathlib.Core.Bool.{true, _&&_};
 ghost use mathlib.Core.List.{_++_};
 ghost use Prim.Native.Nat.{_+_, _*_, _-_, _<_, _≤_};
 ghost use lib.ListN.{length, take, drop, replicate};
@@ -51,23 +51,27 @@ pub fn is_table(t: &[u8], n: usize, w: usize, k: usize) -> bool
     octets::runs::is_zero(&t[used..])
 }
 
-// How many of the first n places come before a key: where it stands, or where it would go in.
+// How many of the first n places, which ascend, come before a key: where it stands, or where it would
+// go in. By halving: each place below low comes before the key, none from high on does.
 pub fn position(t: &[u8], n: usize, w: usize, k: usize, key: &[u8]) -> usize
     requires { ⌜ n * w ≤ length (now t) ⌝ }
     requires { ⌜ k ≤ w ⌝ }
+    requires { ⌜ ascending k (places w n (now t)) ≡ true ⌝ }
     ensures { λ r. ⌜ r ≡ rank k (now (key .entry)) (places w n (now (t .entry))) ⌝ }
 {
-    let mut i = 0;
-    let mut at = 0;
-    while i < n {
+    let mut low = 0;
+    let mut high = n;
+    while low < high {
+        let mid = low + (high - low) / 2;
+        let at = mid * w;
         let e = at + k;
-        if !octets::order::precedes(&t[at..e], key) {
-            return i;
+        if octets::order::precedes(&t[at..e], key) {
+            low = mid + 1;
+        } else {
+            high = mid;
         }
-        at = at + w;
-        i += 1;
     }
-    i
+    low
 }
 
 // Whether place i has this very key.
@@ -105,11 +109,12 @@ fn stands_at(t: &[u8], n: usize, i: usize, w: usize, k: usize, key: &[u8]) -> bo
     has_key(t, i, w, k, key)
 }
 
-// Puts a place in by its key, which is its first k bytes, unless the key is held or the table, which
-// has room for cap places, is full.
+// Puts a place in by its key, which is its first k bytes, unless the key is held or the table, whose
+// keys ascend and which has room for cap places, is full.
 pub fn put_by_key(t: &mut [u8], n: usize, cap: usize, w: usize, k: usize, x: &[u8]) -> Put
     requires { ⌜ n * w ≤ length (now t) ⌝ }
     requires { ⌜ k ≤ w ⌝ }
+    requires { ⌜ ascending k (places w n (now t)) ≡ true ⌝ }
     requires { ⌜ length (now x) ≡ w ⌝ }
     requires { ⌜ length (now t) ≡ cap * w ⌝ }
     ensures { λ r. ⌜ putting r (now (t .exit)) ≡ tried n cap w k (now (x .entry)) (now (t .entry)) ⌝ }

@@ -1,49 +1,69 @@
-use Prim.Native.Nat.{ℕ, zero, suc, _+_, _*_, _-_, _≤_, _<_}
-use mathlib.Core.Path.{_≡_, refl, sym, ap, _∙_}
-use mathlib.Core.Bool.{Bool, true, false, cond}
-use mathlib.Core.List.{List, [], _∷_, _++_}
+-- `position` meets its contract. The key's position lies from low to high; the place halfway says on which side of it.
+use Prim.Native.Nat.{ℕ, _+_, _*_, _-_, _/_, _≤_, _<_}
+use mathlib.Core.Path.{_≡_, sym, ap, _∙_}
+use mathlib.Core.Bool.{Bool, true, false}
+use mathlib.Core.List.{List, []}
 use native.Mathlib.Omega.{arith}
-use native.Mathlib.Nat.{sub-zero, zero-add, le-trans, le-of-eq, suc-mul, mul-le-mul-right, zero-mul}
-use native.Mathlib.Numerals.{add-one}
-use borrow.Author.Tests.{not-true, not-false}
-use lib.ListN.{length, take, drop}
-use lib.Seq.{take-take, drop-drop}
+use lib.ListN.{length, getD, take, drop}
 use Rattle.octets.specs.Order.{isBefore}
-use Rattle.places.specs.Places.{places, rank}
-use Rattle.places.proofs.Walks.{room}
-use borrow.Author.Needs.{needs}
+use Rattle.places.specs.Places.{places, ascending, rank}
+use Rattle.places.proofs.Walks.{key-room, key-of}
+use Rattle.places.proofs.Tables.{length-places}
+use Rattle.places.proofs.Keys.{rank-le, rank-above, rank-below}
 use Rattle.places.proofs.position.Statement.{statement}
 use Rattle.places.proofs.position.Tie as tie
 
 abbrev Inv-loop : tie.InvT-loop
-Inv-loop t n w k key i₀ at₀ i at = (i ≤ n) × (at ≡ i * w) × (rank k key (places w n t) ≡ i + rank k key (places w (n - i) (drop at t)))
+Inv-loop t n w k key low₀ high₀ low high = (low ≤ rank k key (places w n t)) × (rank k key (places w n t) ≤ high) × (high ≤ n)
 
 abbrev μ-loop : tie.MeasureT-loop
-μ-loop t n w k key i₀ at₀ i at = n - i
+μ-loop t n w k key low₀ high₀ low high = high - low
 
-module _ (k : ℕ) (r t : List ℕ) (n w i at : ℕ) where
-  next : i < n → k ≤ w → rank k r (places w (n - i) (drop at t)) ≡ cond (isBefore (take (at + k - at) (drop at t)) r) (suc (rank k r (places w (n - (i + 1)) (drop (at + w) t)))) 0
-  unfolding rank places
-  next h l =
-      let e : n - i ≡ suc (n - (i + 1)) = omega arith in
-      let z : at + k - at ≡ k = omega arith in
-      rw (e, z, take-take k w (drop at t) l, drop-drop) refl
+-- the place halfway
+abbrev mid : ℕ → ℕ → ℕ
+mid low high = low + (high - low) / 2
 
-  stop : i < n → k ≤ w → isBefore (take (at + k - at) (drop at t)) r ≡ false → rank k r (places w (n - i) (drop at t)) ≡ 0
-  stop h l e = next h l ∙ rw e refl
+below : (low high n : ℕ) → low < high → high ≤ n → mid low high < n
+below low high n h l = omega arith
 
-  go : i < n → k ≤ w → isBefore (take (at + k - at) (drop at t)) r ≡ true → rank k r (places w (n - i) (drop at t)) ≡ suc (rank k r (places w (n - (i + 1)) (drop (at + w) t)))
-  go h l e = next h l ∙ rw e refl
+module _ (t key : List ℕ) (n w k i : ℕ) (h : i < n) (m : k ≤ w) where
+  -- its key, as the comparison reads it
+  own : (b : Bool) → b ≡ isBefore (take (i * w + k - i * w) (drop (i * w) t)) key → isBefore (take k (getD (places w n t) i [])) key ≡ b
+  own b e =
+      let z : i * w + k - i * w ≡ k = omega arith in
+      ap (λ (x : List ℕ). isBefore x key) (key-of k w n i t h m ∙ ap (λ (j : ℕ). take j (drop (i * w) t)) (sym z)) ∙ sym e
 
-none : (k : ℕ) (r b : List ℕ) (n w i : ℕ) → n ≤ i → rank k r (places w (n - i) b) ≡ 0
-unfolding rank places
-none k r b n w i h = let e : n - i ≡ 0 = omega arith in rw e refl
+  above : ascending k (places w n t) ≡ true → {b : Bool} → b ≡ isBefore (take (i * w + k - i * w) (drop (i * w) t)) key → b ≡ true → i < rank k key (places w n t)
+  above a {b} e f = rank-above k key (places w n t) i a (rw (length-places w n t) h) (own b e ∙ f)
+
+  not-above : {b : Bool} → b ≡ isBefore (take (i * w + k - i * w) (drop (i * w) t)) key → b ≡ false → rank k key (places w n t) ≤ i
+  not-above {b} e f = rank-below k key (places w n t) i (own b e ∙ f)
 
 loop-holds : tie.Need-loop-holds Inv-loop μ-loop
-loop-holds c = (omega arith, sym (zero-mul (c .before .before .args .w)), rw (sub-zero, zero-add) refl)
+loop-holds c =
+    let a = c .before .before .args in
+    (omega arith, omega (arith, rank-le (a .k) (a .key .now) (places (a .w) (a .n) (a .t .now)), length-places (a .w) (a .n) (a .t .now)), omega arith)
+
+sub-mid : tie.Need-sub-mid Inv-loop μ-loop
+sub-mid c = omega arith
+
+add-mid : tie.Need-add-mid Inv-loop μ-loop
+add-mid c = omega arith
+
+-- where its key ends lies within the table
+inside : (c : tie.In-loop Inv-loop μ-loop)
+    → mid (c .before .loop .low) (c .before .loop .high) * c .before .before .before .before .args .w + c .before .before .before .before .args .k ≤ length (c .before .before .before .before .args .t .now)
+inside c =
+    let l = c .before .loop in
+    let s = c .before .before .before .before in
+    let a = s .args in
+    key-room (mid (l .low) (l .high)) (a .n) (a .w) (a .k) (length (a .t .now)) (below (l .low) (l .high) (a .n) (c .loop-test .taken) (l .inv .2)) (s .pre .0) (s .pre .1 .0)
+
+mul-at : tie.Need-mul-at Inv-loop μ-loop
+mul-at c = omega (arith, inside c)
 
 add-e : tie.Need-add-e Inv-loop μ-loop
-add-e c = let s = c .before .before .before .before .args in omega (arith, room (c .before .loop .i) (s .n) (s .w) (c .loop-test .taken))
+add-e c = omega (arith, inside c)
 
 sub-precedes : tie.Need-sub-precedes Inv-loop μ-loop
 sub-precedes c = omega arith
@@ -52,42 +72,40 @@ part-precedes-start : tie.Need-part-precedes-start Inv-loop μ-loop
 part-precedes-start c = omega arith
 
 part-precedes-end : tie.Need-part-precedes-end Inv-loop μ-loop
-part-precedes-end c = let s = c .before .before .before .before .args in omega (arith, room (c .before .loop .i) (s .n) (s .w) (c .loop-test .taken))
+part-precedes-end c = inside c
 
 precedes-requires : tie.Need-precedes-requires Inv-loop μ-loop
 precedes-requires c κs = tt
 
-returns : tie.Need-returns Inv-loop μ-loop
-returns c =
-    let l = c .before .before .before .before in
-    let s = l .before .before .before in
-    let a = s .args in
-    omega (arith, stop (a .k) (a .key .now) (a .t .now) (a .n) (a .w) (l .loop .i) (l .loop .at) (omega arith) (s .pre .1) (sym (c .before .precedes .ensures) ∙ not-true _ (c .if1 .taken)))
-
-add-at : tie.Need-add-at Inv-loop μ-loop
-add-at c = let l = c .before .before .before .before in let s = l .before .before .before .args in omega (arith, room (l .loop .i) (s .n) (s .w) (c .before .before .before .loop-test .taken))
-
-add-i : tie.Need-add-i Inv-loop μ-loop
-add-i c = omega arith
+add-low : tie.Need-add-low Inv-loop μ-loop
+add-low c = omega arith
 
 loop-less : tie.Need-loop-less Inv-loop μ-loop
 loop-less c = omega arith
 
 loop-again : tie.Need-loop-again Inv-loop μ-loop
 loop-again c =
-    let l = c .before .before .before .before in
-    let s = l .before .before .before in
-    let a = s .args in (
-      omega arith,
-      ap (λ (x : ℕ). x + a .w) (l .loop .inv .1) ∙ sym (suc-mul (l .loop .i) (a .w)) ∙ ap (λ (x : ℕ). x * a .w) (sym (add-one (l .loop .i))),
-      omega (arith, go (a .k) (a .key .now) (a .t .now) (a .n) (a .w) (l .loop .i) (l .loop .at) (omega arith) (s .pre .1) (sym (c .before .precedes .ensures) ∙ not-false _ (c .if1 .left))),
-    )
+    let l = c .before .before .before .before .loop in
+    let s = c .before .before .before .before .before .before .before in
+    let a = s .args in
+    let h = below (l .low) (l .high) (a .n) (c .before .before .before .loop-test .taken) (l .inv .2) in
+    let u = above (a .t .now) (a .key .now) (a .n) (a .w) (a .k) (mid (l .low) (l .high)) h (s .pre .1 .0) (s .pre .1 .1) (c .before .precedes .ensures) (c .if1 .taken) in
+    (omega arith, l .inv .1, l .inv .2)
 
-returns-2 : tie.Need-returns-2 Inv-loop μ-loop
-returns-2 c =
-    let l = c .before in
-    let a = l .before .before .before .args in
-    omega (arith, none (a .k) (a .key .now) (drop (l .loop .at) (a .t .now)) (a .n) (a .w) (l .loop .i) (c .loop-test .left))
+loop-less-2 : tie.Need-loop-less-2 Inv-loop μ-loop
+loop-less-2 c = omega arith
+
+loop-again-2 : tie.Need-loop-again-2 Inv-loop μ-loop
+loop-again-2 c =
+    let l = c .before .before .before .before .loop in
+    let s = c .before .before .before .before .before .before .before in
+    let a = s .args in
+    let h = below (l .low) (l .high) (a .n) (c .before .before .before .loop-test .taken) (l .inv .2) in
+    let u = not-above (a .t .now) (a .key .now) (a .n) (a .w) (a .k) (mid (l .low) (l .high)) h (s .pre .1 .0) (c .before .precedes .ensures) (c .if1 .left) in
+    (l .inv .0, u, omega arith)
+
+returns : tie.Need-returns Inv-loop μ-loop
+returns c = let l = c .before .loop in omega (arith, l .inv .0, l .inv .1, c .loop-test .left)
 
 pub position-spec : {M : Type 1} → statement M
 position-spec =
@@ -96,14 +114,17 @@ position-spec =
     Inv-loop
     μ-loop
     loop-holds
+    sub-mid
+    add-mid
+    mul-at
     add-e
     sub-precedes
     part-precedes-start
     part-precedes-end
     precedes-requires
-    returns
-    add-at
-    add-i
+    add-low
     loop-less
     loop-again
-    returns-2)
+    loop-less-2
+    loop-again-2
+    returns)

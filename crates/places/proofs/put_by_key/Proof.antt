@@ -1,3 +1,4 @@
+-- `put_by_key` meets its contract.
 use Prim.Native.Nat.{ℕ, suc, _+_, _*_, _≤_, _<_}
 use mathlib.Core.Path.{_≡_, refl, sym, ap, _∙_}
 use mathlib.Core.Bool.{Bool, true, false, _&&_}
@@ -82,8 +83,8 @@ insert-requires c κs =
     let l = at-most (a .n) (a .w) (a .k) (a .x .now) (a .t .now) (p .result) (p .ensures) in
     let h : p .result < a .cap = below l (c .before .if2 .left) in
     let m : suc (p .result) * a .w ≤ a .cap * a .w = mul-le-mul-right (a .w) h in
-    let e = s .pre .1 .1 .0 in
-    let f = s .pre .1 .1 .1 in
+    let e = s .pre .1 .1 .1 .0 in
+    let f = s .pre .1 .1 .1 .1 in
     let q = suc-mul (p .result) (a .w) in
     omega arith
 

@@ -11,7 +11,7 @@ use Rattle.models.specs.Summary.{summarySize}
 use Rattle.models.proofs.Sets.{cited-length, identity-length}
 use Rattle.fixes.specs.Layout.{fixSize}
 use Rattle.representatives.specs.Gathered.{jointAt}
-use Rattle.representatives.proofs.Soundness.{gathered-long, record-formed}
+use Rattle.representatives.proofs.Soundness.{gathered-long, gathered-ordered, record-formed}
 use Rattle.representatives.proofs.Entering.{made, entered, found, again, fresh, never-full}
 use borrow.Author.Needs.{needs}
 use Rattle.representatives.proofs.sign_in.Statement.{statement}
@@ -52,7 +52,10 @@ slice-aggregate-put-by-key : tie.Need-slice-aggregate-put-by-key
 slice-aggregate-put-by-key c = search needs
 
 put-by-key-requires : tie.Need-put-by-key-requires
-put-by-key-requires c κs = search needs
+put-by-key-requires c κs =
+    let s = c .before .before .before .before .before .before .before .before .before .before .before .before .before in
+    let g = s .pre .1 .0 in
+    (gathered-long (s .args .n) (s .args .t .now) g, (omega arith, (gathered-ordered (s .args .n) (s .args .t .now) g .ascends, (search needs, g .size))))
 
 enum-known-i : tie.Need-enum-known-i
 enum-known-i c = search needs

@@ -11,7 +11,7 @@ use Rattle.octets.proofs.Numbers.{Bytes, all-bytes}
 use Rattle.octets.specs.Masks.{withBit}
 use Rattle.octets.specs.Words.{wordAt, putWord}
 use Rattle.octets.proofs.Moves.{tail-lent}
-use Rattle.places.specs.Places.{holds, rank, tableOf, putPlace}
+use Rattle.places.specs.Places.{places, ascending, holds, rank, tableOf, putPlace}
 use Rattle.places.specs.declared.Put.{Put}
 use Rattle.places.specs.declared.Put.the-variants.{Held, Full, New}
 use Rattle.record.proofs.Parts.{formed}
@@ -80,7 +80,9 @@ put-by-key-requires c κs =
     let o = opened m (s .pre .0) in
     let y = all-bytes m (λ i. c .before .before .before .before .before .before .slice-known .given i .fits) in
     let z : length (take (length m - recordsAt) (drop recordsAt m)) ≡ recordsSize = ap length (tail-lent m recordsAt) ∙ record-bytes-length m o in
-    (rw z (omega (arith, o .few-records, c .before .before .before .u16-at .ensures)), (omega arith, (ap length (c .before .before .new-place .ensures) ∙ place-length m o y (s .args .engine) (s .args .r .now) (formed (s .args .r .now) (s .pre .1 .1) .size), z)))
+    let v : ascending recordSize (places placeSize (c .before .before .before .u16-at .result) (take (length m - recordsAt) (drop recordsAt m))) ≡ true =
+    ap₂ (λ (n : ℕ) (t : List ℕ). ascending recordSize (places placeSize n t)) (c .before .before .before .u16-at .ensures) (tail-lent m recordsAt) ∙ records-ascend m o in
+    (rw z (omega (arith, o .few-records, c .before .before .before .u16-at .ensures)), (omega arith, (v, (ap length (c .before .before .new-place .ensures) ∙ place-length m o y (s .args .engine) (s .args .r .now) (formed (s .args .r .now) (s .pre .1 .1) .size), z))))
 
 enum-known-tried : tie.Need-enum-known-tried
 enum-known-tried c = search needs

@@ -8,14 +8,14 @@ use lib.ListN.{length, take, drop, set, replicate, length-append, length-take, l
 use lib.Seq.{take-length}
 use Rattle.octets.specs.Words.{putWord}
 use Rattle.octets.proofs.Numbers.{Bytes, all-bytes}
-use Rattle.places.specs.Places.{holds, rank, tableOf, putPlace}
+use Rattle.places.specs.Places.{places, ascending, holds, rank, tableOf, putPlace}
 use Rattle.places.specs.declared.Put.{Put}
 use Rattle.places.specs.declared.Put.the-variants.{Held, Full, New}
 use Rattle.models.specs.Summary.{summarySize}
 use Rattle.register.specs.Layout.{maxSummaries, summaryCountAt, summariesAt, summariesSize}
 use Rattle.register.specs.Register.{after, nothing, heldInto}
-use Rattle.register.specs.Memory.{summariesIn, summaryCount, settled, decode}
-use Rattle.register.proofs.Opened.{Opened, opened, summary-bytes-length}
+use Rattle.register.specs.Memory.{summaryBytes, summariesIn, summaryCount, settled, decode}
+use Rattle.register.proofs.Opened.{Opened, opened, summary-bytes-length, summaries-ascend}
 use Rattle.register.proofs.Signing.{Way, held, none, new, held-not-full, held-not-new, full-not-new, held-index, summary-way, summary-held, summary-full, summary-new}
 use borrow.Author.Needs.{needs}
 use Rattle.register.proofs.summaries.hold.Statement.{statement}
@@ -59,7 +59,9 @@ put-by-key-requires c κs =
     let m = s .args .memory .now in
     let o = opened m (s .pre .0) in
     let z = summary-bytes-length m o in
-    (rw z (omega (arith, o .few-summaries, c .before .u16-at .ensures)), (omega arith, (s .pre .1, z)))
+    let v : ascending summarySize (places summarySize (c .before .u16-at .result) (summaryBytes m)) ≡ true =
+    ap (λ (n : ℕ). ascending summarySize (places summarySize n (summaryBytes m))) (c .before .u16-at .ensures) ∙ summaries-ascend m o in
+    (rw z (omega (arith, o .few-summaries, c .before .u16-at .ensures)), (omega arith, (v, (s .pre .1, z))))
 
 enum-told : tie.Need-enum-told
 enum-told c = search needs
