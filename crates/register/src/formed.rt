@@ -3,9 +3,10 @@ use crate::layout;
 use models::layout::SUMMARY_SIZE;
 use record::layout::RECORD_SIZE;
 ghost use mathlib.Core.Path.{_≡_};
+ghost use mathlib.Core.Bool.{_&&_};
 ghost use Prim.Native.Nat.{_*_, _≤_};
 ghost use lib.ListN.{length};
-ghost use Rattle.places.specs.Places.{places, allPlaces};
+ghost use Rattle.places.specs.Places.{places, isTable, allPlaces};
 ghost use Rattle.record.specs.Layout.{recordSize};
 ghost use Rattle.models.specs.Summary.{summarySize};
 ghost use Rattle.register.specs.Layout.{placeSize};
@@ -77,6 +78,28 @@ fn places_formed(t: &[u8], n: usize, convicted: u32) -> bool
     true
 }
 
+// Whether t holds a table of n summaries that are.
+fn summary_table_formed(t: &[u8], n: usize, convicted: u32) -> bool
+    requires { ⌜ n * summarySize ≤ length (now t) ⌝ }
+    ensures { λ r. ⌜ r ≡ (isTable summarySize summarySize n (now (t .entry)) && allPlaces (summaryFormed convicted) (places summarySize n (now (t .entry)))) ⌝ }
+{
+    if !places::is_table(t, n, SUMMARY_SIZE, SUMMARY_SIZE) {
+        return false;
+    }
+    summaries_formed(t, n, convicted)
+}
+
+// Whether t holds a table of n records' places that are.
+fn place_table_formed(t: &[u8], n: usize, convicted: u32) -> bool
+    requires { ⌜ n * placeSize ≤ length (now t) ⌝ }
+    ensures { λ r. ⌜ r ≡ (isTable recordSize placeSize n (now (t .entry)) && allPlaces (placeFormed convicted) (places placeSize n (now (t .entry)))) ⌝ }
+{
+    if !places::is_table(t, n, layout::PLACE_SIZE, RECORD_SIZE) {
+        return false;
+    }
+    places_formed(t, n, convicted)
+}
+
 // Whether the bytes are a register.
 pub fn well_formed(m: &[u8]) -> bool
     ensures { λ r. ⌜ r ≡ wellFormed (now (m .entry)) ⌝ }
@@ -93,19 +116,9 @@ pub fn well_formed(m: &[u8]) -> bool
     if layout::MAX_RECORDS < k {
         return false;
     }
-    if !places::is_table(
-        &m[layout::SUMMARIES_AT..layout::RECORDS_AT],
-        n,
-        SUMMARY_SIZE,
-        SUMMARY_SIZE,
-    ) {
+    let summaries = &m[layout::SUMMARIES_AT..layout::RECORDS_AT];
+    if !summary_table_formed(summaries, n, convicted) {
         return false;
     }
-    if !summaries_formed(&m[layout::SUMMARIES_AT..layout::RECORDS_AT], n, convicted) {
-        return false;
-    }
-    if !places::is_table(&m[layout::RECORDS_AT..], k, layout::PLACE_SIZE, RECORD_SIZE) {
-        return false;
-    }
-    places_formed(&m[layout::RECORDS_AT..], k, convicted)
+    place_table_formed(&m[layout::RECORDS_AT..], k, convicted)
 }
