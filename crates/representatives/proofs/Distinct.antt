@@ -12,7 +12,7 @@ use Rattle.octets.proofs.Comparison.{before-trans, more-same}
 use Rattle.places.specs.Places.{places, ascendingFrom, ascending}
 use Rattle.places.proofs.Keys.{from-head, from-tail, ascending-from, from-ascending}
 use Rattle.places.proofs.Tables.{length-places}
-use Rattle.models.proofs.Walks.{place-of}
+use Rattle.places.proofs.Walks.{place-of}
 use Rattle.items.specs.Layout.{hashSize}
 use Rattle.fixes.specs.Layout.{fixSize, identityOf}
 use Rattle.representatives.specs.Gathered.{Gathered}
