@@ -8,22 +8,23 @@ use lib.ListN.{length, getD, take, drop, drop-of-length-le}
 use lib.Seq.{drop-cons}
 use lib.Dec.{ltb, leb, eqb}
 use borrow.Author.Tests.{lt-ltb, le-ltb, le-leb, lt-leb, eq-eqb, ne-eqb, not-true, not-false}
+use Rattle.record.specs.Layout.{maxModel}
 use Rattle.record.specs.Formed.{allUpTo}
 use borrow.Author.Needs.{needs}
 use Rattle.record.proofs.formed.all_models.Statement.{statement}
 use Rattle.record.proofs.formed.all_models.Tie as tie
 
 abbrev Inv-loop : tie.InvT-loop
-Inv-loop s i₀ i = allUpTo 63 s ≡ allUpTo 63 (drop i s)
+Inv-loop s i₀ i = allUpTo maxModel s ≡ allUpTo maxModel (drop i s)
 
 abbrev μ-loop : tie.MeasureT-loop
 μ-loop s i₀ i = length s - i
 
-step : (s : List ℕ) (i : ℕ) → i < length s → allUpTo 63 (drop i s) ≡ (leb (getD s i 0) 63 && allUpTo 63 (drop (i + 1) s))
+step : (s : List ℕ) (i : ℕ) → i < length s → allUpTo maxModel (drop i s) ≡ (leb (getD s i 0) maxModel && allUpTo maxModel (drop (i + 1) s))
 unfolding allUpTo
 step s i h = rw (add-one, drop-cons s i 0 h) refl
 
-past : (s : List ℕ) (i : ℕ) → length s ≤ i → allUpTo 63 (drop i s) ≡ true
+past : (s : List ℕ) (i : ℕ) → length s ≤ i → allUpTo maxModel (drop i s) ≡ true
 unfolding allUpTo
 past s i h = rw (drop-of-length-le s h) refl
 
@@ -37,7 +38,7 @@ returns : tie.Need-returns Inv-loop μ-loop
 returns c =
     let l = c .before .before .before in
     let s = l .before .args .s .now in
-    sym (l .loop .inv ∙ step s (l .loop .i) (omega arith) ∙ rw (lt-leb (getD s (l .loop .i) 0) 63 (c .if1 .taken)) refl)
+    sym (l .loop .inv ∙ step s (l .loop .i) (omega arith) ∙ rw (lt-leb (getD s (l .loop .i) 0) maxModel (c .if1 .taken)) refl)
 
 add-i : tie.Need-add-i Inv-loop μ-loop
 add-i c = omega arith
@@ -49,7 +50,7 @@ loop-again : tie.Need-loop-again Inv-loop μ-loop
 loop-again c =
     let l = c .before .before .before in
     let s = l .before .args .s .now in
-    l .loop .inv ∙ step s (l .loop .i) (omega arith) ∙ rw (le-leb (getD s (l .loop .i) 0) 63 (c .if1 .left)) refl
+    l .loop .inv ∙ step s (l .loop .i) (omega arith) ∙ rw (le-leb (getD s (l .loop .i) 0) maxModel (c .if1 .left)) refl
 
 returns-2 : tie.Need-returns-2 Inv-loop μ-loop
 returns-2 c = sym (c .before .loop .inv ∙ past (c .before .before .args .s .now) (c .before .loop .i) (c .loop-test .left))

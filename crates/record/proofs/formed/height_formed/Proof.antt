@@ -9,6 +9,7 @@ use lib.Seq.{drop-cons}
 use lib.Dec.{ltb, leb, eqb}
 use borrow.Author.Tests.{lt-ltb, le-ltb, le-leb, lt-leb, eq-eqb, ne-eqb, not-true, not-false}
 use borrow.Author.Needs.{needs}
+use Rattle.record.specs.Layout.{heightFlagAt}
 use Rattle.record.proofs.formed.height_formed.Statement.{statement}
 use Rattle.record.proofs.formed.height_formed.Tie as tie
 
@@ -30,13 +31,13 @@ is-zero-requires c κs = search needs
 returns : tie.Need-returns
 returns c =
     let r = c .before .before .before .before .before .args .r .now in
-    c .is-zero .ensures ∙ sym (rw (eq-eqb (getD r 16 0) 0 (c .before .before .if1 .taken)) refl)
+    c .is-zero .ensures ∙ sym (rw (eq-eqb (getD r heightFlagAt 0) 0 (c .before .before .if1 .taken)) refl)
 
 shared-slice-read-result : tie.Need-shared-slice-read-result
 shared-slice-read-result c = search needs
 
 returns-2 : tie.Need-returns-2
-returns-2 c = let r = c .before .before .before .before .args .r .now in sym (rw (ne-eqb (getD r 16 0) 0 (c .before .if1 .left)) refl)
+returns-2 c = let r = c .before .before .before .before .args .r .now in sym (rw (ne-eqb (getD r heightFlagAt 0) 0 (c .before .if1 .left)) refl)
 
 pub height-formed-spec : {M : Type 1} → statement M
 height-formed-spec =

@@ -9,19 +9,20 @@ use lib.Seq.{drop-cons}
 use lib.Dec.{ltb, leb, eqb}
 use borrow.Author.Tests.{lt-ltb, le-ltb, le-leb, lt-leb, eq-eqb, ne-eqb, not-true, not-false}
 use Rattle.octets.specs.Runs.{allZero}
+use Rattle.record.specs.Layout.{shortMessage, longMessage, messageLengthAt, messageAt, tagCountAt}
 use Rattle.record.specs.Formed.{messageFormed}
 use borrow.Author.Needs.{needs}
 use Rattle.record.proofs.formed.message_formed.Statement.{statement}
 use Rattle.record.proofs.formed.message_formed.Tie as tie
 
 module _ (r : List ℕ) where
-  long : getD r 21 0 ≡ 14 → messageFormed r ≡ true
+  long : getD r messageLengthAt 0 ≡ longMessage → messageFormed r ≡ true
   long e = rw e (unfold allZero in refl)
 
-  neither : (getD r 21 0 ≡ 14 → ⊥) → (getD r 21 0 ≡ 7 → ⊥) → messageFormed r ≡ false
-  neither f g = rw (ne-eqb (getD r 21 0) 7 g, ne-eqb (getD r 21 0) 14 f) refl
+  neither : (getD r messageLengthAt 0 ≡ longMessage → ⊥) → (getD r messageLengthAt 0 ≡ shortMessage → ⊥) → messageFormed r ≡ false
+  neither f g = rw (ne-eqb (getD r messageLengthAt 0) shortMessage g, ne-eqb (getD r messageLengthAt 0) longMessage f) refl
 
-  short : getD r 21 0 ≡ 7 → allZero (take (36 - (22 + getD r 21 0)) (drop (22 + getD r 21 0) r)) ≡ messageFormed r
+  short : getD r messageLengthAt 0 ≡ shortMessage → allZero (take (tagCountAt - (messageAt + getD r messageLengthAt 0)) (drop (messageAt + getD r messageLengthAt 0) r)) ≡ messageFormed r
   short e = rw e refl
 
 shared-slice-read-n : tie.Need-shared-slice-read-n

@@ -7,6 +7,7 @@ use lib.ListN.{length, getD, take, drop}
 use lib.Dec.{ltb, leb, eqb}
 use borrow.Author.Tests.{lt-ltb, le-ltb, le-leb, lt-leb, eq-eqb, ne-eqb, not-true, not-false}
 use Rattle.octets.specs.Runs.{allZero}
+use Rattle.record.specs.Layout.{maxModels, maxModel, modelsAt, specAt}
 use Rattle.record.specs.Fields.{modelCount}
 use Rattle.record.specs.Formed.{modelsFormed, allUpTo}
 use borrow.Author.Needs.{needs}
@@ -14,21 +15,21 @@ use Rattle.record.proofs.formed.models_formed.Statement.{statement}
 use Rattle.record.proofs.formed.models_formed.Tie as tie
 
 module _ (r : List ℕ) (n : ℕ) (e : n ≡ modelCount r) where
-  many : 4 < n → modelsFormed r ≡ false
-  many h = rw (← e, lt-leb n 4 h) refl
+  many : maxModels < n → modelsFormed r ≡ false
+  many h = rw (← e, lt-leb n maxModels h) refl
 
-  above : n ≤ 4 → allUpTo 63 (take (168 + n - 168) (drop 168 r)) ≡ false → modelsFormed r ≡ false
+  above : n ≤ maxModels → allUpTo maxModel (take (modelsAt + n - modelsAt) (drop modelsAt r)) ≡ false → modelsFormed r ≡ false
   above h a =
-      let w : 168 + n - 168 ≡ n = omega arith in
-      let u : allUpTo 63 (take n (drop 168 r)) ≡ false = rw w at a in
-      rw (← e, le-leb n 4 h, u) refl
+      let w : modelsAt + n - modelsAt ≡ n = omega arith in
+      let u : allUpTo maxModel (take n (drop modelsAt r)) ≡ false = rw w at a in
+      rw (← e, le-leb n maxModels h, u) refl
 
-  rest : n ≤ 4 → allUpTo 63 (take (168 + n - 168) (drop 168 r)) ≡ true → allZero (take (172 - (168 + n)) (drop (168 + n) r)) ≡ modelsFormed r
+  rest : n ≤ maxModels → allUpTo maxModel (take (modelsAt + n - modelsAt) (drop modelsAt r)) ≡ true → allZero (take (specAt - (modelsAt + n)) (drop (modelsAt + n) r)) ≡ modelsFormed r
   rest h a =
-      let w : 168 + n - 168 ≡ n = omega arith in
-      let u : allUpTo 63 (take n (drop 168 r)) ≡ true = rw w at a in
-      let z : 172 - (168 + n) ≡ 4 - n = omega arith in
-      rw (← e, le-leb n 4 h, u, z) refl
+      let w : modelsAt + n - modelsAt ≡ n = omega arith in
+      let u : allUpTo maxModel (take n (drop modelsAt r)) ≡ true = rw w at a in
+      let z : specAt - (modelsAt + n) ≡ maxModels - n = omega arith in
+      rw (← e, le-leb n maxModels h, u, z) refl
 
 model-count-requires : tie.Need-model-count-requires
 model-count-requires c κs = search needs

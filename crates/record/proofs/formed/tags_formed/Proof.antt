@@ -8,6 +8,7 @@ use lib.Dec.{ltb, leb, eqb}
 use borrow.Author.Tests.{lt-ltb, le-ltb, le-leb, lt-leb, eq-eqb, ne-eqb, not-true, not-false}
 use Rattle.octets.specs.Runs.{allZero}
 use Rattle.octets.proofs.Lookup.{one-shl}
+use Rattle.record.specs.Layout.{maxTags, tagsAt, modelCountAt}
 use Rattle.record.specs.Fields.{tagCount, tagsFrom, used}
 use Rattle.record.specs.Formed.{tagsFormed, ascends}
 use borrow.Author.Needs.{needs}
@@ -18,19 +19,19 @@ module _ (r : List ℕ) (n : ℕ) (e : n ≡ tagCount r) where
   none : n < 1 → tagsFormed r ≡ false
   none h = rw (← e, lt-leb 1 n h) refl
 
-  many : 1 ≤ n → 16 < n → tagsFormed r ≡ false
-  many h k = rw (← e, le-leb 1 n h, lt-leb n 16 k) refl
+  many : 1 ≤ n → maxTags < n → tagsFormed r ≡ false
+  many h k = rw (← e, le-leb 1 n h, lt-leb n maxTags k) refl
 
-  masked : 1 ≤ n → n ≤ 16 → 2 ^ n ≤ used r → tagsFormed r ≡ false
-  masked h k m = rw (← e, le-leb 1 n h, le-leb n 16 k, le-ltb (used r) (2 ^ n) m) refl
+  masked : 1 ≤ n → n ≤ maxTags → 2 ^ n ≤ used r → tagsFormed r ≡ false
+  masked h k m = rw (← e, le-leb 1 n h, le-leb n maxTags k, le-ltb (used r) (2 ^ n) m) refl
 
-  disordered : 1 ≤ n → n ≤ 16 → used r < 2 ^ n → ascends (tagsFrom r 0 n) ≡ false → tagsFormed r ≡ false
-  disordered h k m a = rw (← e, le-leb 1 n h, le-leb n 16 k, lt-ltb (used r) (2 ^ n) m, a) refl
+  disordered : 1 ≤ n → n ≤ maxTags → used r < 2 ^ n → ascends (tagsFrom r 0 n) ≡ false → tagsFormed r ≡ false
+  disordered h k m a = rw (← e, le-leb 1 n h, le-leb n maxTags k, lt-ltb (used r) (2 ^ n) m, a) refl
 
-  rest : 1 ≤ n → n ≤ 16 → used r < 2 ^ n → ascends (tagsFrom r 0 n) ≡ true → allZero (take (167 - (39 + 8 * n)) (drop (39 + 8 * n) r)) ≡ tagsFormed r
+  rest : 1 ≤ n → n ≤ maxTags → used r < 2 ^ n → ascends (tagsFrom r 0 n) ≡ true → allZero (take (modelCountAt - (tagsAt + 8 * n)) (drop (tagsAt + 8 * n) r)) ≡ tagsFormed r
   rest h k m a =
-      let w : 167 - (39 + 8 * n) ≡ 8 * (16 - n) = omega arith in
-      rw (← e, le-leb 1 n h, le-leb n 16 k, lt-ltb (used r) (2 ^ n) m, a, w) refl
+      let w : modelCountAt - (tagsAt + 8 * n) ≡ 8 * (maxTags - n) = omega arith in
+      rw (← e, le-leb 1 n h, le-leb n maxTags k, lt-ltb (used r) (2 ^ n) m, a, w) refl
 
 tag-count-requires : tie.Need-tag-count-requires
 tag-count-requires c κs = search needs

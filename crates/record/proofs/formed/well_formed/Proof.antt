@@ -6,6 +6,7 @@ use native.Mathlib.Omega.{arith}
 use lib.ListN.{length, getD, take, drop}
 use lib.Dec.{ltb, leb, eqb}
 use borrow.Author.Tests.{lt-ltb, le-ltb, le-leb, lt-leb, eq-eqb, ne-eqb, not-true, not-false}
+use Rattle.record.specs.Layout.{recordSize}
 use Rattle.record.specs.Formed.{heightFormed, messageFormed, tagsFormed, modelsFormed, wellFormed}
 use borrow.Author.Needs.{needs}
 use Rattle.record.proofs.formed.well_formed.Statement.{statement}
@@ -16,25 +17,25 @@ and-false true = refl
 and-false false = refl
 
 module _ (r : List ℕ) where
-  short : (length r ≡ 222 → ⊥) → wellFormed r ≡ false
+  short : (length r ≡ recordSize → ⊥) → wellFormed r ≡ false
   unfolding wellFormed
-  short f = rw (ne-eqb (length r) 222 f) refl
+  short f = rw (ne-eqb (length r) recordSize f) refl
 
   flagged : heightFormed r ≡ false → wellFormed r ≡ false
   unfolding wellFormed
-  flagged h = rw h (and-false (eqb (length r) 222))
+  flagged h = rw h (and-false (eqb (length r) recordSize))
 
   unsaid : messageFormed r ≡ false → wellFormed r ≡ false
   unfolding wellFormed
-  unsaid h = rw (h, and-false (heightFormed r)) (and-false (eqb (length r) 222))
+  unsaid h = rw (h, and-false (heightFormed r)) (and-false (eqb (length r) recordSize))
 
   untagged : tagsFormed r ≡ false → wellFormed r ≡ false
   unfolding wellFormed
-  untagged h = rw (h, and-false (messageFormed r), and-false (heightFormed r)) (and-false (eqb (length r) 222))
+  untagged h = rw (h, and-false (messageFormed r), and-false (heightFormed r)) (and-false (eqb (length r) recordSize))
 
-  last : length r ≡ 222 → heightFormed r ≡ true → messageFormed r ≡ true → tagsFormed r ≡ true → wellFormed r ≡ modelsFormed r
+  last : length r ≡ recordSize → heightFormed r ≡ true → messageFormed r ≡ true → tagsFormed r ≡ true → wellFormed r ≡ modelsFormed r
   unfolding wellFormed
-  last e h m t = rw (eq-eqb (length r) 222 e, h, m, t) refl
+  last e h m t = rw (eq-eqb (length r) recordSize e, h, m, t) refl
 
 returns : tie.Need-returns
 returns c = sym (short (c .before .before .args .r .now) (c .if1 .taken))

@@ -10,16 +10,17 @@ use lib.Dec.{ltb, leb, eqb}
 use borrow.Author.Tests.{lt-ltb, le-ltb, le-leb, lt-leb, eq-eqb, ne-eqb, not-true, not-false}
 use Rattle.octets.specs.Order.{same}
 use Rattle.octets.proofs.Comparison.{not-same}
+use Rattle.record.specs.Layout.{messageAt}
 use Rattle.record.specs.Fields.{message, messageLength}
 use Rattle.record.proofs.Parts.{formed, message-has, message-fits}
 use borrow.Author.Needs.{needs}
 use Rattle.record.proofs.relations.same_message.Statement.{statement}
 use Rattle.record.proofs.relations.same_message.Tie as tie
 
-parts : (a b : List ℕ) (n : ℕ) → n ≡ messageLength a → n ≡ messageLength b → same (take (22 + n - 22) (drop 22 a)) (take (22 + n - 22) (drop 22 b)) ≡ same (message a) (message b)
+parts : (a b : List ℕ) (n : ℕ) → n ≡ messageLength a → n ≡ messageLength b → same (take (messageAt + n - messageAt) (drop messageAt a)) (take (messageAt + n - messageAt) (drop messageAt b)) ≡ same (message a) (message b)
 parts a b n p q =
-    let e : 22 + n - 22 ≡ n = omega arith in
-    rw e (ap₂ (λ (x y : ℕ). same (take x (drop 22 a)) (take y (drop 22 b))) p q)
+    let e : messageAt + n - messageAt ≡ n = omega arith in
+    rw e (ap₂ (λ (x y : ℕ). same (take x (drop messageAt a)) (take y (drop messageAt b))) p q)
 
 message-length-requires : tie.Need-message-length-requires
 message-length-requires c κs = formed _ (c .before .before .pre .0) .size
