@@ -1,4 +1,5 @@
 -- `lower` meets its contract.
+use Rattle.items.specs.Layout.{hashSize, identityAt, itemSize}
 use Rattle.items.proofs.Pairing.{width}
 use Prim.Native.Nat.{_+_, _*_}
 use borrow.Author.Needs.{needs}
@@ -45,7 +46,7 @@ precedes-requires : tie.Need-precedes-requires
 precedes-requires c κs = search needs
 
 returns : tie.Need-returns
-returns c = let a = c .before .before .before .before .args in rw (c .precedes .ensures, width 32 (a .i * 297 + 254), width 32 (a .j * 297 + 254))
+returns c = let a = c .before .before .before .before .args in rw (c .precedes .ensures, width hashSize (a .i * itemSize + identityAt), width hashSize (a .j * itemSize + identityAt))
 
 pub lower-spec : {M : Type 1} → statement M
 lower-spec =

@@ -1,4 +1,5 @@
 -- `same_identity` meets its contract.
+use Rattle.items.specs.Layout.{hashSize, identityAt, itemSize}
 use Rattle.items.proofs.Pairing.{width}
 use Prim.Native.Nat.{_+_, _*_}
 use borrow.Author.Needs.{needs}
@@ -45,7 +46,7 @@ equal-requires : tie.Need-equal-requires
 equal-requires c κs = search needs
 
 returns : tie.Need-returns
-returns c = let a = c .before .before .before .before .args in rw (c .equal .ensures, width 32 (a .i * 297 + 254), width 32 (a .j * 297 + 254))
+returns c = let a = c .before .before .before .before .args in rw (c .equal .ensures, width hashSize (a .i * itemSize + identityAt), width hashSize (a .j * itemSize + identityAt))
 
 pub same-identity-spec : {M : Type 1} → statement M
 same-identity-spec =

@@ -1,4 +1,5 @@
 -- `same_inputs` meets its contract.
+use Rattle.items.specs.Layout.{hashSize, inputsAt, itemSize}
 use Rattle.items.proofs.Pairing.{width}
 use Prim.Native.Nat.{_+_, _*_}
 use borrow.Author.Needs.{needs}
@@ -45,7 +46,7 @@ equal-requires : tie.Need-equal-requires
 equal-requires c κs = search needs
 
 returns : tie.Need-returns
-returns c = let a = c .before .before .before .before .args in rw (c .equal .ensures, width 32 (a .i * 297 + 222), width 32 (a .j * 297 + 222))
+returns c = let a = c .before .before .before .before .args in rw (c .equal .ensures, width hashSize (a .i * itemSize + inputsAt), width hashSize (a .j * itemSize + inputsAt))
 
 pub same-inputs-spec : {M : Type 1} → statement M
 same-inputs-spec =

@@ -1,4 +1,6 @@
 -- `subset` meets its contract.
+use Rattle.record.specs.Layout.{recordSize}
+use Rattle.items.specs.Layout.{itemSize}
 use Rattle.items.proofs.Pairing.{width}
 use Prim.Native.Nat.{_*_}
 use Rattle.items.specs.Items.{subsetAt}
@@ -37,11 +39,11 @@ part-subset-end-2 : tie.Need-part-subset-end-2
 part-subset-end-2 c = search needs
 
 subset-requires : tie.Need-subset-requires
-subset-requires c κs = let a = c .before .before .before in (rw (width 222 (a .args .i * 297)) (a .pre .1 .0), rw (width 222 (a .args .j * 297)) (a .pre .1 .1))
+subset-requires c κs = let a = c .before .before .before in (rw (width recordSize (a .args .i * itemSize)) (a .pre .1 .0), rw (width recordSize (a .args .j * itemSize)) (a .pre .1 .1))
 
 returns : tie.Need-returns
 unfolding subsetAt
-returns c = let a = c .before .before .before .before .args in rw (c .subset .ensures, width 222 (a .i * 297), width 222 (a .j * 297))
+returns c = let a = c .before .before .before .before .args in rw (c .subset .ensures, width recordSize (a .i * itemSize), width recordSize (a .j * itemSize))
 
 pub subset-spec : {M : Type 1} → statement M
 subset-spec =

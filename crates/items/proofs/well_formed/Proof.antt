@@ -1,4 +1,6 @@
 -- `well_formed` meets its contract.
+use Rattle.record.specs.Layout.{recordSize}
+use Rattle.items.specs.Layout.{itemSize}
 use Rattle.items.proofs.Pairing.{width}
 use Prim.Native.Nat.{_*_}
 use borrow.Author.Needs.{needs}
@@ -24,7 +26,7 @@ well-formed-requires : tie.Need-well-formed-requires
 well-formed-requires c κs = search needs
 
 returns : tie.Need-returns
-returns c = rw (c .well-formed .ensures, width 222 (c .before .before .before .args .i * 297))
+returns c = rw (c .well-formed .ensures, width recordSize (c .before .before .before .args .i * itemSize))
 
 pub well-formed-spec : {M : Type 1} → statement M
 well-formed-spec =

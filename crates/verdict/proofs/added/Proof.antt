@@ -22,7 +22,7 @@ tag-count-requires : tie.Need-tag-count-requires Inv-loop μ-loop
 tag-count-requires c κs = search needs
 
 loop-holds : tie.Need-loop-holds Inv-loop μ-loop
-loop-holds c = (omega arith, c .tag-count .ensures, refl, collected-none _ _ 16 _)
+loop-holds c = (omega arith, c .tag-count .ensures, refl, collected-none _ _ maxTags _)
 
 cast-tag : tie.Need-cast-tag Inv-loop μ-loop
 cast-tag c = search needs

@@ -21,7 +21,7 @@ abbrev μ-loop : tie.MeasureT-loop
 μ-loop s codes n rf list₀ count₀ i₀ list count i = n - i
 
 loop-holds : tie.Need-loop-holds Inv-loop μ-loop
-loop-holds c = (omega arith, refl, collected-none _ _ 96 _)
+loop-holds c = (omega arith, refl, collected-none _ _ maxItems _)
 
 dominated-at-requires : tie.Need-dominated-at-requires Inv-loop μ-loop
 dominated-at-requires c κs = search needs

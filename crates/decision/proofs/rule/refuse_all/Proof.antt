@@ -21,7 +21,7 @@ abbrev μ-loop : tie.MeasureT-loop
 μ-loop s chis n by ct rf list₀ count₀ i₀ list count i = n - i
 
 loop-holds : tie.Need-loop-holds Inv-loop μ-loop
-loop-holds c = (omega arith, refl, collected-none _ _ 96 _)
+loop-holds c = (omega arith, refl, collected-none _ _ maxItems _)
 
 cast-if1 : tie.Need-cast-if1 Inv-loop μ-loop
 cast-if1 c = search needs

@@ -1,4 +1,6 @@
 -- `claim_at` meets its contract.
+use Rattle.record.specs.Layout.{recordSize}
+use Rattle.items.specs.Layout.{itemSize}
 use Rattle.items.proofs.Pairing.{width}
 use Prim.Native.Nat.{_*_}
 use borrow.Author.Needs.{needs}
@@ -24,7 +26,7 @@ claimed-requires : tie.Need-claimed-requires
 claimed-requires c κs = search needs
 
 returns : tie.Need-returns
-returns c = rw (c .claimed .ensures, width 222 (c .before .before .before .args .i * 297))
+returns c = rw (c .claimed .ensures, width recordSize (c .before .before .before .args .i * itemSize))
 
 pub claim-at-spec : {M : Type 1} → statement M
 claim-at-spec =
