@@ -1,33 +1,31 @@
 -- Every transmission of a well-formed register's board is decided, never refused with 8: one of its fixes is ranked first, and each of its fixes has
 -- exactly one line. Every fix is of one of them.
-use Prim.Native.Nat.{ℕ, zero, suc, _+_, _*_, _/_, _≤_, _<_}
-use mathlib.Core.Path.{_≡_, refl, sym, ap, ap₂, _∙_}
-use mathlib.Core.Bool.{Bool, true, false, cond}
-use mathlib.Core.List.{List, [], _∷_, map, List·Permᴰ, List·Permᴰ·nil, List·Permᴰ·cons, List·Permᴰ·swap, List·Permᴰ·trans}
+use Prim.Native.Nat.{ℕ, _*_, _/_, _≤_, _<_}
+use mathlib.Core.Path.{_≡_, refl, _∙_}
+use mathlib.Core.Bool.{true, false, cond}
+use mathlib.Core.List.{List, [], _∷_, map}
 use native.Mathlib.Omega.{arith}
-use native.Mathlib.Nat.{eq-or-lt-of-le}
-use lib.Dec.{eqb}
 use lib.ListN.{length, getD}
-use borrow.Author.Tests.{eq-eqb, ne-eqb}
+use borrow.Author.Tests.{eq-eqb}
 use Rattle.places.specs.Places.{allPlaces, tableOf}
-use Rattle.ranges.proofs.Bools.{by, or}
-use Rattle.ranges.specs.Range.{collect}
-use Rattle.ranges.specs.Tables.{itself}
+use Rattle.ranges.proofs.Range.{collect-filt, collect-in}
 use Rattle.items.specs.Layout.{itemSize}
 use Rattle.fixes.specs.Layout.{maxFixes, fixSize}
 use Rattle.decision.specs.Related.{rel}
 use Rattle.decision.specs.Answer.{bad, indices, decision}
 use Rattle.decision.proofs.Decided.{Lawful, lawful}
+use Rattle.decision.proofs.Counted.{listing, listed-all, answered, first-ranked}
 use Rattle.links.specs.Links.{linkAt}
 use Rattle.links.specs.Walk.{label, times}
+use Rattle.links.proofs.Counted.{times-perm, times-filt}
 use Rattle.links.proofs.Transmissions.{label-below, label-label}
 use Rattle.representatives.specs.Gathered.{placeFormed, Gathered}
 use Rattle.representatives.specs.Representatives.{representatives}
 use Rattle.representatives.proofs.Soundness.{record-formed, representatives-gathered}
 use Rattle.representatives.proofs.Distinct.{identities-differ}
 use Rattle.transmissions.specs.Transmission.{belongs, membersOf, nth, itemsOf, outcomeOf, leaderOf}
-use Rattle.transmissions.proofs.Items.{collect-in, items-length, members-good}
-use Rattle.transmissions.proofs.Lined.{listing, listed-all, lined-once, answered, first-ranked, nth-is}
+use Rattle.transmissions.proofs.Items.{members-length, members-good}
+use Rattle.transmissions.proofs.Lined.{lined-once, nth-is}
 use Rattle.drawing.specs.Drawing.{linesIn}
 use Rattle.register.specs.Memory.{wellFormed, decode}
 use Rattle.board.specs.Board.{labelsOf}
@@ -65,38 +63,12 @@ pub record AllDecided (fs : List (List ℕ)) : Type 0 where
       → let l = labelsOf (tableOf fixSize maxFixes fs) (length fs) in
       belongs l s s ≡ true → Decided (tableOf fixSize maxFixes fs) l (length fs) s
 
--- ---- how often a fix is listed
-
-times-perm : (x : ℕ) {l m : List ℕ} → List·Permᴰ l m → times x l ≡ times x m
-unfolding times
-times-perm x List·Permᴰ·nil = refl
-times-perm x (List·Permᴰ·cons e p) = ap₂ (λ (a k : ℕ). cond (eqb x a) 1 0 + k) e (times-perm x p)
-times-perm x (List·Permᴰ·swap d e) = rw (d, e) (omega arith)
-times-perm x (List·Permᴰ·trans p q) = times-perm x p ∙ times-perm x q
-
-times-before : (x : ℕ) (g : ℕ → Bool) (k f : ℕ) → x < k → times x (collect g itself k f) ≡ 0
-unfolding collect times
-times-before x g k zero h = refl
-times-before x g k (suc f) h =
-    let r = times-before x g (suc k) f (omega arith) in
-    by (g k) (λ p. rw (p, ne-eqb x k (λ q. omega arith)) (omega arith)) (λ p. rw p r)
-
-times-collect : (x : ℕ) (g : ℕ → Bool) (k f : ℕ) → k ≤ x → x < k + f → times x (collect g itself k f) ≡ cond (g x) 1 0
-unfolding collect times
-times-collect x g k zero u v = absurd (omega arith)
-times-collect x g k (suc f) u v =
-    or (eq-or-lt-of-le u)
-    (λ q. let r = times-before x g (suc k) f (omega arith) in
-    rw (ap g (sym q)) (by (g k) (λ p. rw (p, eq-eqb x k (sym q)) (omega arith)) (λ p. rw p r)))
-    (λ q. let r = times-collect x g (suc k) f q (omega arith) in
-    by (g k) (λ p. rw (p, ne-eqb x k (λ z. omega arith)) (omega arith)) (λ p. rw p r))
-
-times-some : (x : ℕ) (l : List ℕ) → times x l ≡ 1 → 0 < length l
-unfolding times
-times-some x [] e = absurd (omega arith)
-times-some x (y ∷ l) e = omega arith
-
 -- ---- a transmission of a table
+
+some-listed : (x : ℕ) (l : List ℕ) → times x l ≡ 1 → 0 < length l
+unfolding times
+some-listed x [] e = absurd (omega arith)
+some-listed x (y ∷ l) e = omega arith
 
 module _ (t l : List ℕ) (n s : ℕ) (g : Gathered n t) where
   abbrev ms : List ℕ
@@ -106,14 +78,18 @@ module _ (t l : List ℕ) (n s : ℕ) (g : Gathered n t) where
   good = members-good t l n s (g .size) (g .few) (record-formed n t g) (identities-differ n t g)
 
   items-are : length (itemsOf t ms) ≡ length ms * itemSize
-  items-are = let f = g .few in items-length t (g .size) ms (λ i p. let r = collect-in (belongs l s) 0 n i p in omega arith)
+  items-are = members-length t l n s (g .size) (g .few)
 
   count : length (itemsOf t ms) / itemSize ≡ length ms
   count = let e = items-are in omega arith
 
+  -- a fix is listed once where it is of the transmission
+  members-once : (j : ℕ) → j < n → times j ms ≡ cond (belongs l s j) 1 0
+  members-once j h = rw (collect-filt (belongs l s) 0 n) (times-filt j (belongs l s) 0 n (omega arith) (omega arith))
+
   once : (j : ℕ) → j < n → times j (linedFixes t l n s) ≡ cond (belongs l s j) 1 0
   unfolding outcomeOf
-  once j h = times-perm j (lined-once t ms items-are good) ∙ times-collect j (belongs l s) 0 n (omega arith) (omega arith)
+  once j h = times-perm j (lined-once t ms items-are good) ∙ members-once j h
 
   leading : nth (outcomeOf t l n s .ranked) 0 < length ms → (leaderOf t l n s < n) × (belongs l s (leaderOf t l n s) ≡ true)
   unfolding leaderOf
@@ -123,7 +99,7 @@ module _ (t l : List ℕ) (n s : ℕ) (g : Gathered n t) where
       rw (nth-is ms i h) (omega arith, r .2)
 
   some-member : s < n → belongs l s s ≡ true → 0 < length ms
-  some-member h b = times-some s ms (times-collect s (belongs l s) 0 n (omega arith) (omega arith) ∙ rw b refl)
+  some-member h b = some-listed s ms (members-once s h ∙ rw b refl)
 
   pub transmission-decided : s < n → belongs l s s ≡ true → Decided t l n s
   unfolding outcomeOf

@@ -1,14 +1,14 @@
 -- The laws of `decide`'s answer, where it is 0 (document 01, 'Decide').
 use mathlib.Core.Path.{_≡_, refl, ap}
-use mathlib.Core.Bool.{Bool, true, false, not, cond, _||_}
+use mathlib.Core.Bool.{Bool, true, false, not, _||_}
 use mathlib.Core.List.{List, [], _∷_, map}
 use Prim.Native.Nat.{ℕ, zero, suc, _*_, _/_, _%_, _≤_, _<_}
 use native.Mathlib.Omega.{arith}
 use lib.Dec.{ltb, eqb}
 use lib.ListN.{length}
-use borrow.Author.Tests.{ltb-false}
-use Rattle.ranges.proofs.Bools.{by}
+use Rattle.ranges.proofs.Bools.{by, neither-r}
 use Rattle.ranges.specs.Range.{any, filt, collect}
+use Rattle.ranges.proofs.Range.{collect-filt}
 use Rattle.ranges.specs.Tables.{itself}
 use Rattle.arithmetic.specs.Agree.{agreesOf}
 use Rattle.items.specs.Layout.{maxItems, itemSize}
@@ -17,18 +17,14 @@ use Rattle.decision.specs.declared.Refusal.{Refusal}
 use Rattle.decision.specs.Decide.{Rel, superseded, superBy, contested, against, refused, dominated, refusal, ranked, dominatedList, refusedList}
 use Rattle.decision.specs.Related.{rel}
 use Rattle.decision.specs.Answer.{bad, badAt, decided, decision}
-use Rattle.decision.proofs.Passed.{or-left, or-right}
+use Rattle.decision.proofs.Passed.{few-items}
 use Rattle.decision.proofs.Laws.{Lists, lists, ranked-some, Ascends, ranked-ascends, super-is}
 use Rattle.decision.proofs.Sound.{rel-sound, rel-ordered, refused-against, is-subset}
 
 -- what the answer lists as dominated, and as refused, are the lists that the laws speak of
 pub dominated-are : (x : Rel) → collect (dominated x) itself 0 (x .n) ≡ dominatedList x
-unfolding dominatedList collect filt
-dominated-are x = go (dominated x) 0 (x .n)
-  where
-    go : (g : ℕ → Bool) (k f : ℕ) → collect g itself k f ≡ filt g k f
-    go g k zero = refl
-    go g k (suc f) = ap (λ (l : List ℕ). cond (g k) (k ∷ l) l) (go g (suc k) f)
+unfolding dominatedList
+dominated-are x = collect-filt (dominated x) 0 (x .n)
 
 pub refused-are : (x : Rel) → map (λ (r : Refusal). r .refused) (collect (refused x) (refusal x) 0 (x .n)) ≡ refusedList x
 unfolding refusedList refusal collect filt
@@ -74,5 +70,4 @@ lawful s e =
     let a = ltb (maxItems * itemSize) (length s) in
     let b = not (eqb (length s % itemSize) 0) in
     let r = any (badAt s) 0 (length s / itemSize) in
-    let l = ltb-false (maxItems * itemSize) (length s) (or-left a (b || r) e) in
-    (rw e refl, lawful-of s (length s / itemSize) (omega arith) (or-right b r (or-right a (b || r) e)))
+    (rw e refl, lawful-of s (length s / itemSize) (few-items s e) (neither-r b r (neither-r a (b || r) e)))

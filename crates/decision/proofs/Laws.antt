@@ -3,15 +3,17 @@
 use mathlib.Core.Path.{_≡_, refl, sym, ap, _∙_}
 use mathlib.Core.Bool.{Bool, true, false, not, cond, _&&_}
 use mathlib.Core.Logic.{_⊎_, inl, inr, _↔_}
-use mathlib.Core.List.{List, [], _∷_, List·Memᴰ, List·Memᴰ·head, List·Memᴰ·tail, List·Memᴰ·not-nil, List·Memᴰ·cases-cons}
+use mathlib.Core.List.{List, [], _∷_, List·Memᴰ, List·Memᴰ·head, List·Memᴰ·tail, List·Memᴰ·not-nil, List·Memᴰ·cases-cons, List·Permᴰ, List·Permᴰ·nil, List·Permᴰ·cons, List·Permᴰ·trans}
 use Prim.Native.Nat.{ℕ, zero, suc, _+_, _-_, _≤_, _<_}
 use native.Mathlib.Omega.{arith}
 use native.Mathlib.Nat.{le-trans, le-of-lt, eq-or-lt-of-le}
 use lib.Dec.{leb, eqb}
+use lib.ListN.{length}
 use borrow.Author.Tests.{leb-true, leb-false, eqb-false, eqb-true, ne-eqb, eq-eqb}
 use Rattle.ranges.proofs.Bools.{clash, no-true, and-true, and-l, and-r, not-t, not-f, by, or}
-use Rattle.ranges.specs.Range.{any, least}
-use Rattle.ranges.proofs.Range.{any-of, any-at, least-in, least-some, best-of, filt-mem, filt-at}
+use Rattle.ranges.specs.Range.{any, least, filt}
+use Rattle.ranges.proofs.Range.{any-of, any-at, any-no, least-in, least-some, best-of, filt-mem, filt-at, filt-none, filt-few}
+use Rattle.ranges.proofs.Orders.{perm-length, perm-mem, without, filt-one}
 use Rattle.ranges.proofs.Least.{Strict, First, nothing, found, least-is}
 use Rattle.decision.specs.Decide.{Rel, none, resists, supersedes, beats, superseded, superBy, blames, contested, against, refused, covers, dominated, stands, order, ranked, dominatedList, refusedList}
 
@@ -147,51 +149,35 @@ module _ (x : Rel) where
       (λ q. or (least-in (x .ahead) none g none 0 (x .n)) (λ z. absurd (eqb-false b none p z)) (λ t. (omega arith, ap g q ∙ t .2)))
       (λ r. let z = order-at w f (λ i. g i && not (eqb i b)) i r in (z .0, and-l (g i) (not (eqb i b)) (z .1))))
 
-  -- ---- all of g are listed where f is enough
-  unfoldable pub count : (ℕ → Bool) → ℕ → ℕ → ℕ
-  count g k zero = 0
-  count g k (suc f) = cond (g k) 1 0 + count g (suc k) f
-
-  count-le : (g h : ℕ → Bool) (k f : ℕ) → ((i : ℕ) → k ≤ i → i < k + f → h i ≡ true → g i ≡ true) → count h k f ≤ count g k f
-  unfolding count
-  count-le g h k zero e = omega arith
-  count-le g h k (suc f) e =
-      let r = count-le g h (suc k) f (λ i a b. e i (omega arith) (omega arith)) in
-      by (h k) (λ p. rw (p, e k (omega arith) (omega arith) p) (omega arith)) (λ p. rw p (omega arith))
-
-  -- one fewer without b
-  pub count-less : (g h : ℕ → Bool) (b k f : ℕ) → ((i : ℕ) → k ≤ i → i < k + f → h i ≡ true → g i ≡ true) → k ≤ b → b < k + f → g b ≡ true → h b ≡ false → count h k f < count g k f
-  unfolding count
-  count-less g h b k zero e u v p q = absurd (omega arith)
-  count-less g h b k (suc f) e u v p q =
-      or (eq-or-lt-of-le u)
-      (λ z. let r = count-le g h (suc k) f (λ i a b. e i (omega arith) (omega arith)) in rw (ap g z ∙ p, ap h z ∙ q) (omega arith))
-      (λ l. let r = count-less g h b (suc k) f (λ i a b. e i (omega arith) (omega arith)) l (omega arith) p q in
-      by (h k) (λ s. rw (s, e k (omega arith) (omega arith) s) (omega arith)) (λ s. rw s (omega arith)))
-
-  count-all : (g : ℕ → Bool) (k f : ℕ) → count g k f ≤ f
-  unfolding count
-  count-all g k zero = omega arith
-  count-all g k (suc f) = let r = count-all g (suc k) f in by (g k) (λ p. rw p (omega arith)) (λ p. rw p (omega arith))
-
-  count-pos : (g : ℕ → Bool) (i k f : ℕ) → k ≤ i → i < k + f → g i ≡ true → 0 < count g k f
-  unfolding count
-  count-pos g i k zero u v e = absurd (omega arith)
-  count-pos g i k (suc f) u v e = or (eq-or-lt-of-le u) (λ z. rw (ap g z ∙ e) (omega arith)) (λ l. let r = count-pos g i (suc k) f l (omega arith) e in omega arith)
-
-  pub order-mem : Sound x → (f : ℕ) (g : ℕ → Bool) (i : ℕ) → count g 0 (x .n) ≤ f → i < x .n → g i ≡ true → List·Memᴰ i (order x f g)
+  -- ---- all of g are listed, in another order, where f is enough
+  order-none : (f : ℕ) (g : ℕ → Bool) → any g 0 (x .n) ≡ false → List·Permᴰ (order x (suc f) g) (filt g 0 (x .n))
   unfolding order
-  order-mem w zero g i c h e = absurd (let r = count-pos g i 0 (x .n) (omega arith) (omega arith) e in omega arith)
-  order-mem w (suc f) g i c h e =
+  order-none f g e =
+      let n = filt-none g 0 (x .n) (λ i u v. any-no g 0 (x .n) i e u v) in
+      or (least-in (x .ahead) none g none 0 (x .n))
+      (λ q. rw (eq-eqb (least (x .ahead) none g none 0 (x .n)) none q, n) List·Permᴰ·nil)
+      (λ r. clash (r .2) (any-no g 0 (x .n) (least (x .ahead) none g none 0 (x .n)) e (r .0) (r .1)))
+
+  pub order-perm : Sound x → (f : ℕ) (g : ℕ → Bool) → length (filt g 0 (x .n)) ≤ f → List·Permᴰ (order x f g) (filt g 0 (x .n))
+  unfolding order
+  order-perm w zero g h = none-left (filt g 0 (x .n)) h
+    where
+      none-left : (l : List ℕ) → length l ≤ 0 → List·Permᴰ [] l
+      none-left [] h = List·Permᴰ·nil
+      none-left (a ∷ l) h = absurd (omega arith)
+  order-perm w (suc f) g h =
       let b = least (x .ahead) none g none 0 (x .n) in
-      let o = first-of w g (any-of g 0 (x .n) i (omega arith) (omega arith) e) in
-      let g′ : ℕ → Bool = λ i. g i && not (eqb i b) in
-      rw (o .2)
-      (by (eqb i b)
-      (λ p. List·Memᴰ·head (eqb-true i b p))
-      (λ p. List·Memᴰ·tail (order-mem w f g′ i
-      (let r = count-less g g′ b 0 (x .n) (λ i u v z. and-l (g i) (not (eqb i b)) z) (omega arith) (omega arith) (o .1) (rw (o .1, eq-eqb b b refl) refl) in omega arith)
-      h (and-true _ _ e (not-f _ p)))))
+      by (any g 0 (x .n))
+      (λ e.
+      let o = first-of w g e in
+      let p = filt-one g b 0 (x .n) (omega arith) (omega arith) (o .1) in
+      let l = perm-length p in
+      rw (o .2) (List·Permᴰ·trans (List·Permᴰ·cons refl (order-perm w f (without g b) (omega arith))) p))
+      (λ e. order-none f g e)
+
+  pub ranked-perm : Sound x → List·Permᴰ (ranked x) (filt (stands x) 0 (x .n))
+  unfolding ranked
+  ranked-perm w = order-perm w (x .n) (stands x) (filt-few (stands x) 0 (x .n))
 
   -- THE THREE LISTS: an index is in exactly one
   pub record Lists (i : ℕ) : Type 0 where
@@ -203,7 +189,7 @@ module _ (x : Rel) where
   pub lists : Sound x → (i : ℕ) → Lists i
   unfolding ranked dominatedList refusedList
   lists w i = record {
-    in-ranked = (order-at w (x .n) (stands x) i, λ p. order-mem w (x .n) (stands x) i (count-all (stands x) 0 (x .n)) (p .0) (p .1));
+    in-ranked = (order-at w (x .n) (stands x) i, λ p. perm-mem (ranked-perm w) (filt-mem (stands x) 0 (x .n) i (omega arith) (omega arith) (p .1)));
     in-dominated = (λ m. let r = filt-at (dominated x) 0 (x .n) i m in (omega arith, r .2), λ p. filt-mem (dominated x) 0 (x .n) i (omega arith) (omega arith) (p .1));
     in-refused = (λ m. let r = filt-at (refused x) 0 (x .n) i m in (omega arith, r .2), λ p. filt-mem (refused x) 0 (x .n) i (omega arith) (omega arith) (p .1));
     just-one = one i;

@@ -10,9 +10,9 @@ use lib.Dec.{eqb}
 use lib.ListN.{length, getD, set, take, replicate, length-set}
 use lib.Seq.{getD-set-same, getD-set-other, take-suc-set, length-take-le, append-snoc}
 use borrow.Author.Tests.{eqb-false, eqb-true, ne-eqb}
-use Rattle.ranges.proofs.Bools.{by, or}
+use Rattle.ranges.proofs.Bools.{by}
 use Rattle.ranges.specs.Range.{least, Filled}
-use Rattle.ranges.proofs.Range.{least-in, least-ext, filled-none, filled-more}
+use Rattle.ranges.proofs.Range.{least-below, least-ext, filled-none, filled-more}
 use Rattle.decision.specs.Decide.{Rel, none, stands, order, ranked}
 use Rattle.ranges.specs.Tables.{Cached, marked}
 use Rattle.ranges.proofs.Tables.{cached-at}
@@ -51,14 +51,11 @@ ranking-none x left h c = record {
   rest = rw sub-zero (order-ext x (x .n) (stands x) (marked left) (λ i l. sym (cached-at false left (stands x) (x .n) i c l)));
 }
 
-pub found : (x : Rel) (g : ℕ → Bool) (b : ℕ) → b ≡ least (x .ahead) none g none 0 (x .n) → (b ≡ 255 → ⊥) → b < x .n
-found x g b e f = or (least-in (x .ahead) none g none 0 (x .n)) (λ q. absurd (f (e ∙ q))) (λ t. let z = t .1 in rw e (omega arith))
-
 pub ranking-more : (x : Rel) (list : List ℕ) (k : ℕ) (left : List Bool) (b : ℕ) → x .n ≤ maxItems → k < x .n → b ≡ least (x .ahead) none (marked left) none 0 (x .n) → (b ≡ 255 → ⊥)
     → Ranking x list k left → Ranking x (set list k b) (k + 1) (set left b false)
 unfolding order
 ranking-more x list k left b n h e f r =
-    let l = found x (marked left) b e f in
+    let l = least-below (x .ahead) none (marked left) (x .n) b e f in
     let lg = r .long in
     let wd = r .wide in
     let t : take (k + 1) (set list k b) ≡ take k list ++ (b ∷ []) = rw add-one (take-suc-set list k b (omega arith)) in

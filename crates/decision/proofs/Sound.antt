@@ -14,7 +14,7 @@ use Rattle.octets.proofs.Comparison.{before-trans, before-irrefl, tri, same-ref
 use Rattle.record.specs.Fields.{tagCount}
 use Rattle.record.specs.Formed.{wellFormed}
 use Rattle.record.proofs.Laws.{subset-fewer}
-use Rattle.ranges.proofs.Bools.{by, or, and-l, and-r, not-t}
+use Rattle.ranges.proofs.Bools.{by, or, and-l, and-r, not-t, neither-r}
 use Rattle.ranges.specs.Range.{any}
 use Rattle.ranges.proofs.Range.{any-no}
 use Rattle.arithmetic.specs.Agree.{agreesOf}
@@ -25,7 +25,6 @@ use Rattle.decision.specs.Related.{rel}
 use Rattle.decision.specs.Answer.{badAt}
 use Rattle.decision.proofs.Laws.{Sound, against-is}
 use Rattle.decision.proofs.Renamed.{Ordered}
-use Rattle.decision.proofs.Passed.{or-right}
 
 fewer : (s : List ℕ) (i j : ℕ) → subsetAt s i j ≡ true → tagCount (recordOf s i) < tagCount (recordOf s j)
 unfolding subsetAt
@@ -144,7 +143,7 @@ module _ (s : List ℕ) where
   apart : (n i j : ℕ) → any (badAt s) 0 n ≡ false → i < n → j < i → identityOf s i ≡ identityOf s j → ⊥
   unfolding badAt
   apart n i j e h l q =
-      let b = or-right (not (wellFormed (recordOf s i))) (any (sameIdentity s i) 0 i) (any-no (badAt s) 0 n i e (omega arith) (omega arith)) in
+      let b = neither-r (not (wellFormed (recordOf s i))) (any (sameIdentity s i) 0 i) (any-no (badAt s) 0 n i e (omega arith) (omega arith)) in
       let c = any-no (sameIdentity s i) 0 i j b (omega arith) (omega arith) in
       true≢false (sym (same-refl (identityOf s i)) ∙ ap (same (identityOf s i)) q ∙ c)
 

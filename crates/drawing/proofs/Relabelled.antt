@@ -1,13 +1,12 @@
 -- A board depends on the labels of its fixes alone: arrays of labels that agree on them draw the same.
-use mathlib.Core.Path.{_≡_, refl, sym, ap, ap₂, _∙_}
-use mathlib.Core.Bool.{Bool, true, false, cond}
+use mathlib.Core.Path.{_≡_, refl, ap, ap₂, _∙_}
+use mathlib.Core.Bool.{Bool, false, cond}
 use mathlib.Core.List.{List, [], _∷_, _++_}
-use Prim.Native.Nat.{ℕ, zero, suc, _+_, _-_, _≤_, _<_}
+use Prim.Native.Nat.{ℕ, _+_, _-_, _<_}
 use native.Mathlib.Omega.{arith}
 use lib.Dec.{eqb}
 use lib.ListN.{length, getD, replicate}
-use Rattle.octets.proofs.Cases.{by}
-use Rattle.ranges.specs.Range.{collect}
+use Rattle.ranges.proofs.Range.{collect-ext}
 use Rattle.ranges.specs.Tables.{itself}
 use Rattle.fixes.specs.Layout.{maxFixes}
 use Rattle.decision.specs.Answer.{indices, decided}
@@ -16,17 +15,9 @@ use Rattle.transmissions.specs.Transmission.{belongs, membersOf, itemsOf, nth, 
 use Rattle.transmissions.specs.Latest.{maxShown, latest}
 use Rattle.drawing.specs.Drawing.{decidedText, transmissionText, drawnFrom, shownOf, drawn}
 
-module _ {A : Type 0} where
-  collect-ext : (g h : ℕ → Bool) (u v : ℕ → A) (k f : ℕ) → ((i : ℕ) → k ≤ i → i < k + f → g i ≡ h i) → ((i : ℕ) → k ≤ i → i < k + f → u i ≡ v i) → collect g u k f ≡ collect h v k f
-  unfolding collect
-  collect-ext g h u v k zero p q = refl
-  collect-ext g h u v k (suc f) p q =
-      let r = collect-ext g h u v (suc k) f (λ i a b. p i (omega arith) (omega arith)) (λ i a b. q i (omega arith) (omega arith)) in
-      rw (p k (omega arith) (omega arith), q k (omega arith) (omega arith), r) refl
-
-  tabled-ext : (d : A) (u v : ℕ → A) (n : ℕ) → ((i : ℕ) → i < n → u i ≡ v i) → tabled d u n ≡ tabled d v n
-  tabled-ext d u v n q =
-      ap (λ (l : List A). l ++ replicate (maxFixes - length l) d) (collect-ext every every u v 0 n (λ i a b. refl) (λ i a b. q i (omega arith)))
+tabled-ext : {A : Type 0} (d : A) (u v : ℕ → A) (n : ℕ) → ((i : ℕ) → i < n → u i ≡ v i) → tabled d u n ≡ tabled d v n
+tabled-ext {A} d u v n q =
+    ap (λ (l : List A). l ++ replicate (maxFixes - length l) d) (collect-ext every every u v 0 n (λ i a b. refl) (λ i a b. q i (omega arith)))
 
 module _ (t l m : List ℕ) (n : ℕ) (same : (j : ℕ) → j < n → getD l j 0 ≡ getD m j 0) where
   belongs-same : (s j : ℕ) → j < n → belongs l s j ≡ belongs m s j

@@ -1,57 +1,37 @@
 -- What is written fits: no more transmissions than are shown, and each fix in one of them.
-use mathlib.Core.Path.{_≡_, refl, sym, ap, _∙_}
-use mathlib.Core.Bool.{Bool, true, false, cond}
-use mathlib.Core.List.{List, [], _∷_, _++_}
+use mathlib.Core.Path.{_≡_, ap, _∙_}
+use mathlib.Core.Bool.{Bool, true, false}
+use mathlib.Core.List.{List, [], _∷_}
 use Prim.Native.Nat.{ℕ, zero, suc, _+_, _-_, _*_, _≤_, _<_}
 use native.Mathlib.Omega.{arith}
 use lib.Dec.{eqb}
-use lib.ListN.{length, getD, set, replicate, length-append, length-replicate, length-set}
+use lib.ListN.{length, getD, set, length-set}
 use lib.Seq.{getD-set-same, getD-set-other}
 use borrow.Author.Tests.{eqb-true, eqb-false}
 use Rattle.octets.proofs.Cases.{by}
 use Rattle.ranges.proofs.Bools.{or}
 use Rattle.ranges.specs.Range.{collect}
-use Rattle.ranges.proofs.Range.{least-in}
+use Rattle.ranges.proofs.Range.{least-in, collect-few, collect-below, padded-length}
 use Rattle.ranges.specs.Tables.{marked, itself}
 use Rattle.fixes.specs.Layout.{maxFixes}
 use Rattle.lines.specs.Lines.{headerWidth, refusedWidth}
 use Rattle.decision.specs.Answer.{indices}
 use Rattle.transmissions.specs.Transmission.{none, belongs, membersOf, nth, leaderOf, leading, every, tabled, leadersOf, headsOf}
 use Rattle.transmissions.specs.Latest.{maxShown, later, latestLeft, latest}
-use Rattle.transmissions.proofs.Gathering.{members-listed, collect-length}
+use Rattle.transmissions.proofs.Gathering.{members-listed}
 use Rattle.drawing.specs.Drawing.{OfFixes, roomOf, rooms, shownOf, boardSize}
 
 -- ---- arrays of what is known of each fix
 
-every-length : {A : Type 0} (f : ℕ → A) (k m : ℕ) → length (collect every f k m) ≡ m
-unfolding collect
-every-length f k zero = refl
-every-length f k (suc m) = ap suc (every-length f (suc k) m)
-
 pub tabled-length : {A : Type 0} (d : A) (f : ℕ → A) (n : ℕ) → n ≤ maxFixes → length (tabled d f n) ≡ maxFixes
-tabled-length d f n h =
-    let e = every-length f 0 n in
-    length-append (collect every f 0 n) (replicate (maxFixes - length (collect every f 0 n)) d)
-    ∙ ap (λ (k : ℕ). length (collect every f 0 n) + k) (length-replicate (maxFixes - length (collect every f 0 n)) d)
-    ∙ omega arith
-
-zeros : (m i : ℕ) → _≡_ {A = ℕ} (getD (replicate m 0) i 0) 0
-zeros zero i = refl
-zeros (suc m) zero = refl
-zeros (suc m) (suc i) = zeros m i
-
-tabled-below : (f : ℕ → ℕ) (b k m r i : ℕ) → ((s : ℕ) → f s < b) → 0 < b → getD (collect every f k m ++ replicate r 0) i 0 < b
-unfolding collect
-tabled-below f b k zero r i h z = rw (zeros r i) z
-tabled-below f b k (suc m) r zero h z = h k
-tabled-below f b k (suc m) r (suc i) h z = tabled-below f b (suc k) m r i h z
+tabled-length d f n h = padded-length maxFixes d (collect every f 0 n) (let e = collect-few every f 0 n in omega arith)
 
 leading-fix : (t l : List ℕ) (n s : ℕ) → n ≤ maxFixes → leading t l n s < maxFixes
 unfolding leaderOf
 leading-fix t l n s h = by (belongs l s s) (λ e. rw e (members-listed l n s h .fixes _)) (λ e. rw e (omega arith))
 
 pub leaders-fixes : (t l : List ℕ) (n : ℕ) → n ≤ maxFixes → OfFixes (leadersOf t l n)
-leaders-fixes t l n h i = tabled-below (leading t l n) maxFixes 0 n (maxFixes - length (collect every (leading t l n) 0 n)) i (λ s. leading-fix t l n s h) (omega arith)
+leaders-fixes t l n h i = collect-below every (leading t l n) maxFixes (omega arith) 0 n (maxFixes - length (collect every (leading t l n) 0 n)) i (λ s u v. leading-fix t l n s h)
 
 -- ---- the fixes whose transmissions are left
 
@@ -95,5 +75,5 @@ pub rooms-fit : (t l : List ℕ) (n : ℕ) → n ≤ maxFixes → rooms l n (sho
 unfolding rooms unshown
 rooms-fit t l n h =
     let r = rooms-latest t (leadersOf t l n) l n h maxShown (headsOf l n) [] (tabled-length false (λ s. belongs l s s) n h) in
-    let c = collect-length (left-at l (headsOf l n)) itself 0 n in
+    let c = collect-few (left-at l (headsOf l n)) itself 0 n in
     omega (arith, r, c)

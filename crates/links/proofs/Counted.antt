@@ -1,14 +1,15 @@
 -- Transmissions share no member: those of distinct transmissions are together at most n, and those of all are n.
-use mathlib.Core.Path.{_≡_, refl, ap, _∙_}
-use mathlib.Core.Bool.{Bool}
-use mathlib.Core.List.{List, [], _∷_, _++_, List·Memᴰ, List·Memᴰ·head, List·Memᴰ·tail, List·Memᴰ·not-nil, List·Memᴰ·cases-cons}
+use mathlib.Core.Path.{_≡_, refl, ap, ap₂, _∙_}
+use mathlib.Core.Bool.{Bool, true, false, cond}
+use mathlib.Core.List.{List, [], _∷_, _++_, List·Memᴰ, List·Memᴰ·head, List·Memᴰ·tail, List·Memᴰ·not-nil, List·Memᴰ·cases-cons, List·Permᴰ, List·Permᴰ·nil, List·Permᴰ·cons, List·Permᴰ·swap, List·Permᴰ·trans}
 use Prim.Native.Nat.{ℕ, zero, suc, _+_, _≤_, _<_}
 use native.Mathlib.Omega.{arith}
 use lib.Dec.{eqb}
 use lib.ListN.{length}
 use borrow.Author.Tests.{eqb-true, eqb-false}
-use Rattle.ranges.proofs.Bools.{by, or}
+use Rattle.ranges.proofs.Bools.{by, or, clash}
 use Rattle.ranges.specs.Range.{filt}
+use Rattle.ranges.proofs.Range.{filt-mem, filt-at}
 use Rattle.fixes.specs.Layout.{maxFixes}
 use Rattle.links.specs.Walk.{label, isHead, isMember, heads, members, membersOf, times, Distinct}
 use Rattle.links.proofs.Transmissions.{belongs}
@@ -34,23 +35,34 @@ unfolding times
 times-append x [] l = omega arith
 times-append x (y ∷ k) l = let r = times-append x k l in omega arith
 
-times-before : (x : ℕ) (g : ℕ → Bool) (k f : ℕ) → x < k → times x (filt g k f) ≡ 0
+-- the order does not matter
+pub times-perm : (x : ℕ) {l m : List ℕ} → List·Permᴰ l m → times x l ≡ times x m
+unfolding times
+times-perm x List·Permᴰ·nil = refl
+times-perm x (List·Permᴰ·cons e p) = ap₂ (λ (a k : ℕ). cond (eqb x a) 1 0 + k) e (times-perm x p)
+times-perm x (List·Permᴰ·swap d e) = rw (d, e) (omega arith)
+times-perm x (List·Permᴰ·trans p q) = times-perm x p ∙ times-perm x q
+
+-- of the indices at which a test holds, none is listed twice
+times-few : (x : ℕ) (g : ℕ → Bool) (k f : ℕ) → times x (filt g k f) ≤ 1
 unfolding filt times
-times-before x g k zero h = refl
-times-before x g k (suc f) h =
-    let r = times-before x g (suc k) f (omega arith) in
+times-few x g k zero = omega arith
+times-few x g k (suc f) =
+    let r = times-few x g (suc k) f in
     by (g k)
-    (λ p. rw p (by (eqb x k) (λ q. absurd (let e = eqb-true x k q in omega arith)) (λ q. rw q (omega arith))))
+    (λ p. rw p (by (eqb x k)
+    (λ q. let e = eqb-true x k q in
+    let z = times-none x (filt g (suc k) f) (λ m. let t = filt-at g (suc k) f x m in absurd (omega arith)) in
+    rw (q, z) (omega arith))
+    (λ q. rw q (omega arith))))
     (λ p. rw p r)
 
-times-filt : (x : ℕ) (g : ℕ → Bool) (k f : ℕ) → times x (filt g k f) ≤ 1
-unfolding filt times
-times-filt x g k zero = omega arith
-times-filt x g k (suc f) =
-    let r = times-filt x g (suc k) f in
-    by (g k)
-    (λ p. rw p (by (eqb x k) (λ q. let z = times-before x g (suc k) f (let e = eqb-true x k q in omega arith) in rw (q, z) (omega arith)) (λ q. rw q (omega arith))))
-    (λ p. rw p r)
+-- and each is listed once
+pub times-filt : (x : ℕ) (g : ℕ → Bool) (k f : ℕ) → k ≤ x → x < k + f → times x (filt g k f) ≡ cond (g x) 1 0
+times-filt x g k f u v =
+    by (g x)
+    (λ p. let a = times-some x (filt g k f) (filt-mem g k f x u v p) in let b = times-few x g k f in rw p (omega arith))
+    (λ p. rw p (times-none x (filt g k f) (λ m. clash (filt-at g k f x m .2) p)))
 
 -- ---- distinct lists
 
@@ -74,7 +86,7 @@ pub distinct-right : (k l : List ℕ) → Distinct (k ++ l) → Distinct l
 distinct-right k l d = record { once = λ x. let a = d .once x in let b = times-append x k l in omega arith }
 
 pub distinct-filt : (g : ℕ → Bool) (k f : ℕ) → Distinct (filt g k f)
-distinct-filt g k f = record { once = λ x. times-filt x g k f }
+distinct-filt g k f = record { once = λ x. times-few x g k f }
 
 -- ---- members
 

@@ -3,25 +3,15 @@ use mathlib.Core.Path.{_≡_, refl, sym, ap, _∙_, subst}
 use mathlib.Core.Bool.{Bool, true}
 use mathlib.Core.Logic.{_↔_}
 use mathlib.Core.List.{List·Memᴰ}
-use Prim.Native.Nat.{ℕ, zero, suc, _+_, _≤_, _<_}
+use Prim.Native.Nat.{ℕ, _+_, _≤_, _<_}
 use native.Mathlib.Omega.{arith}
-use native.Mathlib.Nat.{eq-or-lt-of-le}
 use borrow.Author.Tests.{eqb-true, eq-eqb}
-use Rattle.ranges.proofs.Bools.{by, or, clash}
 use Rattle.ranges.specs.Range.{first}
-use Rattle.ranges.proofs.Range.{first-is, filt-mem, filt-at}
+use Rattle.ranges.proofs.Range.{first-is, first-not-past, filt-mem, filt-at}
 use Rattle.ranges.specs.Tables.{marked}
 use Rattle.fixes.specs.Layout.{maxFixes}
 use Rattle.links.specs.Walk.{Chain, here, Symmetric, reached, label, isHead, isMember, heads, members}
 use Rattle.links.proofs.Chains.{chain-from, chain-to, chain-joined, chain-turned, reached-is}
-
--- the first is not past any at which g holds
-first-least : (g : ℕ → Bool) (k f i : ℕ) → k ≤ i → i < k + f → g i ≡ true → first g k f ≤ i
-unfolding first
-first-least g k zero i h l e = absurd (omega arith)
-first-least g k (suc f) i h l e =
-    by (g k) (λ p. rw p h)
-    (λ p. rw p (or (eq-or-lt-of-le h) (λ q. clash (ap g q ∙ e) p) (λ q. first-least g (suc k) f i q (omega arith) e)))
 
 module _ (link : ℕ → ℕ → Bool) (n : ℕ) (few : n ≤ maxFixes) where
   -- no chain leads to j from one before its label
@@ -29,7 +19,7 @@ module _ (link : ℕ → ℕ → Bool) (n : ℕ) (few : n ≤ maxFixes) where
   unfolding label
   label-first s j c =
       let h = chain-from c in
-      first-least (λ s. marked (reached link n s) j) 0 n s (omega arith) (omega arith) (reached-is link n s few h j .1 c)
+      first-not-past (λ s. marked (reached link n s) j) 0 n s (omega arith) (omega arith) (reached-is link n s few h j .1 c)
 
   module _ (j : ℕ) (h : j < n) where
     pub label-le : label link n j ≤ j

@@ -3,3 +3,4 @@ pub mod Bools
 pub mod Range
 pub mod Tables
 pub mod Least
+pub mod Orders

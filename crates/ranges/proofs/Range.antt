@@ -2,17 +2,17 @@
 use mathlib.Core.Path.{_≡_, refl, sym, ap, ap₂, _∙_, subst}
 use mathlib.Core.Bool.{Bool, true, false, cond, _||_, true≢false, false≢true}
 use mathlib.Core.Logic.{_⊎_, inl, inr, ⊎-elim}
-use mathlib.Core.List.{List, [], _∷_, _++_, List·Memᴰ, List·Memᴰ·head, List·Memᴰ·tail, List·Memᴰ·not-nil, List·Memᴰ·cases-cons}
+use mathlib.Core.List.{List, [], _∷_, _++_, map, map-id, append-nil, List·Memᴰ, List·Memᴰ·head, List·Memᴰ·tail, List·Memᴰ·not-nil, List·Memᴰ·cases-cons}
 use borrow.Author.Tests.{eqb-false}
 use Prim.Native.Nat.{ℕ, zero, suc, _+_, _-_, _≤_, _<_}
 use native.Mathlib.Omega.{arith}
 use native.Mathlib.Nat.{eq-or-lt-of-le, sub-zero, add-zero, zero-add}
-use lib.ListN.{length, replicate, set, length-append, length-replicate}
+use lib.ListN.{length, getD, replicate, set, length-append, length-replicate, length-map}
 use lib.Seq.{set-at, append-snoc}
-use mathlib.Core.List.{append-nil}
 use native.Mathlib.Numerals.{add-one}
 use lib.Dec.{eqb}
 use Rattle.ranges.specs.Range.{any, first, filt, better, least, collect, Filled, Collected, Valid}
+use Rattle.ranges.specs.Tables.{itself}
 use Rattle.ranges.proofs.Bools.{decide, clash, no-true, by, or}
 
 -- ---- a turn of a loop: the index is i, the end n
@@ -65,6 +65,9 @@ any-at g k (suc f) e =
 pub any-no : (g : ℕ → Bool) (k f i : ℕ) → any g k f ≡ false → k ≤ i → i < k + f → g i ≡ false
 any-no g k f i e h l = no-true (g i) (λ p. true≢false (sym (any-of g k f i h l p) ∙ e))
 
+pub any-none : (g : ℕ → Bool) (k f : ℕ) → ((i : ℕ) → k ≤ i → i < k + f → g i ≡ false) → any g k f ≡ false
+any-none g k f e = no-true (any g k f) (λ p. let r = any-at g k f p in clash (r .3) (e (r .0) (r .1) (r .2)))
+
 pub first-ge : (g : ℕ → Bool) (k f : ℕ) → k ≤ first g k f
 unfolding first
 first-ge g k zero = omega arith
@@ -92,6 +95,14 @@ first-no g k (suc f) i e h l =
     ⊎-elim (λ p. absurd (let e′ = rw p at e in omega arith))
     (λ p. ⊎-elim (λ q. ap g (sym q) ∙ p) (λ q. first-no g (suc k) f i (let e′ = rw p at e in omega arith) q (omega arith)) (eq-or-lt-of-le h))
     (decide (g k))
+
+-- the first is not past any at which g holds
+pub first-not-past : (g : ℕ → Bool) (k f i : ℕ) → k ≤ i → i < k + f → g i ≡ true → first g k f ≤ i
+unfolding first
+first-not-past g k zero i h l e = absurd (omega arith)
+first-not-past g k (suc f) i h l e =
+    by (g k) (λ p. rw p h)
+    (λ p. rw p (or (eq-or-lt-of-le h) (λ q. clash (ap g q ∙ e) p) (λ q. first-not-past g (suc k) f i q (omega arith) e)))
 
 pub any-start : (g : ℕ → Bool) (n : ℕ) → any g 0 n ≡ any g 0 (n - 0)
 any-start g n = rw sub-zero refl
@@ -135,6 +146,10 @@ module _ (before : ℕ → ℕ → Bool) (none : ℕ) where
       (least-in g (better before none best k) (suc k) f)))
       (λ p. rw p (⊎-elim (λ e. inl e) (λ t. inr (omega arith, omega arith, t .2)) (least-in g best (suc k) f)))
       (decide (g k))
+
+  -- so it is below the end where it is not none
+  pub least-below : (g : ℕ → Bool) (n b : ℕ) → b ≡ least before none g none 0 n → (b ≡ none → ⊥) → b < n
+  least-below g n b e f = or (least-in g none 0 n) (λ q. absurd (f (e ∙ q))) (λ t. let z = t .1 in rw e (omega arith))
 
   -- there is a least where there is any
   pub least-some : (g : ℕ → Bool) (best k f : ℕ) → k + f ≤ none → best ≤ none → (best < none) ⊎ (any g k f ≡ true) → least before none g best k f < none
@@ -184,6 +199,21 @@ filt-at g k (suc f) i m =
     (λ p. or (List·Memᴰ·cases-cons (rw p at m)) (λ q. (omega arith, omega arith, ap g q ∙ p)) (λ r. let z = filt-at g (suc k) f i r in (omega arith, omega arith, z .2)))
     (λ p. let z = filt-at g (suc k) f i (rw p at m) in (omega arith, omega arith, z .2))
 
+pub filt-none : (g : ℕ → Bool) (k f : ℕ) → ((i : ℕ) → k ≤ i → i < k + f → g i ≡ false) → filt g k f ≡ []
+unfolding filt
+filt-none g k zero e = refl
+filt-none g k (suc f) e = rw (e k (omega arith) (omega arith)) (filt-none g (suc k) f (λ i u v. e i (omega arith) (omega arith)))
+
+pub filt-all : (g : ℕ → Bool) (k f : ℕ) → ((i : ℕ) → k ≤ i → i < k + f → g i ≡ true) → length (filt g k f) ≡ f
+unfolding filt
+filt-all g k zero e = refl
+filt-all g k (suc f) e = rw (e k (omega arith) (omega arith)) (ap suc (filt-all g (suc k) f (λ i u v. e i (omega arith) (omega arith))))
+
+pub filt-few : (g : ℕ → Bool) (k f : ℕ) → length (filt g k f) ≤ f
+unfolding filt
+filt-few g k zero = omega arith
+filt-few g k (suc f) = let r = filt-few g (suc k) f in by (g k) (λ e. rw e (omega arith)) (λ e. rw e (omega arith))
+
 pub least-start : (before : ℕ → ℕ → Bool) (none : ℕ) (g : ℕ → Bool) (best n : ℕ) → least before none g best 0 n ≡ least before none g best 0 (n - 0)
 least-start before none g best n = rw sub-zero refl
 
@@ -213,13 +243,39 @@ module _ {A : Type 0} where
       let e : suc k + f ≡ k + suc f = omega arith in
       by (g k) (λ p. rw (p, ← e) (ap (λ (l : List A). h k ∷ l) r)) (λ p. rw (p, ← e) r)
 
+  -- they are h of the listed indices
+  pub collect-map : (g : ℕ → Bool) (h : ℕ → A) (k f : ℕ) → collect g h k f ≡ map h (filt g k f)
+  unfolding collect filt
+  collect-map g h k zero = refl
+  collect-map g h k (suc f) = let r = collect-map g h (suc k) f in by (g k) (λ p. rw p (ap (λ (l : List A). h k ∷ l) r)) (λ p. rw p r)
+
+  collect-length : (g : ℕ → Bool) (h : ℕ → A) (k f : ℕ) → length (collect g h k f) ≡ length (filt g k f)
+  collect-length g h k f = ap length (collect-map g h k f) ∙ length-map (filt g k f) h
+
+  pub collect-few : (g : ℕ → Bool) (h : ℕ → A) (k f : ℕ) → length (collect g h k f) ≤ f
+  collect-few g h k f = rw (collect-length g h k f) (filt-few g k f)
+
+  pub collect-all : (g : ℕ → Bool) (h : ℕ → A) (k f : ℕ) → ((i : ℕ) → k ≤ i → i < k + f → g i ≡ true) → length (collect g h k f) ≡ f
+  collect-all g h k f e = collect-length g h k f ∙ filt-all g k f e
+
+  pub collect-ext : (g h : ℕ → Bool) (u v : ℕ → A) (k f : ℕ) → ((i : ℕ) → k ≤ i → i < k + f → g i ≡ h i) → ((i : ℕ) → k ≤ i → i < k + f → u i ≡ v i) → collect g u k f ≡ collect h v k f
+  unfolding collect
+  collect-ext g h u v k zero p q = refl
+  collect-ext g h u v k (suc f) p q =
+      let r = collect-ext g h u v (suc k) f (λ i a b. p i (omega arith) (omega arith)) (λ i a b. q i (omega arith) (omega arith)) in
+      rw (p k (omega arith) (omega arith), q k (omega arith) (omega arith), r) refl
+
+  -- an array of N places that holds l, and d past it
+  pub padded-length : (N : ℕ) (d : A) (l : List A) → length l ≤ N → length (l ++ replicate (N - length l) d) ≡ N
+  padded-length N d l h = length-append l (replicate (N - length l) d) ∙ ap (λ (k : ℕ). length l + k) (length-replicate (N - length l) d) ∙ omega arith
+
   pub filled-none : (N : ℕ) (d : A) → Filled N d (replicate N d) []
   unfolding Filled
   filled-none N d = rw sub-zero refl
 
   pub filled-length : (N : ℕ) (d : A) (a l : List A) → length l ≤ N → Filled N d a l → length a ≡ N
   unfolding Filled
-  filled-length N d a l h e = ap length e ∙ length-append l (replicate (N - length l) d) ∙ ap (λ (k : ℕ). length l + k) (length-replicate (N - length l) d) ∙ omega arith
+  filled-length N d a l h e = ap length e ∙ padded-length N d l h
 
   -- a value more
   pub filled-more : (N : ℕ) (d : A) (a l : List A) (k : ℕ) (v : A) → k ≡ length l → k < N → Filled N d a l → Filled N d (set a k v) (l ++ (v ∷ []))
@@ -257,6 +313,56 @@ module _ {A : Type 0} where
 
   pub collected-done : (g : ℕ → Bool) (h : ℕ → A) (N : ℕ) (d : A) (a : List A) (k i n : ℕ) → n ≤ i → i ≤ n → Collected g h N d a k i → Collected g h N d a k n
   collected-done g h N d a k i n p q c = let e : i ≡ n = omega arith in subst (λ (j : ℕ). Collected g h N d a k j) e c
+
+-- ---- the indices themselves, collected
+
+pub collect-filt : (g : ℕ → Bool) (k f : ℕ) → collect g itself k f ≡ filt g k f
+collect-filt g k f = collect-map g itself k f ∙ map-id (filt g k f)
+
+pub filt-ext : (g h : ℕ → Bool) (k f : ℕ) → ((i : ℕ) → k ≤ i → i < k + f → g i ≡ h i) → filt g k f ≡ filt h k f
+filt-ext g h k f e = sym (collect-filt g k f) ∙ collect-ext g h itself itself k f e (λ i u v. refl) ∙ collect-filt h k f
+
+-- each is one at which g holds
+pub collect-in : (g : ℕ → Bool) (k f i : ℕ) → i < length (collect g itself k f)
+    → let j = getD (collect g itself k f) i 0 in (k ≤ j) × (j < k + f) × (g j ≡ true)
+collect-in g k f i h = rw (collect-filt g k f) (filt-at g k f (getD (filt g k f) i 0) (listed (filt g k f) i (rw (collect-filt g k f) at h)))
+  where
+    listed : (l : List ℕ) (i : ℕ) → i < length l → List·Memᴰ (getD l i 0) l
+    listed [] i h = absurd (omega arith)
+    listed (a ∷ l) zero h = List·Memᴰ·head refl
+    listed (a ∷ l) (suc i) h = List·Memᴰ·tail (listed l i (omega arith))
+
+-- and they ascend
+pub collect-ascends : (g : ℕ → Bool) (k f i j : ℕ) → i < j → j < length (collect g itself k f) → getD (collect g itself k f) i 0 < getD (collect g itself k f) j 0
+unfolding collect
+collect-ascends g k zero i j u h = absurd (omega arith)
+collect-ascends g k (suc f) i zero u h = absurd (omega arith)
+collect-ascends g k (suc f) zero (suc j) u h =
+    by (g k)
+    (λ e. let r = collect-in g (suc k) f j (let h′ = rw e at h in omega arith) in rw e (omega arith))
+    (λ e. rw e (collect-ascends g (suc k) f zero (suc j) u (rw e at h)))
+collect-ascends g k (suc f) (suc i) (suc j) u h =
+    by (g k)
+    (λ e. rw e (collect-ascends g (suc k) f i j (omega arith) (let h′ = rw e at h in omega arith)))
+    (λ e. rw e (collect-ascends g (suc k) f (suc i) (suc j) u (rw e at h)))
+
+-- ---- numbers, collected, and zeros past them: what bounds each bounds the array
+pub collect-below : (g : ℕ → Bool) (h : ℕ → ℕ) (b : ℕ) → 0 < b → (k f m i : ℕ) → ((j : ℕ) → k ≤ j → j < k + f → h j < b) → getD (collect g h k f ++ replicate m 0) i 0 < b
+unfolding collect
+collect-below g h b z k zero m i e = rw (zeros m i) z
+  where
+    zeros : (m i : ℕ) → _≡_ {A = ℕ} (getD (replicate m 0) i 0) 0
+    zeros zero i = refl
+    zeros (suc m) zero = refl
+    zeros (suc m) (suc i) = zeros m i
+collect-below g h b z k (suc f) m zero e =
+    by (g k)
+    (λ p. rw p (e k (omega arith) (omega arith)))
+    (λ p. rw p (collect-below g h b z (suc k) f m zero (λ j u v. e j (omega arith) (omega arith))))
+collect-below g h b z k (suc f) m (suc i) e =
+    by (g k)
+    (λ p. rw p (collect-below g h b z (suc k) f m i (λ j u v. e j (omega arith) (omega arith))))
+    (λ p. rw p (collect-below g h b z (suc k) f m (suc i) (λ j u v. e j (omega arith) (omega arith))))
 
 -- ---- the same laws as a `search` finds them: t is what is computed, r what the called test gave
 pub any-ret : (t : Bool) (g : ℕ → Bool) (i n : ℕ) (r : Bool) → t ≡ any g i (n - i) → i < n → r ≡ g i → r ≡ true → true ≡ t

@@ -8,13 +8,9 @@ use lib.ListN.{length, getD, take, drop, length-append}
 use lib.Seq.{take-at, drop-at, drop-drop, drop-append-add}
 use borrow.Author.Tests.{le-ltb}
 use Rattle.octets.specs.Order.{same}
-use Rattle.octets.proofs.Cases.{by}
 use Rattle.record.specs.Layout.{recordSize}
 use Rattle.record.specs.Formed.{wellFormed}
-use Rattle.ranges.proofs.Bools.{clash, no-true}
-use Rattle.ranges.specs.Range.{any, collect}
-use Rattle.ranges.proofs.Range.{any-at}
-use Rattle.ranges.specs.Tables.{itself}
+use Rattle.ranges.proofs.Range.{any-none, collect-in, collect-ascends}
 use Rattle.items.specs.Layout.{maxItems, itemSize, hashSize, identityAt}
 use Rattle.items.specs.Items as I
 use Rattle.fixes.specs.Layout.{maxFixes, fixSize, recordAt, inputsAt, recordOf, inputsOf, identityOf}
@@ -23,40 +19,10 @@ use Rattle.decision.specs.Answer.{badAt, bad}
 use Rattle.transmissions.specs.Transmission.{unjudged, itemOf, itemsOf, belongs, membersOf}
 use Rattle.transmissions.proofs.Gathering.{members-listed}
 
--- ---- the indices at which a test holds, in a list
-
--- each is one of them
-pub collect-in : (g : ℕ → Bool) (k f i : ℕ) → i < length (collect g itself k f)
-    → let j = getD (collect g itself k f) i 0 in (k ≤ j) × (j < k + f) × (g j ≡ true)
-unfolding collect
-collect-in g k zero i h = absurd (omega arith)
-collect-in g k (suc f) zero h =
-    by (g k)
-    (λ e. rw e (omega arith, omega arith, e))
-    (λ e. let r = collect-in g (suc k) f zero (rw e at h) in rw e (omega arith, omega arith, r .2))
-collect-in g k (suc f) (suc i) h =
-    by (g k)
-    (λ e. let r = collect-in g (suc k) f i (let h′ = rw e at h in omega arith) in rw e (omega arith, omega arith, r .2))
-    (λ e. let r = collect-in g (suc k) f (suc i) (rw e at h) in rw e (omega arith, omega arith, r .2))
-
--- and they ascend
-pub collect-ascends : (g : ℕ → Bool) (k f i j : ℕ) → i < j → j < length (collect g itself k f) → getD (collect g itself k f) i 0 < getD (collect g itself k f) j 0
-unfolding collect
-collect-ascends g k zero i j u h = absurd (omega arith)
-collect-ascends g k (suc f) i zero u h = absurd (omega arith)
-collect-ascends g k (suc f) zero (suc j) u h =
-    by (g k)
-    (λ e. let r = collect-in g (suc k) f j (let h′ = rw e at h in omega arith) in rw e (omega arith))
-    (λ e. rw e (collect-ascends g (suc k) f zero (suc j) u (rw e at h)))
-collect-ascends g k (suc f) (suc i) (suc j) u h =
-    by (g k)
-    (λ e. rw e (collect-ascends g (suc k) f i j (omega arith) (let h′ = rw e at h in omega arith)))
-    (λ e. rw e (collect-ascends g (suc k) f (suc i) (suc j) u (rw e at h)))
-
 -- ---- items one after another
 
 -- all in the table
-abbrev pub Within : List ℕ → Type 0
+abbrev Within : List ℕ → Type 0
 Within js = (i : ℕ) → i < length js → getD js i 0 < maxFixes
 
 module _ (t : List ℕ) (wide : length t ≡ maxFixes * fixSize) where
@@ -71,7 +37,7 @@ module _ (t : List ℕ) (wide : length t ≡ maxFixes * fixSize) where
     identity-length : length (identityOf t j) ≡ hashSize
     identity-length = taken hashSize (j * fixSize) t (omega arith)
 
-    pub item-length : length (itemOf t j) ≡ itemSize
+    item-length : length (itemOf t j) ≡ itemSize
     item-length = simp length-append (omega (arith, record-length, inputs-length, identity-length))
 
     -- an item at the front of a text
@@ -88,7 +54,7 @@ module _ (t : List ℕ) (wide : length t ≡ maxFixes * fixSize) where
         ∙ ap (take hashSize) (drop-at (recordOf t j ++ inputsOf t j) (identityOf t j ++ (unjudged ++ r)) identityAt l)
         ∙ take-at (identityOf t j) (unjudged ++ r) hashSize identity-length
 
-  pub items-length : (js : List ℕ) → Within js → length (itemsOf t js) ≡ length js * itemSize
+  items-length : (js : List ℕ) → Within js → length (itemsOf t js) ≡ length js * itemSize
   unfolding itemsOf
   items-length [] w = refl
   items-length (j ∷ js) w =
@@ -117,10 +83,19 @@ module _ (t : List ℕ) (wide : length t ≡ maxFixes * fixSize) where
         ap (take hashSize) (sym (drop-drop identityAt (i * itemSize) (itemsOf t js)) ∙ ap (drop identityAt) (items-from js i w h))
         ∙ front-identity (getD js i 0) (w i h) (itemsOf t (drop (suc i) js))
 
--- ---- none is refused
+-- ---- the fixes of a transmission
 
-any-none : (g : ℕ → Bool) (n : ℕ) → ((i : ℕ) → i < n → g i ≡ false) → any g 0 n ≡ false
-any-none g n f = no-true (any g 0 n) (λ e. let r = any-at g 0 n e in clash (r .3) (f (r .0) (omega arith)))
+pub members-below : (l : List ℕ) (n s i : ℕ) → i < length (membersOf l n s) → getD (membersOf l n s) i 0 < n
+members-below l n s i h = let r = collect-in (belongs l s) 0 n i h in omega arith
+
+members-within : (l : List ℕ) (n s : ℕ) → n ≤ maxFixes → Within (membersOf l n s)
+members-within l n s f i h = let r = members-below l n s i h in omega arith
+
+-- their items, one for one
+pub members-length : (t l : List ℕ) (n s : ℕ) → length t ≡ maxFixes * fixSize → n ≤ maxFixes → length (itemsOf t (membersOf l n s)) ≡ length (membersOf l n s) * itemSize
+members-length t l n s wide f = items-length t wide (membersOf l n s) (members-within l n s f)
+
+-- ---- none is refused
 
 module _ (t : List ℕ) (wide : length t ≡ maxFixes * fixSize) (js : List ℕ) (w : Within js) (few : length js ≤ maxItems)
     (formed : (i : ℕ) → i < length js → wellFormed (recordOf t (getD js i 0)) ≡ true)
@@ -129,7 +104,7 @@ module _ (t : List ℕ) (wide : length t ≡ maxFixes * fixSize) (js : List ℕ)
   unfolding badAt
   good-at i h =
       rw (record-at t wide js w i h, formed i h)
-      (any-none (I.sameIdentity (itemsOf t js) i) i (λ j l. rw (identity-at t wide js w i h, identity-at t wide js w j (omega arith)) (apart j i l h)))
+      (any-none (I.sameIdentity (itemsOf t js) i) 0 i (λ j u l. rw (identity-at t wide js w i h, identity-at t wide js w j (omega arith)) (apart j i (omega arith) h)))
 
   pub items-good : bad (itemsOf t js) ≡ false
   unfolding bad
@@ -137,7 +112,7 @@ module _ (t : List ℕ) (wide : length t ≡ maxFixes * fixSize) (js : List ℕ)
       let l = items-length t wide js w in
       let c : length (itemsOf t js) / itemSize ≡ length js = omega arith in
       let m : length (itemsOf t js) % itemSize ≡ 0 = omega arith in
-      rw (le-ltb (maxItems * itemSize) (length (itemsOf t js)) (omega arith), m, c) (any-none (badAt (itemsOf t js)) (length js) good-at)
+      rw (le-ltb (maxItems * itemSize) (length (itemsOf t js)) (omega arith), m, c) (any-none (badAt (itemsOf t js)) 0 (length js) (λ i u l. good-at i (omega arith)))
 
 -- the fixes of a transmission, of n in the table that are well-formed and no two of which have one identity
 module _ (t l : List ℕ) (n s : ℕ) (wide : length t ≡ maxFixes * fixSize) (h : n ≤ maxFixes)
@@ -146,11 +121,8 @@ module _ (t l : List ℕ) (n s : ℕ) (wide : length t ≡ maxFixes * fixSize) (
   abbrev ms : List ℕ
   ms = membersOf l n s
 
-  below : (i : ℕ) → i < length ms → getD ms i 0 < n
-  below i p = let r = collect-in (belongs l s) 0 n i p in omega arith
-
   pub members-good : bad (itemsOf t (membersOf l n s)) ≡ false
   members-good =
-      items-good t wide ms (λ i p. let b = below i p in omega arith) (members-listed l n s h .few)
-      (λ i p. formed (getD ms i 0) (below i p))
-      (λ i j u p. apart (getD ms i 0) (getD ms j 0) (collect-ascends (belongs l s) 0 n i j u p) (below j p))
+      items-good t wide ms (members-within l n s h) (members-listed l n s h .few)
+      (λ i p. formed (getD ms i 0) (members-below l n s i p))
+      (λ i j u p. apart (getD ms i 0) (getD ms j 0) (collect-ascends (belongs l s) 0 n i j u p) (members-below l n s j p))

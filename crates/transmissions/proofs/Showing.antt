@@ -7,9 +7,7 @@ use native.Mathlib.Omega.{arith}
 use native.Mathlib.Numerals.{add-one}
 use lib.Dec.{eqb}
 use lib.ListN.{length, set, drop, replicate, length-set}
-use borrow.Author.Tests.{ne-eqb, eq-eqb}
-use Rattle.ranges.proofs.Bools.{or}
-use Rattle.ranges.proofs.Range.{least-in}
+use borrow.Author.Tests.{ne-eqb}
 use Rattle.ranges.specs.Tables.{marked}
 use Rattle.fixes.specs.Layout.{maxFixes}
 use Rattle.transmissions.specs.Transmission.{none}
@@ -26,9 +24,6 @@ module _ (t d : List ℕ) (n : ℕ) (heads : List Bool) where
     pub long : length list ≡ maxShown
     pub wide : length left ≡ maxFixes
     pub rest : latest t d n maxShown heads [] ≡ latest t d n k left (drop k list)
-
-  pub found : (left : List Bool) (b : ℕ) → b ≡ latestLeft t d n left → (b ≡ 255 → ⊥) → b < n
-  found left b e f = or (least-in (later t d) none (marked left) none 0 n) (λ q. absurd (f (e ∙ q))) (λ x. let z = x .1 in rw e (omega arith))
 
   pub showing-none : length heads ≡ maxFixes → Showing heads (replicate maxShown 0) maxShown
   showing-none h = record { few = omega arith; long = refl; wide = h; rest = refl }

@@ -2,8 +2,10 @@
 use Prim.Native.Nat.{_-_}
 use native.Mathlib.Omega.{arith}
 use borrow.Author.Needs.{needs}
+use Rattle.ranges.proofs.Range.{least-below}
+use Rattle.decision.specs.Decide.{none}
 use Rattle.decision.specs.Related.{rel}
-use Rattle.decision.proofs.Ranking.{Ranking, ranking-none, ranking-more, ranking-end, ranking-full, found}
+use Rattle.decision.proofs.Ranking.{Ranking, ranking-none, ranking-more, ranking-end, ranking-full}
 use Rattle.decision.proofs.rule.rank_all.Statement.{statement}
 use Rattle.decision.proofs.rule.rank_all.Tie as tie
 
@@ -32,7 +34,7 @@ cast-left : tie.Need-cast-left Inv-loop μ-loop
 cast-left c = search needs
 
 array-write-left : tie.Need-array-write-left Inv-loop μ-loop
-array-write-left c = let st = c .before .before .before .before .before .before in let l = found (rel (st .args .s .now) (st .args .n)) _ _ (c .before .first-left .ensures) (c .if1 .left) in omega arith
+array-write-left c = let l = least-below _ none _ _ _ (c .before .first-left .ensures) (c .if1 .left) in omega arith
 
 add-count : tie.Need-add-count Inv-loop μ-loop
 add-count c = search needs

@@ -1,6 +1,8 @@
 -- `latest` meets its contract.
 use native.Mathlib.Omega.{arith}
-use Rattle.transmissions.proofs.Showing.{Showing, found, showing-none, showing-more, showing-end, showing-full}
+use Rattle.ranges.proofs.Range.{least-below}
+use Rattle.transmissions.specs.Transmission.{none}
+use Rattle.transmissions.proofs.Showing.{Showing, showing-none, showing-more, showing-end, showing-full}
 use borrow.Author.Needs.{needs}
 use Rattle.transmissions.proofs.latest.latest.Statement.{statement}
 use Rattle.transmissions.proofs.latest.latest.Tie as tie
@@ -36,7 +38,7 @@ cast-left : tie.Need-cast-left Inv-loop μ-loop
 cast-left c = search needs
 
 array-write-left : tie.Need-array-write-left Inv-loop μ-loop
-array-write-left c = let st = c .before .before .before .before .before .before .before in let l = found (st .args .t .now) (st .args .leads .now) (st .args .n) (st .args .heads) (c .before .before .before .before .loop .left) _ (c .before .latest-left .ensures) (c .if1 .left) in omega (arith, l)
+array-write-left c = let l = least-below _ none _ _ _ (c .before .latest-left .ensures) (c .if1 .left) in omega (arith, l)
 
 loop-less : tie.Need-loop-less Inv-loop μ-loop
 loop-less c = search needs
