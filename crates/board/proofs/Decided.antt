@@ -30,7 +30,7 @@ use Rattle.drawing.specs.Drawing.{linesIn}
 use Rattle.register.specs.Memory.{wellFormed, decode}
 use Rattle.board.specs.Board.{labelsOf}
 use Rattle.board.proofs.Labelled.{label-at}
-use Rattle.board.proofs.Lent.{few-held, formed-held}
+use Rattle.board.proofs.Lent.{fixesIn, few-held, formed-held}
 
 -- the fixes of a transmission's lines, in their order: `decidedText` of drawing writes one line for each
 abbrev pub linedFixes : List ℕ → List ℕ → ℕ → ℕ → List ℕ
@@ -140,5 +140,5 @@ board-decided ss ps h f =
     }
 
 -- the board of a well-formed register
-pub register-decided : (m : List ℕ) → wellFormed m ≡ true → AllDecided (representatives (decode m .summaries) (decode m .records))
+pub register-decided : (m : List ℕ) → wellFormed m ≡ true → AllDecided (fixesIn m)
 register-decided m w = board-decided (decode m .summaries) (decode m .records) (formed-held m w) (few-held m w)

@@ -7,17 +7,23 @@ use native.Mathlib.Omega.{arith}
 use lib.ListN.{length, take, drop, length-drop}
 use Rattle.octets.proofs.Cases.{and-left}
 use Rattle.octets.proofs.Moves.{tail-lent}
-use Rattle.places.specs.Places.{places, allPlaces}
+use Rattle.places.specs.Places.{places, allPlaces, tableOf}
 use Rattle.record.specs.Layout.{recordSize}
 use Rattle.record.specs.Formed as R
 use Rattle.models.specs.Summary.{summarySize}
-use Rattle.fixes.specs.Layout.{maxFixes}
-use Rattle.representatives.specs.Gathered.{placeFormed}
+use Rattle.fixes.specs.Layout.{maxFixes, fixSize}
+use Rattle.representatives.specs.Gathered.{placeFormed, Gathered}
+use Rattle.representatives.specs.Representatives.{representatives}
+use Rattle.representatives.proofs.Soundness.{representatives-gathered}
 use Rattle.register.specs.Layout.{summariesAt, recordsAt, placeSize}
 use Rattle.register.specs.Memory as M
 use Rattle.register.specs.Memory.{wellFormed, decode, summaryCount, recordCount, summaryBytes, recordBytes, recordsIn}
 use Rattle.register.proofs.Opened.{Opened, opened, summary-bytes-length, record-bytes-length, records-length}
 use Rattle.register.proofs.Valid.{all-weaken}
+
+-- the fixes that its board shows
+abbrev pub fixesIn : List ℕ → List (List ℕ)
+fixesIn m = representatives (decode m .summaries) (decode m .records)
 
 module _ (m : List ℕ) (w : wellFormed m ≡ true) where
   o : Opened m
@@ -64,3 +70,6 @@ module _ (m : List ℕ) (w : wellFormed m ≡ true) where
   pub formed-held : allPlaces placeFormed (decode m .records) ≡ true
   unfolding decode
   formed-held = formed-places
+
+  pub fixes-gathered : (n : ℕ) (t : List ℕ) → n ≡ length (fixesIn m) → t ≡ tableOf fixSize maxFixes (fixesIn m) → Gathered n t
+  fixes-gathered n t e f = rw (e, f) (representatives-gathered (decode m .summaries) (decode m .records) formed-held few-held)

@@ -1,15 +1,15 @@
 -- The laws of the decision, over abstract relations (document 01, 'Decide'): every index falls in exactly one of ranked, dominated, refused; ranked is empty
 -- only without items; what a refusal names.
 use mathlib.Core.Path.{_≡_, refl, sym, ap, _∙_}
-use mathlib.Core.Bool.{Bool, true, false, not, cond, _&&_}
+use mathlib.Core.Bool.{Bool, true, false, not, _&&_}
 use mathlib.Core.Logic.{_⊎_, inl, inr, _↔_}
-use mathlib.Core.List.{List, [], _∷_, List·Memᴰ, List·Memᴰ·head, List·Memᴰ·tail, List·Memᴰ·not-nil, List·Memᴰ·cases-cons, List·Permᴰ, List·Permᴰ·nil, List·Permᴰ·cons, List·Permᴰ·trans}
-use Prim.Native.Nat.{ℕ, zero, suc, _+_, _-_, _≤_, _<_}
+use mathlib.Core.List.{List, [], _∷_, List·Memᴰ, List·Memᴰ·not-nil, List·Memᴰ·cases-cons, List·Permᴰ, List·Permᴰ·nil, List·Permᴰ·cons, List·Permᴰ·trans}
+use Prim.Native.Nat.{ℕ, zero, suc, _-_, _≤_, _<_}
 use native.Mathlib.Omega.{arith}
-use native.Mathlib.Nat.{le-trans, le-of-lt, eq-or-lt-of-le}
+use native.Mathlib.Nat.{le-trans, le-of-lt}
 use lib.Dec.{leb, eqb}
 use lib.ListN.{length}
-use borrow.Author.Tests.{leb-true, leb-false, eqb-false, eqb-true, ne-eqb, eq-eqb}
+use borrow.Author.Tests.{leb-true, leb-false, eqb-false, ne-eqb, eq-eqb}
 use Rattle.ranges.proofs.Bools.{clash, no-true, and-true, and-l, and-r, not-t, not-f, by, or}
 use Rattle.ranges.specs.Range.{any, least, filt}
 use Rattle.ranges.proofs.Range.{any-of, any-at, any-no, least-in, least-some, best-of, filt-mem, filt-at, filt-none, filt-few}

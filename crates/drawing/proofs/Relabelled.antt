@@ -11,7 +11,7 @@ use Rattle.ranges.specs.Tables.{itself}
 use Rattle.fixes.specs.Layout.{maxFixes}
 use Rattle.decision.specs.Answer.{indices, decided}
 use Rattle.decision.specs.declared.Decision.{Decision}
-use Rattle.transmissions.specs.Transmission.{belongs, membersOf, itemsOf, nth, outcomeOf, leaderOf, leading, every, tabled, leadersOf, headsOf}
+use Rattle.transmissions.specs.Transmission.{belongs, membersOf, itemsOf, nth, outcomeOf, leaderOf, leading, every, tabled}
 use Rattle.transmissions.specs.Latest.{maxShown, latest}
 use Rattle.drawing.specs.Drawing.{decidedText, transmissionText, drawnFrom, shownOf, drawn}
 

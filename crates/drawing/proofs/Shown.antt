@@ -15,11 +15,10 @@ use Rattle.ranges.proofs.Range.{least-in, collect-few, collect-below, padded-le
 use Rattle.ranges.specs.Tables.{marked, itself}
 use Rattle.fixes.specs.Layout.{maxFixes}
 use Rattle.lines.specs.Lines.{headerWidth, refusedWidth}
-use Rattle.decision.specs.Answer.{indices}
-use Rattle.transmissions.specs.Transmission.{none, belongs, membersOf, nth, leaderOf, leading, every, tabled, leadersOf, headsOf}
+use Rattle.transmissions.specs.Transmission.{none, belongs, leaderOf, leading, every, tabled, leadersOf, headsOf}
 use Rattle.transmissions.specs.Latest.{maxShown, later, latestLeft, latest}
 use Rattle.transmissions.proofs.Gathering.{members-listed}
-use Rattle.drawing.specs.Drawing.{OfFixes, roomOf, rooms, shownOf, boardSize}
+use Rattle.drawing.specs.Drawing.{OfFixes, rooms, shownOf, boardSize}
 
 -- ---- arrays of what is known of each fix
 

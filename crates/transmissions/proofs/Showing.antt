@@ -2,16 +2,14 @@
 use mathlib.Core.Path.{_≡_, refl, sym, ap, ap₂, _∙_}
 use mathlib.Core.Bool.{Bool, false, cond}
 use mathlib.Core.List.{List, [], _∷_}
-use Prim.Native.Nat.{ℕ, zero, suc, _+_, _-_, _≤_, _<_}
+use Prim.Native.Nat.{ℕ, zero, suc, _-_, _≤_, _<_}
 use native.Mathlib.Omega.{arith}
-use native.Mathlib.Numerals.{add-one}
 use lib.Dec.{eqb}
 use lib.ListN.{length, set, drop, replicate, length-set}
 use borrow.Author.Tests.{ne-eqb}
-use Rattle.ranges.specs.Tables.{marked}
 use Rattle.fixes.specs.Layout.{maxFixes}
 use Rattle.transmissions.specs.Transmission.{none}
-use Rattle.transmissions.specs.Latest.{maxShown, later, latestLeft, latest}
+use Rattle.transmissions.specs.Latest.{maxShown, latestLeft, latest}
 
 drop-set : (l : List ℕ) (k b : ℕ) → k < length l → drop k (set l k b) ≡ b ∷ drop (suc k) l
 drop-set [] k b h = absurd (omega arith)
