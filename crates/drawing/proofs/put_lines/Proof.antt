@@ -26,6 +26,20 @@ Inv-loop out₀ at role t m list count a₀ i₀ out a i =
 abbrev μ-loop : tie.MeasureT-loop
 μ-loop out₀ at role t m list count a₀ i₀ out a i = count - i
 
+-- ---- the places of a turn
+
+module _ (a : tie.At-loop Inv-loop μ-loop) where
+  abbrev start : tie.Start Inv-loop μ-loop
+  start = a .before .before .before .before .before .before
+
+-- the fix whose line is written
+module _ (a : tie.After-nth Inv-loop μ-loop) where
+  abbrev turn : tie.At-loop Inv-loop μ-loop
+  turn = a .before .before .before
+
+  is-fix : a .nth .result < maxFixes
+  is-fix = rw (a .nth .ensures) (start turn .pre .1 .1 .0 .1 _)
+
 loop-holds : tie.Need-loop-holds Inv-loop μ-loop
 unfolding linesOf
 loop-holds c = (omega arith, omega arith, put-none _ _)
@@ -40,15 +54,17 @@ nth-requires : tie.Need-nth-requires Inv-loop μ-loop
 nth-requires c κs = search needs
 
 record-of-requires : tie.Need-record-of-requires Inv-loop μ-loop
-record-of-requires c κs = let b : c .before .nth .result < maxFixes = rw (c .before .nth .ensures) (c .before .before .before .before .before .before .before .before .before .before .pre .1 .1 .0 .1 _) in omega (arith, b)
+record-of-requires c κs = omega (arith, is-fix (c .before))
 
 signers-requires : tie.Need-signers-requires Inv-loop μ-loop
-signers-requires c κs = let b : c .before .before .nth .result < maxFixes = rw (c .before .before .nth .ensures) (c .before .before .before .before .before .before .before .before .before .before .before .pre .1 .1 .0 .1 _) in omega (arith, b)
+signers-requires c κs = omega (arith, is-fix (c .before .before))
 
 put-line-requires : tie.Need-put-line-requires Inv-loop μ-loop
 put-line-requires c κs =
-    let w = put-length (c .before .before .before .before .before .before .loop .inv .2) in
-    (c .before .before .before .before .before .before .before .before .before .before .before .before .pre .0, (c .before .record-of .ensures .1, omega (arith, w, c .before .before .before .before .before .before .before .before .before .before .before .before .pre .1 .1 .1)))
+    let l = turn (c .before .before .before) in
+    let p = start l .pre in
+    let w = put-length (l .loop .inv .2) in
+    (p .0, (c .before .record-of .ensures .1, omega (arith, w, p .1 .1 .1)))
 
 add-i : tie.Need-add-i Inv-loop μ-loop
 add-i c = search needs
@@ -58,15 +74,26 @@ loop-less c = search needs
 
 loop-again : tie.Need-loop-again Inv-loop μ-loop
 loop-again c =
-    let l = c .before .before .before .before .before .before .before .before .before .loop in
-    let p = c .before .before .put-line .ensures in
-    (omega arith, omega (arith, p .0), put-as (lines-more _ _ _ _ (l .i) (omega (arith, c .before .before .before .before .before .before .before .before .before .before .before .before .before .before .before .pre .1 .1 .0 .0))) (put-put (l .inv .2) (rw (c .before .before .before .before .record-of .ensures .0, c .before .before .before .signers .ensures, c .before .before .before .before .before .before .nth .ensures) at (p .1))))
+    let put = c .before .before in
+    let signers = put .before in
+    let record-of = signers .before in
+    let nth = record-of .before .before in
+    let l = turn nth in
+    let p = put .put-line .ensures in (
+      omega arith,
+      omega (arith, p .0),
+      put-as (lines-more _ _ _ _ (l .loop .i) (omega (arith, start l .pre .1 .1 .0 .0)))
+          (put-put (l .loop .inv .2) (rw (record-of .record-of .ensures .0, signers .signers .ensures, nth .nth .ensures) at (p .1))),
+    )
 
 same-length : tie.Need-same-length Inv-loop μ-loop
 same-length c = put-length (c .before .loop .inv .2)
 
 returns : tie.Need-returns Inv-loop μ-loop
-returns c = let l = c .before .loop in let e : l .i ≡ c .before .before .before .before .before .before .before .args .count = omega arith in (rw (sym e) (l .inv .1), rw (sym e) (l .inv .2))
+returns c =
+    let l = c .before .loop in
+    let e : l .i ≡ start (c .before) .args .count = omega arith in
+    (rw (sym e) (l .inv .1), rw (sym e) (l .inv .2))
 
 pub put-lines-spec : {M : Type 1} → statement M
 put-lines-spec =

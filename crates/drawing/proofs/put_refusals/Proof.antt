@@ -22,6 +22,10 @@ Inv-loop out₀ at t m list count a₀ i₀ out a i =
 abbrev μ-loop : tie.MeasureT-loop
 μ-loop out₀ at t m list count a₀ i₀ out a i = count - i
 
+module _ (a : tie.At-loop Inv-loop μ-loop) where
+  abbrev start : tie.Start Inv-loop μ-loop
+  start = a .before .before .before .before .before
+
 loop-holds : tie.Need-loop-holds Inv-loop μ-loop
 unfolding refusedLines
 loop-holds c = (omega arith, omega arith, put-none _ _)
@@ -37,8 +41,9 @@ array-copy-out-put-refusal c = search needs
 
 put-refusal-requires : tie.Need-put-refusal-requires Inv-loop μ-loop
 put-refusal-requires c κs =
-    let w = put-length (c .before .before .before .loop .inv .2) in
-    let p = c .before .before .before .before .before .before .before .before .pre in
+    let l = c .before .before .before in
+    let p = start l .pre in
+    let w = put-length (l .loop .inv .2) in
     (p .0, (p .1 .0, omega (arith, w, p .1 .1 .1)))
 
 add-i : tie.Need-add-i Inv-loop μ-loop
@@ -49,15 +54,21 @@ loop-less c = search needs
 
 loop-again : tie.Need-loop-again Inv-loop μ-loop
 loop-again c =
-    let l = c .before .before .before .before .before .before .loop in
-    let p = c .before .before .put-refusal .ensures in
-    (omega arith, omega (arith, p .0), put-as (refused-more _ _ _ (l .i) _ (omega (arith, c .before .before .before .before .before .before .before .before .before .before .before .pre .1 .1 .0 .1))) (put-put (l .inv .2) (p .1)))
+    let l = c .before .before .before .before .before .before in
+    let p = c .before .before .put-refusal .ensures in (
+      omega arith,
+      omega (arith, p .0),
+      put-as (refused-more _ _ _ (l .loop .i) _ (omega (arith, start l .pre .1 .1 .0 .1))) (put-put (l .loop .inv .2) (p .1)),
+    )
 
 same-length : tie.Need-same-length Inv-loop μ-loop
 same-length c = put-length (c .before .loop .inv .2)
 
 returns : tie.Need-returns Inv-loop μ-loop
-returns c = let l = c .before .loop in let e : l .i ≡ c .before .before .before .before .before .before .args .refusals .count = omega arith in (rw (sym e) (l .inv .1), rw (sym e) (l .inv .2))
+returns c =
+    let l = c .before .loop in
+    let e : l .i ≡ start (c .before) .args .refusals .count = omega arith in
+    (rw (sym e) (l .inv .1), rw (sym e) (l .inv .2))
 
 pub put-refusals-spec : {M : Type 1} → statement M
 put-refusals-spec =

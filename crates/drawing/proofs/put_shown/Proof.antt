@@ -1,12 +1,13 @@
 -- `put_shown` meets its contract.
-use Prim.Native.Nat.{_+_, _-_, _≤_}
-use mathlib.Core.Path.{_≡_, refl, sym, ap, _∙_}
+use Prim.Native.Nat.{ℕ, _+_, _-_, _≤_}
+use mathlib.Core.Path.{_≡_, refl, ap, _∙_}
+use mathlib.Core.List.{List}
 use native.Mathlib.Omega.{arith}
-use lib.ListN.{length, take, drop}
+use lib.ListN.{length, getD, take, drop}
 use lib.Seq.{take-all}
 use Rattle.text.specs.Buffer.{Put}
 use Rattle.text.proofs.Writing.{put-put, put-as, put-none, put-length}
-use Rattle.drawing.specs.Drawing.{drawnFrom, rooms}
+use Rattle.drawing.specs.Drawing.{drawnFrom, roomOf, rooms}
 use Rattle.drawing.proofs.Texts.{drawn-more, rooms-at}
 use borrow.Author.Needs.{needs}
 use Rattle.drawing.proofs.put_shown.Statement.{statement}
@@ -21,6 +22,32 @@ Inv-loop out₀ items₀ t labels n shown at₀ i₀ out items at i =
 
 abbrev μ-loop : tie.MeasureT-loop
 μ-loop out₀ items₀ t labels n shown at₀ i₀ out items at i = length shown - i
+
+-- ---- the places of a turn
+
+module _ (a : tie.At-loop Inv-loop μ-loop) where
+  abbrev start : tie.Start Inv-loop μ-loop
+  start = a .before .before .before .before .before
+
+  abbrev labels : List ℕ
+  labels = start .args .labels .now
+
+  abbrev n : ℕ
+  n = start .args .n
+
+  abbrev shown : List ℕ
+  shown = start .args .shown .now
+
+module _ (a : tie.In-loop Inv-loop μ-loop) where
+  abbrev turn : tie.At-loop Inv-loop μ-loop
+  turn = a .before
+
+  abbrev i : ℕ
+  i = turn .loop .i
+
+  -- the room of the transmission that is written, and of those after it
+  room : rooms (labels turn) (n turn) (drop i (shown turn)) ≡ roomOf (labels turn) (n turn) (getD (shown turn) i 0) + rooms (labels turn) (n turn) (drop (i + 1) (shown turn))
+  room = rooms-at (labels turn) (n turn) (shown turn) i (a .loop-test .taken)
 
 loop-holds : tie.Need-loop-holds Inv-loop μ-loop
 unfolding drawnFrom
@@ -40,12 +67,11 @@ shared-slice-read-put-transmission c = search needs
 
 put-transmission-requires : tie.Need-put-transmission-requires Inv-loop μ-loop
 put-transmission-requires c κs =
-    let l = c .before .before .before .before .loop in
-    let st = c .before .before .before .before .before .before .before .before .before in
-    let p = st .pre in
-    let r = rooms-at (st .args .labels .now) (st .args .n) (st .args .shown .now) (l .i) (c .before .before .before .loop-test .taken) in
-    let w = put-length (l .inv .3) in
-    (l .inv .1 ∙ p .0, (p .1 .0, (p .1 .1 .0 .0, omega (arith, r, w, l .inv .2))))
+    let a = c .before .before .before in
+    let inv = turn a .loop .inv in
+    let p = start (turn a) .pre in
+    let w = put-length (inv .3) in
+    (inv .1 ∙ p .0, (p .1 .0, (p .1 .1 .0 .0, omega (arith, room a, w, inv .2))))
 
 add-i : tie.Need-add-i Inv-loop μ-loop
 add-i c = search needs
@@ -55,12 +81,12 @@ loop-less c = search needs
 
 loop-again : tie.Need-loop-again Inv-loop μ-loop
 loop-again c =
-    let l = c .before .before .before .before .before .before .before .before .before .loop in
-    let st = c .before .before .before .before .before .before .before .before .before .before .before .before .before .before in
-    let h = c .before .before .before .before .before .before .before .before .loop-test .taken in
-    let q = c .before .before .before .before .put-transmission .ensures in
-    let r = rooms-at (st .args .labels .now) (st .args .n) (st .args .shown .now) (l .i) h in
-    (omega (arith, h), c .before .before .before .before .put-transmission .kept .1 .1 .1 .0 ∙ l .inv .1, omega (arith, r, q .0, l .inv .2), put-as (drawn-more _ _ _ _ (l .i) h) (put-put (l .inv .3) (q .1)))
+    let put = c .before .before .before .before in
+    let a = put .before .before .before .before in
+    let h = a .loop-test .taken in
+    let inv = turn a .loop .inv in
+    let q = put .put-transmission .ensures in
+    (omega (arith, h), put .put-transmission .kept .1 .1 .1 .0 ∙ inv .1, omega (arith, room a, q .0, inv .2), put-as (drawn-more _ _ _ _ (i a) h) (put-put (inv .3) (q .1)))
 
 same-length : tie.Need-same-length Inv-loop μ-loop
 same-length c = put-length (c .before .loop .inv .3)
@@ -70,10 +96,9 @@ same-length-2 c = c .before .loop .inv .1
 
 returns : tie.Need-returns Inv-loop μ-loop
 returns c =
-    let l = c .before .loop in
-    let st = c .before .before .before .before .before .before in
-    let e : take (l .i) (st .args .shown .now) ≡ st .args .shown .now = take-all (l .i) (st .args .shown .now) (c .loop-test .left) in
-    put-as (ap (drawnFrom (st .args .t .now) (st .args .labels .now) (st .args .n) 1) e) (l .inv .3)
+    let l = c .before in
+    let e : take (l .loop .i) (shown l) ≡ shown l = take-all (l .loop .i) (shown l) (c .loop-test .left) in
+    put-as (ap (drawnFrom (start l .args .t .now) (labels l) (n l) 1) e) (l .loop .inv .3)
 
 pub put-shown-spec : {M : Type 1} → statement M
 put-shown-spec =

@@ -1,12 +1,16 @@
--- `put_transmission` meets its contract.
-use Prim.Native.Nat.{_≤_}
-use lib.ListN.{length}
-use mathlib.Core.Path.{_≡_, refl, sym, ap, _∙_, subst}
+-- `put_transmission` meets its contract: what is known at each of its places.
+use Prim.Native.Nat.{ℕ, _≤_}
+use mathlib.Core.Path.{_≡_, sym, ap, ap₂, _∙_, subst}
+use mathlib.Core.List.{List}
 use native.Mathlib.Omega.{arith}
+use lib.ListN.{length, take}
+use Rattle.text.proofs.Writing.{put-as}
+use Rattle.decision.specs.declared.Indices.{Indices}
+use Rattle.decision.specs.declared.Decision.{Decision}
 use Rattle.decision.specs.Answer.{indices, decided}
 use Rattle.transmissions.specs.Transmission.{outcomeOf, membersOf, itemsOf}
-use Rattle.transmissions.proofs.Gathering.{members-listed}
-use Rattle.drawing.specs.Drawing.{Arrayed, transmissionText, linesIn}
+use Rattle.transmissions.proofs.Gathering.{Listed, members-listed}
+use Rattle.drawing.specs.Drawing.{OfFixes, Arrayed, decidedText, transmissionText, linesIn}
 use Rattle.drawing.proofs.Bounds.{arrayed, lists-members}
 use borrow.Author.Needs.{needs}
 use Rattle.drawing.proofs.put_transmission.Statement.{statement}
@@ -17,6 +21,54 @@ use Rattle.drawing.proofs.put_decided.Reads as put-decided-reads
 use Rattle.transmissions.proofs.members.Reads as members-reads
 use Rattle.transmissions.proofs.outcome.Reads as outcome-reads
 
+-- ---- the places of the function
+
+-- the fixes of the transmission are listed
+module _ (a : tie.After-members) where
+  abbrev start : tie.Start
+  start = a .before .before .before .before
+
+  abbrev t : List ℕ
+  t = start .args .t .now
+
+  abbrev l : List ℕ
+  l = start .args .labels .now
+
+  abbrev n : ℕ
+  n = start .args .n
+
+  abbrev s : ℕ
+  s = start .args .s
+
+  listed : Listed l n s
+  listed = members-listed l n s (start .pre .1 .1 .0)
+
+  members-are : a .members .result ≡ indices (membersOf l n s)
+  members-are = a .members .ensures
+
+  fixes : OfFixes (a .members .result .list)
+  fixes = subst (λ (m : Indices). OfFixes (m .list)) (sym members-are) (listed .fixes)
+
+-- they are decided
+module _ (o : tie.After-outcome) where
+  abbrev gathered : tie.After-members
+  gathered = o .before .before .before .before
+
+  outcome-is : o .outcome .result ≡ outcomeOf (t gathered) (l gathered) (n gathered) (s gathered)
+  unfolding outcomeOf indices
+  outcome-is =
+      o .outcome .ensures
+      ∙ ap (λ (m : Indices). decided (itemsOf (t gathered) (take (m .count) (m .list)))) (members-are gathered)
+      ∙ ap (λ (js : List ℕ). decided (itemsOf (t gathered) js)) (listed gathered .all)
+
+  arrays : Arrayed (o .outcome .result)
+  arrays = subst Arrayed (sym (o .outcome .ensures)) (arrayed _)
+
+  few-lines : linesIn (o .outcome .result) ≤ length (membersOf (l gathered) (n gathered) (s gathered))
+  few-lines =
+      subst (λ (d : Decision). linesIn d ≤ length (membersOf (l gathered) (n gathered) (s gathered))) (sym outcome-is)
+      (lists-members (t gathered) (l gathered) (n gathered) (s gathered) (start gathered .pre .1 .0) (start gathered .pre .1 .1 .0))
+
 members-requires : tie.Need-members-requires
 members-requires c κs = search needs
 
@@ -26,24 +78,20 @@ slice-aggregate-outcome c = search needs
 outcome-requires : tie.Need-outcome-requires
 unfolding indices
 outcome-requires c κs =
-    let st = c .before .before .before .before .before .before .before in
-    let p = st .pre in
-    let w = members-listed (st .args .labels .now) (st .args .n) (st .args .s) (p .1 .1 .0) in
-    rw (c .before .before .before .members .ensures) (p .0, (p .1 .0, (w .few, w .long, w .fixes)))
+    let a = c .before .before .before in
+    let p = start a .pre in
+    let w = listed a in
+    rw (a .members .ensures) (p .0, (p .1 .0, (w .few, w .long, w .fixes)))
 
 slice-aggregate-put-decided : tie.Need-slice-aggregate-put-decided
 slice-aggregate-put-decided c = search needs
 
 put-decided-requires : tie.Need-put-decided-requires
-unfolding outcomeOf indices
 put-decided-requires c κs =
-    let st = c .before .before .before .before .before .before .before .before .before .before .before .before in
-    let p = st .pre in
-    let w = members-listed (st .args .labels .now) (st .args .n) (st .args .s) (p .1 .1 .0) in
-    let e : c .before .before .before .before .outcome .result ≡ outcomeOf (st .args .t .now) (st .args .labels .now) (st .args .n) (st .args .s) = c .before .before .before .before .outcome .ensures ∙ rw (c .before .before .before .before .before .before .before .before .members .ensures, w .all) refl in
-    let k = lists-members (st .args .t .now) (st .args .labels .now) (st .args .n) (st .args .s) (p .1 .0) (p .1 .1 .0) in
-    let k′ : linesIn (c .before .before .before .before .outcome .result) ≤ length (membersOf (st .args .labels .now) (st .args .n) (st .args .s)) = rw e k in
-    (p .1 .0, (rw (c .before .before .before .before .before .before .before .before .members .ensures) (w .fixes), (rw (c .before .before .before .before .outcome .ensures) (arrayed _), omega (arith, k′, p .1 .1 .1))))
+    let o = c .before .before .before .before in
+    let a = gathered o in
+    let p = start a .pre in
+    (p .1 .0, (fixes a, (arrays o, omega (arith, few-lines o, p .1 .1 .1))))
 
 same-length : tie.Need-same-length
 same-length c = search needs
@@ -52,16 +100,15 @@ same-length-2 : tie.Need-same-length-2
 same-length-2 c = search needs
 
 returns : tie.Need-returns
-unfolding outcomeOf indices transmissionText
+unfolding transmissionText
 returns c =
-    let st = c .before .before .before .before .before .before .before .before .before .before .before .before .before .before .before in
-    let p = st .pre in
-    let w = members-listed (st .args .labels .now) (st .args .n) (st .args .s) (p .1 .1 .0) in
-    let e : c .before .before .before .before .before .before .before .outcome .result ≡ outcomeOf (st .args .t .now) (st .args .labels .now) (st .args .n) (st .args .s) = c .before .before .before .before .before .before .before .outcome .ensures ∙ rw (c .before .before .before .before .before .before .before .before .before .before .before .members .ensures, w .all) refl in
-    let k = lists-members (st .args .t .now) (st .args .labels .now) (st .args .n) (st .args .s) (p .1 .0) (p .1 .1 .0) in
-    let k′ : linesIn (c .before .before .before .before .before .before .before .outcome .result) ≤ length (membersOf (st .args .labels .now) (st .args .n) (st .args .s)) = rw e k in
-    let r = c .before .before .put-decided .ensures in
-    (omega (arith, k′, r .0), rw (e, c .before .before .before .before .before .before .before .before .before .before .before .members .ensures) at (r .1))
+    let put = c .before .before in
+    let o = put .before .before .before .before .before in
+    let a = gathered o in
+    let r = put .put-decided .ensures in (
+      omega (arith, few-lines o, r .0),
+      put-as (ap₂ (λ (m : Indices) (d : Decision). decidedText (start a .args .number) (t a) (m .list) d) (members-are a) (outcome-is o)) (r .1),
+    )
 
 pub put-transmission-spec : {M : Type 1} → statement M
 put-transmission-spec =

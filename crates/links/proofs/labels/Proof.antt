@@ -18,6 +18,14 @@ Inv-loop t n labels₀ s₀ labels s = (s ≤ n) × (length labels ≡ maxFixes)
 abbrev μ-loop : tie.MeasureT-loop
 μ-loop t n labels₀ s₀ labels s = n - s
 
+-- ---- a turn: the fix has no label yet
+module _ (a : tie.Else1 Inv-loop μ-loop) where
+  abbrev turn : tie.At-loop Inv-loop μ-loop
+  turn = a .before .before
+
+  abbrev start : tie.Start Inv-loop μ-loop
+  start = turn .before .before
+
 loop-holds : tie.Need-loop-holds Inv-loop μ-loop
 loop-holds c = (omega arith, refl, labels-none _ _ (c .before .pre .few))
 
@@ -43,7 +51,7 @@ slice-aggregate-label-marked : tie.Need-slice-aggregate-label-marked Inv-loop μ
 slice-aggregate-label-marked c = search needs
 
 label-marked-requires : tie.Need-label-marked-requires Inv-loop μ-loop
-label-marked-requires c κs = (c .before .before .before .before .before .before .before .pre .few, c .before .before .before .before .before .loop .inv .1)
+label-marked-requires c κs = let a = c .before .before .before in (start a .pre .few, turn a .loop .inv .1)
 
 add-s-2 : tie.Need-add-s-2 Inv-loop μ-loop
 add-s-2 c = search needs
@@ -52,7 +60,14 @@ loop-less-2 : tie.Need-loop-less-2 Inv-loop μ-loop
 loop-less-2 c = search needs
 
 loop-again-2 : tie.Need-loop-again-2 Inv-loop μ-loop
-loop-again-2 c = let a = c .before .before .before .before .before .before .before .before .before in let f = a .pre .few in let l = c .before .before .before .before .before .before .before .loop .inv in (omega arith, ap length (c .before .label-marked .ensures) ∙ labelled-length _ _ _ _ _ ∙ l .1, labels-new _ _ f _ _ (c .before .before .before .before .before .before .loop-test .taken) (l .2) (links-turned (a .args .t .now)) (omega arith) (c .before .before .before .before .before .if1 .left) _ (c .before .before .before .before .walk .ensures) _ (c .before .label-marked .ensures))
+loop-again-2 c =
+    let a = c .before .before .before .before .before in
+    let inv = turn a .loop .inv in
+    let e = c .before .label-marked .ensures in (
+      omega arith,
+      ap length e ∙ labelled-length _ _ _ _ _ ∙ inv .1,
+      labels-new _ _ (start a .pre .few) _ _ (a .before .loop-test .taken) (inv .2) (links-turned (start a .args .t .now)) (omega arith) (a .if1 .left) _ (c .before .before .before .before .walk .ensures) _ e,
+    )
 
 returns : tie.Need-returns Inv-loop μ-loop
 returns c = labels-end _ _ (c .before .before .before .pre .few) _ _ (c .loop-test .left) (c .before .loop .inv .2)

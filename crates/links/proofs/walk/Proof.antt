@@ -1,4 +1,5 @@
 -- `walk` meets its contract.
+use Prim.Native.Nat.{_≤_}
 use mathlib.Core.Path.{_≡_, refl, ap, _∙_}
 use native.Mathlib.Omega.{arith}
 use lib.ListN.{length, length-set}
@@ -40,11 +41,28 @@ slice-aggregate-spread c = search needs
 spread-requires : tie.Need-spread-requires Inv-loop μ-loop
 spread-requires c κs = search needs
 
+-- ---- a turn: one waits, and what is linked to it is reached
+module _ (a : tie.Else1 Inv-loop μ-loop) where
+  abbrev turn : tie.At-loop Inv-loop μ-loop
+  turn = a .before .before .before .before
+
+  few : turn .before .before .args .n ≤ maxFixes
+  few = turn .before .before .pre .0 .few
+
 loop-less : tie.Need-loop-less Inv-loop μ-loop
-loop-less c = let b = c .before .before .before .before .before .before .before .loop in let p = c .before .before .before .before .before .before .before .before .before .pre .0 .few in walk-less _ (b .reached) (b .done) _ (c .before .before .before .before .next .ensures) (omega arith) (c .before .before .before .if1 .left)
+loop-less c =
+    let a = c .before .before .before in
+    let l = turn a .loop in
+    let f = few a in
+    walk-less _ (l .reached) (l .done) _ (a .before .next .ensures) (omega arith) (a .if1 .left)
 
 loop-again : tie.Need-loop-again Inv-loop μ-loop
-loop-again c = let b = c .before .before .before .before .before .before .before .loop in let p = c .before .before .before .before .before .before .before .before .before .pre .0 .few in (ap length (c .before .spread .ensures) ∙ spread-length _ _ _ _ ∙ b .inv .0, simp length-set (b .inv .1), walk-again _ _ _ _ (c .before .before .before .before .next .ensures) (omega arith) (c .before .before .before .if1 .left) _ _ _ (b .inv .2) (c .before .spread .ensures))
+loop-again c =
+    let a = c .before .before .before in
+    let l = turn a .loop in
+    let f = few a in
+    let e = c .before .spread .ensures in
+    (ap length e ∙ spread-length _ _ _ _ ∙ l .inv .0, simp length-set (l .inv .1), walk-again _ _ _ _ (a .before .next .ensures) (omega arith) (a .if1 .left) _ _ _ (l .inv .2) e)
 
 returns : tie.Need-returns Inv-loop μ-loop
 returns c = walk-end _ _ _ _ (c .before .next .ensures) _ _ _ (c .if1 .taken) (c .before .before .before .before .loop .inv .2)

@@ -1,9 +1,8 @@
 -- `leader` meets its contract.
-use mathlib.Core.Path.{_≡_, refl, sym, ap, _∙_}
-use native.Mathlib.Omega.{arith}
+use mathlib.Core.Path.{refl, _∙_}
 use Rattle.transmissions.specs.Transmission.{leaderOf, outcomeOf}
 use Rattle.decision.specs.Answer.{indices}
-use Rattle.transmissions.proofs.Gathering.{members-listed}
+use Rattle.transmissions.proofs.Gathering.{Listed, members-listed}
 use borrow.Author.Needs.{needs}
 use Rattle.transmissions.proofs.leader.Statement.{statement}
 use Rattle.transmissions.proofs.leader.Tie as tie
@@ -12,6 +11,14 @@ use Rattle.transmissions.proofs.leader.Lts as lts
 use Rattle.transmissions.proofs.members.Reads as members-reads
 use Rattle.transmissions.proofs.nth.Reads as nth-reads
 use Rattle.transmissions.proofs.outcome.Reads as outcome-reads
+
+-- the fixes of the transmission are listed
+module _ (a : tie.After-members) where
+  abbrev start : tie.Start
+  start = a .before .before .before
+
+  listed : Listed (start .args .labels .now) (start .args .n) (start .args .s)
+  listed = members-listed (start .args .labels .now) (start .args .n) (start .args .s) (start .pre .1 .1)
 
 members-requires : tie.Need-members-requires
 members-requires c κs = search needs
@@ -22,9 +29,9 @@ slice-aggregate-outcome c = search needs
 outcome-requires : tie.Need-outcome-requires
 unfolding indices
 outcome-requires c κs =
-    let st = c .before .before .before .before .before .before in
-    let w = members-listed (st .args .labels .now) (st .args .n) (st .args .s) (st .pre .1 .1) in
-    rw (c .before .before .before .members .ensures) (st .pre .0, (st .pre .1 .0, (w .few, w .long, w .fixes)))
+    let a = c .before .before .before in
+    let w = listed a in
+    rw (a .members .ensures) (start a .pre .0, (start a .pre .1 .0, (w .few, w .long, w .fixes)))
 
 slice-aggregate-nth : tie.Need-slice-aggregate-nth
 slice-aggregate-nth c = search needs
@@ -41,9 +48,9 @@ same-length c = search needs
 returns : tie.Need-returns
 unfolding leaderOf outcomeOf indices
 returns c =
-    let st = c .before .before .before .before .before .before .before .before .before .before .before .before in
-    let w = members-listed (st .args .labels .now) (st .args .n) (st .args .s) (st .pre .1 .1) in
-    c .nth .ensures ∙ rw (c .before .before .before .before .before .outcome .ensures, c .before .before .before .before .before .before .before .before .before .members .ensures, w .all) refl
+    let o = c .before .before .before .before .before in
+    let a = o .before .before .before .before in
+    c .nth .ensures ∙ rw (o .outcome .ensures, a .members .ensures, listed a .all) refl
 
 pub leader-spec : {M : Type 1} → statement M
 leader-spec =

@@ -13,6 +13,11 @@ use Rattle.transmissions.proofs.outcome.Lts as lts
 use Rattle.decision.proofs.decide.Reads as decide-reads
 use Rattle.transmissions.proofs.put_items.Reads as put-items-reads
 
+-- the items are written
+module _ (a : tie.After-put-items) where
+  abbrev start : tie.Start
+  start = a .before .before .before .before .before
+
 put-items-requires : tie.Need-put-items-requires
 put-items-requires c κs = search needs
 
@@ -20,7 +25,11 @@ slice-reshare-prefix-decide : tie.Need-slice-reshare-prefix-decide
 slice-reshare-prefix-decide c = search needs
 
 slice-aggregate-decide : tie.Need-slice-aggregate-decide
-slice-aggregate-decide c = let p = c .before .before .before .put-items .ensures in let w = put-length (p .1) in sym (length-take-le _ _ (omega (arith, w, p .0, c .before .before .before .before .before .before .before .before .pre)))
+slice-aggregate-decide c =
+    let a = c .before .before .before in
+    let p = a .put-items .ensures in
+    let w = put-length (p .1) in
+    sym (length-take-le _ _ (omega (arith, w, p .0, start a .pre)))
 
 decide-requires : tie.Need-decide-requires
 decide-requires c κs = search needs
@@ -29,7 +38,10 @@ same-length : tie.Need-same-length
 same-length c = search needs
 
 returns : tie.Need-returns
-returns c = let p = c .before .before .before .before .put-items .ensures in c .decide .ensures ∙ ap decided (written (p .1) (omega (arith, p .0, c .before .before .before .before .before .before .before .before .before .pre)))
+returns c =
+    let a = c .before .before .before .before in
+    let p = a .put-items .ensures in
+    c .decide .ensures ∙ ap decided (written (p .1) (omega (arith, p .0, start a .pre)))
 
 pub outcome-spec : {M : Type 1} → statement M
 outcome-spec =

@@ -1,5 +1,5 @@
 -- `put_item` meets its contract.
-use Rattle.text.proofs.Writing.{put-put, put-as}
+use Rattle.text.proofs.Writing.{put-put}
 use native.Mathlib.Omega.{arith}
 use borrow.Author.Needs.{needs}
 use Rattle.transmissions.proofs.put_item.Statement.{statement}
@@ -38,13 +38,21 @@ put-bytes-requires-4 c κs = search needs
 same-length : tie.Need-same-length
 same-length c = search needs
 
+-- the four parts, one after another
 returns : tie.Need-returns
 returns c =
-    let p = c .before .before .before .before .before .before .before .before .before .before .before .before .before .before .before .before .before .put-bytes .ensures in
-    let q = c .before .before .before .before .before .before .before .before .before .before .before .before .put-bytes2 .ensures in
-    let r = c .before .before .before .before .before .before .before .put-bytes3 .ensures in
-    let e = c .before .before .put-bytes4 .ensures in
-    (omega (arith, p .next, q .next, r .next, e .next, c .before .before .before .before .before .before .before .before .before .before .before .before .before .before .before .before .before .before .record-of .ensures .1, c .before .before .before .before .before .before .before .before .before .before .before .before .before .inputs .ensures .1, c .before .before .before .before .before .before .before .before .identity .ensures .1), put-put (rw (c .before .before .before .before .before .before .before .before .before .before .before .before .before .before .before .before .before .before .record-of .ensures .0) at p) (put-put (rw (c .before .before .before .before .before .before .before .before .before .before .before .before .before .inputs .ensures .0) at q) (put-put (rw (c .before .before .before .before .before .before .before .before .identity .ensures .0) at r) e)))
+    let flags = c .before .before in
+    let identity = flags .before .before .before .before .before in
+    let inputs = identity .before .before .before .before .before in
+    let record-of = inputs .before .before .before .before .before in
+    let r = record-of .before .record-of .ensures in
+    let i = inputs .before .inputs .ensures in
+    let n = identity .before .identity .ensures in
+    let p = record-of .put-bytes .ensures in
+    let q = inputs .put-bytes2 .ensures in
+    let o = identity .put-bytes3 .ensures in
+    let e = flags .put-bytes4 .ensures in
+    (omega (arith, p .next, q .next, o .next, e .next, r .1, i .1, n .1), put-put (rw (r .0) at p) (put-put (rw (i .0) at q) (put-put (rw (n .0) at o) e)))
 
 pub put-item-spec : {M : Type 1} → statement M
 put-item-spec =

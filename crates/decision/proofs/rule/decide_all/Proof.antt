@@ -21,14 +21,19 @@ refused-table-requires c κs = search needs
 refuse-all-requires : tie.Need-refuse-all-requires
 refuse-all-requires c κs = search needs
 
+-- once it is known who is refused
+module _ (a : tie.After-refused-table) where
+  abbrev start : tie.Start
+  start = a .before .before .before .before .before .before .before .before .before .before .before .before
+
 dominate-all-requires : tie.Need-dominate-all-requires
-dominate-all-requires c κs = (c .before .before .before .before .before .before .before .before .before .before .before .before .before .before .before .before .before .pre .0, c .before .before .before .before .before .before .before .before .before .before .before .before .before .before .before .before .before .pre .1, c .before .before .before .before .before .refused-table .ensures)
+dominate-all-requires c κs = let a = c .before .before .before .before .before in (start a .pre .0, start a .pre .1, a .refused-table .ensures)
 
 stands-table-requires : tie.Need-stands-table-requires
-stands-table-requires c κs = (c .before .before .before .before .before .before .before .before .before .before .before .before .before .before .before .before .before .before .before .pre .0, c .before .before .before .before .before .before .before .before .before .before .before .before .before .before .before .before .before .before .before .pre .1, c .before .before .before .before .before .before .before .refused-table .ensures)
+stands-table-requires c κs = let a = c .before .before .before .before .before .before .before in (start a .pre .0, start a .pre .1, a .refused-table .ensures)
 
 rank-all-requires : tie.Need-rank-all-requires
-rank-all-requires c κs = (c .before .before .before .before .before .before .before .before .before .before .before .before .before .before .before .before .before .before .before .before .pre .0, c .before .before .before .before .before .before .before .before .before .before .before .before .before .before .before .before .before .before .before .before .pre .1 .long, c .stands-table .ensures)
+rank-all-requires c κs = let a = c .before .before .before .before .before .before .before .before in (start a .pre .0, start a .pre .1 .long, c .stands-table .ensures)
 
 returns : tie.Need-returns
 unfolding decision
