@@ -1,6 +1,8 @@
 -- `board` meets its contract.
+use Prim.Native.Nat.{ℕ}
 use mathlib.Core.Path.{_≡_, refl, sym, _∙_}
 use mathlib.Core.Bool.{true}
+use mathlib.Core.List.{List}
 use native.Mathlib.Omega.{arith}
 use native.Mathlib.Nat.{le-trans}
 use borrow.Author.Tests.{lt-ltb, le-ltb}
@@ -16,6 +18,14 @@ use Rattle.board.proofs.board.Lts as lts
 use Rattle.board.proofs.draw.Reads as draw-reads
 use Rattle.register.proofs.formed.well_formed.Reads as well-formed-reads
 
+-- the register is well-formed
+module _ (a : tie.Else1) where
+  abbrev m : List ℕ
+  m = a .before .before .before .before .args .memory .now
+
+  formed : wellFormed m ≡ true
+  formed = sym (a .before .well-formed .ensures) ∙ not-false-t _ (a .if1 .left)
+
 well-formed-requires : tie.Need-well-formed-requires
 well-formed-requires c κs = search needs
 
@@ -25,16 +35,16 @@ returns c = rw (sym (c .before .well-formed .ensures) ∙ not-t _ (c .if1 .taken
 
 returns-2 : tie.Need-returns-2
 unfolding boarded
-returns-2 c = rw ((sym (c .before .before .well-formed .ensures) ∙ not-false-t _ (c .before .if1 .left)), lt-ltb _ _ (c .if2 .taken)) refl
+returns-2 c = rw (formed (c .before), lt-ltb _ _ (c .if2 .taken)) refl
 
 draw-requires : tie.Need-draw-requires
-draw-requires c κs = ((sym (c .before .before .before .well-formed .ensures) ∙ not-false-t _ (c .before .before .if1 .left)), c .before .if2 .left)
+draw-requires c κs = (formed (c .before .before), c .before .if2 .left)
 
 cast-result : tie.Need-cast-result
 cast-result c =
-    let w = (sym (c .before .before .before .before .before .before .well-formed .ensures) ∙ not-false-t _ (c .before .before .before .before .before .if1 .left)) in
+    let a = c .before .before .before .before .before in
     let p = c .before .before .draw .ensures in
-    let f = fits-board _ w in
+    let f = fits-board (m a) (formed a) in
     record { fits = omega (arith, p .next, f) }
 
 same-length : tie.Need-same-length
@@ -43,10 +53,10 @@ same-length c = search needs
 returns-3 : tie.Need-returns-3
 unfolding boarded
 returns-3 c =
-    let st = c .before .before .before .before .before .before .before .before .before in
-    let w : wellFormed (st .args .memory .now) ≡ true = (sym (c .before .before .before .before .before .before .well-formed .ensures) ∙ not-false-t _ (c .before .before .before .before .before .if1 .left)) in
-    let s = c .before .before .before .before .if2 .left in
-    rw (w, le-ltb _ _ s) (put-written _ _ _ _ (c .before .before .draw .ensures) (le-trans (fits-board (st .args .memory .now) w) s))
+    let sized = c .before .before .before .before in
+    let a = sized .before in
+    let s = sized .if2 .left in
+    rw (formed a, le-ltb _ _ s) (put-written _ _ _ _ (c .before .before .draw .ensures) (le-trans (fits-board (m a) (formed a)) s))
 
 pub board-spec : {M : Type 1} → statement M
 board-spec =
