@@ -15,12 +15,18 @@ pub record Strict (before : ℕ → ℕ → Bool) (n : ℕ) : Type 0 where
   pub trans : (i j k : ℕ) → before i j ≡ true → before j k ≡ true → before i k ≡ true
   pub total : (i j : ℕ) → i < n → j < n → (i ≡ j) ⊎ ((before i j ≡ true) ⊎ (before j i ≡ true))
 
+-- the same of those at which g holds alone
+pub record StrictAt (before : ℕ → ℕ → Bool) (n : ℕ) (g : ℕ → Bool) : Type 0 where
+  pub irrefl : (i : ℕ) → before i i ≡ false
+  pub trans : (i j k : ℕ) → before i j ≡ true → before j k ≡ true → before i k ≡ true
+  pub total : (i j : ℕ) → i < n → j < n → g i ≡ true → g j ≡ true → (i ≡ j) ⊎ ((before i j ≡ true) ⊎ (before j i ≡ true))
+
 -- b is the first of those below k at which g holds, or none where there are none
 pub data First (before : ℕ → ℕ → Bool) (none : ℕ) (g : ℕ → Bool) (k b : ℕ) : Type 0 where
   nothing : b ≡ none → ((j : ℕ) → j < k → g j ≡ false) → First before none g k b
   found : b < k → g b ≡ true → ((j : ℕ) → j < k → g j ≡ true → (j ≡ b) ⊎ (before b j ≡ true)) → First before none g k b
 
-module _ (before : ℕ → ℕ → Bool) (none n : ℕ) (few : n ≤ none) (strict : Strict before n) (g : ℕ → Bool) where
+module _ (before : ℕ → ℕ → Bool) (none n : ℕ) (few : n ≤ none) (g : ℕ → Bool) (strict : StrictAt before n g) where
   upto : (k j : ℕ) → j < suc k → (j < k) ⊎ (j ≡ k)
   upto k j h = or (eq-or-lt-of-le h) (λ e. inr (omega arith)) (λ l. inl (omega arith))
 
@@ -39,7 +45,7 @@ module _ (before : ℕ → ℕ → Bool) (none n : ℕ) (few : n ≤ none) (stri
       (λ z. inl z))))
       (λ r. rw r (found (omega arith) q (λ j m s. or (upto k j m)
       (λ u. f j u s)
-      (λ z. or (strict .total best k (omega arith) h)
+      (λ z. or (strict .total best k (omega arith) h q p)
       (λ e. absurd (omega arith))
       (λ w. or w (λ t. inr (ap (before best) z ∙ t)) (λ t. clash t r))))))))
       (λ p. rw p (found (omega arith) q (λ j m s. or (upto k j m) (λ u. f j u s) (λ z. clash s (ap g z ∙ p)))))
@@ -52,16 +58,28 @@ module _ (before : ℕ → ℕ → Bool) (none n : ℕ) (few : n ≤ none) (stri
       rw e (first-least (cond (g k) (better before none best k) best) (suc k) f (omega arith) (step best k (omega arith) w))
 
   -- what `least` gives is the first
-  pub least-is : First before none g n (least before none g none 0 n)
-  least-is =
+  pub least-at : First before none g n (least before none g none 0 n)
+  least-at =
       let e : 0 + n ≡ n = omega arith in
       subst (λ (k : ℕ). First before none g k (least before none g none 0 n)) e (first-least none 0 n (omega arith) (nothing refl (λ j l. absurd (omega arith))))
 
   -- and there is no second
-  pub only-first : (a b : ℕ) → First before none g n a → First before none g n b → a ≡ b
-  only-first a b (nothing e f) (nothing e′ f′) = e ∙ sym e′
-  only-first a b (nothing e f) (found l q h) = clash q (f b l)
-  only-first a b (found l q h) (nothing e f) = clash q (f a l)
-  only-first a b (found l q h) (found l′ q′ h′) =
+  pub only-at : (a b : ℕ) → First before none g n a → First before none g n b → a ≡ b
+  only-at a b (nothing e f) (nothing e′ f′) = e ∙ sym e′
+  only-at a b (nothing e f) (found l q h) = clash q (f b l)
+  only-at a b (found l q h) (nothing e f) = clash q (f a l)
+  only-at a b (found l q h) (found l′ q′ h′) =
       or (h b l′ q′) (λ z. sym z)
       (λ r. or (h′ a l q) (λ z. z) (λ s. clash (strict .trans a b a r s) (strict .irrefl a)))
+
+-- ---- where all can be compared
+
+module _ (before : ℕ → ℕ → Bool) (none n : ℕ) (few : n ≤ none) (strict : Strict before n) (g : ℕ → Bool) where
+  strict-at : StrictAt before n g
+  strict-at = record { irrefl = strict .irrefl; trans = strict .trans; total = λ i j p q u v. strict .total i j p q }
+
+  pub least-is : First before none g n (least before none g none 0 n)
+  least-is = least-at before none n few g strict-at
+
+  pub only-first : (a b : ℕ) → First before none g n a → First before none g n b → a ≡ b
+  only-first = only-at before none n few g strict-at
