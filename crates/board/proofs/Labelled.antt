@@ -15,17 +15,20 @@ use Rattle.drawing.specs.Drawing.{drawn}
 use Rattle.drawing.proofs.Relabelled.{drawn-same}
 use Rattle.board.specs.Board.{labelsOf}
 
-every-at : (f : ℕ → ℕ) (k m r j : ℕ) → j < m → getD (collect every f k m ++ replicate r 0) j 0 ≡ f (k + j)
-unfolding collect
-every-at f k zero r j h = absurd (omega arith)
-every-at f k (suc m) r zero h = let e : k ≡ k + 0 = omega arith in ap f e
-every-at f k (suc m) r (suc j) h = let e : suc k + j ≡ k + suc j = omega arith in every-at f (suc k) m r j (omega arith) ∙ ap f e
+-- what a table of f has at each index
+module _ {A : Type 0} (d : A) (f : ℕ → A) where
+  every-at : (k m r j : ℕ) → j < m → getD (collect every f k m ++ replicate r d) j d ≡ f (k + j)
+  unfolding collect
+  every-at k zero r j h = absurd (omega arith)
+  every-at k (suc m) r zero h = let e : k ≡ k + 0 = omega arith in ap f e
+  every-at k (suc m) r (suc j) h = let e : suc k + j ≡ k + suc j = omega arith in every-at (suc k) m r j (omega arith) ∙ ap f e
+
+  pub tabled-at : (n j : ℕ) → j < n → getD (tabled d f n) j d ≡ f j
+  tabled-at n j h = every-at 0 n (maxFixes - length (collect every f 0 n)) j h ∙ (let e : 0 + j ≡ j = omega arith in ap f e)
 
 -- the label of each fix
 pub label-at : (t : List ℕ) (n j : ℕ) → j < n → getD (labelsOf t n) j 0 ≡ label (linkAt t) n j
-label-at t n j h =
-    every-at (label (linkAt t) n) 0 n (maxFixes - length (collect every (label (linkAt t) n) 0 n)) j h
-    ∙ (let e : 0 + j ≡ j = omega arith in ap (label (linkAt t) n) e)
+label-at t n j h = tabled-at 0 (label (linkAt t) n) n j h
 
 pub labels-same : (t l : List ℕ) (n : ℕ) → Cached 0 l (label (linkAt t) n) n → drawn t l n ≡ drawn t (labelsOf t n) n
 labels-same t l n c =

@@ -5,3 +5,4 @@ pub mod Fitting
 pub mod WholeLists
 pub mod Positions
 pub mod Decided
+pub mod Newest
