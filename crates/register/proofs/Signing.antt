@@ -1,23 +1,21 @@
 -- What putting a record or a summary into a register's bytes leaves: the bytes of the register with it.
-use Prim.Native.Nat.{ℕ, suc, _+_, _*_, _-_, _≤_, _<_}
+use Prim.Native.Nat.{ℕ, _+_, _*_, _-_, _≤_, _<_}
 use mathlib.Core.Path.{_≡_, refl, sym, ap, ap₂, _∙_}
-use mathlib.Core.Bool.{Bool, true, false, cond, not, _&&_, true≢false, false≢true}
-use mathlib.Core.Logic.{_⊎_, inl, inr, ⊎-elim}
-use mathlib.Core.List.{List, [], _∷_, _++_, append-assoc, append-nil}
+use mathlib.Core.Bool.{Bool, true, false, cond}
+use mathlib.Core.List.{List, [], _++_, append-assoc, append-nil}
 use native.Mathlib.Omega.{arith}
-use native.Mathlib.Nat.{mul-le-mul-right, suc-mul}
-use lib.Dec.{ltb, leb, eqb}
-use lib.ListN.{length, getD, take, drop, set, length-append, length-take, length-drop, length-set, take-append-drop}
-use lib.Seq.{set-getD, take-at, drop-at, take-add, take-take, drop-drop, take-all, length-take-le}
-use borrow.Author.Tests.{ltb-true, leb-true, leb-false}
+use lib.Dec.{ltb, leb}
+use lib.ListN.{length, getD, take, drop, set, length-append, length-take, length-drop}
+use lib.Seq.{set-getD, drop-at, take-add, take-take, drop-drop, take-all, length-take-le}
+use borrow.Author.Tests.{ltb-true}
 use Rattle.octets.specs.Masks.{withBit}
 use Rattle.octets.specs.Order.{same}
 use Rattle.octets.specs.Words.{word, wordBytes, wordAt, putWord}
-use Rattle.octets.proofs.Cases.{by, and-left, and-right}
+use Rattle.octets.proofs.Cases.{and-left, and-right}
 use Rattle.octets.proofs.Comparison.{same-eq}
 use Rattle.octets.proofs.Moves.{tail-back, tail-lent}
 use Rattle.octets.proofs.Numbers.{Bytes, length-word-bytes}
-use Rattle.places.specs.Places.{places, tableOf, ascending, rank, holds, withPlace, putPlace}
+use Rattle.places.specs.Places.{tableOf, ascending, rank, holds, putPlace}
 use Rattle.places.specs.Put.{Putting, putting, tried}
 use Rattle.places.specs.declared.Put.{Put}
 use Rattle.places.specs.declared.Put.the-variants.{Held, Full, New}
@@ -28,9 +26,9 @@ use Rattle.places.proofs.Trying.{tried-table}
 use Rattle.models.specs.Summary.{summarySize}
 use Rattle.record.specs.Layout.{recordSize}
 use Rattle.register.specs.Layout.{maxSummaries, maxRecords, placeSize, summaryCountAt, recordCountAt, summariesAt, summariesSize, recordsAt}
-use Rattle.register.specs.Register.{Register, After, after, signedBy, signedInto, heldInto, nothing}
-use Rattle.register.specs.Memory.{wellFormed, convictedIn, summaryCount, recordCount, summaryBytes, recordBytes, summariesIn, recordsIn, decode, encode, settled}
-use Rattle.register.proofs.Frames.{frame, put-summary-count, put-record-count, frame-summaries, frame-records, frame-records-back, frame-summaries-back, put-in-records}
+use Rattle.register.specs.Register.{Register, after, signedBy, signedInto, heldInto, nothing}
+use Rattle.register.specs.Memory.{convictedIn, summaryCount, recordCount, summariesIn, recordsIn, decode, encode, settled}
+use Rattle.register.proofs.Frames.{frame, put-summary-count, put-record-count, frame-records-back, frame-summaries-back, put-in-records}
 use Rattle.register.proofs.Opened.{Opened, summaries-length, records-length, summaries-wide, records-wide, summaries-ascend, records-ascend, summaries-are, records-are, framed}
 
 -- ---- which way a place went
@@ -55,11 +53,22 @@ held-not-new p q = let v : _≡_ {A = ℕ} 0 1 = cc in omega arith
 pub full-not-new : {a : Put} → a ≡ Full → a ≡ New → ⊥
 full-not-new p q = let v : _≡_ {A = ℕ} 0 1 = cc in omega arith
 
--- a place that is held
-pub held-index : {h full : Bool} {i : ℕ} {t t₁ : List ℕ} {a : Put} {t′ : List ℕ} → Way h full i t t₁ a t′ → (j : ℕ) → a ≡ Held j → (j ≡ i) × ((h ≡ true) × (t′ ≡ t))
-held-index (held h q z) j p = (cc, (h, z))
-held-index (none h g q z) j p = absurd (held-not-full p q)
-held-index (new h g q z) j p = absurd (held-not-new p q)
+-- what an answer tells
+module _ {h full : Bool} {i : ℕ} {t t₁ : List ℕ} {a : Put} {t′ : List ℕ} where
+  pub held-told : Way h full i t t₁ a t′ → (j : ℕ) → a ≡ Held j → (j ≡ i) × ((h ≡ true) × (t′ ≡ t))
+  held-told (held h q z) j p = (cc, (h, z))
+  held-told (none h g q z) j p = absurd (held-not-full p q)
+  held-told (new h g q z) j p = absurd (held-not-new p q)
+
+  pub full-told : Way h full i t t₁ a t′ → a ≡ Full → (h ≡ false) × ((full ≡ true) × (t′ ≡ t))
+  full-told (held h q z) p = absurd (held-not-full q p)
+  full-told (none h g q z) p = (h, (g, z))
+  full-told (new h g q z) p = absurd (full-not-new p q)
+
+  pub new-told : Way h full i t t₁ a t′ → a ≡ New → (h ≡ false) × ((full ≡ false) × (t′ ≡ t₁))
+  new-told (held h q z) p = absurd (held-not-new q p)
+  new-told (none h g q z) p = absurd (full-not-new q p)
+  new-told (new h g q z) p = (h, (g, z))
 
 -- a key that is held stands at its position
 pub held-at : (k : ℕ) (key : List ℕ) (ps : List (List ℕ)) → ascending k ps ≡ true → holds k key ps ≡ true → (rank k key ps < length ps) × (take k (getD ps (rank k key ps) []) ≡ key)
@@ -116,6 +125,14 @@ word-of-place w cap ps k i wd e h =
 
 -- ---- a record
 
+-- a memory whose lent records have become these bytes
+abbrev pub withRecords : List ℕ → List ℕ → List ℕ
+withRecords m t = take recordsAt m ++ (t ++ drop (length m - recordsAt) (drop recordsAt m))
+
+-- a memory with an engine's bit among the signers of record i
+abbrev pub withSigner : ℕ → ℕ → List ℕ → List ℕ
+withSigner i e m = putWord 4 (recordsAt + i * placeSize + recordSize) (withBit (wordAt 4 (recordsAt + i * placeSize + recordSize) m) e) m
+
 module _ (m : List ℕ) (o : Opened m) (b : Bytes m) (e : ℕ) (r : List ℕ) (lr : length r ≡ recordSize) where
   abbrev ps : List (List ℕ)
   ps = recordsIn m
@@ -126,6 +143,10 @@ module _ (m : List ℕ) (o : Opened m) (b : Bytes m) (e : ℕ) (r : List ℕ) (l
   few : length ps ≤ maxRecords
   few = rw (records-length m o) (o .few-records)
 
+  -- which way the record went
+  abbrev pub RecordWay : Put → List ℕ → Type 0
+  RecordWay a t′ = Way (holds recordSize r ps) (leb maxRecords (length ps)) (rank recordSize r ps) (tableOf placeSize maxRecords ps) (tableOf placeSize maxRecords put) a t′
+
   pub place-length : length (r ++ signedBy e []) ≡ placeSize
   place-length = rw (length-append, lr, length-word-bytes 4 (withBit (word []) e)) refl
 
@@ -133,8 +154,7 @@ module _ (m : List ℕ) (o : Opened m) (b : Bytes m) (e : ℕ) (r : List ℕ) (l
   lent = tail-lent m recordsAt ∙ records-are m o
 
   -- what was tried, in terms of the records held
-  pub record-way : (n : ℕ) (p : List ℕ) (a : Put) (t′ : List ℕ) → n ≡ recordCount m → p ≡ r ++ signedBy e [] → putting a t′ ≡ tried n maxRecords placeSize recordSize p (take (length m - recordsAt) (drop recordsAt m))
-      → Way (holds recordSize r ps) (leb maxRecords (length ps)) (rank recordSize r ps) (tableOf placeSize maxRecords ps) (tableOf placeSize maxRecords put) a t′
+  pub record-way : (n : ℕ) (p : List ℕ) (a : Put) (t′ : List ℕ) → n ≡ recordCount m → p ≡ r ++ signedBy e [] → putting a t′ ≡ tried n maxRecords placeSize recordSize p (take (length m - recordsAt) (drop recordsAt m)) → RecordWay a t′
   record-way n p a t′ en ep q =
       way (holds recordSize r ps) (leb maxRecords (length ps)) (rank recordSize r ps) (tableOf placeSize maxRecords ps) (tableOf placeSize maxRecords put) a t′
       (q ∙ ap₂ (λ (x : ℕ) (y : List ℕ). tried x maxRecords placeSize recordSize y (take (length m - recordsAt) (drop recordsAt m))) (en ∙ sym (records-length m o)) ep
@@ -147,34 +167,35 @@ module _ (m : List ℕ) (o : Opened m) (b : Bytes m) (e : ℕ) (r : List ℕ) (l
   abbrev with-records : Register
   with-records = record { convicted = convictedIn m; summaries = summariesIn m; records = put }
 
-  back : (t′ : List ℕ) → take recordsAt m ++ (t′ ++ drop (length m - recordsAt) (drop recordsAt m)) ≡ frame (convictedIn m) (length (summariesIn m)) (length ps) (tableOf summarySize maxSummaries (summariesIn m)) t′
+  back : (t′ : List ℕ) → withRecords m t′ ≡ frame (convictedIn m) (length (summariesIn m)) (length ps) (tableOf summarySize maxSummaries (summariesIn m)) t′
   back t′ =
       tail-back m t′ recordsAt ∙ ap (λ (x : List ℕ). take recordsAt x ++ t′) (framed m o b)
       ∙ frame-records-back (convictedIn m) (length (summariesIn m)) (length ps) (tableOf summarySize maxSummaries (summariesIn m)) (tableOf placeSize maxRecords ps) s-length t′
 
   -- nothing was written
-  pub back-same : (t′ : List ℕ) → t′ ≡ tableOf placeSize maxRecords ps → take recordsAt m ++ (t′ ++ drop (length m - recordsAt) (drop recordsAt m)) ≡ m
+  back-same : (t′ : List ℕ) → t′ ≡ tableOf placeSize maxRecords ps → withRecords m t′ ≡ m
   back-same t′ q = back t′ ∙ ap (frame (convictedIn m) (length (summariesIn m)) (length ps) (tableOf summarySize maxSummaries (summariesIn m))) q ∙ sym (framed m o b)
 
-  pub record-new : (t′ x : List ℕ) (n : ℕ) → n ≡ recordCount m → holds recordSize r ps ≡ false → leb maxRecords (length ps) ≡ false → t′ ≡ tableOf placeSize maxRecords put
-      → x ≡ putWord 2 recordCountAt (n + 1) (take recordsAt m ++ (t′ ++ drop (length m - recordsAt) (drop recordsAt m))) → after 0 x ≡ settled m (signedInto e r (decode m))
-  unfolding decode encode
-  record-new t′ x n en h f q z =
-      let l : n + 1 ≡ length put = ap (λ (i : ℕ). i + 1) (en ∙ sym (records-length m o)) ∙ sym (new-length recordSize (signedBy e) r ps h) in
-      rw (h, f) (ap (after 0)
-      (z ∙ ap (putWord 2 recordCountAt (n + 1)) (back t′)
-      ∙ put-record-count (convictedIn m) (length (summariesIn m)) (length ps) (tableOf summarySize maxSummaries (summariesIn m)) t′ (n + 1)
-      ∙ ap₂ (λ (i : ℕ) (y : List ℕ). frame (convictedIn m) (length (summariesIn m)) i (tableOf summarySize maxSummaries (summariesIn m)) y) l q))
-
-  pub record-full : (t′ : List ℕ) → holds recordSize r ps ≡ false → leb maxRecords (length ps) ≡ true → t′ ≡ tableOf placeSize maxRecords ps
-      → after 5 (take recordsAt m ++ (t′ ++ drop (length m - recordsAt) (drop recordsAt m))) ≡ settled m (signedInto e r (decode m))
-  unfolding decode
-  record-full t′ h f q = rw (h, f) (ap (after 5) (back-same t′ q))
-
-  pub record-again : (x : List ℕ) (i : ℕ) → i ≡ rank recordSize r ps → holds recordSize r ps ≡ true → x ≡ putWord 4 (recordsAt + i * placeSize + recordSize) (withBit (wordAt 4 (recordsAt + i * placeSize + recordSize) m) e) m
+  pub record-new : {a : Put} (t′ x : List ℕ) (n : ℕ) → n ≡ recordCount m → RecordWay a t′ → a ≡ New → x ≡ putWord 2 recordCountAt (n + 1) (withRecords m t′)
       → after 0 x ≡ settled m (signedInto e r (decode m))
   unfolding decode encode
-  record-again x i ei h z =
+  record-new t′ x n en w a z =
+      let v = new-told w a in
+      let l : n + 1 ≡ length put = ap (λ (i : ℕ). i + 1) (en ∙ sym (records-length m o)) ∙ sym (new-length recordSize (signedBy e) r ps (v .0)) in
+      rw (v .0, v .1 .0) (ap (after 0)
+      (z ∙ ap (putWord 2 recordCountAt (n + 1)) (back t′)
+      ∙ put-record-count (convictedIn m) (length (summariesIn m)) (length ps) (tableOf summarySize maxSummaries (summariesIn m)) t′ (n + 1)
+      ∙ ap₂ (λ (i : ℕ) (y : List ℕ). frame (convictedIn m) (length (summariesIn m)) i (tableOf summarySize maxSummaries (summariesIn m)) y) l (v .1 .1)))
+
+  pub record-full : {a : Put} (t′ : List ℕ) → RecordWay a t′ → a ≡ Full → after 5 (withRecords m t′) ≡ settled m (signedInto e r (decode m))
+  unfolding decode
+  record-full t′ w a = let v = full-told w a in rw (v .0, v .1 .0) (ap (after 5) (back-same t′ (v .1 .1)))
+
+  -- a signer of a record that is held
+  signed-again : (x : List ℕ) (i : ℕ) → i ≡ rank recordSize r ps → holds recordSize r ps ≡ true → x ≡ withSigner i e m
+      → after 0 x ≡ settled m (signedInto e r (decode m))
+  unfolding decode encode
+  signed-again x i ei h z =
       let at = held-at recordSize r ps (records-ascend m o) h in
       let il : i < length ps = rw ei (at .0) in
       let c = convictedIn m in
@@ -198,7 +219,25 @@ module _ (m : List ℕ) (o : Opened m) (b : Bytes m) (e : ℕ) (r : List ℕ) (l
       let l : n₂ ≡ length put = sym (put-length-held recordSize (signedBy e) r lr ps (records-ascend m o) h) in
       rw h (ap (after 0) (z ∙ g ∙ ap₂ (λ (k : ℕ) (y : List ℕ). frame c n₁ k s y) l w))
 
+  -- record i is held: it lies in the table, of which nothing was written, and gains the signer
+  module _ {a : Put} (t′ : List ℕ) (way-gone : RecordWay a t′) (i : ℕ) (is-held : a ≡ Held i) where
+    pub held-within : i < maxRecords
+    held-within =
+        let v = held-told way-gone i is-held in
+        let at = held-at recordSize r ps (records-ascend m o) (v .1 .0) .0 in
+        rw (v .0) (omega (arith, records-length m o, o .few-records))
+
+    pub held-unwritten : withRecords m t′ ≡ m
+    held-unwritten = back-same t′ (held-told way-gone i is-held .1 .1)
+
+    pub record-again : (x : List ℕ) → x ≡ withSigner i e (withRecords m t′) → after 0 x ≡ settled m (signedInto e r (decode m))
+    record-again x z = let v = held-told way-gone i is-held in signed-again x i (v .0) (v .1 .0) (z ∙ ap (withSigner i e) held-unwritten)
+
 -- ---- a summary
+
+-- a memory whose lent summaries have become these bytes
+abbrev pub withSummaries : List ℕ → List ℕ → List ℕ
+withSummaries m t = take summariesAt m ++ (t ++ drop summariesSize (drop summariesAt m))
 
 module _ (m : List ℕ) (o : Opened m) (b : Bytes m) (p : List ℕ) (lp : length p ≡ summarySize) where
   abbrev ss : List (List ℕ)
@@ -210,12 +249,15 @@ module _ (m : List ℕ) (o : Opened m) (b : Bytes m) (p : List ℕ) (lp : length
   few-ss : length ss ≤ maxSummaries
   few-ss = rw (summaries-length m o) (o .few-summaries)
 
+  -- which way the summary went
+  abbrev pub SummaryWay : Put → List ℕ → Type 0
+  SummaryWay a t′ = Way (holds summarySize p ss) (leb maxSummaries (length ss)) (rank summarySize p ss) (tableOf summarySize maxSummaries ss) (tableOf summarySize maxSummaries put-summary) a t′
+
   whole-place : p ++ nothing [] ≡ p
   whole-place = append-nil p
 
   -- what was tried, in terms of the summaries held
-  pub summary-way : (n : ℕ) (a : Put) (t′ : List ℕ) → n ≡ summaryCount m → putting a t′ ≡ tried n maxSummaries summarySize summarySize p (take summariesSize (drop summariesAt m))
-      → Way (holds summarySize p ss) (leb maxSummaries (length ss)) (rank summarySize p ss) (tableOf summarySize maxSummaries ss) (tableOf summarySize maxSummaries put-summary) a t′
+  pub summary-way : (n : ℕ) (a : Put) (t′ : List ℕ) → n ≡ summaryCount m → putting a t′ ≡ tried n maxSummaries summarySize summarySize p (take summariesSize (drop summariesAt m)) → SummaryWay a t′
   summary-way n a t′ en q =
       way (holds summarySize p ss) (leb maxSummaries (length ss)) (rank summarySize p ss) (tableOf summarySize maxSummaries ss) (tableOf summarySize maxSummaries put-summary) a t′
       (q ∙ ap₂ (λ (x : ℕ) (y : List ℕ). tried x maxSummaries summarySize summarySize y (take summariesSize (drop summariesAt m))) (en ∙ sym (summaries-length m o)) (sym whole-place)
@@ -225,12 +267,12 @@ module _ (m : List ℕ) (o : Opened m) (b : Bytes m) (p : List ℕ) (lp : length
   ss-length : length (tableOf summarySize maxSummaries ss) ≡ summariesSize
   ss-length = table-length summarySize maxSummaries ss (summaries-wide m o) few-ss
 
-  summary-back : (t′ : List ℕ) → take summariesAt m ++ (t′ ++ drop summariesSize (drop summariesAt m)) ≡ frame (convictedIn m) (length ss) (length (recordsIn m)) t′ (tableOf placeSize maxRecords (recordsIn m))
+  summary-back : (t′ : List ℕ) → withSummaries m t′ ≡ frame (convictedIn m) (length ss) (length (recordsIn m)) t′ (tableOf placeSize maxRecords (recordsIn m))
   summary-back t′ =
       ap (λ (x : List ℕ). take summariesAt x ++ (t′ ++ drop summariesSize (drop summariesAt x))) (framed m o b)
       ∙ frame-summaries-back (convictedIn m) (length ss) (length (recordsIn m)) (tableOf summarySize maxSummaries ss) (tableOf placeSize maxRecords (recordsIn m)) ss-length t′
 
-  pub summary-same : (t′ : List ℕ) → t′ ≡ tableOf summarySize maxSummaries ss → take summariesAt m ++ (t′ ++ drop summariesSize (drop summariesAt m)) ≡ m
+  summary-same : (t′ : List ℕ) → t′ ≡ tableOf summarySize maxSummaries ss → withSummaries m t′ ≡ m
   summary-same t′ q = summary-back t′ ∙ ap (λ (x : List ℕ). frame (convictedIn m) (length ss) (length (recordsIn m)) x (tableOf placeSize maxRecords (recordsIn m))) q ∙ sym (framed m o b)
 
   -- a summary that is held changes nothing
@@ -241,22 +283,24 @@ module _ (m : List ℕ) (o : Opened m) (b : Bytes m) (p : List ℕ) (lp : length
       let l : length (getD ss i []) ≡ summarySize = wide-at summarySize i ss (summaries-wide m o) (at .0) in
       put-held summarySize nothing p ss (at .0) (at .1) ∙ ap (set ss i) (append-nil (take summarySize (getD ss i [])) ∙ take-all summarySize (getD ss i []) (omega arith)) ∙ set-getD ss i []
 
-  pub summary-held : (t′ : List ℕ) → holds summarySize p ss ≡ true → t′ ≡ tableOf summarySize maxSummaries ss → after 0 (take summariesAt m ++ (t′ ++ drop summariesSize (drop summariesAt m))) ≡ settled m (heldInto p (decode m))
+  pub summary-held : {a : Put} (t′ : List ℕ) → SummaryWay a t′ → (j : ℕ) → a ≡ Held j → after 0 (withSummaries m t′) ≡ settled m (heldInto p (decode m))
   unfolding decode encode
-  summary-held t′ h q =
-      rw h (ap (after 0) (summary-same t′ q ∙ framed m o b ∙ ap (λ (x : List (List ℕ)). frame (convictedIn m) (length x) (length (recordsIn m)) (tableOf summarySize maxSummaries x) (tableOf placeSize maxRecords (recordsIn m))) (sym (same-put h))))
+  summary-held t′ w j a =
+      let v = held-told w j a in
+      rw (v .1 .0) (ap (after 0) (summary-same t′ (v .1 .1) ∙ framed m o b
+      ∙ ap (λ (x : List (List ℕ)). frame (convictedIn m) (length x) (length (recordsIn m)) (tableOf summarySize maxSummaries x) (tableOf placeSize maxRecords (recordsIn m))) (sym (same-put (v .1 .0)))))
 
-  pub summary-full : (t′ : List ℕ) → holds summarySize p ss ≡ false → leb maxSummaries (length ss) ≡ true → t′ ≡ tableOf summarySize maxSummaries ss
-      → after 5 (take summariesAt m ++ (t′ ++ drop summariesSize (drop summariesAt m))) ≡ settled m (heldInto p (decode m))
+  pub summary-full : {a : Put} (t′ : List ℕ) → SummaryWay a t′ → a ≡ Full → after 5 (withSummaries m t′) ≡ settled m (heldInto p (decode m))
   unfolding decode
-  summary-full t′ h f q = rw (h, f) (ap (after 5) (summary-same t′ q))
+  summary-full t′ w a = let v = full-told w a in rw (v .0, v .1 .0) (ap (after 5) (summary-same t′ (v .1 .1)))
 
-  pub summary-new : (t′ x : List ℕ) (n : ℕ) → n ≡ summaryCount m → holds summarySize p ss ≡ false → leb maxSummaries (length ss) ≡ false → t′ ≡ tableOf summarySize maxSummaries put-summary
-      → x ≡ putWord 2 summaryCountAt (n + 1) (take summariesAt m ++ (t′ ++ drop summariesSize (drop summariesAt m))) → after 0 x ≡ settled m (heldInto p (decode m))
+  pub summary-new : {a : Put} (t′ x : List ℕ) (n : ℕ) → n ≡ summaryCount m → SummaryWay a t′ → a ≡ New → x ≡ putWord 2 summaryCountAt (n + 1) (withSummaries m t′)
+      → after 0 x ≡ settled m (heldInto p (decode m))
   unfolding decode encode
-  summary-new t′ x n en h f q z =
-      let l : n + 1 ≡ length put-summary = ap (λ (i : ℕ). i + 1) (en ∙ sym (summaries-length m o)) ∙ sym (new-length summarySize nothing p ss h) in
-      rw (h, f) (ap (after 0)
+  summary-new t′ x n en w a z =
+      let v = new-told w a in
+      let l : n + 1 ≡ length put-summary = ap (λ (i : ℕ). i + 1) (en ∙ sym (summaries-length m o)) ∙ sym (new-length summarySize nothing p ss (v .0)) in
+      rw (v .0, v .1 .0) (ap (after 0)
       (z ∙ ap (putWord 2 summaryCountAt (n + 1)) (summary-back t′)
       ∙ put-summary-count (convictedIn m) (length ss) (length (recordsIn m)) t′ (tableOf placeSize maxRecords (recordsIn m)) (n + 1)
-      ∙ ap₂ (λ (i : ℕ) (y : List ℕ). frame (convictedIn m) i (length (recordsIn m)) y (tableOf placeSize maxRecords (recordsIn m))) l q))
+      ∙ ap₂ (λ (i : ℕ) (y : List ℕ). frame (convictedIn m) i (length (recordsIn m)) y (tableOf placeSize maxRecords (recordsIn m))) l (v .1 .1)))

@@ -1,68 +1,112 @@
-use Prim.Native.Nat.{ℕ, _+_, _-_, _*_, _≤_, _<_}
-use mathlib.Core.Path.{_≡_, refl, sym, ap, ap₂, _∙_}
-use mathlib.Core.Bool.{Bool, true, false, cond, not, _&&_, true≢false, false≢true}
-use mathlib.Core.List.{List, [], _∷_, _++_, append-nil}
+-- The records' table takes the record's place or not; a record that is held gains the signer, and the count follows one that is new.
+use Prim.Native.Nat.{ℕ, _-_, _<_}
+use mathlib.Core.Path.{_≡_, ap, ap₂, _∙_}
+use mathlib.Core.Bool.{true}
+use mathlib.Core.List.{List}
 use native.Mathlib.Omega.{arith}
-use lib.Dec.{ltb, leb, eqb}
-use lib.ListN.{length, getD, take, drop, set, replicate, length-append, length-take, length-drop, length-replicate, drop-of-length-le}
-use lib.Seq.{take-at, drop-at, take-length, length-take-le}
-use borrow.Author.Tests.{lt-ltb, le-ltb, le-leb, lt-leb, eq-eqb, ne-eqb, not-true, not-false, leb-false, ltb-true}
-use Rattle.octets.proofs.Numbers.{Bytes, all-bytes}
-use Rattle.octets.specs.Masks.{withBit}
-use Rattle.octets.specs.Words.{wordAt, putWord}
+use lib.ListN.{length, take, drop, length-append, length-take}
 use Rattle.octets.proofs.Moves.{tail-lent}
-use Rattle.places.specs.Places.{places, ascending, holds, rank, tableOf, putPlace}
-use Rattle.places.specs.declared.Put.{Put}
-use Rattle.places.specs.declared.Put.the-variants.{Held, Full, New}
+use Rattle.octets.proofs.Numbers.{Bytes, all-bytes}
+use Rattle.places.specs.Places.{places, ascending}
 use Rattle.record.proofs.Parts.{formed}
 use Rattle.record.specs.Layout.{recordSize}
-use Rattle.register.specs.Layout.{maxRecords, placeSize, recordCountAt, recordsAt, recordsSize}
-use Rattle.register.specs.Register.{after, signedBy, signedInto}
-use Rattle.register.specs.Memory.{recordsIn, recordCount, settled, decode}
-use Rattle.register.proofs.Opened.{Opened, opened, record-bytes-length, records-length, records-ascend}
-use Rattle.register.proofs.Signing.{Way, held, none, new, held-not-full, held-not-new, full-not-new, held-index, held-at, place-length, record-way, record-new, record-full, record-again, back-same}
+use Rattle.register.specs.Layout.{maxRecords, placeSize, recordsAt, recordsSize, registerSize}
+use Rattle.register.specs.Memory.{recordCount}
+use Rattle.register.proofs.Opened.{Opened, opened, record-bytes-length, records-ascend}
+use Rattle.register.proofs.Signing.{RecordWay, withRecords, place-length, record-way, record-new, record-full, record-again, held-within, held-unwritten}
 use borrow.Author.Needs.{needs}
 use Rattle.register.proofs.reports.sign.Statement.{statement}
 use Rattle.register.proofs.reports.sign.Tie as tie
 
-module _ (m : List ℕ) (o : Opened m) (y : Bytes m) (e : ℕ) (r : List ℕ) (l : length r ≡ recordSize) where
-  full : (t′ : List ℕ) {a : Put} → Way (holds recordSize r (recordsIn m)) (leb maxRecords (length (recordsIn m))) (rank recordSize r (recordsIn m)) (tableOf placeSize maxRecords (recordsIn m)) (tableOf placeSize maxRecords (putPlace recordSize (signedBy e) r (recordsIn m))) a t′
-      → a ≡ Full → after 5 (take recordsAt m ++ (t′ ++ drop (length m - recordsAt) (drop recordsAt m))) ≡ settled m (signedInto e r (decode m))
-  full t′ (held h q z) f = absurd (held-not-full q f)
-  full t′ (none h g q z) f = record-full m o y e r l t′ h g z
-  full t′ (new h g q z) f = absurd (full-not-new f q)
+-- ---- the places of the function
 
-  fresh : (t′ x : List ℕ) (n : ℕ) → n ≡ recordCount m → {a : Put}
-      → Way (holds recordSize r (recordsIn m)) (leb maxRecords (length (recordsIn m))) (rank recordSize r (recordsIn m)) (tableOf placeSize maxRecords (recordsIn m)) (tableOf placeSize maxRecords (putPlace recordSize (signedBy e) r (recordsIn m))) a t′
-      → a ≡ New → x ≡ putWord 2 recordCountAt (n + 1) (take recordsAt m ++ (t′ ++ drop (length m - recordsAt) (drop recordsAt m))) → after 0 x ≡ settled m (signedInto e r (decode m))
-  fresh t′ x n en (held h q z) f u = absurd (held-not-new q f)
-  fresh t′ x n en (none h g q z) f u = absurd (full-not-new q f)
-  fresh t′ x n en (new h g q z) f u = record-new m o y e r l t′ x n en h g z u
+module _ (s : tie.Start) where
+  abbrev m : List ℕ
+  m = s .args .memory .now
 
-module _ (m : List ℕ) (o : Opened m) (y : Bytes m) (e : ℕ) (r : List ℕ) (l : length r ≡ recordSize) {a : Put} {t′ : List ℕ}
-    (w : Way (holds recordSize r (recordsIn m)) (leb maxRecords (length (recordsIn m))) (rank recordSize r (recordsIn m)) (tableOf placeSize maxRecords (recordsIn m)) (tableOf placeSize maxRecords (putPlace recordSize (signedBy e) r (recordsIn m))) a t′)
-    (j : ℕ) (q : a ≡ Held j) where
-  -- the place lies within the table, of which nothing was written
-  within : j < maxRecords
-  within =
-      let v = held-index w j q in
-      let at = held-at recordSize r (recordsIn m) (records-ascend m o) (v .1 .0) .0 in
-      rw (v .0) (omega (arith, records-length m o, o .few-records))
+  abbrev e : ℕ
+  e = s .args .engine
 
-  unwritten : take recordsAt m ++ (t′ ++ drop (length m - recordsAt) (drop recordsAt m)) ≡ m
-  unwritten = back-same m o y e r l t′ (held-index w j q .1 .1)
+  abbrev r : List ℕ
+  r = s .args .r .now
+
+  o : Opened m
+  o = opened m (s .pre .0)
+
+  r-size : length r ≡ recordSize
+  r-size = formed r (s .pre .1 .1) .size
+
+-- the count is read and the place is made
+module _ (a : tie.After-new-place) where
+  abbrev start : tie.Start
+  start = a .before .before .before .before .before
+
+  abbrev n : ℕ
+  n = a .before .u16-at .result
+
+  abbrev p : List ℕ
+  p = a .new-place .result
+
+  b : Bytes (m start)
+  b = all-bytes (m start) (λ i. a .before .before .before .before .slice-known .given i .fits)
+
+  n-is : n ≡ recordCount (m start)
+  n-is = a .before .u16-at .ensures
+
+  p-size : length p ≡ placeSize
+  p-size = ap length (a .new-place .ensures) ∙ place-length (m start) (o start) b (e start) (r start) (r-size start)
+
+  -- the records, as they are lent
+  abbrev lent : List ℕ
+  lent = take (length (m start) - recordsAt) (drop recordsAt (m start))
+
+  lent-size : length lent ≡ recordsSize
+  lent-size = ap length (tail-lent (m start) recordsAt) ∙ record-bytes-length (m start) (o start)
+
+  ascends : ascending recordSize (places placeSize n lent) ≡ true
+  ascends = ap₂ (λ (x : ℕ) (y : List ℕ). ascending recordSize (places placeSize x y)) n-is (tail-lent (m start) recordsAt) ∙ records-ascend (m start) (o start)
+
+-- the table was tried
+module _ (a : tie.After-put-by-key) where
+  abbrev made : tie.After-new-place
+  made = a .before .before .before
+
+  abbrev t : List ℕ
+  t = a .put-by-key .last .0
+
+  abbrev st : tie.Start
+  st = start made
+
+  way : RecordWay (m st) (o st) (b made) (e st) (r st) (r-size st) (a .put-by-key .result) t
+  way =
+      record-way (m st) (o st) (b made) (e st) (r st) (r-size st) (n made) (p made) (a .put-by-key .result) t
+      (n-is made) (made .new-place .ensures) (a .put-by-key .ensures)
+
+-- the record is held
+module _ (a : tie.After-tried) where
+  abbrev put : tie.After-put-by-key
+  put = a .before .before .before .before
+
+  abbrev i : ℕ
+  i = a .tried .given .0 .0
+
+  within : i < maxRecords
+  within = held-within (m (st put)) (o (st put)) (b (made put)) (e (st put)) (r (st put)) (r-size (st put)) (t put) (way put) i (a .tried .given .1)
+
+  size-still : length (withRecords (m (st put)) (t put)) ≡ registerSize
+  size-still = ap length (held-unwritten (m (st put)) (o (st put)) (b (made put)) (e (st put)) (r (st put)) (r-size (st put)) (t put) (way put) i (a .tried .given .1)) ∙ o (st put) .size
 
 u16-at-requires : tie.Need-u16-at-requires
-u16-at-requires c κs = let s = c .before .before .before in let m = s .args .memory .now in let o = opened m (s .pre .0) in omega (arith, o .size)
+u16-at-requires c κs = omega (arith, o (c .before .before .before) .size)
 
 new-place-requires : tie.Need-new-place-requires
-new-place-requires c κs = let s = c .before .before .before .before in (formed (s .args .r .now) (s .pre .1 .1) .size, s .pre .1 .0)
+new-place-requires c κs = let s = c .before .before .before .before in (r-size s, s .pre .1 .0)
 
 sub-put-by-key : tie.Need-sub-put-by-key
-sub-put-by-key c = let s = c .before .before .before .before .before in let m = s .args .memory .now in let o = opened m (s .pre .0) in omega (arith, o .size)
+sub-put-by-key c = omega (arith, o (start c) .size)
 
 part-put-by-key-start : tie.Need-part-put-by-key-start
-part-put-by-key-start c = let s = c .before .before .before .before .before in let m = s .args .memory .now in let o = opened m (s .pre .0) in omega (arith, o .size)
+part-put-by-key-start c = omega (arith, o (start c) .size)
 
 part-put-by-key-end : tie.Need-part-put-by-key-end
 part-put-by-key-end c = search needs
@@ -75,74 +119,23 @@ slice-aggregate-put-by-key c = search needs
 
 put-by-key-requires : tie.Need-put-by-key-requires
 put-by-key-requires c κs =
-    let s = c .before .before .before .before .before .before .before in
-    let m = s .args .memory .now in
-    let o = opened m (s .pre .0) in
-    let y = all-bytes m (λ i. c .before .before .before .before .before .before .slice-known .given i .fits) in
-    let z : length (take (length m - recordsAt) (drop recordsAt m)) ≡ recordsSize = ap length (tail-lent m recordsAt) ∙ record-bytes-length m o in
-    let v : ascending recordSize (places placeSize (c .before .before .before .u16-at .result) (take (length m - recordsAt) (drop recordsAt m))) ≡ true =
-    ap₂ (λ (n : ℕ) (t : List ℕ). ascending recordSize (places placeSize n t)) (c .before .before .before .u16-at .ensures) (tail-lent m recordsAt) ∙ records-ascend m o in
-    (rw z (omega (arith, o .few-records, c .before .before .before .u16-at .ensures)), (omega arith, (v, (ap length (c .before .before .new-place .ensures) ∙ place-length m o y (s .args .engine) (s .args .r .now) (formed (s .args .r .now) (s .pre .1 .1) .size), z))))
+    let a = c .before .before in
+    (rw (lent-size a) (omega (arith, o (start a) .few-records, n-is a)), (omega arith, (ascends a, (p-size a, lent-size a))))
 
 enum-known-tried : tie.Need-enum-known-tried
 enum-known-tried c = search needs
 
 mul-add-signer : tie.Need-mul-add-signer
-mul-add-signer c =
-    let s = c .before .before .before .before .before .before .before .before .before .before .before .before .before .before in
-    let m = s .args .memory .now in
-    let r = s .args .r .now in
-    let o = opened m (s .pre .0) in
-    let y = all-bytes m (λ i. c .before .before .before .before .before .before .before .before .before .before .before .before .before .slice-known .given i .fits) in
-    let l = formed r (s .pre .1 .1) .size in
-    let w = record-way m o y (s .args .engine) r l (c .before .before .before .before .before .before .before .before .before .before .u16-at .result) (c .before .before .before .before .before .before .before .before .before .new-place .result) (c .before .before .before .before .before .before .put-by-key .result) (c .before .before .before .before .before .before .put-by-key .last .0)
-    (c .before .before .before .before .before .before .before .before .before .before .u16-at .ensures) (c .before .before .before .before .before .before .before .before .before .new-place .ensures) (c .before .before .before .before .before .before .put-by-key .ensures) in
-    let i = c .before .before .tried .given .0 .0 in
-    let q = within m o y (s .args .engine) r l w i (c .before .before .tried .given .1) in
-    omega arith
+mul-add-signer c = omega (arith, within (c .before .before))
 
 add-add-signer : tie.Need-add-add-signer
-add-add-signer c =
-    let s = c .before .before .before .before .before .before .before .before .before .before .before .before .before .before in
-    let m = s .args .memory .now in
-    let r = s .args .r .now in
-    let o = opened m (s .pre .0) in
-    let y = all-bytes m (λ i. c .before .before .before .before .before .before .before .before .before .before .before .before .before .slice-known .given i .fits) in
-    let l = formed r (s .pre .1 .1) .size in
-    let w = record-way m o y (s .args .engine) r l (c .before .before .before .before .before .before .before .before .before .before .u16-at .result) (c .before .before .before .before .before .before .before .before .before .new-place .result) (c .before .before .before .before .before .before .put-by-key .result) (c .before .before .before .before .before .before .put-by-key .last .0)
-    (c .before .before .before .before .before .before .before .before .before .before .u16-at .ensures) (c .before .before .before .before .before .before .before .before .before .new-place .ensures) (c .before .before .before .before .before .before .put-by-key .ensures) in
-    let i = c .before .before .tried .given .0 .0 in
-    let q = within m o y (s .args .engine) r l w i (c .before .before .tried .given .1) in
-    omega arith
+add-add-signer c = omega (arith, within (c .before .before))
 
 add-add-signer-2 : tie.Need-add-add-signer-2
-add-add-signer-2 c =
-    let s = c .before .before .before .before .before .before .before .before .before .before .before .before .before .before in
-    let m = s .args .memory .now in
-    let r = s .args .r .now in
-    let o = opened m (s .pre .0) in
-    let y = all-bytes m (λ i. c .before .before .before .before .before .before .before .before .before .before .before .before .before .slice-known .given i .fits) in
-    let l = formed r (s .pre .1 .1) .size in
-    let w = record-way m o y (s .args .engine) r l (c .before .before .before .before .before .before .before .before .before .before .u16-at .result) (c .before .before .before .before .before .before .before .before .before .new-place .result) (c .before .before .before .before .before .before .put-by-key .result) (c .before .before .before .before .before .before .put-by-key .last .0)
-    (c .before .before .before .before .before .before .before .before .before .before .u16-at .ensures) (c .before .before .before .before .before .before .before .before .before .new-place .ensures) (c .before .before .before .before .before .before .put-by-key .ensures) in
-    let i = c .before .before .tried .given .0 .0 in
-    let q = within m o y (s .args .engine) r l w i (c .before .before .tried .given .1) in
-    omega arith
+add-add-signer-2 c = omega (arith, within (c .before .before))
 
 add-signer-requires : tie.Need-add-signer-requires
-add-signer-requires c κs =
-    let s = c .before .before .before .before .before .before .before .before .before .before .before .before .before .before in
-    let m = s .args .memory .now in
-    let r = s .args .r .now in
-    let o = opened m (s .pre .0) in
-    let y = all-bytes m (λ i. c .before .before .before .before .before .before .before .before .before .before .before .before .before .slice-known .given i .fits) in
-    let l = formed r (s .pre .1 .1) .size in
-    let w = record-way m o y (s .args .engine) r l (c .before .before .before .before .before .before .before .before .before .before .u16-at .result) (c .before .before .before .before .before .before .before .before .before .new-place .result) (c .before .before .before .before .before .before .put-by-key .result) (c .before .before .before .before .before .before .put-by-key .last .0)
-    (c .before .before .before .before .before .before .before .before .before .before .u16-at .ensures) (c .before .before .before .before .before .before .before .before .before .new-place .ensures) (c .before .before .before .before .before .before .put-by-key .ensures) in
-    let i = c .before .before .tried .given .0 .0 in
-    let q = within m o y (s .args .engine) r l w i (c .before .before .tried .given .1) in
-    let z = unwritten m o y (s .args .engine) r l w i (c .before .before .tried .given .1) in
-    (rw (ap length z, o .size) (omega arith), s .pre .1 .0)
+add-signer-requires c κs = let a = c .before .before in (rw (size-still a) (omega (arith, within a)), st (put a) .pre .1 .0)
 
 enum-told : tie.Need-enum-told
 enum-told c = search needs
@@ -151,60 +144,40 @@ enum-told-2 : tie.Need-enum-told-2
 enum-told-2 c = search needs
 
 add-put-u16 : tie.Need-add-put-u16
-add-put-u16 c = let s = c .before .before .before .before .before .before .before .before .before .before .before .before .before in let o = opened (s .args .memory .now) (s .pre .0) in omega (arith, o .few-records, c .before .before .before .before .before .before .before .before .before .u16-at .ensures)
+add-put-u16 c = let w = c .before .before .before .before .before in omega (arith, o (st w) .few-records, n-is (made w))
 
 put-u16-requires : tie.Need-put-u16-requires
-put-u16-requires c κs = let s = c .before .before .before .before .before .before .before .before .before .before .before .before .before in let o = opened (s .args .memory .now) (s .pre .0) in simp (length-append, length-take) (omega (arith, o .size))
+put-u16-requires c κs = simp (length-append, length-take) (omega (arith, o (st (c .before .before .before .before .before)) .size))
 
 same-length : tie.Need-same-length
 same-length c = search needs
 
 returns : tie.Need-returns
 returns c =
-    let s = c .before .before .before .before .before .before .before .before .before .before .before .before .before .before .before .before .before in
-    let m = s .args .memory .now in
-    let r = s .args .r .now in
-    let o = opened m (s .pre .0) in
-    let y = all-bytes m (λ i. c .before .before .before .before .before .before .before .before .before .before .before .before .before .before .before .before .slice-known .given i .fits) in
-    let l = formed r (s .pre .1 .1) .size in
-    let w = record-way m o y (s .args .engine) r l (c .before .before .before .before .before .before .before .before .before .before .before .before .before .u16-at .result) (c .before .before .before .before .before .before .before .before .before .before .before .before .new-place .result) (c .before .before .before .before .before .before .before .before .before .put-by-key .result) (c .before .before .before .before .before .before .before .before .before .put-by-key .last .0)
-    (c .before .before .before .before .before .before .before .before .before .before .before .before .before .u16-at .ensures) (c .before .before .before .before .before .before .before .before .before .before .before .before .new-place .ensures) (c .before .before .before .before .before .before .before .before .before .put-by-key .ensures) in
-    let i = c .before .before .before .before .before .tried .given .0 .0 in
-    let h = c .before .before .before .before .before .tried .given .1 in
-    let v = held-index w i h in
-    let z = unwritten m o y (s .args .engine) r l w i h in
-    record-again m o y (s .args .engine) r l (c .before .before .add-signer .last .0) i (v .0) (v .1 .0)
-    (c .before .before .add-signer .ensures ∙ ap (λ (x : List ℕ). putWord 4 (recordsAt + i * placeSize + recordSize) (withBit (wordAt 4 (recordsAt + i * placeSize + recordSize) x) (s .args .engine)) x) z)
+    let a = c .before .before .before .before .before in
+    let w = put a in
+    let s = st w in
+    record-again (m s) (o s) (b (made w)) (e s) (r s) (r-size s) (t w) (way w) (i a) (a .tried .given .1) (c .before .before .add-signer .last .0) (c .before .before .add-signer .ensures)
 
 same-length-2 : tie.Need-same-length-2
 same-length-2 c = search needs
 
 returns-2 : tie.Need-returns-2
 returns-2 c =
-    let s = c .before .before .before .before .before .before .before .before .before .before .before .before in
-    let m = s .args .memory .now in
-    let r = s .args .r .now in
-    let o = opened m (s .pre .0) in
-    let y = all-bytes m (λ i. c .before .before .before .before .before .before .before .before .before .before .before .slice-known .given i .fits) in
-    let l = formed r (s .pre .1 .1) .size in
-    let w = record-way m o y (s .args .engine) r l (c .before .before .before .before .before .before .before .before .u16-at .result) (c .before .before .before .before .before .before .before .new-place .result) (c .before .before .before .before .put-by-key .result) (c .before .before .before .before .put-by-key .last .0)
-    (c .before .before .before .before .before .before .before .before .u16-at .ensures) (c .before .before .before .before .before .before .before .new-place .ensures) (c .before .before .before .before .put-by-key .ensures) in
-    full m o y (s .args .engine) r l (c .before .before .before .before .put-by-key .last .0) w (c .enum-told .given .1)
+    let w = c .before .before .before .before in
+    let s = st w in
+    record-full (m s) (o s) (b (made w)) (e s) (r s) (r-size s) (t w) (way w) (c .enum-told .given .1)
 
 same-length-3 : tie.Need-same-length-3
 same-length-3 c = search needs
 
 returns-3 : tie.Need-returns-3
 returns-3 c =
-    let s = c .before .before .before .before .before .before .before .before .before .before .before .before .before .before .before .before in
-    let m = s .args .memory .now in
-    let r = s .args .r .now in
-    let o = opened m (s .pre .0) in
-    let y = all-bytes m (λ i. c .before .before .before .before .before .before .before .before .before .before .before .before .before .before .before .slice-known .given i .fits) in
-    let l = formed r (s .pre .1 .1) .size in
-    let w = record-way m o y (s .args .engine) r l (c .before .before .before .before .before .before .before .before .before .before .before .before .u16-at .result) (c .before .before .before .before .before .before .before .before .before .before .before .new-place .result) (c .before .before .before .before .before .before .before .before .put-by-key .result) (c .before .before .before .before .before .before .before .before .put-by-key .last .0)
-    (c .before .before .before .before .before .before .before .before .before .before .before .before .u16-at .ensures) (c .before .before .before .before .before .before .before .before .before .before .before .new-place .ensures) (c .before .before .before .before .before .before .before .before .put-by-key .ensures) in
-    fresh m o y (s .args .engine) r l (c .before .before .before .before .before .before .before .before .put-by-key .last .0) (c .before .before .put-u16 .last .0) (c .before .before .before .before .before .before .before .before .before .before .before .before .u16-at .result) (c .before .before .before .before .before .before .before .before .before .before .before .before .u16-at .ensures) w (c .before .before .before .before .enum-told2 .given .1) (c .before .before .put-u16 .ensures)
+    let d = c .before .before .before .before in
+    let w = d .before .before .before .before in
+    let s = st w in
+    record-new (m s) (o s) (b (made w)) (e s) (r s) (r-size s) (t w) (c .before .before .put-u16 .last .0) (n (made w)) (n-is (made w)) (way w) (d .enum-told2 .given .1)
+    (c .before .before .put-u16 .ensures)
 
 pub sign-spec : {M : Type 1} → statement M
 sign-spec =
