@@ -148,7 +148,11 @@ module _ (ss : List (List ℕ)) (r : List ℕ) (s n : ℕ) (t : List ℕ) (g : G
       let a : hashSize + length (drop hashSize p) ≡ fixSize = rw (length-drop hashSize p, e) refl in
       rw (length-append (take hashSize p) (joined ss r s (drop hashSize p)), length-take-le hashSize p (rw e (omega arith))) (again-length ss r s h (drop hashSize p) a)
 
-  pub again : (i : ℕ) (t′ x : List ℕ) → Found i t′ → x ≡ take (i * fixSize) t ++ (jointAt ss r s t i ++ drop fixSize (drop (i * fixSize) t)) → (n ≡ length put) × (x ≡ tableOf fixSize maxFixes put)
+  -- a table with that in the place of fix i
+  abbrev withJoint : ℕ → List ℕ → List ℕ
+  withJoint i u = take (i * fixSize) u ++ (jointAt ss r s u i ++ drop fixSize (drop (i * fixSize) u))
+
+  pub again : (i : ℕ) (t′ x : List ℕ) → Found i t′ → x ≡ withJoint i t′ → (n ≡ length put) × (x ≡ tableOf fixSize maxFixes put)
   again i t′ x f e =
       let k = rank hashSize key fs in
       let y = take hashSize (getD fs i []) ++ joined ss r s (drop hashSize (getD fs i [])) in
@@ -158,7 +162,8 @@ module _ (ss : List (List ℕ)) (r : List ℕ) (s n : ℕ) (t : List ℕ) (g : G
       ap (λ (j : ℕ). set fs j (take hashSize (getD fs j []) ++ joined ss r s (drop hashSize (getD fs j [])))) (f .is) ∙ sym (put-held hashSize (joined ss r s) key fs lk (f .standing)) in
       let ly : length y ≡ fixSize = changed-length (getD fs i []) (wide-at fixSize i fs (ordered .wides) l) in (
         sym count ∙ sym (put-length-held hashSize (joined ss r s) key (key-length ss r) fs (ordered .ascends) (f .holding)),
-        e ∙ ap₂ (λ (a u : List ℕ). take (i * fixSize) u ++ (a ++ drop fixSize (drop (i * fixSize) u))) (place-joint i (f .within)) (gathered-is n t g)
+        e ∙ ap (withJoint i) (f .unwritten)
+            ∙ ap₂ (λ (a u : List ℕ). take (i * fixSize) u ++ (a ++ drop fixSize (drop (i * fixSize) u))) (place-joint i (f .within)) (gathered-is n t g)
             ∙ replace-table fixSize maxFixes fs i y (ordered .wides) ly l ∙ ap (tableOf fixSize maxFixes) changed,
       )
 

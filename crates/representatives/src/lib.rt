@@ -6,18 +6,19 @@ use places::Put;
 use record::layout::RECORD_SIZE;
 ghost use mathlib.Core.Path.{_≡_};
 ghost use mathlib.Core.Bool.{true};
-ghost use mathlib.Core.List.{_++_};
+ghost use mathlib.Core.List.{[], _++_};
 ghost use Prim.Native.Nat.{_+_, _*_, _<_, _≤_};
 ghost use lib.ListN.{length, take, drop, replicate};
 ghost use Rattle.octets.specs.Words.{wordBytes};
 ghost use Rattle.places.specs.Places.{places, tableOf, allPlaces};
 ghost use Rattle.record.specs.Layout.{recordSize};
 ghost use Rattle.record.specs.Formed.{wellFormed};
+ghost use Rattle.models.specs.Identity.{identity};
 ghost use Rattle.models.specs.Summary.{summarySize};
 ghost use Rattle.items.specs.Layout.{hashSize};
 ghost use Rattle.fixes.specs.Layout as L;
 ghost use Rattle.representatives.specs.Gathered.{placeFormed, jointAt, Gathered};
-ghost use Rattle.representatives.specs.Representatives.{signedIn, represented, representatives};
+ghost use Rattle.representatives.specs.Representatives.{joined, signedIn, represented, representatives};
 
 // A place of a register's records: the record, and its signers.
 const PLACE_SIZE: usize = RECORD_SIZE + 4;
@@ -84,6 +85,18 @@ fn join(sums: &[u8], ns: usize, t: &mut [u8], i: u8, r: &[u8], signers: u32)
     write(t, i as usize * layout::FIX_SIZE, &f);
 }
 
+// The fix of a record that is alone with its identity.
+fn new_fix(sums: &[u8], ns: usize, r: &[u8], signers: u32) -> [u8; layout::FIX_SIZE]
+    requires { ⌜ ns * summarySize ≤ length (now sums) ⌝ }
+    requires { ⌜ wellFormed (now r) ≡ true ⌝ }
+    ensures { λ f. ⌜ f ≡ identity (places summarySize ns (now (sums .entry))) (now (r .entry)) ++ joined (places summarySize ns (now (sums .entry))) (now (r .entry)) signers [] ⌝ }
+{
+    let inputs = models::citations::cited_inputs(sums, ns, r);
+    let set = models::identities::set_hash(r);
+    let id = models::identities::identity(&set, &inputs);
+    place_of(&id, r, &inputs, signers)
+}
+
 // Puts a record that counts into a table of n fixes by its identity, and answers how many there are.
 fn sign_in(sums: &[u8], ns: usize, t: &mut [u8], n: usize, r: &[u8], signers: u32) -> usize
     requires { ⌜ ns * summarySize ≤ length (now sums) ⌝ }
@@ -93,10 +106,7 @@ fn sign_in(sums: &[u8], ns: usize, t: &mut [u8], n: usize, r: &[u8], signers: u3
     ensures { λ m. ⌜ m ≡ length (signedIn (places summarySize ns (now (sums .entry))) (now (r .entry)) signers (places L.fixSize n (now (t .entry)))) ⌝ }
     ensures { λ _. ⌜ now (t .exit) ≡ tableOf L.fixSize L.maxFixes (signedIn (places summarySize ns (now (sums .entry))) (now (r .entry)) signers (places L.fixSize n (now (t .entry)))) ⌝ }
 {
-    let inputs = models::citations::cited_inputs(sums, ns, r);
-    let set = models::identities::set_hash(r);
-    let id = models::identities::identity(&set, &inputs);
-    let f = place_of(&id, r, &inputs, signers);
+    let f = new_fix(sums, ns, r, signers);
     match places::put_by_key(t, n, layout::MAX_FIXES, layout::FIX_SIZE, HASH_SIZE, &f) {
         Put::Held(i) => {
             join(sums, ns, t, i as u8, r, signers);

@@ -1,96 +1,110 @@
--- `sign_in` meets its contract.
-use Prim.Native.Nat.{ℕ, _+_, _*_}
-use mathlib.Core.Path.{ap, _∙_}
-use mathlib.Core.List.{List, _++_}
+-- `sign_in` meets its contract: the table takes the fix, or the fix that is held is joined with the record.
+use Prim.Native.Nat.{ℕ}
+use mathlib.Core.Path.{_≡_, ap, _∙_}
+use mathlib.Core.Bool.{true}
+use mathlib.Core.List.{List}
 use native.Mathlib.Omega.{arith}
-use lib.ListN.{length, take, drop}
+use lib.ListN.{length}
 use Rattle.places.specs.Places.{places}
 use Rattle.places.proofs.Walks.{room}
-use Rattle.record.proofs.Parts.{formed}
+use Rattle.record.specs.Formed.{wellFormed}
 use Rattle.models.specs.Summary.{summarySize}
-use Rattle.models.proofs.Sets.{cited-length, identity-length}
 use Rattle.fixes.specs.Layout.{fixSize}
-use Rattle.representatives.specs.Gathered.{jointAt}
+use Rattle.representatives.specs.Gathered.{Gathered}
 use Rattle.representatives.proofs.Soundness.{gathered-long, gathered-ordered, record-formed}
-use Rattle.representatives.proofs.Entering.{made, entered, found, again, fresh, never-full}
+use Rattle.representatives.proofs.Entering.{Entered, made-length, entered, Found, found, again, fresh, never-full}
 use borrow.Author.Needs.{needs}
 use Rattle.representatives.proofs.sign_in.Statement.{statement}
 use Rattle.representatives.proofs.sign_in.Tie as tie
 
-cited-inputs-requires : tie.Need-cited-inputs-requires
-cited-inputs-requires c κs = search needs
+-- ---- the places of the function
 
-set-hash-requires : tie.Need-set-hash-requires
-set-hash-requires c κs = search needs
+module _ (s : tie.Start) where
+  abbrev ss : List (List ℕ)
+  ss = places summarySize (s .args .ns) (s .args .sums .now)
 
-slice-aggregate-identity : tie.Need-slice-aggregate-identity
-slice-aggregate-identity c = search needs
+  abbrev t : List ℕ
+  t = s .args .t .now
 
-slice-aggregate-identity-2 : tie.Need-slice-aggregate-identity-2
-slice-aggregate-identity-2 c = search needs
+  abbrev n : ℕ
+  n = s .args .n
 
-identity-requires : tie.Need-identity-requires
-identity-requires c κs = search needs
+  abbrev r : List ℕ
+  r = s .args .r .now
 
-slice-aggregate-place-of : tie.Need-slice-aggregate-place-of
-slice-aggregate-place-of c = search needs
+  abbrev signers : ℕ
+  signers = s .args .signers
 
-slice-aggregate-place-of-2 : tie.Need-slice-aggregate-place-of-2
-slice-aggregate-place-of-2 c = search needs
+  gathered : Gathered n t
+  gathered = s .pre .1 .0
 
-place-of-requires : tie.Need-place-of-requires
-place-of-requires c κs =
-    let s = c .before .before .before .before .before .before .before .before .before .before in (
-      ap length (c .before .before .identity .ensures) ∙ identity-length _ _,
-      (
-        formed (s .args .r .now) (s .pre .1 .1 .1) .size,
-        ap length (c .before .before .before .before .before .before .cited-inputs .ensures) ∙ cited-length _ _,
-      ),
-    )
+  is-record : wellFormed r ≡ true
+  is-record = s .pre .1 .1 .1
+
+-- the fix is made
+module _ (a : tie.After-new-fix) where
+  abbrev start : tie.Start
+  start = a .before .before .before .before
+
+  fix-size : length (a .new-fix .result) ≡ fixSize
+  fix-size = ap length (a .new-fix .ensures) ∙ made-length (ss start) (r start) (signers start) (n start) (t start) (gathered start) (is-record start)
+
+-- the table was tried
+module _ (a : tie.After-put-by-key) where
+  abbrev made : tie.After-new-fix
+  made = a .before .before .before
+
+  abbrev st : tie.Start
+  st = start made
+
+  abbrev tried : List ℕ
+  tried = a .put-by-key .last .0
+
+  way : Entered (ss st) (r st) (signers st) (n st) (t st) (a .put-by-key .result) tried
+  way =
+      entered (ss st) (r st) (signers st) (n st) (t st) (gathered st) (is-record st) (st .pre .1 .1 .0) (made .new-fix .result) (a .put-by-key .result) tried
+      (made .new-fix .ensures) (a .put-by-key .ensures)
+
+-- the identity is held
+module _ (a : tie.After-i) where
+  abbrev put : tie.After-put-by-key
+  put = a .before .before .before .before
+
+  abbrev i : ℕ
+  i = a .i .given .0 .0
+
+  at-i : Found (ss (st put)) (r (st put)) (signers (st put)) (n (st put)) (t (st put)) (gathered (st put)) (is-record (st put)) i (tried put)
+  at-i = found (ss (st put)) (r (st put)) (signers (st put)) (n (st put)) (t (st put)) (gathered (st put)) (is-record (st put)) (way put) i (a .i .given .1)
+
+new-fix-requires : tie.Need-new-fix-requires
+new-fix-requires c κs = search needs
 
 slice-aggregate-put-by-key : tie.Need-slice-aggregate-put-by-key
 slice-aggregate-put-by-key c = search needs
 
 put-by-key-requires : tie.Need-put-by-key-requires
 put-by-key-requires c κs =
-    let s = c .before .before .before .before .before .before .before .before .before .before .before .before .before in
-    let g = s .pre .1 .0 in
-    (gathered-long (s .args .n) (s .args .t .now) g, (omega arith, (gathered-ordered (s .args .n) (s .args .t .now) g .ascends, (search needs, g .size))))
+    let a = c .before .before in
+    let s = start a in
+    (gathered-long (n s) (t s) (gathered s), (omega arith, (gathered-ordered (n s) (t s) (gathered s) .ascends, (fix-size a, gathered s .size))))
 
 enum-known-i : tie.Need-enum-known-i
 enum-known-i c = search needs
 
 cast-join : tie.Need-cast-join
-cast-join c =
-    let s = c .before .before .before .before .before .before .before .before .before .before .before .before .before .before .before .before .before .before .before .before in
-    let ss = places summarySize (s .args .ns) (s .args .sums .now) in
-    let r = s .args .r .now in
-    let t = s .args .t .now in
-    let n = s .args .n in
-    let g = s .pre .1 .0 in
-    let h = s .pre .1 .1 .1 in
-    let w = entered ss r (s .args .signers) n t g h (s .pre .1 .1 .0) (c .before .before .before .before .before .before .before .before .before .place-of .result) (c .before .before .before .before .before .before .put-by-key .result) (c .before .before .before .before .before .before .put-by-key .last .0)
-    (made ss r (s .args .signers) (c .before .before .before .before .before .before .before .before .before .before .before .before .before .before .before .set-hash .result) (c .before .before .before .before .before .before .before .before .before .before .before .before .before .before .before .before .cited-inputs .result) (c .before .before .before .before .before .before .before .before .before .before .before .before .identity .result) (c .before .before .before .before .before .before .before .before .before .place-of .result)
-    (c .before .before .before .before .before .before .before .before .before .before .before .before .before .before .before .set-hash .ensures) (c .before .before .before .before .before .before .before .before .before .before .before .before .before .before .before .before .cited-inputs .ensures) (c .before .before .before .before .before .before .before .before .before .before .before .before .identity .ensures) (c .before .before .before .before .before .before .before .before .before .place-of .ensures)) (c .before .before .before .before .before .before .put-by-key .ensures) in
-    let f = found ss r (s .args .signers) n t g h w (c .before .before .i .given .0 .0) (c .before .before .i .given .1) in
-    omega (arith, f .within, g .few)
+cast-join c = let a = c .before .before in omega (arith, at-i a .within, gathered (st (put a)) .few)
 
 join-requires : tie.Need-join-requires
 join-requires c κs =
-    let s = c .before .before .before .before .before .before .before .before .before .before .before .before .before .before .before .before .before .before .before .before in
-    let ss = places summarySize (s .args .ns) (s .args .sums .now) in
-    let r = s .args .r .now in
-    let t = s .args .t .now in
-    let n = s .args .n in
-    let g = s .pre .1 .0 in
-    let h = s .pre .1 .1 .1 in
-    let w = entered ss r (s .args .signers) n t g h (s .pre .1 .1 .0) (c .before .before .before .before .before .before .before .before .before .place-of .result) (c .before .before .before .before .before .before .put-by-key .result) (c .before .before .before .before .before .before .put-by-key .last .0)
-    (made ss r (s .args .signers) (c .before .before .before .before .before .before .before .before .before .before .before .before .before .before .before .set-hash .result) (c .before .before .before .before .before .before .before .before .before .before .before .before .before .before .before .before .cited-inputs .result) (c .before .before .before .before .before .before .before .before .before .before .before .before .identity .result) (c .before .before .before .before .before .before .before .before .before .place-of .result)
-    (c .before .before .before .before .before .before .before .before .before .before .before .before .before .before .before .set-hash .ensures) (c .before .before .before .before .before .before .before .before .before .before .before .before .before .before .before .before .cited-inputs .ensures) (c .before .before .before .before .before .before .before .before .before .before .before .before .identity .ensures) (c .before .before .before .before .before .before .before .before .before .place-of .ensures)) (c .before .before .before .before .before .before .put-by-key .ensures) in
-    let i = c .before .before .i .given .0 .0 in
-    let f = found ss r (s .args .signers) n t g h w i (c .before .before .i .given .1) in
-    let u = f .unwritten in
-    (s .pre .0, (rw u (omega (arith, room i n fixSize (f .within), gathered-long n t g)), (rw u (record-formed n t g i (f .within)), h)))
+    let a = c .before .before in
+    let s = st (put a) in
+    let f = at-i a in (
+      s .pre .0,
+      (
+        rw (f .unwritten) (omega (arith, room (i a) (n s) fixSize (f .within), gathered-long (n s) (t s) (gathered s))),
+        (rw (f .unwritten) (record-formed (n s) (t s) (gathered s) (i a) (f .within)), is-record s),
+      ),
+    )
 
 enum-told : tie.Need-enum-told
 enum-told c = search needs
@@ -106,67 +120,34 @@ same-length c = search needs
 
 returns : tie.Need-returns
 returns c =
-    let s = c .before .before .before .before .before .before .before .before .before .before .before .before .before .before .before .before .before .before .before .before .before .before .before in
-    let ss = places summarySize (s .args .ns) (s .args .sums .now) in
-    let r = s .args .r .now in
-    let t = s .args .t .now in
-    let n = s .args .n in
-    let g = s .pre .1 .0 in
-    let h = s .pre .1 .1 .1 in
-    let w = entered ss r (s .args .signers) n t g h (s .pre .1 .1 .0) (c .before .before .before .before .before .before .before .before .before .before .before .before .place-of .result) (c .before .before .before .before .before .before .before .before .before .put-by-key .result) (c .before .before .before .before .before .before .before .before .before .put-by-key .last .0)
-    (made ss r (s .args .signers) (c .before .before .before .before .before .before .before .before .before .before .before .before .before .before .before .before .before .before .set-hash .result) (c .before .before .before .before .before .before .before .before .before .before .before .before .before .before .before .before .before .before .before .cited-inputs .result) (c .before .before .before .before .before .before .before .before .before .before .before .before .before .before .before .identity .result) (c .before .before .before .before .before .before .before .before .before .before .before .before .place-of .result)
-    (c .before .before .before .before .before .before .before .before .before .before .before .before .before .before .before .before .before .before .set-hash .ensures) (c .before .before .before .before .before .before .before .before .before .before .before .before .before .before .before .before .before .before .before .cited-inputs .ensures) (c .before .before .before .before .before .before .before .before .before .before .before .before .before .before .before .identity .ensures) (c .before .before .before .before .before .before .before .before .before .before .before .before .place-of .ensures)) (c .before .before .before .before .before .before .before .before .before .put-by-key .ensures) in
-    let i = c .before .before .before .before .before .i .given .0 .0 in
-    let f = found ss r (s .args .signers) n t g h w i (c .before .before .before .before .before .i .given .1) in
-    again ss r (s .args .signers) n t g h i (c .before .before .before .before .before .before .before .before .before .put-by-key .last .0) (c .before .before .join .last .1 .1 .0) f
-    (c .before .before .join .ensures ∙ ap (λ (u : List ℕ). take (i * fixSize) u ++ (jointAt ss r (s .args .signers) u i ++ drop fixSize (drop (i * fixSize) u))) (f .unwritten))
+    let a = c .before .before .before .before .before in
+    let s = st (put a) in
+    let join = c .before .before .join in
+    again (ss s) (r s) (signers s) (n s) (t s) (gathered s) (is-record s) (i a) (tried (put a)) (join .last .1 .1 .0) (at-i a) (join .ensures)
 
 same-length-2 : tie.Need-same-length-2
 same-length-2 c = search needs
 
 returns-2 : tie.Need-returns-2
 returns-2 c =
-    let s = c .before .before .before .before .before .before .before .before .before .before .before .before .before .before .before .before .before .before in
-    let ss = places summarySize (s .args .ns) (s .args .sums .now) in
-    let r = s .args .r .now in
-    let t = s .args .t .now in
-    let n = s .args .n in
-    let g = s .pre .1 .0 in
-    let h = s .pre .1 .1 .1 in
-    let w = entered ss r (s .args .signers) n t g h (s .pre .1 .1 .0) (c .before .before .before .before .before .before .before .place-of .result) (c .before .before .before .before .put-by-key .result) (c .before .before .before .before .put-by-key .last .0)
-    (made ss r (s .args .signers) (c .before .before .before .before .before .before .before .before .before .before .before .before .before .set-hash .result) (c .before .before .before .before .before .before .before .before .before .before .before .before .before .before .cited-inputs .result) (c .before .before .before .before .before .before .before .before .before .before .identity .result) (c .before .before .before .before .before .before .before .place-of .result)
-    (c .before .before .before .before .before .before .before .before .before .before .before .before .before .set-hash .ensures) (c .before .before .before .before .before .before .before .before .before .before .before .before .before .before .cited-inputs .ensures) (c .before .before .before .before .before .before .before .before .before .before .identity .ensures) (c .before .before .before .before .before .before .before .place-of .ensures)) (c .before .before .before .before .put-by-key .ensures) in
-    absurd (never-full ss r (s .args .signers) n t g h w (c .enum-told .given .1))
+    let w = c .before .before .before .before in
+    let s = st w in
+    absurd (never-full (ss s) (r s) (signers s) (n s) (t s) (gathered s) (is-record s) (way w) (c .enum-told .given .1))
 
 same-length-3 : tie.Need-same-length-3
 same-length-3 c = search needs
 
 returns-3 : tie.Need-returns-3
 returns-3 c =
-    let s = c .before .before .before .before .before .before .before .before .before .before .before .before .before .before .before .before .before .before in
-    let ss = places summarySize (s .args .ns) (s .args .sums .now) in
-    let r = s .args .r .now in
-    let t = s .args .t .now in
-    let n = s .args .n in
-    let g = s .pre .1 .0 in
-    let h = s .pre .1 .1 .1 in
-    let w = entered ss r (s .args .signers) n t g h (s .pre .1 .1 .0) (c .before .before .before .before .before .before .before .place-of .result) (c .before .before .before .before .put-by-key .result) (c .before .before .before .before .put-by-key .last .0)
-    (made ss r (s .args .signers) (c .before .before .before .before .before .before .before .before .before .before .before .before .before .set-hash .result) (c .before .before .before .before .before .before .before .before .before .before .before .before .before .before .cited-inputs .result) (c .before .before .before .before .before .before .before .before .before .before .identity .result) (c .before .before .before .before .before .before .before .place-of .result)
-    (c .before .before .before .before .before .before .before .before .before .before .before .before .before .set-hash .ensures) (c .before .before .before .before .before .before .before .before .before .before .before .before .before .before .cited-inputs .ensures) (c .before .before .before .before .before .before .before .before .before .before .identity .ensures) (c .before .before .before .before .before .before .before .place-of .ensures)) (c .before .before .before .before .put-by-key .ensures) in
-    fresh ss r (s .args .signers) n t g h w (c .enum-told2 .given .1)
+    let w = c .before .before .before .before in
+    let s = st w in
+    fresh (ss s) (r s) (signers s) (n s) (t s) (gathered s) (is-record s) (way w) (c .enum-told2 .given .1)
 
 pub sign-in-spec : {M : Type 1} → statement M
 sign-in-spec =
     tie.close
     (tie.spec
-    cited-inputs-requires
-    set-hash-requires
-    slice-aggregate-identity
-    slice-aggregate-identity-2
-    identity-requires
-    slice-aggregate-place-of
-    slice-aggregate-place-of-2
-    place-of-requires
+    new-fix-requires
     slice-aggregate-put-by-key
     put-by-key-requires
     enum-known-i
