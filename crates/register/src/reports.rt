@@ -12,7 +12,7 @@ ghost use Rattle.octets.specs.Masks.{withBit};
 ghost use Rattle.octets.specs.Words.{wordAt, putWord};
 ghost use Rattle.record.specs.Formed as R;
 ghost use Rattle.record.specs.Layout.{recordSize};
-ghost use Rattle.register.specs.Layout.{recordsAt, placeSize};
+ghost use Rattle.register.specs.Layout.{maxRecords, placeSize, recordsAt, registerSize};
 ghost use Rattle.register.specs.Register.{after, signedBy, signedInto, reported};
 ghost use Rattle.register.specs.Memory.{wellFormed, decode, settled, onMemory};
 
@@ -28,12 +28,14 @@ fn new_place(r: &[u8], engine: u32) -> [u8; layout::PLACE_SIZE]
     p
 }
 
-// Sets an engine's bit among the signers at a byte.
-fn add_signer(memory: &mut [u8], at: usize, engine: u32)
-    requires { ⌜ at + 4 ≤ length (now memory) ⌝ }
+// Sets an engine's bit among the signers of record i.
+fn add_signer(memory: &mut [u8], i: usize, engine: u32)
+    requires { ⌜ length (now memory) ≡ registerSize ⌝ }
+    requires { ⌜ i < maxRecords ⌝ }
     requires { ⌜ engine < 32 ⌝ }
-    ensures { λ _. ⌜ now (memory .exit) ≡ putWord 4 at (withBit (wordAt 4 at (now (memory .entry))) engine) (now (memory .entry)) ⌝ }
+    ensures { λ _. ⌜ now (memory .exit) ≡ putWord 4 (recordsAt + i * placeSize + recordSize) (withBit (wordAt 4 (recordsAt + i * placeSize + recordSize) (now (memory .entry))) engine) (now (memory .entry)) ⌝ }
 {
+    let at = layout::RECORDS_AT + i * layout::PLACE_SIZE + RECORD_SIZE;
     let signers = octets::words::u32_at(memory, at);
     octets::words::put_u32(memory, at, octets::masks::with_u32(signers, engine));
 }
@@ -57,11 +59,7 @@ fn sign(memory: &mut [u8], engine: u32, r: &[u8]) -> u32
     );
     match tried {
         Put::Held(i) => {
-            add_signer(
-                memory,
-                layout::RECORDS_AT + i * layout::PLACE_SIZE + RECORD_SIZE,
-                engine,
-            );
+            add_signer(memory, i, engine);
             0
         }
         Put::Full => 5,

@@ -1,17 +1,22 @@
-use Prim.Native.Nat.{ℕ, _+_, _-_, _*_, _≤_, _<_}
-use mathlib.Core.Path.{_≡_, refl, sym, ap, ap₂, _∙_}
-use mathlib.Core.Bool.{Bool, true, false, cond, not, _&&_, true≢false, false≢true}
-use mathlib.Core.List.{List, [], _∷_, _++_, append-nil}
-use native.Mathlib.Omega.{arith}
-use lib.Dec.{ltb, leb, eqb}
-use lib.ListN.{length, getD, take, drop, set, replicate, length-append, length-take, length-drop, length-replicate, drop-of-length-le}
-use lib.Seq.{take-at, drop-at, take-length, length-take-le}
-use borrow.Author.Tests.{lt-ltb, le-ltb, le-leb, lt-leb, eq-eqb, ne-eqb, not-true, not-false, leb-false, ltb-true}
-use Rattle.octets.specs.Words.{putWord}
+-- `add_signer` meets its contract.
+use Prim.Native.Nat.{ℕ, _+_, _*_}
+use mathlib.Core.Path.{ap, _∙_}
 use Rattle.octets.specs.Masks.{withBit}
+use Rattle.octets.specs.Words.{putWord}
+use Rattle.record.specs.Layout.{recordSize}
+use Rattle.register.specs.Layout.{placeSize, recordsAt}
 use borrow.Author.Needs.{needs}
 use Rattle.register.proofs.reports.add_signer.Statement.{statement}
 use Rattle.register.proofs.reports.add_signer.Tie as tie
+
+mul-at : tie.Need-mul-at
+mul-at c = search needs
+
+add-at : tie.Need-add-at
+add-at c = search needs
+
+add-at-2 : tie.Need-add-at-2
+add-at-2 c = search needs
 
 u32-at-requires : tie.Need-u32-at-requires
 u32-at-requires c κs = search needs
@@ -27,9 +32,21 @@ same-length c = search needs
 
 returns : tie.Need-returns
 returns c =
-    let s = c .before .before .before .before .before .before .before .before in
-    c .before .before .put-u32 .ensures ∙ ap (λ (x : ℕ). putWord 4 (s .args .at) x (s .args .memory .now)) (c .before .before .before .with-u32 .ensures ∙ ap (λ (x : ℕ). withBit x (s .args .engine)) (c .before .before .before .before .before .u32-at .ensures))
+    let w = c .before .before .before in
+    let u = w .before .before in
+    let a = u .before .before .before .args in
+    c .before .before .put-u32 .ensures
+    ∙ ap (λ (x : ℕ). putWord 4 (recordsAt + a .i * placeSize + recordSize) x (a .memory .now)) (w .with-u32 .ensures ∙ ap (λ (x : ℕ). withBit x (a .engine)) (u .u32-at .ensures))
 
 pub add-signer-spec : {M : Type 1} → statement M
 add-signer-spec =
-    tie.close (tie.spec u32-at-requires with-u32-requires put-u32-requires same-length returns)
+    tie.close
+    (tie.spec
+    mul-at
+    add-at
+    add-at-2
+    u32-at-requires
+    with-u32-requires
+    put-u32-requires
+    same-length
+    returns)

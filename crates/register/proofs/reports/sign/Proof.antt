@@ -125,17 +125,8 @@ put-by-key-requires c κs =
 enum-known-tried : tie.Need-enum-known-tried
 enum-known-tried c = search needs
 
-mul-add-signer : tie.Need-mul-add-signer
-mul-add-signer c = omega (arith, within (c .before .before))
-
-add-add-signer : tie.Need-add-add-signer
-add-add-signer c = omega (arith, within (c .before .before))
-
-add-add-signer-2 : tie.Need-add-add-signer-2
-add-add-signer-2 c = omega (arith, within (c .before .before))
-
 add-signer-requires : tie.Need-add-signer-requires
-add-signer-requires c κs = let a = c .before .before in (rw (size-still a) (omega (arith, within a)), st (put a) .pre .1 .0)
+add-signer-requires c κs = let a = c .before .before in (size-still a, (within a, st (put a) .pre .1 .0))
 
 enum-told : tie.Need-enum-told
 enum-told c = search needs
@@ -192,9 +183,6 @@ sign-spec =
     slice-aggregate-put-by-key
     put-by-key-requires
     enum-known-tried
-    mul-add-signer
-    add-add-signer
-    add-add-signer-2
     add-signer-requires
     enum-told
     enum-told-2
