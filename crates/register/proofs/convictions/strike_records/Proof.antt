@@ -1,43 +1,114 @@
+-- Each turn takes the engine's signature off one record, and keeps the record below if another is left.
 use Prim.Native.Nat.{ℕ, _+_, _-_, _*_, _≤_, _<_}
-use mathlib.Core.Path.{_≡_, refl, sym, ap, ap₂, _∙_}
-use mathlib.Core.List.{List, [], _∷_, _++_, append-assoc}
+use mathlib.Core.Path.{_≡_, sym, ap, _∙_}
+use mathlib.Core.List.{List, [], _++_}
 use native.Mathlib.Omega.{arith}
-use native.Mathlib.Nat.{add-assoc, mul-le-mul-right}
-use lib.ListN.{length, getD, take, drop, length-append, length-take, length-drop}
-use lib.Seq.{take-at, drop-at, take-add, take-take, drop-drop, length-take-le}
+use lib.ListN.{length, getD, take, drop, length-drop}
+use lib.Seq.{length-take-le}
 use borrow.Rule.Slice.PartMut.{same-len-mid}
 use Rattle.octets.specs.Masks.{withoutBit}
+use Rattle.octets.specs.Words.{wordAt}
 use Rattle.places.specs.Places.{places}
 use Rattle.places.proofs.Walks.{next-room}
 use Rattle.places.proofs.Keeping.{Compacted, compact-none, compact-gone, compact-stays, changed-length}
 use Rattle.record.specs.Layout.{recordSize}
 use Rattle.register.specs.Layout.{placeSize}
-use Rattle.register.specs.Register.{unsignedBy, signedByAnother}
+use Rattle.register.specs.Register.{signersIn, unsignedBy, signedByAnother}
+use Rattle.register.specs.Strikes.{keptAt}
 use Rattle.register.proofs.Striking.{here, lower, inside, among, ends, struck-end, key-of, signers-wide, last-word, unsigned, still-signed, changed-record}
 use borrow.Author.Needs.{needs}
 use Rattle.register.proofs.convictions.strike_records.Statement.{statement}
 use Rattle.register.proofs.convictions.strike_records.Tie as tie
 
+-- i of n records of t₀ are looked at, and the j that stay are in the front of t
+abbrev Left : ℕ → ℕ → List ℕ → List ℕ → ℕ → ℕ → Type 0
+Left e n t₀ t i j = Compacted recordSize (signedByAnother e) (unsignedBy e) placeSize key-of (signers-wide e) (places placeSize n t₀) t₀ t i j
+
 abbrev Inv-loop : tie.InvT-loop
-Inv-loop t₀ n engine i₀ j₀ t i j = (i ≤ n) × Compacted recordSize (signedByAnother engine) (unsignedBy engine) placeSize key-of (signers-wide engine) (places placeSize n t₀) t₀ t i j
+Inv-loop t₀ n engine i₀ j₀ t i j = (i ≤ n) × Left engine n t₀ t i j
 
 abbrev μ-loop : tie.MeasureT-loop
 μ-loop t₀ n engine i₀ j₀ t i j = n - i
+
+-- ---- the loop
+
+module _ (l : tie.At-loop Inv-loop μ-loop) where
+  abbrev s : tie.Start Inv-loop μ-loop
+  s = l .before .before
+
+  abbrev e : ℕ
+  e = s .args .engine
+
+  abbrev n : ℕ
+  n = s .args .n
+
+  abbrev t₀ : List ℕ
+  t₀ = s .args .t .now
+
+  abbrev t : List ℕ
+  t = l .loop .t
+
+  abbrev i : ℕ
+  i = l .loop .i
+
+  abbrev j : ℕ
+  j = l .loop .j
+
+  left : Left e n t₀ t i j
+  left = l .loop .inv .1
+
+  -- what stays ends where the loop is, or below
+  is-lower : j * placeSize ≤ i * placeSize
+  is-lower = lower recordSize (signedByAnother e) (unsignedBy e) placeSize key-of (signers-wide e) n t₀ t i j (s .pre .0) left
+
+  end-within : j * placeSize ≤ length t
+  end-within = ends recordSize (signedByAnother e) (unsignedBy e) placeSize key-of (signers-wide e) n t₀ t i j (s .pre .0) left (l .loop .inv .0)
+
+  -- a turn, on record i
+  module _ (more : i < n) where
+    abbrev p : List ℕ
+    p = getD (places placeSize n t₀) i []
+
+    p-within : i * placeSize + placeSize ≤ length t
+    p-within = inside recordSize (signedByAnother e) (unsignedBy e) placeSize key-of (signers-wide e) n t₀ t i j (s .pre .0) left more
+
+    p-here : take placeSize (drop (i * placeSize) t) ≡ p
+    p-here = here recordSize (signedByAnother e) (unsignedBy e) placeSize key-of (signers-wide e) n t₀ t i j (s .pre .0) left more
+
+    p-among : i < length (places placeSize n t₀)
+    p-among = among recordSize (signedByAnother e) (unsignedBy e) placeSize key-of (signers-wide e) n t₀ t i j (s .pre .0) left more
+
+    p-size : length p ≡ placeSize
+    p-size = ap length (sym p-here) ∙ length-take-le placeSize (drop (i * placeSize) t) (rw length-drop (omega (arith, p-within)))
+
+    -- with its signers but the engine
+    module _ (v x : ℕ) (x-is : x ≡ wordAt 4 (i * placeSize + recordSize) t) (v-is : v ≡ withoutBit x e) where
+      v-are : v ≡ withoutBit (signersIn p) e
+      v-are = v-is ∙ ap (λ (y : ℕ). withoutBit y e) (x-is ∙ last-word t p (i * placeSize) p-within p-here)
+
+      gone : v ≡ 0 → Left e n t₀ t (i + 1) j
+      gone z = compact-gone recordSize (signedByAnother e) (unsignedBy e) placeSize key-of (signers-wide e) (places placeSize n t₀) t₀ t i j p-among left (unsigned e p v v-are z)
+
+      stays : (v ≡ 0 → ⊥) → (t′ : List ℕ) → t′ ≡ keptAt (i * placeSize) (j * placeSize) v t → Left e n t₀ t′ (i + 1) (j + 1)
+      stays z t′ q =
+          compact-stays recordSize (signedByAnother e) (unsignedBy e) placeSize key-of (signers-wide e) (places placeSize n t₀) t₀ t i j p-among left t′ (still-signed e p v v-are z)
+          (changed-length recordSize (signedByAnother e) (unsignedBy e) placeSize key-of (signers-wide e) p p-size) (next-room i placeSize (length t) p-within)
+          (q ∙ ap (λ (y : List ℕ). take (j * placeSize) t ++ (y ++ drop (j * placeSize + placeSize) t)) (changed-record e p v v-are t (i * placeSize) p-here))
 
 loop-holds : tie.Need-loop-holds Inv-loop μ-loop
 loop-holds c = let a = c .before .args in (omega arith, compact-none recordSize (signedByAnother (a .engine)) (unsignedBy (a .engine)) placeSize key-of (signers-wide (a .engine)) (places placeSize (a .n) (a .t .now)) (a .t .now))
 
 mul-at : tie.Need-mul-at Inv-loop μ-loop
-mul-at c = let l = c .before in let s = l .before .before in let a = s .args in let q = inside recordSize (signedByAnother (a .engine)) (unsignedBy (a .engine)) placeSize key-of (signers-wide (a .engine)) (a .n) (a .t .now) (l .loop .t) (l .loop .i) (l .loop .j) (s .pre .0) (l .loop .inv .1) (c .loop-test .taken) in let z = l .loop .inv .1 .size in omega (arith, s .good)
+mul-at c = let l = c .before in omega (arith, p-within l (c .loop-test .taken), left l .size, s l .good)
 
 add-u32-at : tie.Need-add-u32-at Inv-loop μ-loop
-add-u32-at c = let l = c .before .before in let s = l .before .before in let a = s .args in let q = inside recordSize (signedByAnother (a .engine)) (unsignedBy (a .engine)) placeSize key-of (signers-wide (a .engine)) (a .n) (a .t .now) (l .loop .t) (l .loop .i) (l .loop .j) (s .pre .0) (l .loop .inv .1) (c .before .loop-test .taken) in let z = l .loop .inv .1 .size in omega (arith, s .good)
+add-u32-at c = let l = c .before .before in omega (arith, p-within l (c .before .loop-test .taken), left l .size, s l .good)
 
 u32-at-requires : tie.Need-u32-at-requires Inv-loop μ-loop
-u32-at-requires c κs = let l = c .before .before in let s = l .before .before in let a = s .args in let q = inside recordSize (signedByAnother (a .engine)) (unsignedBy (a .engine)) placeSize key-of (signers-wide (a .engine)) (a .n) (a .t .now) (l .loop .t) (l .loop .i) (l .loop .j) (s .pre .0) (l .loop .inv .1) (c .before .loop-test .taken) in omega arith
+u32-at-requires c κs = omega (arith, p-within (c .before .before) (c .before .loop-test .taken))
 
 without-u32-requires : tie.Need-without-u32-requires Inv-loop μ-loop
-without-u32-requires c κs = let l = c .before .before .before in let s = l .before .before in let a = s .args in s .pre .1
+without-u32-requires c κs = s (c .before .before .before) .pre .1
 
 add-i : tie.Need-add-i Inv-loop μ-loop
 add-i c = omega arith
@@ -47,56 +118,48 @@ loop-less c = omega arith
 
 loop-again : tie.Need-loop-again Inv-loop μ-loop
 loop-again c =
-    let l = c .before .before .before .before .before in let s = l .before .before in let a = s .args in
-    let k : l .loop .i < a .n = c .before .before .before .before .loop-test .taken in
-    let p = getD (places placeSize (a .n) (a .t .now)) (l .loop .i) [] in
-    let q = here recordSize (signedByAnother (a .engine)) (unsignedBy (a .engine)) placeSize key-of (signers-wide (a .engine)) (a .n) (a .t .now) (l .loop .t) (l .loop .i) (l .loop .j) (s .pre .0) (l .loop .inv .1) k in
-    let v = c .before .without-u32 .ensures ∙ ap (λ (x : ℕ). withoutBit x (a .engine)) (c .before .before .u32-at .ensures ∙ last-word (l .loop .t) p (l .loop .i * placeSize) (inside recordSize (signedByAnother (a .engine)) (unsignedBy (a .engine)) placeSize key-of (signers-wide (a .engine)) (a .n) (a .t .now) (l .loop .t) (l .loop .i) (l .loop .j) (s .pre .0) (l .loop .inv .1) k) q) in (
-      omega arith,
-      compact-gone recordSize (signedByAnother (a .engine)) (unsignedBy (a .engine)) placeSize key-of (signers-wide (a .engine)) (places placeSize (a .n) (a .t .now)) (a .t .now) (l .loop .t) (l .loop .i) (l .loop .j) (among recordSize (signedByAnother (a .engine)) (unsignedBy (a .engine)) placeSize key-of (signers-wide (a .engine)) (a .n) (a .t .now) (l .loop .t) (l .loop .i) (l .loop .j) (s .pre .0) (l .loop .inv .1) k) (l .loop .inv .1)
-          (unsigned (a .engine) p (c .before .without-u32 .result) v (c .if1 .taken)),
-    )
+    let w = c .before in
+    let u = w .before in
+    let b = u .before .before in
+    (omega arith, gone (b .before) (b .loop-test .taken) (w .without-u32 .result) (u .u32-at .result) (u .u32-at .ensures) (w .without-u32 .ensures) (c .if1 .taken))
 
 mul-keep-place : tie.Need-mul-keep-place Inv-loop μ-loop
-mul-keep-place c = let l = c .before .before .before .before .before .before in let s = l .before .before in let a = s .args in let q = inside recordSize (signedByAnother (a .engine)) (unsignedBy (a .engine)) placeSize key-of (signers-wide (a .engine)) (a .n) (a .t .now) (l .loop .t) (l .loop .i) (l .loop .j) (s .pre .0) (l .loop .inv .1) (c .before .before .before .before .before .loop-test .taken) in let v = lower recordSize (signedByAnother (a .engine)) (unsignedBy (a .engine)) placeSize key-of (signers-wide (a .engine)) (a .n) (a .t .now) (l .loop .t) (l .loop .i) (l .loop .j) (s .pre .0) (l .loop .inv .1) in let z = l .loop .inv .1 .size in omega (arith, s .good)
+mul-keep-place c =
+    let b = c .before .before .before .before .before in
+    let l = b .before in
+    omega (arith, p-within l (b .loop-test .taken), is-lower l, left l .size, s l .good)
 
 keep-place-requires : tie.Need-keep-place-requires Inv-loop μ-loop
-keep-place-requires c κs = let l = c .before .before .before .before .before .before in let s = l .before .before in let a = s .args in (lower recordSize (signedByAnother (a .engine)) (unsignedBy (a .engine)) placeSize key-of (signers-wide (a .engine)) (a .n) (a .t .now) (l .loop .t) (l .loop .i) (l .loop .j) (s .pre .0) (l .loop .inv .1), inside recordSize (signedByAnother (a .engine)) (unsignedBy (a .engine)) placeSize key-of (signers-wide (a .engine)) (a .n) (a .t .now) (l .loop .t) (l .loop .i) (l .loop .j) (s .pre .0) (l .loop .inv .1) (c .before .before .before .before .before .loop-test .taken))
+keep-place-requires c κs = let b = c .before .before .before .before .before in (is-lower (b .before), p-within (b .before) (b .loop-test .taken))
 
 add-i-2 : tie.Need-add-i-2 Inv-loop μ-loop
 add-i-2 c = omega arith
 
 add-j : tie.Need-add-j Inv-loop μ-loop
-add-j c = let l = c .before .before .before .before .before .before .before .before .before in let s = l .before .before in let a = s .args in let f = l .loop .inv .1 .few in let k : l .loop .i < a .n = c .before .before .before .before .before .before .before .before .loop-test .taken in omega (arith, s .fits)
+add-j c =
+    let w = c .before .before .before .before .before in
+    let b = w .before .before .before in
+    omega (arith, left (b .before) .few, b .loop-test .taken, s (b .before) .fits)
 
 loop-less-2 : tie.Need-loop-less-2 Inv-loop μ-loop
 loop-less-2 c = omega arith
 
 loop-again-2 : tie.Need-loop-again-2 Inv-loop μ-loop
 loop-again-2 c =
-    let l = c .before .before .before .before .before .before .before .before .before in let s = l .before .before in let a = s .args in
-    let k : l .loop .i < a .n = c .before .before .before .before .before .before .before .before .loop-test .taken in
-    let p = getD (places placeSize (a .n) (a .t .now)) (l .loop .i) [] in
-    let q = here recordSize (signedByAnother (a .engine)) (unsignedBy (a .engine)) placeSize key-of (signers-wide (a .engine)) (a .n) (a .t .now) (l .loop .t) (l .loop .i) (l .loop .j) (s .pre .0) (l .loop .inv .1) k in
-    let ins = inside recordSize (signedByAnother (a .engine)) (unsignedBy (a .engine)) placeSize key-of (signers-wide (a .engine)) (a .n) (a .t .now) (l .loop .t) (l .loop .i) (l .loop .j) (s .pre .0) (l .loop .inv .1) k in
-    let u = c .before .before .before .before .before .without-u32 .result in
-    let v = c .before .before .before .before .before .without-u32 .ensures ∙ ap (λ (x : ℕ). withoutBit x (a .engine)) (c .before .before .before .before .before .before .u32-at .ensures ∙ last-word (l .loop .t) p (l .loop .i * placeSize) ins q) in
-    let pl : length p ≡ placeSize = ap length (sym q) ∙ length-take-le placeSize (drop (l .loop .i * placeSize) (l .loop .t)) (rw length-drop (omega arith)) in
-    let w = changed-record (a .engine) p u v (l .loop .t) (l .loop .i * placeSize) q in (
-      omega arith,
-      compact-stays recordSize (signedByAnother (a .engine)) (unsignedBy (a .engine)) placeSize key-of (signers-wide (a .engine)) (places placeSize (a .n) (a .t .now)) (a .t .now) (l .loop .t) (l .loop .i) (l .loop .j) (among recordSize (signedByAnother (a .engine)) (unsignedBy (a .engine)) placeSize key-of (signers-wide (a .engine)) (a .n) (a .t .now) (l .loop .t) (l .loop .i) (l .loop .j) (s .pre .0) (l .loop .inv .1) k) (l .loop .inv .1)
-          (c .before .before .keep-place .last .0) (still-signed (a .engine) p u v (c .before .before .before .before .if1 .left)) (changed-length recordSize (signedByAnother (a .engine)) (unsignedBy (a .engine)) placeSize key-of (signers-wide (a .engine)) p pl) (next-room (l .loop .i) placeSize (length (l .loop .t)) ins)
-          (c .before .before .keep-place .ensures ∙ ap (λ (x : List ℕ). take (l .loop .j * placeSize) (l .loop .t) ++ (x ++ drop (l .loop .j * placeSize + placeSize) (l .loop .t))) w),
-    )
+    let o = c .before .before .before .before in
+    let w = o .before in
+    let u = w .before in
+    let b = u .before .before in
+    (omega arith, stays (b .before) (b .loop-test .taken) (w .without-u32 .result) (u .u32-at .result) (u .u32-at .ensures) (w .without-u32 .ensures) (o .if1 .left) (c .before .before .keep-place .last .0) (c .before .before .keep-place .ensures))
 
 mul-end : tie.Need-mul-end Inv-loop μ-loop
-mul-end c = let l = c .before in let s = l .before .before in let a = s .args in let q = ends recordSize (signedByAnother (a .engine)) (unsignedBy (a .engine)) placeSize key-of (signers-wide (a .engine)) (a .n) (a .t .now) (l .loop .t) (l .loop .i) (l .loop .j) (s .pre .0) (l .loop .inv .1) (l .loop .inv .0) in let z = l .loop .inv .1 .size in omega (arith, s .good)
+mul-end c = let l = c .before in omega (arith, end-within l, left l .size, s l .good)
 
 sub-clear : tie.Need-sub-clear Inv-loop μ-loop
-sub-clear c = let l = c .before in let s = l .before .before in let a = s .args in let q = ends recordSize (signedByAnother (a .engine)) (unsignedBy (a .engine)) placeSize key-of (signers-wide (a .engine)) (a .n) (a .t .now) (l .loop .t) (l .loop .i) (l .loop .j) (s .pre .0) (l .loop .inv .1) (l .loop .inv .0) in omega arith
+sub-clear c = omega (arith, end-within (c .before))
 
 part-clear-start : tie.Need-part-clear-start Inv-loop μ-loop
-part-clear-start c = let l = c .before in let s = l .before .before in let a = s .args in let q = ends recordSize (signedByAnother (a .engine)) (unsignedBy (a .engine)) placeSize key-of (signers-wide (a .engine)) (a .n) (a .t .now) (l .loop .t) (l .loop .i) (l .loop .j) (s .pre .0) (l .loop .inv .1) (l .loop .inv .0) in omega arith
+part-clear-start c = omega (arith, end-within (c .before))
 
 part-clear-end : tie.Need-part-clear-end Inv-loop μ-loop
 part-clear-end c = omega arith
@@ -106,12 +169,16 @@ clear-requires c κs = search needs
 
 same-length : tie.Need-same-length Inv-loop μ-loop
 same-length c =
-    let l = c .before .before .before .before .before in let s = l .before .before in let a = s .args in
-    let k = l .loop .j * placeSize in
-    same-len-mid k (length (l .loop .t) - k) (l .loop .t) (c .before .before .clear .last .0) (c .before .before .clear .kept .0) ∙ l .loop .inv .1 .size
+    let l = c .before .before .before .before .before in
+    let k = j l * placeSize in
+    same-len-mid k (length (t l) - k) (t l) (c .before .before .clear .last .0) (c .before .before .clear .kept .0) ∙ left l .size
 
 returns : tie.Need-returns Inv-loop μ-loop
-returns c = let l = c .before .before .before .before .before in let s = l .before .before in let a = s .args in struck-end recordSize (signedByAnother (a .engine)) (unsignedBy (a .engine)) placeSize key-of (signers-wide (a .engine)) (a .n) (a .t .now) (l .loop .t) (l .loop .i) (l .loop .j) (s .pre .0) (l .loop .inv .1) (c .before .before .before .before .loop-test .left) (c .before .before .clear .last .0) (c .before .before .clear .ensures)
+returns c =
+    let o = c .before .before .before .before in
+    let l = o .before in
+    struck-end recordSize (signedByAnother (e l)) (unsignedBy (e l)) placeSize key-of (signers-wide (e l)) (n l) (t₀ l) (t l) (i l) (j l) (s l .pre .0) (left l)
+    (o .loop-test .left) (c .before .before .clear .last .0) (c .before .before .clear .ensures)
 
 pub strike-records-spec : {M : Type 1} → statement M
 strike-records-spec =
