@@ -33,10 +33,12 @@ put-u32-requires c κs = search needs
 
 returns : tie.Need-returns
 returns c =
-    let s = c .before .before .before .before .before .before .before .before .before .before .before .before .before .before .before in
-    let w = wordBytes 4 (s .args .signers) in
-    filled (s .args .id .now) (s .args .r .now) (s .args .inputs .now) w _ (c .before .before .before .before .before .before .before .before .before .before .write .last .0) (c .before .before .before .before .before .before .before .write2 .last .0) (c .before .before .before .before .write3 .last .0) (c .before .put-u32 .last .0)
-    (s .pre .0) (s .pre .1 .0) (s .pre .1 .1) (length-word-bytes 4 (s .args .signers)) refl (c .before .before .before .before .before .before .before .before .before .before .write .ensures) (c .before .before .before .before .before .before .before .write2 .ensures) (c .before .before .before .before .write3 .ensures) (c .before .put-u32 .ensures)
+    let third = c .before .before .before .before in
+    let second = third .before .before .before in
+    let first = second .before .before .before in
+    let s = first .before .before .before .before .before in
+    filled (s .args .id .now) (s .args .r .now) (s .args .inputs .now) (wordBytes 4 (s .args .signers)) _ (first .write .last .0) (second .write2 .last .0) (third .write3 .last .0) (c .before .put-u32 .last .0)
+    (s .pre .0) (s .pre .1 .0) (s .pre .1 .1) (length-word-bytes 4 (s .args .signers)) refl (first .write .ensures) (second .write2 .ensures) (third .write3 .ensures) (c .before .put-u32 .ensures)
 
 pub place-of-spec : {M : Type 1} → statement M
 place-of-spec =
