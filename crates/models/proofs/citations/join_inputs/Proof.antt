@@ -1,16 +1,32 @@
 -- An answer that names a summary names the agreed inputs; for the others nothing is joined.
-use Prim.Native.Nat.{_+_, _-_, _*_}
+use Prim.Native.Nat.{ℕ, _+_, _-_, _*_, _≤_}
 use mathlib.Core.Path.{_≡_, refl, sym, ap, _∙_}
 use mathlib.Core.List.{append-nil}
 use native.Mathlib.Omega.{arith}
-use lib.ListN.{take, length-take}
+use lib.ListN.{length, take, drop, length-take}
+use Rattle.octets.specs.Words.{wordAt}
 use Rattle.places.specs.Places.{places}
-use Rattle.models.specs.Summary.{summarySize, inputsAt, inputsSize}
-use Rattle.models.specs.Models.{valueOf}
+use Rattle.models.specs.Summary.{summarySize, specAt, inputsAt, inputsSize}
+use Rattle.models.specs.Models.{agreed, stateOf, valueOf}
 use Rattle.models.proofs.Agreeing.{ends, as-agreed}
 use borrow.Author.Needs.{needs}
 use Rattle.models.proofs.citations.join_inputs.Statement.{statement}
 use Rattle.models.proofs.citations.join_inputs.Tie as tie
+
+-- the model is agreed, as summary i has it
+module _ (a : tie.After-i) where
+  abbrev s : tie.Start
+  s = a .before .before .before .before .before
+
+  abbrev i : ℕ
+  i = a .i .given .0 .0
+
+  summary-within : i * summarySize + summarySize ≤ length (s .args .table .now)
+  summary-within = ends (s .args .model) (s .args .count) (s .args .table .now) i (a .before .before .state .ensures .1) (a .i .given .1) (s .pre .1)
+
+  agreed-is : stateOf (s .args .model) (places summarySize (s .args .count) (s .args .table .now))
+      ≡ agreed (wordAt 2 (i * summarySize + specAt) (s .args .table .now)) (take inputsSize (drop (i * summarySize + inputsAt) (s .args .table .now)))
+  agreed-is = as-agreed (s .args .model) (s .args .count) (s .args .table .now) i (a .before .before .state .ensures .1) (a .i .given .1)
 
 state-requires : tie.Need-state-requires
 state-requires c κs = search needs
@@ -19,22 +35,13 @@ enum-known-i : tie.Need-enum-known-i
 enum-known-i c = search needs
 
 mul-start : tie.Need-mul-start
-mul-start c =
-    let s = c .before .before .before .before .before .before in
-    let a = s .args in
-    omega (arith, ends (a .model) (a .count) (a .table .now) (c .before .i .given .0 .0) (c .before .before .before .state .ensures .1) (c .before .i .given .1) (s .pre .1))
+mul-start c = omega (arith, summary-within (c .before))
 
 add-start : tie.Need-add-start
-add-start c =
-    let s = c .before .before .before .before .before .before in
-    let a = s .args in
-    omega (arith, ends (a .model) (a .count) (a .table .now) (c .before .i .given .0 .0) (c .before .before .before .state .ensures .1) (c .before .i .given .1) (s .pre .1))
+add-start c = omega (arith, summary-within (c .before))
 
 add-end : tie.Need-add-end
-add-end c =
-    let s = c .before .before .before .before .before .before in
-    let a = s .args in
-    omega (arith, ends (a .model) (a .count) (a .table .now) (c .before .i .given .0 .0) (c .before .before .before .state .ensures .1) (c .before .i .given .1) (s .pre .1))
+add-end c = omega (arith, summary-within (c .before))
 
 sub-join : tie.Need-sub-join
 sub-join c = search needs
@@ -43,10 +50,7 @@ part-join-start : tie.Need-part-join-start
 part-join-start c = search needs
 
 part-join-end : tie.Need-part-join-end
-part-join-end c =
-    let s = c .before .before .before .before .before .before .before in
-    let a = s .args in
-    omega (arith, ends (a .model) (a .count) (a .table .now) (c .before .before .i .given .0 .0) (c .before .before .before .before .state .ensures .1) (c .before .before .i .given .1) (s .pre .1))
+part-join-end c = omega (arith, summary-within (c .before .before))
 
 join-requires : tie.Need-join-requires
 join-requires c κs = search needs
@@ -62,15 +66,11 @@ same-length c = search needs
 
 returns : tie.Need-returns
 returns c =
-    let a = c .before .before .before .before .before .before .before .before .before .before .before .args in
-    let i = c .before .before .before .before .before .before .i .given in
+    let a = c .before .before .before .before .before .before in
     let j = c .before .before .join in
-    let at = i .0 .0 * summarySize + inputsAt in
+    let at = i a * summarySize + inputsAt in
     let z : at + inputsSize - at ≡ inputsSize = omega arith in
-    let e = as-agreed (a .model) (a .count) (a .table .now) (i .0 .0) (c .before .before .before .before .before .before .before .before .state .ensures .1) (i .1) in (
-      rw (j .ensures .0, length-take) (omega arith),
-      j .ensures .1 ∙ rw (e, z) refl,
-    )
+    (rw (j .ensures .0, length-take) (omega arith), j .ensures .1 ∙ rw (agreed-is a, z) refl)
 
 returns-2 : tie.Need-returns-2
 returns-2 c =
