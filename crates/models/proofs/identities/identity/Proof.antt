@@ -43,12 +43,12 @@ blake2s256-requires c κs = search needs
 returns : tie.Need-returns
 unfolding identityOf
 returns c =
-    let a = c .before .before .before .before .before .before .before .before .before .before .before .before .before .before .args in
-    let j₁ = c .before .before .before .before .before .before .before .before .before .join in
-    let j₂ = c .before .before .before .before .before .before .join2 in
-    let j₃ = c .before .before .before .join3 in
+    let third = c .before .before .before in
+    let second = third .before .before .before in
+    let first = second .before .before .before in
+    let a = first .before .before .before .before .before .args in
     c .blake2s256 .ensures
-    ∙ ap blake2s256 (j₃ .ensures .1 ∙ ap (λ (l : List ℕ). l ++ a .inputs .now) (j₂ .ensures .1 ∙ ap (λ (l : List ℕ). l ++ a .set .now) (j₁ .ensures .1)))
+    ∙ ap blake2s256 (third .join3 .ensures .1 ∙ ap (λ (l : List ℕ). l ++ a .inputs .now) (second .join2 .ensures .1 ∙ ap (λ (l : List ℕ). l ++ a .set .now) (first .join .ensures .1)))
 
 pub identity-spec : {M : Type 1} → statement M
 identity-spec =

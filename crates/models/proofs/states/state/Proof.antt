@@ -1,6 +1,7 @@
 -- From the first summary on, all that follow are compared with it.
-use Prim.Native.Nat.{_+_, _-_, _*_}
+use Prim.Native.Nat.{ℕ, _+_, _-_, _*_}
 use mathlib.Core.Path.{_≡_, sym, ap, _∙_}
+use mathlib.Core.List.{List}
 use native.Mathlib.Omega.{arith}
 use lib.ListN.{take, drop}
 use Rattle.octets.proofs.Moves.{tail-lent}
@@ -10,6 +11,29 @@ use Rattle.models.proofs.Agreeing.{told, without, unanimous, divided}
 use borrow.Author.Needs.{needs}
 use Rattle.models.proofs.states.state.Statement.{statement}
 use Rattle.models.proofs.states.state.Tie as tie
+
+-- those after the first were compared with it
+module _ (a : tie.After-all-concur) where
+  abbrev s : tie.Start
+  s = a .before .before .before .before .before .before
+
+  abbrev m : ℕ
+  m = s .args .model
+
+  abbrev n : ℕ
+  n = s .args .count
+
+  abbrev t : List ℕ
+  t = s .args .table .now
+
+  abbrev has-first : tie.Else1
+  has-first = a .before .before .before
+
+  abbrev i : ℕ
+  i = has-first .before .first .result
+
+  one-summary : take (i * summarySize + summarySize - i * summarySize) (drop (i * summarySize) t) ≡ take summarySize (drop (i * summarySize) t)
+  one-summary = let z : i * summarySize + summarySize - i * summarySize ≡ summarySize = omega arith in ap (λ (k : ℕ). take k (drop (i * summarySize) t)) z
 
 first-requires : tie.Need-first-requires
 first-requires c κs = search needs
@@ -52,23 +76,15 @@ all-concur-requires c κs = search needs
 
 returns-2 : tie.Need-returns-2
 returns-2 c =
-    let s = c .before .before .before .before .before .before .before in
-    let a = s .args in
-    let f = c .before .before .before .before .before .first in
-    let at = f .result * summarySize in
-    let z : at + summarySize - at ≡ summarySize = omega arith in
-    told (a .model) (places summarySize (a .count) (a .table .now))
-    (unanimous (a .model) (a .count) (a .table .now) (f .result) (f .ensures) _ _ (ap (λ k. take k (drop at (a .table .now))) z) (tail-lent (a .table .now) (at + summarySize)) (c .before .before .before .before .if1 .left) (sym (c .before .all-concur .ensures) ∙ c .if2 .taken))
+    let a = c .before in
+    told (m a) (places summarySize (n a) (t a))
+    (unanimous (m a) (n a) (t a) (i a) (has-first a .before .first .ensures) _ _ (one-summary a) (tail-lent (t a) (i a * summarySize + summarySize)) (has-first a .if1 .left) (sym (a .all-concur .ensures) ∙ c .if2 .taken))
 
 returns-3 : tie.Need-returns-3
 returns-3 c =
-    let s = c .before .before .before .before .before .before .before in
-    let a = s .args in
-    let f = c .before .before .before .before .before .first in
-    let at = f .result * summarySize in
-    let z : at + summarySize - at ≡ summarySize = omega arith in
-    told (a .model) (places summarySize (a .count) (a .table .now))
-    (divided (a .model) (a .count) (a .table .now) (f .result) (f .ensures) _ _ (ap (λ k. take k (drop at (a .table .now))) z) (tail-lent (a .table .now) (at + summarySize)) (c .before .before .before .before .if1 .left) (sym (c .before .all-concur .ensures) ∙ c .if2 .left))
+    let a = c .before in
+    told (m a) (places summarySize (n a) (t a))
+    (divided (m a) (n a) (t a) (i a) (has-first a .before .first .ensures) _ _ (one-summary a) (tail-lent (t a) (i a * summarySize + summarySize)) (has-first a .if1 .left) (sym (a .all-concur .ensures) ∙ c .if2 .left))
 
 pub state-spec : {M : Type 1} → statement M
 state-spec =
