@@ -227,7 +227,7 @@ module _ (m : List ℕ) (o : Opened m) (b : Bytes m) (e : ℕ) (r : List ℕ) (l
         let at = held-at recordSize r ps (records-ascend m o) (v .1 .0) .0 in
         rw (v .0) (omega (arith, records-length m o, o .few-records))
 
-    pub held-unwritten : withRecords m t′ ≡ m
+    held-unwritten : withRecords m t′ ≡ m
     held-unwritten = back-same t′ (held-told way-gone i is-held .1 .1)
 
     pub record-again : (x : List ℕ) → x ≡ withSigner i e (withRecords m t′) → after 0 x ≡ settled m (signedInto e r (decode m))

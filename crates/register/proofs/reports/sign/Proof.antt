@@ -4,16 +4,17 @@ use mathlib.Core.Path.{_≡_, ap, ap₂, _∙_}
 use mathlib.Core.Bool.{true}
 use mathlib.Core.List.{List}
 use native.Mathlib.Omega.{arith}
-use lib.ListN.{length, take, drop, length-append, length-take}
+use lib.ListN.{length, take, drop}
+use borrow.Rule.Slice.PartMut.{same-len-mid}
 use Rattle.octets.proofs.Moves.{tail-lent}
 use Rattle.octets.proofs.Numbers.{Bytes, all-bytes}
 use Rattle.places.specs.Places.{places, ascending}
 use Rattle.record.proofs.Parts.{formed}
 use Rattle.record.specs.Layout.{recordSize}
-use Rattle.register.specs.Layout.{maxRecords, placeSize, recordsAt, recordsSize, registerSize}
+use Rattle.register.specs.Layout.{maxRecords, placeSize, recordsAt, recordsSize}
 use Rattle.register.specs.Memory.{recordCount}
 use Rattle.register.proofs.Opened.{Opened, opened, record-bytes-length, records-ascend}
-use Rattle.register.proofs.Signing.{RecordWay, withRecords, place-length, record-way, record-new, record-full, record-again, held-within, held-unwritten}
+use Rattle.register.proofs.Signing.{RecordWay, withRecords, place-length, record-way, record-new, record-full, record-again, held-within}
 use borrow.Author.Needs.{needs}
 use Rattle.register.proofs.reports.sign.Statement.{statement}
 use Rattle.register.proofs.reports.sign.Tie as tie
@@ -77,6 +78,9 @@ module _ (a : tie.After-put-by-key) where
   abbrev st : tie.Start
   st = start made
 
+  size-kept : length (withRecords (m st) t) ≡ length (m st)
+  size-kept = same-len-mid recordsAt (length (m st) - recordsAt) (m st) t (a .put-by-key .kept .0)
+
   way : RecordWay (m st) (o st) (b made) (e st) (r st) (r-size st) (a .put-by-key .result) t
   way =
       record-way (m st) (o st) (b made) (e st) (r st) (r-size st) (n made) (p made) (a .put-by-key .result) t
@@ -92,9 +96,6 @@ module _ (a : tie.After-tried) where
 
   within : i < maxRecords
   within = held-within (m (st put)) (o (st put)) (b (made put)) (e (st put)) (r (st put)) (r-size (st put)) (t put) (way put) i (a .tried .given .1)
-
-  size-still : length (withRecords (m (st put)) (t put)) ≡ registerSize
-  size-still = ap length (held-unwritten (m (st put)) (o (st put)) (b (made put)) (e (st put)) (r (st put)) (r-size (st put)) (t put) (way put) i (a .tried .given .1)) ∙ o (st put) .size
 
 u16-at-requires : tie.Need-u16-at-requires
 u16-at-requires c κs = omega (arith, o (c .before .before .before) .size)
@@ -126,7 +127,10 @@ enum-known-tried : tie.Need-enum-known-tried
 enum-known-tried c = search needs
 
 add-signer-requires : tie.Need-add-signer-requires
-add-signer-requires c κs = let a = c .before .before in (size-still a, (within a, st (put a) .pre .1 .0))
+add-signer-requires c κs =
+    let a = c .before .before in
+    let w = put a in
+    (size-kept w ∙ o (st w) .size, (within a, st w .pre .1 .0))
 
 enum-told : tie.Need-enum-told
 enum-told c = search needs
@@ -138,10 +142,10 @@ add-put-u16 : tie.Need-add-put-u16
 add-put-u16 c = let w = c .before .before .before .before .before in omega (arith, o (st w) .few-records, n-is (made w))
 
 put-u16-requires : tie.Need-put-u16-requires
-put-u16-requires c κs = simp (length-append, length-take) (omega (arith, o (st (c .before .before .before .before .before)) .size))
+put-u16-requires c κs = let w = c .before .before .before .before .before in omega (arith, size-kept w, o (st w) .size)
 
 same-length : tie.Need-same-length
-same-length c = search needs
+same-length c = c .before .before .add-signer .kept .0 ∙ size-kept (put (c .before .before .before .before .before))
 
 returns : tie.Need-returns
 returns c =
@@ -151,7 +155,7 @@ returns c =
     record-again (m s) (o s) (b (made w)) (e s) (r s) (r-size s) (t w) (way w) (i a) (a .tried .given .1) (c .before .before .add-signer .last .0) (c .before .before .add-signer .ensures)
 
 same-length-2 : tie.Need-same-length-2
-same-length-2 c = search needs
+same-length-2 c = size-kept (c .before .before .before .before)
 
 returns-2 : tie.Need-returns-2
 returns-2 c =
@@ -160,7 +164,7 @@ returns-2 c =
     record-full (m s) (o s) (b (made w)) (e s) (r s) (r-size s) (t w) (way w) (c .enum-told .given .1)
 
 same-length-3 : tie.Need-same-length-3
-same-length-3 c = search needs
+same-length-3 c = let d = c .before .before .before .before in c .before .before .put-u16 .kept .0 ∙ size-kept (d .before .before .before .before)
 
 returns-3 : tie.Need-returns-3
 returns-3 c =

@@ -4,13 +4,15 @@ use mathlib.Core.Path.{_≡_, ap, _∙_}
 use mathlib.Core.Bool.{true}
 use mathlib.Core.List.{List}
 use native.Mathlib.Omega.{arith}
-use lib.ListN.{length-append, length-take}
+use lib.ListN.{length}
+use borrow.Rule.Slice.PartMut.{same-len-mid}
 use Rattle.octets.proofs.Numbers.{Bytes, all-bytes}
 use Rattle.places.specs.Places.{places, ascending}
 use Rattle.models.specs.Summary.{summarySize}
+use Rattle.register.specs.Layout.{summariesAt, summariesSize}
 use Rattle.register.specs.Memory.{summaryBytes, summaryCount}
 use Rattle.register.proofs.Opened.{Opened, opened, summary-bytes-length, summaries-ascend}
-use Rattle.register.proofs.Signing.{SummaryWay, summary-way, summary-held, summary-full, summary-new}
+use Rattle.register.proofs.Signing.{SummaryWay, withSummaries, summary-way, summary-held, summary-full, summary-new}
 use borrow.Author.Needs.{needs}
 use Rattle.register.proofs.summaries.hold.Statement.{statement}
 use Rattle.register.proofs.summaries.hold.Tie as tie
@@ -51,6 +53,9 @@ module _ (a : tie.After-put-by-key) where
   abbrev t : List ℕ
   t = a .put-by-key .last .0
 
+  size-kept : length (withSummaries (m read) t) ≡ length (m read)
+  size-kept = same-len-mid summariesAt summariesSize (m read) t (a .put-by-key .kept .0)
+
   way : SummaryWay (m read) (o read) (b read) (p read) (s read .pre .1) (a .put-by-key .result) t
   way = summary-way (m read) (o read) (b read) (p read) (s read .pre .1) (n read) (a .put-by-key .result) t (n-is read) (a .put-by-key .ensures)
 
@@ -88,10 +93,10 @@ add-put-u16 : tie.Need-add-put-u16
 add-put-u16 c = let a = read (c .before .before .before .before .before) in omega (arith, o a .few-summaries, n-is a)
 
 put-u16-requires : tie.Need-put-u16-requires
-put-u16-requires c κs = simp (length-append, length-take) (omega (arith, o (read (c .before .before .before .before .before)) .size))
+put-u16-requires c κs = let w = c .before .before .before .before .before in omega (arith, size-kept w, o (read w) .size)
 
 same-length : tie.Need-same-length
-same-length c = search needs
+same-length c = size-kept (c .before .before .before .before)
 
 returns : tie.Need-returns
 returns c =
@@ -100,7 +105,7 @@ returns c =
     summary-held (m a) (o a) (b a) (p a) (s a .pre .1) (t w) (way w) _ (c .enum-told .given .1)
 
 same-length-2 : tie.Need-same-length-2
-same-length-2 c = search needs
+same-length-2 c = size-kept (c .before .before .before .before)
 
 returns-2 : tie.Need-returns-2
 returns-2 c =
@@ -109,7 +114,7 @@ returns-2 c =
     summary-full (m a) (o a) (b a) (p a) (s a .pre .1) (t w) (way w) (c .enum-told2 .given .1)
 
 same-length-3 : tie.Need-same-length-3
-same-length-3 c = search needs
+same-length-3 c = let d = c .before .before .before .before in c .before .before .put-u16 .kept .0 ∙ size-kept (d .before .before .before .before)
 
 returns-3 : tie.Need-returns-3
 returns-3 c =
