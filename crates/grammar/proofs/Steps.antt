@@ -5,17 +5,17 @@ use mathlib.Core.Bool.{Bool, true, false, cond}
 use mathlib.Core.List.{List, []}
 use mathlib.Core.Option.{Option, none, some}
 use native.Mathlib.Omega.{arith}
-use borrow.Author.Tests.{lt-ltb, le-ltb}
+use lib.Dec.{ltb}
+use borrow.Author.Tests.{lt-ltb, le-ltb, ltb-false}
 use lib.ListN.{length, take, drop, length-take, length-drop, drop-of-length-le}
 use lib.Seq.{drop-drop, drop-nil}
-use Rattle.octets.specs.Order.{same}
+use Rattle.octets.specs.Order.{same, isBefore}
 use Rattle.octets.proofs.Cases.{by}
 use Rattle.octets.proofs.Comparison.{not-same}
-use Rattle.record.specs.Layout.{maxTags}
 use Rattle.lines.specs.Ascii.{ascii}
 use Rattle.grammar.specs.Reading.{Reading, bad, good, after, _▸_, toldLine, told}
-use Rattle.grammar.specs.Values.{indexOf, padded}
-use Rattle.grammar.specs.Grammar.{Line, noLine, aLine, cut, keyed, line, ListedLine, isSummary, isConviction, isReport, kind, kindOf}
+use Rattle.grammar.specs.Values.{indexOf, toldValue, Listed}
+use Rattle.grammar.specs.Grammar.{Line, noLine, aLine, cut, keyed, valued, line, ListedLine, isSummary, isConviction, isReport, kind, kindOf}
 
 -- ---- the line due
 
@@ -45,39 +45,49 @@ module _ (input key : List ℕ) (at : ℕ) where
     pub line-open : to ≡ length input → keyed key (drop at input) ≡ noLine
     line-open l = found ∙ rw (le-ltb (indexOf 10 (drop (at + length key) input)) (length (drop (at + length key) input)) (rw length-drop (omega arith))) refl
 
-    pub line-whole : to < length input → keyed key (drop at input) ≡ aLine (take (to - (at + length key)) (drop (at + length key) input)) (drop (to + 1) input)
+    pub line-whole : to < length input → cond (ltb 0 (to + 1)) (aLine (take (to - (at + length key)) (drop (at + length key) input)) (drop (to + 1) input)) noLine ≡ keyed key (drop at input)
     line-whole l =
         let d : to - (at + length key) ≡ indexOf 10 (drop (at + length key) input) = omega arith in
         let q : drop (indexOf 10 (drop (at + length key) input) + 1) (drop (at + length key) input) ≡ drop (to + 1) input =
         drop-drop (indexOf 10 (drop (at + length key) input) + 1) (at + length key) input
         ∙ ap (λ (j : ℕ). drop j input) (let z : at + length key + (indexOf 10 (drop (at + length key) input) + 1) ≡ to + 1 = omega arith in z) in
-        found ∙ rw (lt-ltb (indexOf 10 (drop (at + length key) input)) (length (drop (at + length key) input)) (rw length-drop (omega arith)), d, q) refl
+        rw (lt-ltb 0 (to + 1) (omega arith))
+        (sym (found ∙ rw (lt-ltb (indexOf 10 (drop (at + length key) input)) (length (drop (at + length key) input)) (rw length-drop (omega arith)), d, q) refl))
 
 -- ---- a struct's line
 
-pub cut-not : (g : Bool) (t r : List ℕ) {o : Line} → g ≡ false → o ≡ noLine → cond g (aLine t r) noLine ≡ o
-cut-not g t r e k = rw (e, k) refl
+-- where none is due
+pub no-cut : (key s i : List ℕ) (from to next : ℕ) → from ≡ 0 → to ≡ 0 → next ≡ 0 → keyed key s ≡ noLine
+    → (cond (ltb 0 next) (aLine (take (to - from) (drop from i)) (drop next i)) noLine ≡ keyed key s) × (from ≤ to) × (to ≤ length i) × (next ≡ 0 → from ≡ to)
+no-cut key s i from to next p q r k = (rw (r, k) refl, omega arith, omega arith, λ _. p ∙ sym q)
 
-module _ {A : Type 0} (f : List ℕ → Option A) (g : Bool) (t r : List ℕ) (key s : List ℕ) (e : cond g (aLine t r) noLine ≡ keyed key s) where
-  pub line-missing : g ≡ false → line key f s ≡ bad 0
-  line-missing k = rw (← e, k) refl
+none-told : {A : Type 0} (g : Bool) (a : A) → toldValue g a ≡ none → g ≡ false
+none-told true a e = absurd (let z : _≡_ {A = ℕ} 0 1 = cc in omega arith)
+none-told false a e = refl
 
-  pub line-wrong : g ≡ true → f t ≡ none → line key f s ≡ bad 0
-  line-wrong k n = rw (← e, k, n) refl
+valued-told : {A : Type 0} (g : Bool) (a : A) (r : List ℕ) → toldLine g a r ≡ valued r (toldValue g a)
+valued-told true a r = refl
+valued-told false a r = refl
 
-  pub line-right : (a : A) → g ≡ true → f t ≡ some a → line key f s ≡ good 1 a r
-  line-right a k n = rw (← e, k, n) refl
+-- a line whose value was read, by a reader that refuses the empty text
+pub line-read : {A : Type 0} (f : List ℕ → Option A) (key s i : List ℕ) (from to next : ℕ)
+    → cond (ltb 0 next) (aLine (take (to - from) (drop from i)) (drop next i)) noLine ≡ keyed key s → (next ≡ 0 → from ≡ to) → f [] ≡ none
+    → (g : Bool) (a : A) → toldValue g a ≡ f (take (to - from) (drop from i)) → toldLine g a (drop next i) ≡ line key f s
+line-read f key s i from to next e empty refuses g a h =
+    by (ltb 0 next)
+    (λ k. rw (← e, k, ← h) (valued-told g a (drop next i)))
+    (λ k. let z : to - from ≡ 0 = let n = ltb-false 0 next k in let q = empty (omega arith) in omega arith in
+    let n : toldValue g a ≡ none = h ∙ ap (λ (j : ℕ). f (take j (drop from i))) z ∙ refuses in
+    rw (← e, k, none-told g a n) refl)
 
-pub told-bad : {A : Type 0} {g : Bool} (a : A) (r : List ℕ) {m : Reading A} → g ≡ false → m ≡ bad 0 → toldLine g a r ≡ m
-told-bad a r e k = rw (e, k) refl
-
--- ---- a struct's list
-
-pub list-bad-line : (m : Reading (List ℕ)) (room : ℕ) (g : Bool) (count : ℕ) (values rest : List ℕ) → g ≡ false → count ≡ 0 → values ≡ padded maxTags [] → m ≡ bad 0 → ListedLine m room g count values rest
-list-bad-line m room g count values rest p q r s = record {
-  list = told-bad (take count values) rest p s;
-  fits = omega arith;
-  zeros = r ∙ ap (λ (k : ℕ). padded maxTags (take k values)) (sym q);
+-- the same of a list
+pub listed-read : (f : List ℕ → Option (List ℕ)) (key s i : List ℕ) (from to next : ℕ)
+    → cond (ltb 0 next) (aLine (take (to - from) (drop from i)) (drop next i)) noLine ≡ keyed key s → (next ≡ 0 → from ≡ to) → f [] ≡ none
+    → (room : ℕ) (g : Bool) (count : ℕ) (values : List ℕ) → Listed (f (take (to - from) (drop from i))) room g count values → ListedLine (line key f s) room g count values (drop next i)
+listed-read f key s i from to next e empty refuses room g count values h = record {
+  list = line-read f key s i from to next e empty refuses g (take count values) (h .list);
+  fits = h .fits;
+  zeros = h .rest;
 }
 
 -- ---- which operation
@@ -90,29 +100,19 @@ pub kind-conviction : (t : List ℕ) → same t (ascii "summary") ≡ false → 
 unfolding kind
 kind-conviction t p q = rw (p, q) refl
 
-pub kind-report : (t : List ℕ) → same t (ascii "summary") ≡ false → same t (ascii "convict") ≡ false → same t (ascii "report") ≡ true → kind t ≡ some isReport
+pub kind-report : (t : List ℕ) (g : Bool) → same t (ascii "summary") ≡ false → same t (ascii "convict") ≡ false → g ≡ same t (ascii "report") → toldValue g isReport ≡ kind t
 unfolding kind
-kind-report t p q r = rw (p, q, r) refl
+kind-report t g p q r = rw (p, q, r) refl
 
 pub kind-none : (t : List ℕ) → same t (ascii "summary") ≡ false → same t (ascii "convict") ≡ false → same t (ascii "report") ≡ false → kind t ≡ none
 unfolding kind
 kind-none t p q r = rw (p, q, r) refl
 
+pub kind-empty : kind [] ≡ none
+unfolding kind same isBefore ascii
+kind-empty = refl
+
 -- ---- one line after another
-
-module _ {A B : Type 0} (g : Bool) (a : A) (r : List ℕ) {m : Reading A} (k : A → List ℕ → Reading B) (e : toldLine g a r ≡ m) where
-  pub line-stops : g ≡ false → (m ▸ k) ≡ bad 0
-  line-stops f = rw (← e, f) refl
-
-  pub line-goes : g ≡ true → (m ▸ k) ≡ after 1 (k a r)
-  line-goes f = rw (← e, f) refl
-
-module _ {A B : Type 0} (g : Bool) (n : ℕ) (a : A) (r : List ℕ) {m : Reading A} (k : A → List ℕ → Reading B) (e : told g n a r ≡ m) where
-  pub part-stops : g ≡ false → (m ▸ k) ≡ bad n
-  part-stops f = rw (← e, f) refl
-
-  pub part-goes : g ≡ true → (m ▸ k) ≡ after n (k a r)
-  part-goes f = rw (← e, f) refl
 
 pub told-stop : {A : Type 0} (g : Bool) (n j : ℕ) (a : A) (r : List ℕ) {m : Reading A} → g ≡ false → n ≡ j → m ≡ bad j → told g n a r ≡ m
 told-stop g n j a r e f k = rw (e, f, k) refl

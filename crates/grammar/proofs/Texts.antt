@@ -13,8 +13,9 @@ use lib.Seq.{drop-cons, drop-drop, take-suc-set, take-all, length-take-le, set-a
 use Rattle.octets.proofs.Cases.{by}
 use Rattle.text.specs.Numbers.{decimalValue}
 use Rattle.record.specs.Layout.{maxTags, maxModels, longMessage}
-use Rattle.octets.specs.Order.{same}
+use Rattle.octets.specs.Order.{same, isBefore}
 use Rattle.octets.specs.Words.{wordBytes}
+use Rattle.models.specs.Summary.{inputsSize}
 use Rattle.lines.specs.Ascii.{ascii}
 use Rattle.grammar.specs.Values.{toldValue, indexOf, allDigits, digitsAfter, number, signedBits, negative, nibble, hexByte, hexBytes, hex, mapped, listed, numbers, padded, Listed, turned, height, models, message, messageSize, covariance, u8}
 
@@ -279,13 +280,13 @@ pub height-none : (t : List ℕ) → same t (ascii "none") ≡ true → height t
 unfolding height wordBytes
 height-none t e = rw e refl
 
-pub height-bad : (t : List ℕ) → same t (ascii "none") ≡ false → signedBits t ≡ none → height t ≡ none
-unfolding height
-height-bad t e k = rw (e, k) refl
+told-mapped : {A B : Type 0} (f : A → B) (g : Bool) (a : A) (o : Option A) → toldValue g a ≡ o → toldValue g (f a) ≡ mapped f o
+told-mapped f true a o h = rw (← h) refl
+told-mapped f false a o h = rw (← h) refl
 
-pub height-some : (t : List ℕ) (v : ℕ) → same t (ascii "none") ≡ false → signedBits t ≡ some v → height t ≡ some (1 ∷ wordBytes 4 v)
+pub height-told : (t : List ℕ) (g : Bool) (v : ℕ) → same t (ascii "none") ≡ false → toldValue g v ≡ signedBits t → toldValue g (1 ∷ wordBytes 4 v) ≡ height t
 unfolding height
-height-some t v e k = rw (e, k) refl
+height-told t g v e h = rw e (told-mapped (λ (v : ℕ). 1 ∷ wordBytes 4 v) g v (signedBits t) h)
 
 pub models-none : (t : List ℕ) → same t (ascii "none") ≡ true → models t ≡ some []
 unfolding models
@@ -295,21 +296,9 @@ pub models-listed : (t : List ℕ) → same t (ascii "none") ≡ false → model
 unfolding models
 models-listed t e = rw e refl
 
-pub message-bad : (t : List ℕ) (n : ℕ) → n ≡ messageSize (length t) → hex n t ≡ none → message t ≡ none
-unfolding message
-message-bad t n e k = rw (← e, k) refl
-
-pub message-some : (t m : List ℕ) (n : ℕ) → n ≡ messageSize (length t) → hex n t ≡ some m → message t ≡ some (length m ∷ padded longMessage m)
-unfolding message
-message-some t m n e k = rw (← e, k) refl
-
-pub covariance-bad : (t : List ℕ) → hex 48 t ≡ none → covariance t ≡ none
+pub covariance-told : (t m : List ℕ) (g : Bool) (n : List ℕ) → n ≡ turned 6 m → toldValue g m ≡ hex 48 t → toldValue g n ≡ covariance t
 unfolding covariance
-covariance-bad t k = rw k refl
-
-pub covariance-some : (t m : List ℕ) → hex 48 t ≡ some m → covariance t ≡ some (turned 6 m)
-unfolding covariance
-covariance-some t m k = rw k refl
+covariance-told t m g n e h = rw e (told-mapped (turned 6) g m (hex 48 t) h)
 
 -- the text of a value, by where it begins and ends
 pub text-size : (input : List ℕ) (from to : ℕ) → from ≤ to → to ≤ length input → length (take (to - from) (drop from input)) ≡ to - from
@@ -344,6 +333,42 @@ hex-length n t m e =
     by (eqb (length t) (2 * n))
     (λ k. let l = hex-count t m (rw k at e) in let z = eqb-true (length t) (2 * n) k in omega arith)
     (λ k. let f : none ≡ some m = rw k at e in absurd (let z : _≡_ {A = ℕ} 0 1 = cc in omega arith))
+
+pub message-told : (t m : List ℕ) (n : ℕ) (g : Bool) → n ≡ messageSize (length t) → n ≤ longMessage → toldValue g m ≡ hex n t → toldValue g (n ∷ (m ++ drop {A = ℕ} n (replicate longMessage 0))) ≡ message t
+unfolding message
+message-told t m n true e l h = rw (← e, ← h) (ap some (zeros-left n m (hex-length n t m (sym h)) l))
+message-told t m n false e l h = rw (← e, ← h) refl
+
+-- ---- no value is empty
+
+pub number-empty : (most : ℕ) → number most [] ≡ none
+unfolding number
+number-empty most = refl
+
+pub height-empty : height [] ≡ none
+unfolding height signedBits number same isBefore ascii
+height-empty = refl
+
+pub numbers-empty : (most room : ℕ) → numbers most room [] ≡ none
+unfolding numbers number indexOf
+numbers-empty most zero = refl
+numbers-empty most (suc room) = refl
+
+pub models-empty : models [] ≡ none
+unfolding models same isBefore ascii
+models-empty = numbers-empty u8 maxModels
+
+pub message-empty : message [] ≡ none
+unfolding message hex
+message-empty = refl
+
+pub inputs-empty : hex inputsSize [] ≡ none
+unfolding hex
+inputs-empty = refl
+
+pub covariance-empty : covariance [] ≡ none
+unfolding covariance hex
+covariance-empty = refl
 
 -- ---- a list of numbers in an array of 16
 

@@ -2,9 +2,10 @@
 use crate::values;
 use record::layout;
 ghost use mathlib.Core.Path.{_≡_};
-ghost use mathlib.Core.Bool.{false, cond};
-ghost use mathlib.Core.List.{[], _∷_};
+ghost use mathlib.Core.Bool.{cond};
+ghost use mathlib.Core.List.{_∷_};
 ghost use Prim.Native.Nat.{_+_, _-_, _≤_, _<_};
+ghost use lib.Dec.{ltb};
 ghost use lib.ListN.{length, take, drop};
 ghost use Rattle.octets.specs.Words.{wordBytes};
 ghost use Rattle.models.specs.Summary.{inputsSize};
@@ -14,19 +15,18 @@ ghost use Rattle.grammar.specs.Reading.{toldLine};
 ghost use Rattle.grammar.specs.Grammar.{line, keyed, aLine, noLine, kind, kindOf, ListedLine};
 ghost use Rattle.record.specs.Layout.{maxTags, maxModels, longMessage};
 
-// Where the value of the line due stands, and what follows it.
+// Where the value of the line due stands, and where the next line begins. Where no such line is due the value is
+// empty, and the next line begins at 0: no value is empty, so the reader of the value refuses it.
 struct Cut {
-    good: bool,
     from: usize,
     to: usize,
     next: usize,
 }
 
 fn no_line() -> Cut
-    ensures { λ r. ⌜ (r .good ≡ false) × (r .from ≡ 0) × (r .to ≡ 0) ⌝ }
+    ensures { λ r. ⌜ (r .from ≡ 0) × (r .to ≡ 0) × (r .next ≡ 0) ⌝ }
 {
     Cut {
-        good: false,
         from: 0,
         to: 0,
         next: 0,
@@ -35,7 +35,7 @@ fn no_line() -> Cut
 
 // The line due: its key, then a value up to a line feed.
 fn due(input: &[u8], at: usize, key: &[u8]) -> Cut
-    ensures { λ r. ⌜ (cond (r .good) (aLine (take (r .to - r .from) (drop (r .from) (now (input .entry)))) (drop (r .next) (now (input .entry)))) noLine ≡ keyed (now (key .entry)) (drop at (now (input .entry)))) × (r .from ≤ r .to) × (r .to ≤ length (now (input .entry))) ⌝ }
+    ensures { λ r. ⌜ (cond (ltb 0 (r .next)) (aLine (take (r .to - r .from) (drop (r .from) (now (input .entry)))) (drop (r .next) (now (input .entry)))) noLine ≡ keyed (now (key .entry)) (drop at (now (input .entry)))) × (r .from ≤ r .to) × (r .to ≤ length (now (input .entry))) × (r .next ≡ 0 → r .from ≡ r .to) ⌝ }
 {
     if input.len() <= at {
         return no_line();
@@ -52,7 +52,6 @@ fn due(input: &[u8], at: usize, key: &[u8]) -> Cut
         return no_line();
     }
     Cut {
-        good: true,
         from,
         to,
         next: to + 1,
@@ -66,32 +65,16 @@ pub struct Numbered {
     pub value: u64,
 }
 
-fn no_number() -> Numbered
-    ensures { λ r. ⌜ (r .good ≡ false) × (r .value ≡ 0) ⌝ }
-{
-    Numbered {
-        good: false,
-        next: 0,
-        value: 0,
-    }
-}
-
 // The line of a number of at most `most`.
 pub fn number(input: &[u8], at: usize, key: &[u8], most: u64) -> Numbered
     ensures { λ r. ⌜ (toldLine (r .good) (r .value) (drop (r .next) (now (input .entry))) ≡ line (now (key .entry)) (Val.number most) (drop at (now (input .entry)))) × (r .value ≤ most) ⌝ }
 {
     let l = due(input, at, key);
-    if !l.good {
-        return no_number();
-    }
     let from = l.from;
     let to = l.to;
     let n = values::number(&input[from..to], most);
-    if !n.good {
-        return no_number();
-    }
     Numbered {
-        good: true,
+        good: n.good,
         next: l.next,
         value: n.value,
     }
@@ -102,17 +85,11 @@ pub fn signed(input: &[u8], at: usize, key: &[u8]) -> Numbered
     ensures { λ r. ⌜ toldLine (r .good) (r .value) (drop (r .next) (now (input .entry))) ≡ line (now (key .entry)) Val.signedBits (drop at (now (input .entry))) ⌝ }
 {
     let l = due(input, at, key);
-    if !l.good {
-        return no_number();
-    }
     let from = l.from;
     let to = l.to;
     let n = values::signed(&input[from..to]);
-    if !n.good {
-        return no_number();
-    }
     Numbered {
-        good: true,
+        good: n.good,
         next: l.next,
         value: n.value,
     }
@@ -126,44 +103,19 @@ pub struct Raised {
     pub value: u64,
 }
 
-fn no_height() -> Raised
-    ensures { λ r. ⌜ r .good ≡ false ⌝ }
-{
-    Raised {
-        good: false,
-        next: 0,
-        flag: 0,
-        value: 0,
-    }
-}
-
 // The line of a height.
 pub fn height(input: &[u8], at: usize) -> Raised
     ensures { λ r. ⌜ toldLine (r .good) (r .flag ∷ wordBytes 4 (r .value)) (drop (r .next) (now (input .entry))) ≡ line (ascii "height=") Val.height (drop at (now (input .entry))) ⌝ }
 {
     let l = due(input, at, b"height=");
-    if !l.good {
-        return no_height();
-    }
     let from = l.from;
     let to = l.to;
-    if octets::order::equal(&input[from..to], b"none") {
-        return Raised {
-            good: true,
-            next: l.next,
-            flag: 0,
-            value: 0,
-        };
-    }
-    let n = values::signed(&input[from..to]);
-    if !n.good {
-        return no_height();
-    }
+    let h = values::height(&input[from..to]);
     Raised {
-        good: true,
+        good: h.good,
         next: l.next,
-        flag: 1,
-        value: n.value,
+        flag: h.flag,
+        value: h.value,
     }
 }
 
@@ -175,34 +127,18 @@ pub struct Said {
     pub bytes: [u8; 14],
 }
 
-fn no_message() -> Said
-    ensures { λ r. ⌜ (r .good ≡ false) × (r .size ≡ 0) ⌝ }
-{
-    Said {
-        good: false,
-        next: 0,
-        size: 0,
-        bytes: [0u8; 14],
-    }
-}
-
 // The line of a message.
 pub fn message(input: &[u8], at: usize) -> Said
     ensures { λ r. ⌜ (toldLine (r .good) (r .size ∷ r .bytes) (drop (r .next) (now (input .entry))) ≡ line (ascii "message=") Val.message (drop at (now (input .entry)))) × (r .size ≤ longMessage) ⌝ }
 {
     let l = due(input, at, b"message=");
-    if !l.good {
-        return no_message();
-    }
     let from = l.from;
     let to = l.to;
     let size = values::message_size(to - from);
     let mut bytes = [0u8; 14];
-    if !values::hex(&input[from..to], &mut bytes[..size]) {
-        return no_message();
-    }
+    let good = values::hex(&input[from..to], &mut bytes[..size]);
     Said {
-        good: true,
+        good,
         next: l.next,
         size,
         bytes,
@@ -217,34 +153,17 @@ pub struct Several {
     pub values: [u64; layout::MAX_TAGS],
 }
 
-fn no_numbers() -> Several
-    ensures { λ r. ⌜ (r .good ≡ false) × (r .count ≡ 0) × (r .values ≡ Val.padded maxTags []) ⌝ }
-{
-    Several {
-        good: false,
-        next: 0,
-        count: 0,
-        values: [0u64; layout::MAX_TAGS],
-    }
-}
-
 // The line of the tags.
 pub fn tags(input: &[u8], at: usize) -> Several
     ensures { λ r. ⌜ ListedLine (line (ascii "tags=") Val.tags (drop at (now (input .entry)))) maxTags (r .good) (r .count) (r .values) (drop (r .next) (now (input .entry))) ⌝ }
 {
     let l = due(input, at, b"tags=");
-    if !l.good {
-        return no_numbers();
-    }
     let from = l.from;
     let to = l.to;
     let n = values::listed(&input[from..to], 0xffff_ffff_ffff_ffff, layout::MAX_TAGS);
-    if !n.good {
-        return no_numbers();
-    }
     let list = n.values;
     Several {
-        good: true,
+        good: n.good,
         next: l.next,
         count: n.count,
         values: list,
@@ -256,26 +175,12 @@ pub fn models(input: &[u8], at: usize) -> Several
     ensures { λ r. ⌜ ListedLine (line (ascii "models=") Val.models (drop at (now (input .entry)))) maxModels (r .good) (r .count) (r .values) (drop (r .next) (now (input .entry))) ⌝ }
 {
     let l = due(input, at, b"models=");
-    if !l.good {
-        return no_numbers();
-    }
     let from = l.from;
     let to = l.to;
-    if octets::order::equal(&input[from..to], b"none") {
-        return Several {
-            good: true,
-            next: l.next,
-            count: 0,
-            values: [0u64; layout::MAX_TAGS],
-        };
-    }
-    let n = values::listed(&input[from..to], 255, layout::MAX_MODELS);
-    if !n.good {
-        return no_numbers();
-    }
+    let n = values::models(&input[from..to]);
     let list = n.values;
     Several {
-        good: true,
+        good: n.good,
         next: l.next,
         count: n.count,
         values: list,
@@ -289,32 +194,17 @@ pub struct Given {
     pub bytes: [u8; models::layout::INPUTS_SIZE],
 }
 
-fn no_inputs() -> Given
-    ensures { λ r. ⌜ r .good ≡ false ⌝ }
-{
-    Given {
-        good: false,
-        next: 0,
-        bytes: [0u8; models::layout::INPUTS_SIZE],
-    }
-}
-
 // The line of a summary's inputs.
 pub fn inputs(input: &[u8], at: usize) -> Given
     ensures { λ r. ⌜ toldLine (r .good) (r .bytes) (drop (r .next) (now (input .entry))) ≡ line (ascii "inputs=") (Val.hex inputsSize) (drop at (now (input .entry))) ⌝ }
 {
     let l = due(input, at, b"inputs=");
-    if !l.good {
-        return no_inputs();
-    }
     let from = l.from;
     let to = l.to;
     let mut bytes = [0u8; models::layout::INPUTS_SIZE];
-    if !values::hex(&input[from..to], &mut bytes) {
-        return no_inputs();
-    }
+    let good = values::hex(&input[from..to], &mut bytes);
     Given {
-        good: true,
+        good,
         next: l.next,
         bytes,
     }
@@ -327,69 +217,56 @@ pub struct Spread {
     pub bytes: [u8; 48],
 }
 
-fn no_covariance() -> Spread
-    ensures { λ r. ⌜ r .good ≡ false ⌝ }
-{
-    Spread {
-        good: false,
-        next: 0,
-        bytes: [0u8; 48],
-    }
-}
-
 // The line of a covariance.
 pub fn covariance(input: &[u8], at: usize) -> Spread
     ensures { λ r. ⌜ toldLine (r .good) (r .bytes) (drop (r .next) (now (input .entry))) ≡ line (ascii "cov=") Val.covariance (drop at (now (input .entry))) ⌝ }
 {
     let l = due(input, at, b"cov=");
-    if !l.good {
-        return no_covariance();
-    }
     let from = l.from;
     let to = l.to;
     let mut digits = [0u8; 48];
-    if !values::hex(&input[from..to], &mut digits) {
-        return no_covariance();
-    }
+    let good = values::hex(&input[from..to], &mut digits);
     let bytes = values::turn(&digits);
     Spread {
-        good: true,
+        good,
         next: l.next,
         bytes,
     }
 }
 
-// Which operation begins here: 0 a summary, 1 a conviction, 2 a report.
+// Which operation a text names: 0 a summary, 1 a conviction, 2 a report.
+fn named(text: &[u8]) -> values::Value
+    ensures { λ r. ⌜ Val.toldValue (r .good) (kindOf (r .value)) ≡ kind (now (text .entry)) ⌝ }
+{
+    if octets::order::equal(text, b"summary") {
+        return values::Value {
+            good: true,
+            value: 0,
+        };
+    }
+    if octets::order::equal(text, b"convict") {
+        return values::Value {
+            good: true,
+            value: 1,
+        };
+    }
+    values::Value {
+        good: octets::order::equal(text, b"report"),
+        value: 2,
+    }
+}
+
+// Which operation begins here, by the same numbers.
 pub fn kind(input: &[u8], at: usize) -> Numbered
     ensures { λ r. ⌜ toldLine (r .good) (kindOf (r .value)) (drop (r .next) (now (input .entry))) ≡ line (ascii "op=") kind (drop at (now (input .entry))) ⌝ }
 {
     let l = due(input, at, b"op=");
-    if !l.good {
-        return no_number();
-    }
     let from = l.from;
     let to = l.to;
-    let next = l.next;
-    if octets::order::equal(&input[from..to], b"summary") {
-        return Numbered {
-            good: true,
-            next,
-            value: 0,
-        };
+    let k = named(&input[from..to]);
+    Numbered {
+        good: k.good,
+        next: l.next,
+        value: k.value,
     }
-    if octets::order::equal(&input[from..to], b"convict") {
-        return Numbered {
-            good: true,
-            next,
-            value: 1,
-        };
-    }
-    if octets::order::equal(&input[from..to], b"report") {
-        return Numbered {
-            good: true,
-            next,
-            value: 2,
-        };
-    }
-    no_number()
 }

@@ -1,11 +1,12 @@
 // The values of a session's lines: numbers, lists of numbers and hex, each from the whole text of a value.
 use record::layout;
 ghost use mathlib.Core.Path.{_≡_};
-ghost use mathlib.Core.List.{[]};
+ghost use mathlib.Core.List.{[], _∷_};
 ghost use mathlib.Core.Bool.{false};
 ghost use Prim.Native.Nat.{_+_, _≤_, _<_};
 ghost use lib.ListN.{length, take, drop};
-ghost use Rattle.record.specs.Layout.{maxTags, longMessage};
+ghost use Rattle.octets.specs.Words.{wordBytes};
+ghost use Rattle.record.specs.Layout.{maxTags, maxModels, longMessage};
 ghost use Rattle.grammar.specs.Values as Val;
 
 // A number, where the text is good.
@@ -111,6 +112,32 @@ pub fn signed(text: &[u8]) -> Value
     }
 }
 
+// A height's flag and its number, as its bits.
+pub struct Elevation {
+    pub good: bool,
+    pub flag: u8,
+    pub value: u64,
+}
+
+// A height, or none.
+pub fn height(text: &[u8]) -> Elevation
+    ensures { λ r. ⌜ Val.toldValue (r .good) (r .flag ∷ wordBytes 4 (r .value)) ≡ Val.height (now (text .entry)) ⌝ }
+{
+    if octets::order::equal(text, b"none") {
+        return Elevation {
+            good: true,
+            flag: 0,
+            value: 0,
+        };
+    }
+    let n = signed(text);
+    Elevation {
+        good: n.good,
+        flag: 1,
+        value: n.value,
+    }
+}
+
 // Numbers, of which the first `count` are there and the rest zero, where the text is good.
 pub struct Numbers {
     pub good: bool,
@@ -154,6 +181,20 @@ pub fn listed(text: &[u8], most: u64, room: usize) -> Numbers
         from = to + 1;
     }
     no_list()
+}
+
+// Models, or none.
+pub fn models(text: &[u8]) -> Numbers
+    ensures { λ r. ⌜ Val.Listed (Val.models (now (text .entry))) maxModels (r .good) (r .count) (r .values) ⌝ }
+{
+    if octets::order::equal(text, b"none") {
+        return Numbers {
+            good: true,
+            count: 0,
+            values: [0u64; layout::MAX_TAGS],
+        };
+    }
+    listed(text, 255, layout::MAX_MODELS)
 }
 
 // The value of a lowercase hex digit, and 16 for any other byte.

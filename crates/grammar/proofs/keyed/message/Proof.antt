@@ -1,17 +1,15 @@
+use borrow.Author.Needs.{needs}
 use Prim.Native.Nat.{ℕ, _-_}
 use mathlib.Core.Path.{_≡_, sym, ap, _∙_}
-use mathlib.Core.List.{List, _∷_}
+use mathlib.Core.List.{List, _∷_, _++_}
 use native.Mathlib.Omega.{arith}
-use lib.ListN.{replicate, length, drop, take}
+use lib.ListN.{replicate, length, take, drop}
 use lib.Seq.{length-take-le}
-use borrow.Author.Tests.{not-true, not-false}
-use borrow.Author.Needs.{needs}
 use Rattle.record.specs.Layout.{longMessage}
 use Rattle.lines.specs.Ascii.{ascii}
 use Rattle.grammar.specs.Values as Val
-use Rattle.grammar.specs.Reading.{good}
-use Rattle.grammar.proofs.Texts.{message-bad, message-some, text-size, zeros-left, hex-length, not-told, some-told}
-use Rattle.grammar.proofs.Steps.{line-missing, line-wrong, line-right, told-bad}
+use Rattle.grammar.proofs.Texts.{message-empty, message-told, text-size}
+use Rattle.grammar.proofs.Steps.{line-read}
 use Rattle.grammar.proofs.keyed.message.Statement.{statement}
 use Rattle.grammar.proofs.keyed.message.Tie as tie
 
@@ -20,18 +18,6 @@ slice-aggregate-due c = search needs
 
 due-requires : tie.Need-due-requires
 due-requires c κs = search needs
-
-no-message-requires : tie.Need-no-message-requires
-no-message-requires c κs = search needs
-
-returns : tie.Need-returns
-unfolding ascii
-returns c =
-    let d = c .before .before .before .due in
-    let dr = d .result in
-    let a = c .before .before .before .before .before .before .args in
-    let i = a .input .now in
-    (told-bad (c .no-message .result .size ∷ c .no-message .result .bytes) (drop (c .no-message .result .next) i) (c .no-message .ensures .0) (line-missing Val.message (dr .good) (take (dr .to - dr .from) (drop (dr .from) i)) (drop (dr .next) i) (ascii "message=") (drop (a .at) i) (d .ensures .0) (not-true (dr .good) (c .before .if1 .taken))), omega (arith, c .no-message .ensures .1))
 
 sub-message-size : tie.Need-sub-message-size
 sub-message-size c = search needs
@@ -53,39 +39,28 @@ array-borrow-prefix-bytes c = search needs
 
 slice-aggregate-hex : tie.Need-slice-aggregate-hex
 slice-aggregate-hex c =
-    let z : List ℕ = replicate 14 0 in
+    let z : List ℕ = replicate longMessage 0 in
     sym (length-take-le (c .before .before .message-size .result) z (c .before .before .message-size .ensures .1))
 
 hex-requires : tie.Need-hex-requires
 hex-requires c κs = search needs
 
-no-message-requires-2 : tie.Need-no-message-requires-2
-no-message-requires-2 c κs = search needs
-
-returns-2 : tie.Need-returns-2
+returns : tie.Need-returns
 unfolding ascii
-returns-2 c =
-    let d = c .before .before .before .before .before .before .before .before .before .due in
-    let dr = d .result in
-    let a = c .before .before .before .before .before .before .before .before .before .before .before .before .args in
-    let i = a .input .now in
-    let n = c .before .before .before .hex in
-    let m = c .before .before .before .before .before .before .message-size in
-    let z : List ℕ = replicate 14 0 in
-    (told-bad (c .no-message2 .result .size ∷ c .no-message2 .result .bytes) (drop (c .no-message2 .result .next) i) (c .no-message2 .ensures .0) (line-wrong Val.message (dr .good) (take (dr .to - dr .from) (drop (dr .from) i)) (drop (dr .next) i) (ascii "message=") (drop (a .at) i) (d .ensures .0) (not-false (dr .good) (c .before .before .before .before .before .before .before .if1 .left)) (message-bad (take (dr .to - dr .from) (drop (dr .from) i)) (m .result) (m .ensures .0 ∙ ap Val.messageSize (sym (text-size i (dr .from) (dr .to) (d .ensures .1) (d .ensures .2)))) (sym (ap (λ (k : ℕ). Val.hex k (take (dr .to - dr .from) (drop (dr .from) i))) (length-take-le (m .result) z (m .ensures .1))) ∙ not-told (n .last .1 .0) (n .ensures) (not-true (n .result) (c .before .if2 .taken))))), omega (arith, c .no-message2 .ensures .1))
-
-returns-3 : tie.Need-returns-3
-unfolding ascii
-returns-3 c =
-    let d = c .before .before .before .before .before .before .before .before .due in
-    let dr = d .result in
-    let a = c .before .before .before .before .before .before .before .before .before .before .before .args in
-    let i = a .input .now in
-    let n = c .before .before .hex in
-    let m = c .before .before .before .before .before .message-size in
-    let z : List ℕ = replicate 14 0 in
-    let w : length (n .last .1 .0) ≡ m .result = let q : length (take (m .result) z) ≡ m .result = length-take-le (m .result) z (m .ensures .1) in
-    hex-length (length (take (m .result) z)) (take (dr .to - dr .from) (drop (dr .from) i)) (n .last .1 .0) (some-told (n .last .1 .0) (n .ensures) (not-false (n .result) (c .if2 .left))) ∙ q in (ap (λ (x : List ℕ). good 1 x (drop (dr .next) i)) (zeros-left (m .result) (n .last .1 .0) w (m .ensures .1)) ∙ sym (line-right Val.message (dr .good) (take (dr .to - dr .from) (drop (dr .from) i)) (drop (dr .next) i) (ascii "message=") (drop (a .at) i) (d .ensures .0) (length (n .last .1 .0) ∷ Val.padded longMessage (n .last .1 .0)) (not-false (dr .good) (c .before .before .before .before .before .before .if1 .left)) (message-some (take (dr .to - dr .from) (drop (dr .from) i)) (n .last .1 .0) (m .result) (m .ensures .0 ∙ ap Val.messageSize (sym (text-size i (dr .from) (dr .to) (d .ensures .1) (d .ensures .2)))) (sym (ap (λ (k : ℕ). Val.hex k (take (dr .to - dr .from) (drop (dr .from) i))) (length-take-le (m .result) z (m .ensures .1))) ∙ some-told (n .last .1 .0) (n .ensures) (not-false (n .result) (c .if2 .left))))), m .ensures .1)
+returns c =
+    let m = c .before .before .before .before .message-size in
+    let d = c .before .before .before .before .before in
+    let s = d .before .before .before in
+    let r = d .due .result in
+    let i = s .args .input .now in
+    let v = c .before .hex in
+    let z : List ℕ = replicate longMessage 0 in
+    let t = take (r .to - r .from) (drop (r .from) i) in (
+      line-read Val.message (ascii "message=") (drop (s .args .at) i) i (r .from) (r .to) (r .next) (d .due .ensures .0) (d .due .ensures .3) message-empty (v .result) (m .result ∷ (v .last .1 .0 ++ drop (m .result) z))
+          (message-told t (v .last .1 .0) (m .result) (v .result) (m .ensures .0 ∙ ap Val.messageSize (sym (text-size i (r .from) (r .to) (d .due .ensures .1) (d .due .ensures .2)))) (m .ensures .1)
+          (v .ensures ∙ ap (λ (k : ℕ). Val.hex k t) (length-take-le (m .result) z (m .ensures .1)))),
+      m .ensures .1,
+    )
 
 pub message-spec : {M : Type 1} → statement M
 message-spec =
@@ -93,8 +68,6 @@ message-spec =
     (tie.spec
     slice-aggregate-due
     due-requires
-    no-message-requires
-    returns
     sub-message-size
     message-size-requires
     sub-hex
@@ -103,6 +76,4 @@ message-spec =
     array-borrow-prefix-bytes
     slice-aggregate-hex
     hex-requires
-    no-message-requires-2
-    returns-2
-    returns-3)
+    returns)

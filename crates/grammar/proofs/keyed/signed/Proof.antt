@@ -1,28 +1,15 @@
-use Prim.Native.Nat.{_-_}
-use mathlib.Core.Path.{sym}
-use lib.ListN.{drop, take}
-use borrow.Author.Tests.{not-true, not-false}
 use borrow.Author.Needs.{needs}
+use mathlib.Core.Path.{refl}
+use mathlib.Core.List.{[]}
+use lib.ListN.{drop}
 use Rattle.grammar.specs.Values as Val
-use Rattle.grammar.specs.Reading.{good}
-use Rattle.grammar.proofs.Texts.{not-told, some-told}
-use Rattle.grammar.proofs.Steps.{line-missing, line-wrong, line-right, told-bad}
+use Rattle.grammar.proofs.Texts.{signed-empty}
+use Rattle.grammar.proofs.Steps.{line-read}
 use Rattle.grammar.proofs.keyed.signed.Statement.{statement}
 use Rattle.grammar.proofs.keyed.signed.Tie as tie
 
 due-requires : tie.Need-due-requires
 due-requires c κs = search needs
-
-no-number-requires : tie.Need-no-number-requires
-no-number-requires c κs = search needs
-
-returns : tie.Need-returns
-returns c =
-    let d = c .before .before .before .due in
-    let dr = d .result in
-    let a = c .before .before .before .before .before .before .args in
-    let i = a .input .now in
-    told-bad (c .no-number .result .value) (drop (c .no-number .result .next) i) (c .no-number .ensures .0) (line-missing Val.signedBits (dr .good) (take (dr .to - dr .from) (drop (dr .from) i)) (drop (dr .next) i) (a .key .now) (drop (a .at) i) (d .ensures .0) (not-true (dr .good) (c .before .if1 .taken)))
 
 sub-signed : tie.Need-sub-signed
 sub-signed c = search needs
@@ -36,38 +23,16 @@ part-signed-end c = search needs
 signed-requires : tie.Need-signed-requires
 signed-requires c κs = search needs
 
-no-number-requires-2 : tie.Need-no-number-requires-2
-no-number-requires-2 c κs = search needs
-
-returns-2 : tie.Need-returns-2
-returns-2 c =
-    let d = c .before .before .before .before .before .before .before .due in
-    let dr = d .result in
-    let a = c .before .before .before .before .before .before .before .before .before .before .args in
-    let i = a .input .now in
-    let n = c .before .before .before .signed in
-    told-bad (c .no-number2 .result .value) (drop (c .no-number2 .result .next) i) (c .no-number2 .ensures .0) (line-wrong Val.signedBits (dr .good) (take (dr .to - dr .from) (drop (dr .from) i)) (drop (dr .next) i) (a .key .now) (drop (a .at) i) (d .ensures .0) (not-false (dr .good) (c .before .before .before .before .before .if1 .left)) (not-told (n .result .value) (n .ensures) (not-true (n .result .good) (c .before .if2 .taken))))
-
-returns-3 : tie.Need-returns-3
-returns-3 c =
-    let d = c .before .before .before .before .before .before .due in
-    let dr = d .result in
-    let a = c .before .before .before .before .before .before .before .before .before .args in
-    let i = a .input .now in
-    let n = c .before .before .signed in
-    sym (line-right Val.signedBits (dr .good) (take (dr .to - dr .from) (drop (dr .from) i)) (drop (dr .next) i) (a .key .now) (drop (a .at) i) (d .ensures .0) (n .result .value) (not-false (dr .good) (c .before .before .before .before .if1 .left)) (some-told (n .result .value) (n .ensures) (not-false (n .result .good) (c .if2 .left))))
+returns : tie.Need-returns
+returns c =
+    let d = c .before .before in
+    let s = d .before .before .before in
+    let r = d .due .result in
+    let i = s .args .input .now in
+    let v = c .signed in
+    line-read Val.signedBits (s .args .key .now) (drop (s .args .at) i) i (r .from) (r .to) (r .next) (d .due .ensures .0) (d .due .ensures .3) (signed-empty [] refl) (v .result .good) (v .result .value) (v .ensures)
 
 pub signed-spec : {M : Type 1} → statement M
 signed-spec =
     tie.close
-    (tie.spec
-    due-requires
-    no-number-requires
-    returns
-    sub-signed
-    part-signed-start
-    part-signed-end
-    signed-requires
-    no-number-requires-2
-    returns-2
-    returns-3)
+    (tie.spec due-requires sub-signed part-signed-start part-signed-end signed-requires returns)

@@ -1,15 +1,10 @@
-use Prim.Native.Nat.{_-_}
-use mathlib.Core.Path.{sym}
-use lib.ListN.{drop, take}
-use borrow.Author.Tests.{not-true, not-false}
 use borrow.Author.Needs.{needs}
-use Rattle.lines.specs.Ascii.{ascii}
+use lib.ListN.{drop}
 use Rattle.record.specs.Layout.{maxTags}
+use Rattle.lines.specs.Ascii.{ascii}
 use Rattle.grammar.specs.Values as Val
-use Rattle.grammar.specs.Reading.{good}
-use Rattle.grammar.specs.Grammar.{line}
-use Rattle.grammar.proofs.Texts.{not-told, some-told}
-use Rattle.grammar.proofs.Steps.{line-missing, line-wrong, line-right, list-bad-line}
+use Rattle.grammar.proofs.Texts.{numbers-empty}
+use Rattle.grammar.proofs.Steps.{listed-read}
 use Rattle.grammar.proofs.keyed.tags.Statement.{statement}
 use Rattle.grammar.proofs.keyed.tags.Tie as tie
 
@@ -18,20 +13,6 @@ slice-aggregate-due c = search needs
 
 due-requires : tie.Need-due-requires
 due-requires c κs = search needs
-
-no-numbers-requires : tie.Need-no-numbers-requires
-no-numbers-requires c κs = search needs
-
-returns : tie.Need-returns
-unfolding ascii
-returns c =
-    let d = c .before .before .before .due in
-    let dr = d .result in
-    let a = c .before .before .before .before .before .before .args in
-    let i = a .input .now in
-    let r = c .no-numbers .result in
-    let e = c .no-numbers .ensures in
-    list-bad-line (line (ascii "tags=") Val.tags (drop (a .at) i)) maxTags (r .good) (r .count) (r .values) (drop (r .next) i) (e .0) (e .1) (e .2) (line-missing Val.tags (dr .good) (take (dr .to - dr .from) (drop (dr .from) i)) (drop (dr .next) i) (ascii "tags=") (drop (a .at) i) (d .ensures .0) (not-true (dr .good) (c .before .if1 .taken)))
 
 sub-listed : tie.Need-sub-listed
 sub-listed c = search needs
@@ -45,30 +26,15 @@ part-listed-end c = search needs
 listed-requires : tie.Need-listed-requires
 listed-requires c κs = search needs
 
-no-numbers-requires-2 : tie.Need-no-numbers-requires-2
-no-numbers-requires-2 c κs = search needs
-
-returns-2 : tie.Need-returns-2
+returns : tie.Need-returns
 unfolding ascii
-returns-2 c =
-    let d = c .before .before .before .before .before .before .before .due in
-    let dr = d .result in
-    let a = c .before .before .before .before .before .before .before .before .before .before .args in
-    let i = a .input .now in
-    let n = c .before .before .before .listed in
-    let r = c .no-numbers2 .result in
-    let e = c .no-numbers2 .ensures in
-    list-bad-line (line (ascii "tags=") Val.tags (drop (a .at) i)) maxTags (r .good) (r .count) (r .values) (drop (r .next) i) (e .0) (e .1) (e .2) (line-wrong Val.tags (dr .good) (take (dr .to - dr .from) (drop (dr .from) i)) (drop (dr .next) i) (ascii "tags=") (drop (a .at) i) (d .ensures .0) (not-false (dr .good) (c .before .before .before .before .before .if1 .left)) (not-told (take (n .result .count) (n .result .values)) (n .ensures .list) (not-true (n .result .good) (c .before .if2 .taken))))
-
-returns-3 : tie.Need-returns-3
-unfolding ascii
-returns-3 c =
-    let d = c .before .before .before .before .before .before .before .due in
-    let dr = d .result in
-    let a = c .before .before .before .before .before .before .before .before .before .before .args in
-    let i = a .input .now in
-    let n = c .before .before .before .listed in
-    record { list = sym (line-right Val.tags (dr .good) (take (dr .to - dr .from) (drop (dr .from) i)) (drop (dr .next) i) (ascii "tags=") (drop (a .at) i) (d .ensures .0) (take (n .result .count) (n .result .values)) (not-false (dr .good) (c .before .before .before .before .before .if1 .left)) (some-told (take (n .result .count) (n .result .values)) (n .ensures .list) (not-false (n .result .good) (c .before .if2 .left)))); fits = n .ensures .fits; zeros = n .ensures .rest }
+returns c =
+    let d = c .before .before .before in
+    let s = d .before .before .before in
+    let r = d .due .result in
+    let i = s .args .input .now in
+    let v = c .before .listed in
+    listed-read Val.tags (ascii "tags=") (drop (s .args .at) i) i (r .from) (r .to) (r .next) (d .due .ensures .0) (d .due .ensures .3) (numbers-empty Val.u64 maxTags) maxTags (v .result .good) (v .result .count) (v .result .values) (v .ensures)
 
 pub tags-spec : {M : Type 1} → statement M
 tags-spec =
@@ -76,12 +42,8 @@ tags-spec =
     (tie.spec
     slice-aggregate-due
     due-requires
-    no-numbers-requires
-    returns
     sub-listed
     part-listed-start
     part-listed-end
     listed-requires
-    no-numbers-requires-2
-    returns-2
-    returns-3)
+    returns)
