@@ -58,6 +58,22 @@ fn due(input: &[u8], at: usize, key: &[u8]) -> Cut
     }
 }
 
+// How many of four lines are good before the first that is bad.
+pub fn good_lines(a: bool, b: bool, c: bool, d: bool) -> usize
+    ensures { λ r. ⌜ (r ≡ cond a (1 + cond b (1 + cond c (1 + cond d 1 0) 0) 0) 0) × (r ≤ 4) ⌝ }
+{
+    if !a {
+        return 0;
+    }
+    if !b {
+        return 1;
+    }
+    if !c {
+        return 2;
+    }
+    if d { 4 } else { 3 }
+}
+
 // A line's number.
 pub struct Numbered {
     pub good: bool,

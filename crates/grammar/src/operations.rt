@@ -3,7 +3,7 @@ use crate::keyed;
 use crate::records;
 use record::layout;
 ghost use mathlib.Core.Path.{_≡_};
-ghost use mathlib.Core.Bool.{false};
+ghost use mathlib.Core.Bool.{false, cond};
 ghost use Prim.Native.Nat.{_+_, _≤_};
 ghost use lib.ListN.{length, drop};
 ghost use Rattle.grammar.specs.Reading.{told, after};
@@ -45,12 +45,9 @@ pub fn convict(input: &[u8], at: usize) -> Operation
     ensures { λ r. ⌜ (told (r .good) (r .lines) (callOf (r .kind) (r .engine) (r .model) (r .spec) (r .inputs) (r .record)) (drop (r .next) (now (input .entry))) ≡ after 1 (convictionOf (drop at (now (input .entry))))) × (r .lines ≤ 12) ⌝ }
 {
     let e = keyed::number(input, at, b"engine=", 255);
-    if !e.good {
-        return bad(1);
-    }
     Operation {
-        good: true,
-        lines: 2,
+        good: e.good,
+        lines: 1 + keyed::good_lines(e.good, false, false, false),
         next: e.next,
         kind: 1,
         engine: e.value as u8,
@@ -66,25 +63,14 @@ pub fn summary(input: &[u8], at: usize) -> Operation
     ensures { λ r. ⌜ (told (r .good) (r .lines) (callOf (r .kind) (r .engine) (r .model) (r .spec) (r .inputs) (r .record)) (drop (r .next) (now (input .entry))) ≡ after 1 (summaryOf (drop at (now (input .entry))))) × (r .lines ≤ 12) ⌝ }
 {
     let e = keyed::number(input, at, b"engine=", 255);
-    if !e.good {
-        return bad(1);
-    }
     let m = keyed::number(input, e.next, b"model=", 255);
-    if !m.good {
-        return bad(2);
-    }
     let s = keyed::number(input, m.next, b"spec=", 0xffff);
-    if !s.good {
-        return bad(3);
-    }
     let i = keyed::inputs(input, s.next);
-    if !i.good {
-        return bad(4);
-    }
     let inputs = i.bytes;
+    let lines = keyed::good_lines(e.good, m.good, s.good, i.good);
     Operation {
-        good: true,
-        lines: 5,
+        good: lines == 4,
+        lines: 1 + lines,
         next: i.next,
         kind: 0,
         engine: e.value as u8,
@@ -95,30 +81,43 @@ pub fn summary(input: &[u8], at: usize) -> Operation
     }
 }
 
+// The lines of a report after its first, up to the first that is bad: the engine, then the three parts.
+fn report_lines(
+    engine: bool,
+    placed: bool,
+    sighted: bool,
+    place: usize,
+    sighting: usize,
+    cited: usize,
+) -> usize
+    requires { ⌜ (place ≤ 4) × (sighting ≤ 3) × (cited ≤ 3) ⌝ }
+    ensures { λ r. ⌜ (r ≡ cond engine (1 + cond placed (place + cond sighted (sighting + cited) sighting) place) 0) × (r ≤ 11) ⌝ }
+{
+    if !engine {
+        return 0;
+    }
+    if !placed {
+        return 1 + place;
+    }
+    if !sighted {
+        return 1 + (place + sighting);
+    }
+    1 + (place + (sighting + cited))
+}
+
 // A report, after its first line.
 pub fn report(input: &[u8], at: usize) -> Operation
     ensures { λ r. ⌜ (told (r .good) (r .lines) (callOf (r .kind) (r .engine) (r .model) (r .spec) (r .inputs) (r .record)) (drop (r .next) (now (input .entry))) ≡ after 1 (reportOf (drop at (now (input .entry))))) × (r .lines ≤ 12) ⌝ }
 {
     let e = keyed::number(input, at, b"engine=", 255);
-    if !e.good {
-        return bad(1);
-    }
     let p = records::read_place(input, e.next);
-    if !p.good {
-        return bad(1 + (1 + p.lines));
-    }
     let s = records::read_sighting(input, p.next);
-    if !s.good {
-        return bad(1 + (1 + (p.lines + s.lines)));
-    }
     let m = records::read_cited(input, s.next);
-    if !m.good {
-        return bad(1 + (1 + (p.lines + (s.lines + m.lines))));
-    }
     let record = records::record_of(p, s, m);
+    let lines = report_lines(e.good, p.good, s.good, p.lines, s.lines, m.lines);
     Operation {
-        good: true,
-        lines: 1 + (1 + (p.lines + (s.lines + m.lines))),
+        good: keyed::good_lines(e.good, p.good, s.good, m.good) == 4,
+        lines: 1 + lines,
         next: m.next,
         kind: 2,
         engine: e.value as u8,

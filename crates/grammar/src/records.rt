@@ -2,7 +2,6 @@
 use crate::keyed;
 use record::layout;
 ghost use mathlib.Core.Path.{_≡_};
-ghost use mathlib.Core.Bool.{false};
 ghost use mathlib.Core.List.{_++_, _∷_};
 ghost use Prim.Native.Nat.{_+_, _*_, _≤_};
 ghost use lib.ListN.{length, take, drop};
@@ -25,44 +24,18 @@ pub struct Place {
     pub height: u64,
 }
 
-fn no_place(lines: usize) -> Place
-    ensures { λ r. ⌜ (r .good ≡ false) × (r .lines ≡ lines) ⌝ }
-{
-    Place {
-        good: false,
-        lines,
-        next: 0,
-        time: 0,
-        lat: 0,
-        lon: 0,
-        flag: 0,
-        height: 0,
-    }
-}
-
-// Time, latitude, longitude and height.
+// Time, latitude, longitude and height. Here and below, what is read after a bad line is not used.
 pub fn read_place(input: &[u8], at: usize) -> Place
     ensures { λ r. ⌜ (told (r .good) (r .lines) (G.placeBytes (r .time) (r .lat) (r .lon) (r .flag ∷ wordBytes 4 (r .height))) (drop (r .next) (now (input .entry))) ≡ G.placeOf (drop at (now (input .entry)))) × (r .lines ≤ 4) ⌝ }
 {
     let t = keyed::number(input, at, b"time=", 0xffff_ffff_ffff_ffff);
-    if !t.good {
-        return no_place(0);
-    }
     let a = keyed::signed(input, t.next, b"lat=");
-    if !a.good {
-        return no_place(1);
-    }
     let o = keyed::signed(input, a.next, b"lon=");
-    if !o.good {
-        return no_place(2);
-    }
     let h = keyed::height(input, o.next);
-    if !h.good {
-        return no_place(3);
-    }
+    let lines = keyed::good_lines(t.good, a.good, o.good, h.good);
     Place {
-        good: true,
-        lines: 4,
+        good: lines == 4,
+        lines,
         next: h.next,
         time: t.value,
         lat: a.value,
@@ -84,42 +57,19 @@ pub struct Sighting {
     pub used: u64,
 }
 
-fn no_sighting(lines: usize) -> Sighting
-    ensures { λ r. ⌜ (r .good ≡ false) × (r .lines ≡ lines) × (r .size ≡ 0) × (r .count ≡ 0) ⌝ }
-{
-    Sighting {
-        good: false,
-        lines,
-        next: 0,
-        size: 0,
-        message: [0u8; 14],
-        count: 0,
-        tags: [0u64; layout::MAX_TAGS],
-        used: 0,
-    }
-}
-
 // Message, tags and which of them were used.
 pub fn read_sighting(input: &[u8], at: usize) -> Sighting
     ensures { λ r. ⌜ (told (r .good) (r .lines) (G.sightingBytes (r .size ∷ r .message) (r .count) (r .used) (r .tags)) (drop (r .next) (now (input .entry))) ≡ G.sightingOf (drop at (now (input .entry)))) × (r .lines ≤ 3) × (r .size ≤ L.longMessage) × (r .count ≤ L.maxTags) ⌝ }
 {
     let m = keyed::message(input, at);
-    if !m.good {
-        return no_sighting(0);
-    }
     let t = keyed::tags(input, m.next);
-    if !t.good {
-        return no_sighting(1);
-    }
     let u = keyed::number(input, t.next, b"used=", 0xffff);
-    if !u.good {
-        return no_sighting(2);
-    }
     let message = m.bytes;
     let tags = t.values;
+    let lines = keyed::good_lines(m.good, t.good, u.good, false);
     Sighting {
-        good: true,
-        lines: 3,
+        good: lines == 3,
+        lines,
         next: u.next,
         size: m.size,
         message,
@@ -140,41 +90,19 @@ pub struct Cited {
     pub covariance: [u8; 48],
 }
 
-fn no_cited(lines: usize) -> Cited
-    ensures { λ r. ⌜ (r .good ≡ false) × (r .lines ≡ lines) × (r .count ≡ 0) ⌝ }
-{
-    Cited {
-        good: false,
-        lines,
-        next: 0,
-        count: 0,
-        models: [0u64; layout::MAX_TAGS],
-        spec: 0,
-        covariance: [0u8; 48],
-    }
-}
-
 // Models, spec and covariance.
 pub fn read_cited(input: &[u8], at: usize) -> Cited
     ensures { λ r. ⌜ (told (r .good) (r .lines) (G.citedBytes (r .count) (take L.maxModels (r .models)) (r .spec) (r .covariance)) (drop (r .next) (now (input .entry))) ≡ G.citedOf (drop at (now (input .entry)))) × (r .lines ≤ 3) × (r .count ≤ L.maxModels) ⌝ }
 {
     let m = keyed::models(input, at);
-    if !m.good {
-        return no_cited(0);
-    }
     let s = keyed::number(input, m.next, b"spec=", 0xffff);
-    if !s.good {
-        return no_cited(1);
-    }
     let c = keyed::covariance(input, s.next);
-    if !c.good {
-        return no_cited(2);
-    }
     let models = m.values;
     let covariance = c.bytes;
+    let lines = keyed::good_lines(m.good, s.good, c.good, false);
     Cited {
-        good: true,
-        lines: 3,
+        good: lines == 3,
+        lines,
         next: c.next,
         count: m.count,
         models,

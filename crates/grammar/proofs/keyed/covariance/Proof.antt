@@ -1,6 +1,5 @@
 use borrow.Author.Needs.{needs}
 use Prim.Native.Nat.{_-_}
-use mathlib.Core.Path.{_∙_}
 use lib.ListN.{take, drop}
 use Rattle.lines.specs.Ascii.{ascii}
 use Rattle.grammar.specs.Values as Val

@@ -1,13 +1,12 @@
 use Prim.Native.Nat.{ℕ, _+_, _-_}
 use mathlib.Core.Path.{_≡_, sym, _∙_}
-use mathlib.Core.Bool.{Bool, true}
+use mathlib.Core.Bool.{true}
 use mathlib.Core.List.{List}
 use native.Mathlib.Omega.{arith}
 use lib.ListN.{length, drop, take}
 use borrow.Author.Tests.{not-true, not-false}
 use borrow.Author.Needs.{needs}
 use Rattle.octets.specs.Order.{same}
-use Rattle.grammar.specs.Grammar.{keyed, noLine}
 use Rattle.grammar.proofs.Steps.{line-past, line-long, line-other, line-open, line-whole, no-cut}
 use Rattle.grammar.proofs.keyed.due.Statement.{statement}
 use Rattle.grammar.proofs.keyed.due.Tie as tie

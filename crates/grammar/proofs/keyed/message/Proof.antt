@@ -1,9 +1,8 @@
 use borrow.Author.Needs.{needs}
 use Prim.Native.Nat.{ℕ, _-_}
-use mathlib.Core.Path.{_≡_, sym, ap, _∙_}
+use mathlib.Core.Path.{sym, ap, _∙_}
 use mathlib.Core.List.{List, _∷_, _++_}
-use native.Mathlib.Omega.{arith}
-use lib.ListN.{replicate, length, take, drop}
+use lib.ListN.{replicate, take, drop}
 use lib.Seq.{length-take-le}
 use Rattle.record.specs.Layout.{longMessage}
 use Rattle.lines.specs.Ascii.{ascii}

@@ -1,13 +1,11 @@
-use Prim.Native.Nat.{_-_}
-use mathlib.Core.Path.{refl}
+use borrow.Author.Needs.{needs}
 use native.Mathlib.Omega.{arith}
 use lib.ListN.{drop}
-use borrow.Author.Tests.{not-true, not-false}
-use borrow.Author.Needs.{needs}
+use Rattle.register.specs.Calls.{conviction}
 use Rattle.lines.specs.Ascii.{ascii}
-use Rattle.grammar.specs.Reading.{bad, good}
+use Rattle.grammar.specs.Values as Val
 use Rattle.grammar.specs.Grammar as G
-use Rattle.grammar.proofs.Steps.{told-stop}
+use Rattle.grammar.proofs.Steps.{line-last, told-next}
 use Rattle.grammar.proofs.operations.convict.Statement.{statement}
 use Rattle.grammar.proofs.operations.convict.Tie as tie
 
@@ -17,21 +15,29 @@ slice-aggregate-number c = search needs
 number-requires : tie.Need-number-requires
 number-requires c κs = search needs
 
-bad-requires : tie.Need-bad-requires
-bad-requires c κs = search needs
+good-lines-requires : tie.Need-good-lines-requires
+good-lines-requires c κs = search needs
+
+add-t8 : tie.Need-add-t8
+add-t8 c = omega (arith, c .good-lines .ensures .1)
+
+cast-t9 : tie.Need-cast-t9
+cast-t9 c = search needs
 
 returns : tie.Need-returns
 unfolding G.convictionOf ascii
-returns c = (told-stop (c .bad .result .good) (c .bad .result .lines) 1 (G.callOf (c .bad .result .kind) (c .bad .result .engine) (c .bad .result .model) (c .bad .result .spec) (c .bad .result .inputs) (c .bad .result .record)) (drop (c .bad .result .next) (c .before .before .before .before .before .before .args .input .now)) (c .bad .ensures .0) (c .bad .ensures .1) (rw (← (c .before .before .before .number .ensures .0), not-true (c .before .before .before .number .result .good) (c .before .if1 .taken)) refl), omega (arith, c .bad .ensures .1))
-
-cast-t8 : tie.Need-cast-t8
-cast-t8 c = search needs
-
-returns-2 : tie.Need-returns-2
-unfolding G.convictionOf ascii
-returns-2 c = (rw (← (c .before .before .before .number .ensures .0), not-false (c .before .before .before .number .result .good) (c .before .if1 .left)) refl, omega arith)
+returns c =
+    let l = c .before .before in
+    let e = l .number in
+    let s = l .before .before .before in
+    let i = s .args .input .now in
+    let n = c .before .good-lines in (
+      told-next (e .result .good) (n .result) (conviction (e .result .value)) (drop (e .result .next) i) {m = G.convictionOf (drop (s .args .at) i)}
+          (rw (n .ensures .0) (line-last (e .result .good) (e .result .value) (drop (e .result .next) i) (G.engine (drop (s .args .at) i)) conviction (e .ensures .0))),
+      omega (arith, n .ensures .1),
+    )
 
 pub convict-spec : {M : Type 1} → statement M
 convict-spec =
     tie.close
-    (tie.spec slice-aggregate-number number-requires bad-requires returns cast-t8 returns-2)
+    (tie.spec slice-aggregate-number number-requires good-lines-requires add-t8 cast-t9 returns)
