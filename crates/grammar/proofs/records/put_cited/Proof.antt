@@ -31,7 +31,9 @@ slice-aggregate-put-spread c = search needs
 
 put-spread-requires : tie.Need-put-spread-requires
 put-spread-requires c κs =
-    let n : length (c .before .before .before .before .before .before .before .before .before .before .args .m .covariance) ≡ 48 = search needs in
+    let after-put-models = c .before .before .before .before in
+    let start = after-put-models .before .before .before .before .before .before in
+    let n : length (start .args .m .covariance) ≡ 48 = search needs in
     (search needs, ap (λ (k : ℕ). L.covarianceAt + k) n)
 
 same-length : tie.Need-same-length
@@ -39,10 +41,13 @@ same-length c = search needs
 
 returns : tie.Need-returns
 returns c =
-    let a = c .before .before .before .before .before .before .before .before .before .before .before .before .before .args in
+    let after-put-spread = c .before .before in
+    let after-put-models = after-put-spread .before .before .before .before .before in
+    let start = after-put-models .before .before .before .before .before .before in
+    let a = start .args in
     let m = a .m in
-    let x = c .before .before .before .before .before .before .before .put-models in
-    let y = c .before .before .put-spread in
+    let x = after-put-models .put-models in
+    let y = after-put-spread .put-spread in
     let p : Put (a .out .now) L.modelCountAt (m .count ∷ Val.words 1 (take L.maxModels (m .models))) L.specAt (x .last .0) = x .ensures in
     let q : Put (x .last .0) L.specAt (wordBytes 2 (m .spec) ++ m .covariance) L.recordSize (y .last .0) = y .ensures in
     put-put p q

@@ -26,10 +26,13 @@ same-length c = search needs
 
 returns : tie.Need-returns
 returns c =
-    let a = c .before .before .before .before .before .before .before .before .before .before .before .before .before .args in
+    let after-put-tags = c .before .before in
+    let after-put-message = after-put-tags .before .before .before .before .before in
+    let start = after-put-message .before .before .before .before .before .before in
+    let a = start .args in
     let s = a .s in
-    let m = c .before .before .before .before .before .before .before .put-message in
-    let t = c .before .before .put-tags in
+    let m = after-put-message .put-message in
+    let t = after-put-tags .put-tags in
     let p : Put (a .out .now) L.messageLengthAt (s .size ∷ s .message) L.tagCountAt (m .last .0) = m .ensures in
     let q : Put (m .last .0) L.tagCountAt (s .count ∷ (wordBytes 2 (s .used) ++ Val.words 8 (s .tags))) L.modelCountAt (t .last .0) = t .ensures in
     put-put p q

@@ -23,11 +23,14 @@ same-length c = search needs
 
 returns : tie.Need-returns
 returns c =
-    let a = c .before .before .before .before .before .before .before .before .before .before .args in
-    let b = c .before .before .put-bytes in
-    let u = c .before .before .before .before .before .before .put-u16 in
-    let e = c .before .before .before .before .before .before .before .before .before .before .pre .0 in
-    let f = c .before .before .before .before .before .before .before .before .before .before .pre .1 in
+    let after-put-bytes = c .before .before in
+    let after-put-u16 = after-put-bytes .before .before .before .before in
+    let start = after-put-u16 .before .before .before .before in
+    let a = start .args in
+    let b = after-put-bytes .put-bytes in
+    let u = after-put-u16 .put-u16 in
+    let e = start .pre .0 in
+    let f = start .pre .1 in
     let p = word-low 2 L.specAt (a .spec) L.covarianceAt (a .out .now) (u .last .0) (omega arith) refl (u .ensures) in
     let q : Put (u .last .0) L.covarianceAt (a .covariance .now) (b .result) (b .last .0) = b .ensures in
     put-put p (put-to L.recordSize q (sym f))

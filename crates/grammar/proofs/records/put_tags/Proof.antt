@@ -13,12 +13,15 @@ use Rattle.grammar.proofs.records.put_tags.Tie as tie
 
 filled : tie.Need-returns
 filled c =
-    let a = c .before .before .before .before .before .before .before .before .before .before .args in let b = c .before .before .put-words in let u = c .before .before .before .before .before .before .put-u16 in
+    let after-put-words = c .before .before in
+    let after-put-u16 = after-put-words .before .before .before .before in
+    let start = after-put-u16 .before .before .before .before in
+    let a = start .args in let b = after-put-words .put-words in let u = after-put-u16 .put-u16 in
     let p₁ = put-one (a .out .now) L.tagCountAt (a .count) in
-    let n₁ : length (set (a .out .now) L.tagCountAt (a .count)) ≡ L.recordSize = put-length p₁ ∙ c .before .before .before .before .before .before .before .before .before .before .pre .0 in
+    let n₁ : length (set (a .out .now) L.tagCountAt (a .count)) ≡ L.recordSize = put-length p₁ ∙ start .pre .0 in
     let p₂ = word-low 2 L.usedAt (a .used) L.tagsAt (set (a .out .now) L.tagCountAt (a .count)) (u .last .0) (omega arith) refl (u .ensures) in
     let p₃ : Put (u .last .0) L.tagsAt (Val.words 8 (a .tags .now)) (b .result) (b .last .0) = b .ensures in
-    put-put p₁ (put-put p₂ (put-to L.modelCountAt p₃ (ap (λ (k : ℕ). L.tagsAt + k) (sym (words-size 8 (a .tags .now) ∙ ap (λ (k : ℕ). 8 * k) (c .before .before .before .before .before .before .before .before .before .before .pre .1 .1))))))
+    put-put p₁ (put-put p₂ (put-to L.modelCountAt p₃ (ap (λ (k : ℕ). L.tagsAt + k) (sym (words-size 8 (a .tags .now) ∙ ap (λ (k : ℕ). 8 * k) (start .pre .1 .1))))))
 
 cast-out : tie.Need-cast-out
 cast-out c = search needs
@@ -36,10 +39,12 @@ put-u16-requires c κs =
 
 put-words-requires : tie.Need-put-words-requires
 put-words-requires c κs =
-    let a = c .before .before .before .before .before .before .before .args in
-    let u = c .before .before .before .put-u16 in
-    let e = c .before .before .before .before .before .before .before .pre .0 in
-    let f = c .before .before .before .before .before .before .before .pre .1 .1 in
+    let after-put-u16 = c .before .before .before in
+    let start = after-put-u16 .before .before .before .before in
+    let a = start .args in
+    let u = after-put-u16 .put-u16 in
+    let e = start .pre .0 in
+    let f = start .pre .1 .1 in
     let s = length-set (a .out .now) L.tagCountAt (a .count) in
     let p₂ = word-low 2 L.usedAt (a .used) L.tagsAt (set (a .out .now) L.tagCountAt (a .count)) (u .last .0) (omega arith) refl (u .ensures) in
     let n = put-length p₂ in omega arith

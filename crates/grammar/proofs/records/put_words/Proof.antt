@@ -42,12 +42,16 @@ loop-less c = omega arith
 
 loop-again : tie.Need-loop-again Inv-loop μ-loop
 loop-again c =
-    let l = c .before .before .before .before .before .before in
-    let a = c .before .before .before .before .before .before .before .before .before .args in
+    let after-put-u64 = c .before .before in
+    let after-before = after-put-u64 .before .before .before in
+    let l = after-before .before in
+    let start = l .before .before .before in
+    let l = l in
+    let a = start .args in
     let i = l .loop .inv in
     let v = a .values .now in
     let j = l .loop .i in
-    let q = word-put 8 (a .at + 8 * j) (getD v j 0) (a .at + 8 * (j + 1)) (l .loop .out) (c .before .before .put-u64 .last .0) (omega arith) (omega arith) (c .before .before .put-u64 .ensures) in
+    let q = word-put 8 (a .at + 8 * j) (getD v j 0) (a .at + 8 * (j + 1)) (l .loop .out) (after-put-u64 .put-u64 .last .0) (omega arith) (omega arith) (after-put-u64 .put-u64 .ensures) in
     let n = put-length q in
     (omega arith, n ∙ i .1, omega arith, put-as (words-more 8 v j (omega arith)) (put-put (i .3) q))
 

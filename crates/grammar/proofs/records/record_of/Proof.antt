@@ -32,9 +32,12 @@ put-cited-requires c κs = search needs
 
 returns : tie.Need-returns
 returns c =
-    let a = c .before .before .before .before .before .before .before .before .before .args in
-    let x = c .before .before .before .before .before .before .before .put-place in
-    let y = c .before .before .before .before .put-sighting in
+    let after-put-sighting = c .before .before .before .before in
+    let after-put-place = after-put-sighting .before .before .before in
+    let start = after-put-place .before .before in
+    let a = start .args in
+    let x = after-put-place .put-place in
+    let y = after-put-sighting .put-sighting in
     let z = c .before .put-cited in
     let n : List ℕ = replicate L.recordSize 0 in
     let p : Put n L.timeAt (G.placeBytes (a .p .time) (a .p .lat) (a .p .lon) (a .p .flag ∷ wordBytes 4 (a .p .height))) L.messageLengthAt (x .last .0) = x .ensures in

@@ -1,8 +1,10 @@
-use Prim.Native.Nat.{_+_, _-_, _≤_}
+use Prim.Native.Nat.{ℕ, _+_, _-_, _≤_}
 use mathlib.Core.Path.{_≡_, sym, _∙_}
+use mathlib.Core.List.{List}
 use native.Mathlib.Omega.{arith}
 use lib.ListN.{length, drop, length-drop}
 use borrow.Author.Tests.{not-true, not-false}
+use Rattle.register.specs.Calls.{Call}
 use Rattle.grammar.specs.Reading.{good}
 use Rattle.grammar.specs.Grammar as G
 use Rattle.grammar.proofs.Whole.{goes-on, badFrom, bad-start, bad-empty, bad-end, bad-here, bad-next}
@@ -25,63 +27,57 @@ loop-holds c = (c .before .before .pre, omega arith, sym (bad-start (c .before .
 operation-requires : tie.Need-operation-requires Inv-loop μ-loop
 operation-requires c κs = tt
 
+-- an operation was read
+module _ (p : tie.After-operation Inv-loop μ-loop) where
+  abbrev at-loop : tie.At-loop Inv-loop μ-loop
+  at-loop = p .before .before
+
+  abbrev i : List ℕ
+  i = at-loop .before .before .before .args .input .now
+
+  abbrev call : Call
+  call = let q = p .operation .result in G.callOf (q .kind) (q .engine) (q .model) (q .spec) (q .inputs) (q .«record»)
+
+-- it is good
+module _ (e : tie.Else2 Inv-loop μ-loop) where
+  abbrev p : tie.After-operation Inv-loop μ-loop
+  p = e .before .before
+
+  is-good : G.operationOf (drop (at-loop p .loop .at) (i p)) ≡ good (p .operation .result .lines) (call p) (drop (p .operation .result .next) (i p))
+  is-good = let q = p .operation .result in told-good-is (q .good) (q .lines) (call p) (drop (q .next) (i p)) (p .operation .ensures .0) (not-false (q .good) (e .if2 .left))
+
 add-result : tie.Need-add-result Inv-loop μ-loop
-add-result c =
-    let l = c .before .before .before .before .before in
-    let i = c .before .before .before .before .before .before .before .before .args .input .now in
-    let v = l .loop .inv in
-    let p = c .before .before .before .operation in
-    let q = p .result in
-    omega (arith, p .ensures .1)
+add-result c = let v = at-loop (c .before .before .before) .loop .inv in omega (arith, c .before .before .before .operation .ensures .1)
 
 add-result-2 : tie.Need-add-result-2 Inv-loop μ-loop
-add-result-2 c =
-    let l = c .before .before .before .before .before in
-    let i = c .before .before .before .before .before .before .before .before .args .input .now in
-    let v = l .loop .inv in
-    let p = c .before .before .before .operation in
-    let q = p .result in
-    omega (arith, p .ensures .1)
+add-result-2 c = let v = at-loop (c .before .before .before) .loop .inv in omega (arith, c .before .before .before .operation .ensures .1)
 
 returns-2 : tie.Need-returns-2 Inv-loop μ-loop
 returns-2 c =
-    let l = c .before .before .before .before .before in
-    let i = c .before .before .before .before .before .before .before .before .args .input .now in
-    let v = l .loop .inv in
-    let p = c .before .before .before .operation in
-    let q = p .result in
-    sym (v .2 ∙ bad-here (l .loop .lines) (drop (l .loop .at) i) (q .lines) (let d = length-drop (l .loop .at) i in λ z. omega arith) (told-bad-is (q .good) (q .lines) (G.callOf (q .kind) (q .engine) (q .model) (q .spec) (q .inputs) (q .«record»)) (drop (q .next) i) (p .ensures .0) (not-true (q .good) (c .before .if2 .taken))))
+    let p = c .before .before .before in
+    let l = at-loop p .loop in
+    let q = p .operation .result in
+    sym (l .inv .2 ∙ bad-here (l .lines) (drop (l .at) (i p)) (q .lines) (let d = length-drop (l .at) (i p) in λ z. omega arith)
+    (told-bad-is (q .good) (q .lines) (call p) (drop (q .next) (i p)) (p .operation .ensures .0) (not-true (q .good) (c .before .if2 .taken))))
 
 add-lines : tie.Need-add-lines Inv-loop μ-loop
-add-lines c =
-    let l = c .before .before .before .before .before in
-    let i = c .before .before .before .before .before .before .before .before .args .input .now in
-    let v = l .loop .inv in
-    let p = c .before .before .before .operation in
-    let q = p .result in
-    omega (arith, p .ensures .1)
+add-lines c = let v = at-loop (c .before .before .before) .loop .inv in omega (arith, c .before .before .before .operation .ensures .1)
 
 loop-less : tie.Need-loop-less Inv-loop μ-loop
 loop-less c =
-    let l = c .before .before .before .before .before in
-    let i = c .before .before .before .before .before .before .before .before .args .input .now in
-    let v = l .loop .inv in
-    let p = c .before .before .before .operation in
-    let q = p .result in
-    let e = told-good-is (q .good) (q .lines) (G.callOf (q .kind) (q .engine) (q .model) (q .spec) (q .inputs) (q .«record»)) (drop (q .next) i) (p .ensures .0) (not-false (q .good) (c .before .if2 .left)) in
-    let w = goes-on i (l .loop .at) (q .next) (q .lines) (G.callOf (q .kind) (q .engine) (q .model) (q .spec) (q .inputs) (q .«record»)) e in
+    let e = c .before in
+    let q = p e .operation .result in
+    let w = goes-on (i (p e)) (at-loop (p e) .loop .at) (q .next) (q .lines) (call (p e)) (is-good e) in
     omega (arith, w .0, w .1)
 
 loop-again : tie.Need-loop-again Inv-loop μ-loop
 loop-again c =
-    let l = c .before .before .before .before .before in
-    let i = c .before .before .before .before .before .before .before .before .args .input .now in
-    let v = l .loop .inv in
-    let p = c .before .before .before .operation in
-    let q = p .result in
-    let e = told-good-is (q .good) (q .lines) (G.callOf (q .kind) (q .engine) (q .model) (q .spec) (q .inputs) (q .«record»)) (drop (q .next) i) (p .ensures .0) (not-false (q .good) (c .before .if2 .left)) in
-    let w = goes-on i (l .loop .at) (q .next) (q .lines) (G.callOf (q .kind) (q .engine) (q .model) (q .spec) (q .inputs) (q .«record»)) e in
-    (v .0, omega (arith, w .0, v .1), v .2 ∙ bad-next (l .loop .lines) (drop (l .loop .at) i) (q .lines) (G.callOf (q .kind) (q .engine) (q .model) (q .spec) (q .inputs) (q .«record»)) (drop (q .next) i) e)
+    let e = c .before in
+    let q = p e .operation .result in
+    let l = at-loop (p e) .loop in
+    let v = l .inv in
+    let w = goes-on (i (p e)) (l .at) (q .next) (q .lines) (call (p e)) (is-good e) in
+    (v .0, omega (arith, w .0, v .1), v .2 ∙ bad-next (l .lines) (drop (l .at) (i (p e))) (q .lines) (call (p e)) (drop (q .next) (i (p e))) (is-good e))
 
 returns-3 : tie.Need-returns-3 Inv-loop μ-loop
 returns-3 c =

@@ -33,14 +33,21 @@ convict-requires c κs = search needs
 
 returns-3 : tie.Need-returns-3
 unfolding G.operationOf ascii
-returns-3 c = (rw (← (c .before .before .before .before .before .before .before .kind .ensures), not-false (c .before .before .before .before .before .before .before .kind .result .good) (c .before .before .before .before .before .if1 .left), c .before .if3 .taken) (c .convict .ensures .0), c .convict .ensures .1)
+returns-3 c =
+    let else1 = c .before .before .before .before .before in
+    let after-kind = else1 .before .before in
+    (rw (← (after-kind .kind .ensures), not-false (after-kind .kind .result .good) (else1 .if1 .left), c .before .if3 .taken) (c .convict .ensures .0), c .convict .ensures .1)
 
 report-requires : tie.Need-report-requires
 report-requires c κs = search needs
 
 returns-4 : tie.Need-returns-4
 unfolding G.operationOf ascii
-returns-4 c = (rw (← (c .before .before .before .before .before .before .before .kind .ensures), not-false (c .before .before .before .before .before .before .before .kind .result .good) (c .before .before .before .before .before .if1 .left), kind-two (c .before .before .before .before .before .before .before .kind .result .value) (c .before .before .before .if2 .left) (c .before .if3 .left)) (c .report .ensures .0), c .report .ensures .1)
+returns-4 c =
+    let else2 = c .before .before .before in
+    let else1 = else2 .before .before in
+    let after-kind = else1 .before .before in
+    (rw (← (after-kind .kind .ensures), not-false (after-kind .kind .result .good) (else1 .if1 .left), kind-two (after-kind .kind .result .value) (else2 .if2 .left) (c .before .if3 .left)) (c .report .ensures .0), c .report .ensures .1)
 
 pub operation-spec : {M : Type 1} → statement M
 operation-spec =

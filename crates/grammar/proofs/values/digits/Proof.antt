@@ -54,7 +54,8 @@ no-value-requires-4 c κs = tt
 
 returns-4 : tie.Need-returns-4 Inv-loop μ-loop
 returns-4 c =
-    let l = c .before .before .before .before .before .before .before in
+    let else2 = c .before .before .before in
+    let l = else2 .before .before .before .before in
     let a = l .before .before .args in
     (told-not (c .no-value4 .result .value) (c .no-value4 .ensures .0) (l .loop .inv .2 ∙ digit-over (a .most) (l .loop .value) (a .text .now) (l .loop .i) (omega arith) (omega arith) (omega arith) (omega arith)), omega (arith, c .no-value4 .ensures .1))
 

@@ -65,10 +65,11 @@ same-length-2 c = search needs
 
 returns-4 : tie.Need-returns-4 Inv-loop μ-loop
 returns-4 c =
-    let l = c .before .before .before .before .before .before .before in
+    let low = c .before .before in
+    let l = low .before .before .before .before .before in
     let a = l .before .before .before .before .before .args in
     let i = l .loop .inv in
-    sym (hex-due (length (a .out .now)) (a .text .now) (i .0) ∙ i .3 ∙ hex-no-low (a .text .now) (l .loop .out) (l .loop .i) (omega arith) (omega arith) (sym (c .before .before .nibble2 .ensures .0) ∙ c .if4 .taken))
+    sym (hex-due (length (a .out .now)) (a .text .now) (i .0) ∙ i .3 ∙ hex-no-low (a .text .now) (l .loop .out) (l .loop .i) (omega arith) (omega arith) (sym (low .nibble2 .ensures .0) ∙ c .if4 .taken))
 
 mul-out : tie.Need-mul-out Inv-loop μ-loop
 mul-out c = omega arith
@@ -87,10 +88,12 @@ loop-less c = omega arith
 
 loop-again : tie.Need-loop-again Inv-loop μ-loop
 loop-again c =
-    let l = c .before .before .before .before .before .before .before in
+    let low = c .before .before in
+    let high = low .before .before in
+    let l = high .before .before .before in
     let a = l .before .before .before .before .before .args in
     let i = l .loop .inv in
-    (i .0, length-set (l .loop .out) (l .loop .i) (c .before .before .before .before .nibble .result * 16 + c .before .before .nibble2 .result) ∙ i .1, omega arith, i .3 ∙ hex-step (a .text .now) (l .loop .out) (l .loop .i) (omega arith) (omega arith) (c .before .before .before .before .nibble .result) (c .before .before .nibble2 .result) (c .before .before .before .before .nibble .ensures .0) (c .before .before .nibble2 .ensures .0) (omega arith) (omega arith))
+    (i .0, length-set (l .loop .out) (l .loop .i) (high .nibble .result * 16 + low .nibble2 .result) ∙ i .1, omega arith, i .3 ∙ hex-step (a .text .now) (l .loop .out) (l .loop .i) (omega arith) (omega arith) (high .nibble .result) (low .nibble2 .result) (high .nibble .ensures .0) (low .nibble2 .ensures .0) (omega arith) (omega arith))
 
 same-length-3 : tie.Need-same-length-3 Inv-loop μ-loop
 same-length-3 c = search needs

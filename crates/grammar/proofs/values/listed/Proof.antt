@@ -44,12 +44,15 @@ no-list-requires c κs = tt
 
 returns : tie.Need-returns Inv-loop μ-loop
 returns c =
-    let l = c .before .before .before .before .before .before .before in
-    let a = c .before .before .before .before .before .before .before .before .before .args in
+    let after-number = c .before .before .before in
+    let after-find = after-number .before .before in
+    let l = after-find .before .before in
+    let start = l .before .before in
+    let a = start .args in
     let i = l .loop .inv in
-    let f = c .before .before .before .before .before .find in
-    let n = c .before .before .before .number in
-    let pre = c .before .before .before .before .before .before .before .before .before .pre in
+    let f = after-find .find in
+    let n = after-number .number in
+    let pre = start .pre in
     let e = c .no-list .ensures in
     let r = c .no-list .result in
     list-none (numbers (a .most) (a .room) (a .text .now)) (a .room) (r .good) (r .count) (r .values) (e .0) (e .1) (e .2) (i .4 ∙ list-bad (a .most) (a .room) (l .loop .count) (a .text .now) (l .loop .from) (f .result) (omega arith) (f .ensures .0) (take (l .loop .count) (l .loop .values)) (not-told (n .result .value) (n .ensures .0) (not-true (n .result .good) (c .before .if1 .taken))))
@@ -65,12 +68,15 @@ add-count c = omega arith
 
 returns-2 : tie.Need-returns-2 Inv-loop μ-loop
 returns-2 c =
-    let l = c .before .before .before .before .before .before .before in
-    let a = c .before .before .before .before .before .before .before .before .before .args in
+    let after-number = c .before .before .before in
+    let after-find = after-number .before .before in
+    let l = after-find .before .before in
+    let start = l .before .before in
+    let a = start .args in
     let i = l .loop .inv in
-    let f = c .before .before .before .before .before .find in
-    let n = c .before .before .before .number in
-    let pre = c .before .before .before .before .before .before .before .before .before .pre in
+    let f = after-find .find in
+    let n = after-number .number in
+    let pre = start .pre in
     record { list = ap some (taken-set (l .loop .values) (l .loop .count) (n .result .value) (omega arith)) ∙ sym (i .4 ∙ list-last (a .most) (a .room) (l .loop .count) (a .text .now) (l .loop .from) (f .result) (omega arith) (f .ensures .0) (take (l .loop .count) (l .loop .values)) (n .result .value) (some-told (n .result .value) (n .ensures .0) (not-false (n .result .good) (c .before .if1 .left))) (c .if2 .taken)); fits = omega arith; rest = padded-set (l .loop .values) (l .loop .count) (n .result .value) (i .0) (omega arith) (i .3) }
 
 add-from : tie.Need-add-from Inv-loop μ-loop
@@ -81,12 +87,15 @@ loop-less c = omega arith
 
 loop-again : tie.Need-loop-again Inv-loop μ-loop
 loop-again c =
-    let l = c .before .before .before .before .before .before .before in
-    let a = c .before .before .before .before .before .before .before .before .before .args in
+    let after-number = c .before .before .before in
+    let after-find = after-number .before .before in
+    let l = after-find .before .before in
+    let start = l .before .before in
+    let a = start .args in
     let i = l .loop .inv in
-    let f = c .before .before .before .before .before .find in
-    let n = c .before .before .before .number in
-    let pre = c .before .before .before .before .before .before .before .before .before .pre in
+    let f = after-find .find in
+    let n = after-number .number in
+    let pre = start .pre in
     (length-set (l .loop .values) (l .loop .count) (n .result .value) ∙ i .0, omega arith, omega arith, padded-set (l .loop .values) (l .loop .count) (n .result .value) (i .0) (omega arith) (i .3), i .4 ∙ list-more (a .most) (a .room) (l .loop .count) (a .text .now) (l .loop .from) (f .result) (omega arith) (f .ensures .0) (take (l .loop .count) (l .loop .values)) (n .result .value) (some-told (n .result .value) (n .ensures .0) (not-false (n .result .good) (c .before .if1 .left))) (omega arith) ∙ ap (λ (p : List ℕ). mapped (_++_ p) (numbers (a .most) (a .room - (l .loop .count + 1)) (drop (f .result + 1) (a .text .now)))) (sym (taken-set (l .loop .values) (l .loop .count) (n .result .value) (omega arith))))
 
 no-list-requires-2 : tie.Need-no-list-requires-2 Inv-loop μ-loop

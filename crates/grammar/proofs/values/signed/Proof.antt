@@ -39,19 +39,33 @@ no-value-requires-2 : tie.Need-no-value-requires-2
 no-value-requires-2 c κs = search needs
 
 returns-3 : tie.Need-returns-3
-returns-3 c = told-not (c .no-value2 .result .value) (c .no-value2 .ensures .0) (signed-minus (c .before .before .before .before .before .before .before .before .before .args .text .now) (c .before .before .before .before .before .if2 .left) ∙ ap negative (sym (ap (number 0x8000_0000) (tail-lent (c .before .before .before .before .before .before .before .before .before .args .text .now) 1)) ∙ not-told (c .before .before .before .number2 .result .value) (c .before .before .before .number2 .ensures .0) (not-true (c .before .before .before .number2 .result .good) (c .before .if3 .taken))))
+returns-3 c =
+    let after-number2 = c .before .before .before in
+    let else2 = after-number2 .before .before in
+    let start = else2 .before .before .before .before in
+    told-not (c .no-value2 .result .value) (c .no-value2 .ensures .0) (signed-minus (start .args .text .now) (else2 .if2 .left) ∙ ap negative (sym (ap (number 0x8000_0000) (tail-lent (start .args .text .now) 1)) ∙ not-told (after-number2 .number2 .result .value) (after-number2 .number2 .ensures .0) (not-true (after-number2 .number2 .result .good) (c .before .if3 .taken))))
 
 no-value-requires-3 : tie.Need-no-value-requires-3
 no-value-requires-3 c κs = search needs
 
 returns-4 : tie.Need-returns-4
-returns-4 c = told-not (c .no-value3 .result .value) (c .no-value3 .ensures .0) (signed-minus (c .before .before .before .before .before .before .before .before .before .before .before .args .text .now) (c .before .before .before .before .before .before .before .if2 .left) ∙ ap negative (sym (ap (number 0x8000_0000) (tail-lent (c .before .before .before .before .before .before .before .before .before .before .before .args .text .now) 1)) ∙ some-told (c .before .before .before .before .before .number2 .result .value) (c .before .before .before .before .before .number2 .ensures .0) (not-false (c .before .before .before .before .before .number2 .result .good) (c .before .before .before .if3 .left))) ∙ negative-zero (c .before .before .before .before .before .number2 .result .value) (c .before .if4 .taken))
+returns-4 c =
+    let else3 = c .before .before .before in
+    let after-number2 = else3 .before .before in
+    let else2 = after-number2 .before .before in
+    let start = else2 .before .before .before .before in
+    told-not (c .no-value3 .result .value) (c .no-value3 .ensures .0) (signed-minus (start .args .text .now) (else2 .if2 .left) ∙ ap negative (sym (ap (number 0x8000_0000) (tail-lent (start .args .text .now) 1)) ∙ some-told (after-number2 .number2 .result .value) (after-number2 .number2 .ensures .0) (not-false (after-number2 .number2 .result .good) (else3 .if3 .left))) ∙ negative-zero (after-number2 .number2 .result .value) (c .before .if4 .taken))
 
 sub-t10 : tie.Need-sub-t10
 sub-t10 c = search needs
 
 returns-5 : tie.Need-returns-5
-returns-5 c = sym (signed-minus (c .before .before .before .before .before .before .before .before .before .before .before .args .text .now) (c .before .before .before .before .before .before .before .if2 .left) ∙ ap negative (sym (ap (number 0x8000_0000) (tail-lent (c .before .before .before .before .before .before .before .before .before .before .before .args .text .now) 1)) ∙ some-told (c .before .before .before .before .before .number2 .result .value) (c .before .before .before .before .before .number2 .ensures .0) (not-false (c .before .before .before .before .before .number2 .result .good) (c .before .before .before .if3 .left))) ∙ negative-some (c .before .before .before .before .before .number2 .result .value) (c .before .if4 .left))
+returns-5 c =
+    let else3 = c .before .before .before in
+    let after-number2 = else3 .before .before in
+    let else2 = after-number2 .before .before in
+    let start = else2 .before .before .before .before in
+    sym (signed-minus (start .args .text .now) (else2 .if2 .left) ∙ ap negative (sym (ap (number 0x8000_0000) (tail-lent (start .args .text .now) 1)) ∙ some-told (after-number2 .number2 .result .value) (after-number2 .number2 .ensures .0) (not-false (after-number2 .number2 .result .good) (else3 .if3 .left))) ∙ negative-some (after-number2 .number2 .result .value) (c .before .if4 .left))
 
 pub signed-spec : {M : Type 1} → statement M
 signed-spec =
