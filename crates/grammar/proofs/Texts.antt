@@ -124,6 +124,22 @@ nibble-letter c h k = rw (le-leb 48 c (omega arith), lt-leb c 57 (omega arith), 
 pub nibble-high : (c : ℕ) → 102 < c → nibble c ≡ 16
 nibble-high c h = rw (le-leb 48 c (omega arith), lt-leb c 57 (omega arith), le-leb 97 c (omega arith), lt-leb c 102 h) refl
 
+pub byte-no-high : (a b : ℕ) → nibble a ≡ 16 → hexByte a b ≡ none
+byte-no-high a b e = rw e refl
+
+pub byte-no-low : (a b : ℕ) → nibble b ≡ 16 → hexByte a b ≡ none
+byte-no-low a b e = rw e (by (ltb (nibble a) 16) (λ k. rw k refl) (λ k. rw k refl))
+
+pub byte-some : (a b x y : ℕ) → x ≡ nibble a → y ≡ nibble b → x < 16 → y < 16 → toldValue (ltb (x * 16 + y) 256) (x * 16 + y) ≡ hexByte a b
+byte-some a b x y e f p q = rw (lt-ltb (x * 16 + y) 256 (omega arith), ← e, ← f, lt-ltb x 16 p, lt-ltb y 16 q) refl
+
+module _ (r a b : ℕ) (e : toldValue (ltb r 256) r ≡ hexByte a b) where
+  pub byte-none : r ≡ 256 → hexByte a b ≡ none
+  byte-none k = sym e ∙ rw k refl
+
+  pub byte-is : r < 256 → hexByte a b ≡ some r
+  byte-is k = sym e ∙ rw (lt-ltb r 256 k) refl
+
 -- ---- what is read goes behind what was read
 
 pub mapped-snoc : (p : List ℕ) (x : ℕ) (o : Option (List ℕ)) → mapped (_++_ p) (mapped (_∷_ x) o) ≡ mapped (_++_ (p ++ (x ∷ []))) o
@@ -148,19 +164,14 @@ module _ (t out : List ℕ) (i : ℕ) (l : length t ≡ 2 * length out) (h : i <
       ∙ ap (λ (k : ℕ). getD t (2 * i) 0 ∷ drop k t) e
       ∙ ap (λ (q : List ℕ). getD t (2 * i) 0 ∷ q) (drop-cons t (2 * i + 1) 0 (omega arith) ∙ ap (λ (k : ℕ). getD t (2 * i + 1) 0 ∷ drop k t) f)
 
-  pub hex-no-high : nibble (getD t (2 * i) 0) ≡ 16 → mapped (_++_ (take i out)) (hexBytes (drop (2 * i) t)) ≡ none
+  pub hex-none : hexByte (getD t (2 * i) 0) (getD t (2 * i + 1) 0) ≡ none → mapped (_++_ (take i out)) (hexBytes (drop (2 * i) t)) ≡ none
   unfolding hexBytes
-  hex-no-high e = rw (pair, e) refl
+  hex-none e = rw (pair, e) refl
 
-  pub hex-no-low : nibble (getD t (2 * i + 1) 0) ≡ 16 → mapped (_++_ (take i out)) (hexBytes (drop (2 * i) t)) ≡ none
+  pub hex-step : (x : ℕ) → hexByte (getD t (2 * i) 0) (getD t (2 * i + 1) 0) ≡ some x
+      → mapped (_++_ (take i out)) (hexBytes (drop (2 * i) t)) ≡ mapped (_++_ (take (i + 1) (set out i x))) (hexBytes (drop (2 * (i + 1)) t))
   unfolding hexBytes
-  hex-no-low e = rw (pair, e) (by (ltb (nibble (getD t (2 * i) 0)) 16) (λ k. rw k refl) (λ k. rw k refl))
-
-  pub hex-step : (a b : ℕ) → a ≡ nibble (getD t (2 * i) 0) → b ≡ nibble (getD t (2 * i + 1) 0) → a < 16 → b < 16
-      → mapped (_++_ (take i out)) (hexBytes (drop (2 * i) t)) ≡ mapped (_++_ (take (i + 1) (set out i (a * 16 + b)))) (hexBytes (drop (2 * (i + 1)) t))
-  unfolding hexBytes
-  hex-step a b e f p q =
-      rw (pair, ← e, ← f, lt-ltb a 16 p, lt-ltb b 16 q, taken-set out i (a * 16 + b) h) (mapped-snoc (take i out) (a * 16 + b) (hexBytes (drop (2 * (i + 1)) t)))
+  hex-step x e = rw (pair, e, taken-set out i x h) (mapped-snoc (take i out) x (hexBytes (drop (2 * (i + 1)) t)))
 
 pub hex-end : (t out : List ℕ) (i : ℕ) → length t ≡ 2 * length out → length out ≤ i → mapped (_++_ (take i out)) (hexBytes (drop (2 * i) t)) ≡ some out
 unfolding hexBytes

@@ -4,6 +4,7 @@ ghost use mathlib.Core.Path.{_≡_};
 ghost use mathlib.Core.List.{[], _∷_};
 ghost use mathlib.Core.Bool.{false};
 ghost use Prim.Native.Nat.{_+_, _≤_, _<_};
+ghost use lib.Dec.{ltb};
 ghost use lib.ListN.{length, take, drop};
 ghost use Rattle.octets.specs.Words.{wordBytes};
 ghost use Rattle.record.specs.Layout.{maxTags, maxModels, longMessage};
@@ -216,6 +217,21 @@ fn nibble(c: u8) -> u8
     16
 }
 
+// The byte that two hex digits make, and 256 where either is none.
+fn hex_byte(a: u8, b: u8) -> u16
+    ensures { λ r. ⌜ (Val.toldValue (ltb r 256) r ≡ Val.hexByte a b) × (r ≤ 256) ⌝ }
+{
+    let high = nibble(a);
+    if high == 16 {
+        return 256;
+    }
+    let low = nibble(b);
+    if low == 16 {
+        return 256;
+    }
+    (high * 16 + low) as u16
+}
+
 // As many bytes of hex as there is room for, and no more and no fewer.
 pub fn hex(text: &[u8], out: &mut [u8]) -> bool
     ensures { λ r. ⌜ Val.toldValue r (now (out .exit)) ≡ Val.hex (length (now (out .entry))) (now (text .entry)) ⌝ }
@@ -228,15 +244,11 @@ pub fn hex(text: &[u8], out: &mut [u8]) -> bool
     }
     let mut i = 0;
     while i < out.len() {
-        let high = nibble(text[2 * i]);
-        let low = nibble(text[2 * i + 1]);
-        if high == 16 {
+        let b = hex_byte(text[2 * i], text[2 * i + 1]);
+        if b == 256 {
             return false;
         }
-        if low == 16 {
-            return false;
-        }
-        out[i] = high * 16 + low;
+        out[i] = b as u8;
         i += 1;
     }
     true

@@ -1,11 +1,11 @@
-use Prim.Native.Nat.{_+_, _-_, _*_, _≤_}
+use Prim.Native.Nat.{ℕ, _+_, _-_, _*_, _≤_}
 use mathlib.Core.Path.{_≡_, refl, sym, _∙_}
-use mathlib.Core.List.{_++_}
+use mathlib.Core.List.{List, _++_}
 use native.Mathlib.Omega.{arith}
-use lib.ListN.{length-set, length, drop, take}
+use lib.ListN.{length-set, length, getD, drop, take}
+use Rattle.grammar.specs.Values.{hexBytes, hex, mapped}
+use Rattle.grammar.proofs.Texts.{hex-due, hex-undue, hex-none, hex-step, hex-end, byte-none, byte-is, mapped-nothing}
 use borrow.Author.Needs.{needs}
-use Rattle.grammar.specs.Values.{hexBytes, mapped}
-use Rattle.grammar.proofs.Texts.{hex-due, hex-undue, hex-no-high, hex-no-low, hex-step, hex-end, mapped-nothing}
 use Rattle.grammar.proofs.values.hex.Statement.{statement}
 use Rattle.grammar.proofs.values.hex.Tie as tie
 
@@ -14,6 +14,17 @@ Inv-loop text out₀ i₀ out i = (length text ≡ 2 * length out₀) × (length
 
 abbrev μ-loop : tie.MeasureT-loop
 μ-loop text out₀ i₀ out i = length out₀ - i
+
+-- at the loop
+module _ (l : tie.At-loop Inv-loop μ-loop) where
+  abbrev text : List ℕ
+  text = l .before .before .before .before .before .args .text .now
+
+  abbrev room : ℕ
+  room = length (l .before .before .before .before .before .args .out .now)
+
+  left : hex room text ≡ mapped (_++_ (take (l .loop .i) (l .loop .out))) (hexBytes (drop (2 * l .loop .i) text))
+  left = hex-due room text (l .loop .inv .0) ∙ l .loop .inv .3
 
 returns : tie.Need-returns Inv-loop μ-loop
 returns c = let a = c .before .before .before .args in sym (hex-undue (length (a .out .now)) (a .text .now) (λ e. c .if1 .taken (omega arith)))
@@ -29,53 +40,36 @@ loop-holds c =
     let q = c .before .if1 .left in
     (omega arith, refl, omega arith, mapped-nothing (hexBytes (c .before .before .before .before .args .text .now)))
 
-mul-nibble : tie.Need-mul-nibble Inv-loop μ-loop
-mul-nibble c = omega arith
+mul-hex-byte : tie.Need-mul-hex-byte Inv-loop μ-loop
+mul-hex-byte c = omega arith
 
-shared-slice-read-nibble : tie.Need-shared-slice-read-nibble Inv-loop μ-loop
-shared-slice-read-nibble c = omega arith
+shared-slice-read-hex-byte : tie.Need-shared-slice-read-hex-byte Inv-loop μ-loop
+shared-slice-read-hex-byte c = omega arith
 
-nibble-requires : tie.Need-nibble-requires Inv-loop μ-loop
-nibble-requires c κs = tt
+mul-hex-byte-2 : tie.Need-mul-hex-byte-2 Inv-loop μ-loop
+mul-hex-byte-2 c = omega arith
 
-mul-nibble-2 : tie.Need-mul-nibble-2 Inv-loop μ-loop
-mul-nibble-2 c = omega arith
+add-hex-byte : tie.Need-add-hex-byte Inv-loop μ-loop
+add-hex-byte c = omega arith
 
-add-nibble : tie.Need-add-nibble Inv-loop μ-loop
-add-nibble c = omega arith
+shared-slice-read-hex-byte-2 : tie.Need-shared-slice-read-hex-byte-2 Inv-loop μ-loop
+shared-slice-read-hex-byte-2 c = omega arith
 
-shared-slice-read-nibble-2 : tie.Need-shared-slice-read-nibble-2 Inv-loop μ-loop
-shared-slice-read-nibble-2 c = omega arith
-
-nibble-requires-2 : tie.Need-nibble-requires-2 Inv-loop μ-loop
-nibble-requires-2 c κs = tt
+hex-byte-requires : tie.Need-hex-byte-requires Inv-loop μ-loop
+hex-byte-requires c κs = tt
 
 same-length : tie.Need-same-length Inv-loop μ-loop
 same-length c = search needs
 
 returns-3 : tie.Need-returns-3 Inv-loop μ-loop
 returns-3 c =
-    let l = c .before .before .before .before .before .before in
-    let a = l .before .before .before .before .before .args in
-    let i = l .loop .inv in
-    sym (hex-due (length (a .out .now)) (a .text .now) (i .0) ∙ i .3 ∙ hex-no-high (a .text .now) (l .loop .out) (l .loop .i) (omega arith) (omega arith) (sym (c .before .before .before .nibble .ensures .0) ∙ c .if3 .taken))
+    let b = c .before .hex-byte in
+    let l = c .before .before .before .before .before in
+    let k = l .loop .i in
+    sym (left l ∙ hex-none (text l) (l .loop .out) k (omega arith) (omega arith) (byte-none (b .result) (getD (text l) (2 * k) 0) (getD (text l) (2 * k + 1) 0) (b .ensures .0) (c .if3 .taken)))
 
-same-length-2 : tie.Need-same-length-2 Inv-loop μ-loop
-same-length-2 c = search needs
-
-returns-4 : tie.Need-returns-4 Inv-loop μ-loop
-returns-4 c =
-    let low = c .before .before in
-    let l = low .before .before .before .before .before in
-    let a = l .before .before .before .before .before .args in
-    let i = l .loop .inv in
-    sym (hex-due (length (a .out .now)) (a .text .now) (i .0) ∙ i .3 ∙ hex-no-low (a .text .now) (l .loop .out) (l .loop .i) (omega arith) (omega arith) (sym (low .nibble2 .ensures .0) ∙ c .if4 .taken))
-
-mul-out : tie.Need-mul-out Inv-loop μ-loop
-mul-out c = omega arith
-
-add-out : tie.Need-add-out Inv-loop μ-loop
-add-out c = omega arith
+cast-out : tie.Need-cast-out Inv-loop μ-loop
+cast-out c = omega arith
 
 slice-write-out : tie.Need-slice-write-out Inv-loop μ-loop
 slice-write-out c = omega arith
@@ -88,22 +82,21 @@ loop-less c = omega arith
 
 loop-again : tie.Need-loop-again Inv-loop μ-loop
 loop-again c =
-    let low = c .before .before in
-    let high = low .before .before in
-    let l = high .before .before .before in
-    let a = l .before .before .before .before .before .args in
-    let i = l .loop .inv in
-    (i .0, length-set (l .loop .out) (l .loop .i) (high .nibble .result * 16 + low .nibble2 .result) ∙ i .1, omega arith, i .3 ∙ hex-step (a .text .now) (l .loop .out) (l .loop .i) (omega arith) (omega arith) (high .nibble .result) (low .nibble2 .result) (high .nibble .ensures .0) (low .nibble2 .ensures .0) (omega arith) (omega arith))
+    let b = c .before .hex-byte in
+    let l = c .before .before .before .before .before in
+    let k = l .loop .i in
+    let v = l .loop .inv in (
+      v .0,
+      length-set (l .loop .out) k (b .result) ∙ v .1,
+      omega arith,
+      v .3 ∙ hex-step (text l) (l .loop .out) k (omega arith) (omega arith) (b .result) (byte-is (b .result) (getD (text l) (2 * k) 0) (getD (text l) (2 * k + 1) 0) (b .ensures .0) (omega arith)),
+    )
 
-same-length-3 : tie.Need-same-length-3 Inv-loop μ-loop
-same-length-3 c = search needs
+same-length-2 : tie.Need-same-length-2 Inv-loop μ-loop
+same-length-2 c = search needs
 
-returns-5 : tie.Need-returns-5 Inv-loop μ-loop
-returns-5 c =
-    let l = c .before in
-    let a = l .before .before .before .before .before .args in
-    let i = l .loop .inv in
-    sym (hex-due (length (a .out .now)) (a .text .now) (i .0) ∙ i .3 ∙ hex-end (a .text .now) (l .loop .out) (l .loop .i) (omega arith) (omega arith))
+returns-4 : tie.Need-returns-4 Inv-loop μ-loop
+returns-4 c = let l = c .before in sym (left l ∙ hex-end (text l) (l .loop .out) (l .loop .i) (omega arith) (omega arith))
 
 pub hex-spec : {M : Type 1} → statement M
 hex-spec =
@@ -114,22 +107,18 @@ hex-spec =
     returns
     returns-2
     loop-holds
-    mul-nibble
-    shared-slice-read-nibble
-    nibble-requires
-    mul-nibble-2
-    add-nibble
-    shared-slice-read-nibble-2
-    nibble-requires-2
+    mul-hex-byte
+    shared-slice-read-hex-byte
+    mul-hex-byte-2
+    add-hex-byte
+    shared-slice-read-hex-byte-2
+    hex-byte-requires
     same-length
     returns-3
-    same-length-2
-    returns-4
-    mul-out
-    add-out
+    cast-out
     slice-write-out
     add-i
     loop-less
     loop-again
-    same-length-3
-    returns-5)
+    same-length-2
+    returns-4)
