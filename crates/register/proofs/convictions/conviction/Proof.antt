@@ -1,11 +1,8 @@
-use Prim.Native.Nat.{ℕ, _+_, _-_, _*_, _≤_, _<_}
-use mathlib.Core.Path.{_≡_, refl, sym, ap, ap₂, _∙_}
-use mathlib.Core.Bool.{Bool, true, false, not}
-use mathlib.Core.List.{List}
+-- Each refusal is the definition's, and past both the engine is struck.
+use Prim.Native.Nat.{_-_}
+use mathlib.Core.Path.{refl, sym, ap, _∙_}
 use native.Mathlib.Omega.{arith}
-use lib.ListN.{length, take, drop}
 use borrow.Author.Tests.{not-true, not-false}
-use borrow.Rule.Slice.PartMut.{same-len-mid}
 use Rattle.register.specs.Register.{after, convictedOf}
 use Rattle.register.specs.Memory.{decode}
 use Rattle.register.proofs.Answers.{no-register, on-register, refused, conviction-2, conviction-0}

@@ -1,3 +1,4 @@
+-- Three numbers, put one after the other.
 use mathlib.Core.Path.{refl}
 use borrow.Author.Needs.{needs}
 use Rattle.register.proofs.convictions.put_header.Statement.{statement}

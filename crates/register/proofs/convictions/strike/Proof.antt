@@ -1,10 +1,9 @@
-use Prim.Native.Nat.{ℕ, _+_, _-_, _*_, _≤_, _<_}
-use mathlib.Core.Path.{_≡_, refl, sym, ap, ap₂, _∙_}
-use mathlib.Core.Bool.{Bool, true, false, not}
+-- Both tables are struck in turn, and the header is put anew: the register without the engine.
+use Prim.Native.Nat.{ℕ, _+_, _-_, _≤_}
+use mathlib.Core.Path.{_≡_, refl, sym, ap, _∙_}
 use mathlib.Core.List.{List, _++_}
 use native.Mathlib.Omega.{arith}
 use lib.ListN.{length, take, drop}
-use borrow.Author.Tests.{not-true, not-false}
 use borrow.Rule.Slice.PartMut.{same-len-mid}
 use Rattle.octets.specs.Masks.{withBit}
 use Rattle.octets.specs.Words.{putWord}
@@ -18,41 +17,14 @@ use borrow.Author.Needs.{needs}
 use Rattle.register.proofs.convictions.strike.Statement.{statement}
 use Rattle.register.proofs.convictions.strike.Tie as tie
 
-u32-at-requires : tie.Need-u32-at-requires
-u32-at-requires c κs = let s = c .before .before in let m = s .args .memory .now in let o = opened m (s .pre .0) in omega (arith, o .size)
+-- ---- once the header is read
 
-u16-at-requires : tie.Need-u16-at-requires
-u16-at-requires c κs = let s = c .before .before .before .before in let m = s .args .memory .now in let o = opened m (s .pre .0) in omega (arith, o .size)
+module _ (a : tie.After-u16-at2) where
+  abbrev convicted-read : tie.After-u32-at
+  convicted-read = a .before .before .before .before
 
-cast-n : tie.Need-cast-n
-cast-n c = search needs
-
-u16-at-requires-2 : tie.Need-u16-at-requires-2
-u16-at-requires-2 c κs = let s = c .before .before .before .before .before .before in let m = s .args .memory .now in let o = opened m (s .pre .0) in omega (arith, o .size)
-
-cast-k : tie.Need-cast-k
-cast-k c = search needs
-
-sub-strike-summaries : tie.Need-sub-strike-summaries
-sub-strike-summaries c = search needs
-
-part-strike-summaries-start : tie.Need-part-strike-summaries-start
-part-strike-summaries-start c = search needs
-
-part-strike-summaries-end : tie.Need-part-strike-summaries-end
-part-strike-summaries-end c = let s = c .before .before .before .before .before .before .before in let m = s .args .memory .now in let o = opened m (s .pre .0) in omega (arith, o .size)
-
-cast-strike-summaries : tie.Need-cast-strike-summaries
-cast-strike-summaries c = search needs
-
-strike-summaries-requires : tie.Need-strike-summaries-requires
-strike-summaries-requires c κs = let s = c .before .before .before .before .before .before .before .before in let m = s .args .memory .now in let o = opened m (s .pre .0) in rw (summary-bytes-length m o) (omega (arith, o .few-summaries, c .before .before .before .u16-at .ensures))
-
--- ---- once the summaries are struck
-
-module _ (a : tie.After-strike-summaries) where
   abbrev s : tie.Start
-  s = a .before .before .before .before .before .before .before .before .before
+  s = convicted-read .before .before .before
 
   abbrev m : List ℕ
   m = s .args .memory .now
@@ -64,32 +36,67 @@ module _ (a : tie.After-strike-summaries) where
   o = opened m (s .pre .0)
 
   b : Bytes m
-  b = all-bytes m (λ i. a .before .before .before .before .before .before .before .before .slice-known .given i .fits)
+  b = all-bytes m (λ i. convicted-read .before .before .slice-known .given i .fits)
 
-  abbrev m₁ : List ℕ
-  m₁ = take summariesAt m ++ (a .strike-summaries .last .0 ++ drop summariesSize (drop summariesAt m))
-
-  size₁ : length m₁ ≡ registerSize
-  size₁ = same-len-mid summariesAt summariesSize m (a .strike-summaries .last .0) (a .strike-summaries .kept .0) ∙ o .size
-
-  -- what the summaries' part has become
   abbrev n : ℕ
-  n = a .before .before .before .before .u16-at .result
+  n = a .before .before .u16-at .result
 
   n-is : n ≡ summaryCount m
-  n-is = a .before .before .before .before .u16-at .ensures
-
-  few-summaries : a .strike-summaries .result ≤ maxSummaries
-  few-summaries = summaries-left m o b e n n-is (a .strike-summaries .result) (a .strike-summaries .last .0) (a .strike-summaries .ensures) m₁ refl
-
-  records-lent : length (take (length m₁ - recordsAt) (drop recordsAt m₁)) ≡ recordsSize
-  records-lent = ap length (lent-records m o b e n n-is (a .strike-summaries .result) (a .strike-summaries .last .0) (a .strike-summaries .ensures) m₁ refl) ∙ record-bytes-length m o
+  n-is = a .before .before .u16-at .ensures
 
   abbrev k : ℕ
-  k = a .before .before .u16-at2 .result
+  k = a .u16-at2 .result
 
   k-is : k ≡ recordCount m
-  k-is = a .before .before .u16-at2 .ensures
+  k-is = a .u16-at2 .ensures
+
+u32-at-requires : tie.Need-u32-at-requires
+u32-at-requires c κs = let s = c .before .before in omega (arith, opened (s .args .memory .now) (s .pre .0) .size)
+
+u16-at-requires : tie.Need-u16-at-requires
+u16-at-requires c κs = let s = c .before .before .before .before in omega (arith, opened (s .args .memory .now) (s .pre .0) .size)
+
+cast-n : tie.Need-cast-n
+cast-n c = search needs
+
+u16-at-requires-2 : tie.Need-u16-at-requires-2
+u16-at-requires-2 c κs = let s = c .before .before .before .before .before .before in omega (arith, opened (s .args .memory .now) (s .pre .0) .size)
+
+cast-k : tie.Need-cast-k
+cast-k c = search needs
+
+sub-strike-summaries : tie.Need-sub-strike-summaries
+sub-strike-summaries c = search needs
+
+part-strike-summaries-start : tie.Need-part-strike-summaries-start
+part-strike-summaries-start c = search needs
+
+part-strike-summaries-end : tie.Need-part-strike-summaries-end
+part-strike-summaries-end c = omega (arith, o c .size)
+
+cast-strike-summaries : tie.Need-cast-strike-summaries
+cast-strike-summaries c = search needs
+
+strike-summaries-requires : tie.Need-strike-summaries-requires
+strike-summaries-requires c κs = let h = c .before in rw (summary-bytes-length (m h) (o h)) (omega (arith, o h .few-summaries, n-is h))
+
+-- ---- once the summaries are struck
+
+module _ (a : tie.After-strike-summaries) where
+  abbrev h : tie.After-u16-at2
+  h = a .before .before
+
+  abbrev m₁ : List ℕ
+  m₁ = take summariesAt (m h) ++ (a .strike-summaries .last .0 ++ drop summariesSize (drop summariesAt (m h)))
+
+  size₁ : length m₁ ≡ registerSize
+  size₁ = same-len-mid summariesAt summariesSize (m h) (a .strike-summaries .last .0) (a .strike-summaries .kept .0) ∙ o h .size
+
+  few-summaries : a .strike-summaries .result ≤ maxSummaries
+  few-summaries = summaries-left (m h) (o h) (b h) (e h) (n h) (n-is h) (a .strike-summaries .result) (a .strike-summaries .last .0) (a .strike-summaries .ensures) m₁ refl
+
+  records-lent : length (take (length m₁ - recordsAt) (drop recordsAt m₁)) ≡ recordsSize
+  records-lent = ap length (lent-records (m h) (o h) (b h) (e h) (n h) (n-is h) (a .strike-summaries .result) (a .strike-summaries .last .0) (a .strike-summaries .ensures) m₁ refl) ∙ record-bytes-length (m h) (o h)
 
 sub-strike-records : tie.Need-sub-strike-records
 sub-strike-records c = omega (arith, size₁ (c .before .before))
@@ -103,7 +110,7 @@ part-strike-records-end c = search needs
 strike-records-requires : tie.Need-strike-records-requires
 strike-records-requires c κs =
     let a = c .before .before .before in
-    (rw (records-lent a) (omega (arith, o a .few-records, k-is a)), s a .pre .1)
+    (rw (records-lent a) (omega (arith, o (h a) .few-records, k-is (h a))), s (h a) .pre .1)
 
 with-u32-requires : tie.Need-with-u32-requires
 with-u32-requires c κs = search needs
@@ -114,6 +121,9 @@ module _ (r : tie.After-strike-records) where
   abbrev a : tie.After-strike-summaries
   a = r .before .before .before .before
 
+  abbrev head : tie.After-u16-at2
+  head = h a
+
   abbrev m₂ : List ℕ
   m₂ = take recordsAt (m₁ a) ++ (r .strike-records .last .0 ++ drop (length (m₁ a) - recordsAt) (drop recordsAt (m₁ a)))
 
@@ -122,14 +132,14 @@ module _ (r : tie.After-strike-records) where
 
   few-records : r .strike-records .result ≤ maxRecords
   few-records =
-      records-left (m a) (o a) (b a) (e a) (n a) (n-is a) (a .strike-summaries .result) (a .strike-summaries .last .0) (a .strike-summaries .ensures) (m₁ a) refl (k a) (k-is a)
+      records-left (m head) (o head) (b head) (e head) (n head) (n-is head) (a .strike-summaries .result) (a .strike-summaries .last .0) (a .strike-summaries .ensures) (m₁ a) refl (k head) (k-is head)
       (r .strike-records .result) (r .strike-records .last .0) (r .strike-records .ensures) m₂ refl
 
   -- with the header put anew it is the register without the engine
-  struck-is : (y : ℕ) (x : List ℕ) → y ≡ withBit (convictedIn (m a)) (e a)
-      → x ≡ putWord 2 recordCountAt (r .strike-records .result) (putWord 2 summaryCountAt (a .strike-summaries .result) (putWord 4 convictedAt y m₂)) → x ≡ encode (struck (e a) (decode (m a)))
+  struck-is : (y : ℕ) (x : List ℕ) → y ≡ withBit (convictedIn (m head)) (e head)
+      → x ≡ putWord 2 recordCountAt (r .strike-records .result) (putWord 2 summaryCountAt (a .strike-summaries .result) (putWord 4 convictedAt y m₂)) → x ≡ encode (struck (e head) (decode (m head)))
   struck-is =
-      third (m a) (o a) (b a) (e a) (n a) (n-is a) (a .strike-summaries .result) (a .strike-summaries .last .0) (a .strike-summaries .ensures) (m₁ a) refl (k a) (k-is a)
+      third (m head) (o head) (b head) (e head) (n head) (n-is head) (a .strike-summaries .result) (a .strike-summaries .last .0) (a .strike-summaries .ensures) (m₁ a) refl (k head) (k-is head)
       (r .strike-records .result) (r .strike-records .last .0) (r .strike-records .ensures) m₂ refl
 
 cast-put-header : tie.Need-cast-put-header
@@ -143,15 +153,16 @@ put-header-requires c κs = omega (arith, size₂ (c .before .before .before .be
 
 same-length : tie.Need-same-length
 same-length c =
-    let r = c .before .before .before .before .before .before .before in
-    c .before .before .put-header .kept .0 ∙ size₂ r ∙ sym (o (a r) .size)
+    let w = c .before .before .before in
+    let r = w .before .before .before .before in
+    c .before .before .put-header .kept .0 ∙ size₂ r ∙ sym (o (head r) .size)
 
 returns : tie.Need-returns
 returns c =
     let w = c .before .before .before in
     let r = w .before .before .before .before in
     struck-is r (w .with-u32 .result) (c .before .before .put-header .last .0)
-    (w .with-u32 .ensures ∙ ap (λ (x : ℕ). withBit x (e (a r))) (a r .before .before .before .before .before .before .u32-at .ensures)) (c .before .before .put-header .ensures)
+    (w .with-u32 .ensures ∙ ap (λ (x : ℕ). withBit x (e (head r))) (convicted-read (head r) .u32-at .ensures)) (c .before .before .put-header .ensures)
 
 pub strike-spec : {M : Type 1} → statement M
 strike-spec =

@@ -1,18 +1,14 @@
-use Prim.Native.Nat.{ℕ, zero, suc, _+_, _-_, _*_, _≤_, _<_}
-use mathlib.Core.Path.{_≡_, refl, sym, ap, ap₂, _∙_}
-use mathlib.Core.Bool.{Bool, true, false, not, _&&_}
-use mathlib.Core.List.{List, [], _∷_}
+-- Each turn checks one summary; those before it are formed.
+use Prim.Native.Nat.{_-_, _*_, _≤_}
+use mathlib.Core.Path.{_≡_, refl, sym, _∙_}
 use native.Mathlib.Omega.{arith}
 use native.Mathlib.Nat.{sub-zero}
-use lib.ListN.{length, getD, take, drop, length-take, length-drop}
-use lib.Seq.{length-take-le, take-all}
-use lib.Dec.{ltb, leb, eqb}
-use borrow.Author.Tests.{lt-ltb, le-ltb, le-leb, lt-leb, eq-eqb, ne-eqb, not-true, not-false}
+use lib.ListN.{drop, length-take, length-drop}
+use borrow.Author.Tests.{not-true, not-false}
 use Rattle.places.specs.Places.{places, allPlaces}
 use Rattle.places.proofs.Walks.{room, step-at, all-next, all-end}
 use Rattle.models.specs.Summary.{summarySize}
 use Rattle.register.specs.Memory.{summaryFormed}
-use borrow.Author.Needs.{needs}
 use Rattle.register.proofs.formed.summaries_formed.Statement.{statement}
 use Rattle.register.proofs.formed.summaries_formed.Tie as tie
 

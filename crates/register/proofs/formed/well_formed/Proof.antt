@@ -1,11 +1,9 @@
 -- Each place of the function, and what is known there.
-use Prim.Native.Nat.{ℕ, _+_, _-_, _*_, _≤_, _<_}
-use mathlib.Core.Path.{_≡_, refl, sym, ap, ap₂, _∙_}
-use mathlib.Core.Bool.{Bool, true, false, not, _&&_}
-use mathlib.Core.List.{List, [], _∷_}
-use native.Mathlib.Omega.{arith}
+use Prim.Native.Nat.{ℕ, _-_, _≤_, _<_}
+use mathlib.Core.Path.{_≡_, refl, sym, _∙_}
+use mathlib.Core.Bool.{Bool, false, _&&_}
+use mathlib.Core.List.{List}
 use lib.ListN.{length, take, drop}
-use lib.Dec.{leb, eqb}
 use borrow.Author.Tests.{le-leb, lt-leb, eq-eqb, ne-eqb, not-true, not-false}
 use Rattle.octets.proofs.Cases.{and-assoc}
 use Rattle.octets.proofs.Moves.{tail-lent}
@@ -13,7 +11,7 @@ use Rattle.places.specs.Places.{places, isTable, allPlaces}
 use Rattle.models.specs.Summary.{summarySize}
 use Rattle.record.specs.Layout.{recordSize}
 use Rattle.register.specs.Layout.{maxSummaries, maxRecords, placeSize, recordsAt, registerSize}
-use Rattle.register.specs.Memory.{convictedIn, summaryCount, recordCount, summaryBytes, recordBytes, summariesIn, recordsIn, summaryFormed, placeFormed, wellFormed}
+use Rattle.register.specs.Memory.{convictedIn, summaryCount, recordCount, summaryBytes, recordBytes, summariesIn, summaryFormed, placeFormed, wellFormed}
 use borrow.Author.Needs.{needs}
 use Rattle.register.proofs.formed.well_formed.Statement.{statement}
 use Rattle.register.proofs.formed.well_formed.Tie as tie
