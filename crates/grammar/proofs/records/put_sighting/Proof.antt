@@ -1,4 +1,5 @@
 use Prim.Native.Nat.{_+_, _-_}
+use mathlib.Core.Path.{_∙_}
 use mathlib.Core.List.{_∷_, _++_}
 use borrow.Author.Needs.{needs}
 use Rattle.record.specs.Layout as L
@@ -13,16 +14,19 @@ slice-aggregate-put-message : tie.Need-slice-aggregate-put-message
 slice-aggregate-put-message c = search needs
 
 put-message-requires : tie.Need-put-message-requires
-put-message-requires c κs = search needs
+put-message-requires c κs = let start = c .before .before .before .before .before in (start .pre .0, (start .pre .1 .0, search needs))
 
 slice-aggregate-put-tags : tie.Need-slice-aggregate-put-tags
 slice-aggregate-put-tags c = search needs
 
 put-tags-requires : tie.Need-put-tags-requires
-put-tags-requires c κs = search needs
+put-tags-requires c κs =
+    let after-put-message = c .before .before .before .before in
+    let start = after-put-message .before .before .before .before .before .before in
+    (after-put-message .put-message .kept .0 ∙ start .pre .0, (start .pre .1 .1, search needs))
 
 same-length : tie.Need-same-length
-same-length c = search needs
+same-length c = let after-put-tags = c .before .before in after-put-tags .put-tags .kept .0 ∙ after-put-tags .before .before .before .before .before .put-message .kept .0
 
 returns : tie.Need-returns
 returns c =
