@@ -134,6 +134,14 @@ from-each k from [] i h l = absurd (not-suc-le-zero l)
 from-each k from (p ∷ ps) zero h l = from-head k from p ps h
 from-each k from (p ∷ ps) (suc i) h l = from-each k from ps i (from-weaken k from (take k p) ps (from-head k from p ps h) (from-tail k from p ps h)) (le-of-suc-le-suc l)
 
+-- where places ascend, the key of an earlier one comes before that of a later
+pub keys-ascend : (k : ℕ) (ps : List (List ℕ)) (i j : ℕ) → ascending k ps ≡ true → i < j → j < length ps → isBefore (take k (getD ps i [])) (take k (getD ps j [])) ≡ true
+keys-ascend k [] i j h u l = absurd (not-suc-le-zero l)
+keys-ascend k (p ∷ ps) i zero h u l = absurd (not-suc-le-zero u)
+keys-ascend k (p ∷ ps) zero (suc j) h u l = from-each k (take k p) ps j (sym (ascending-from k p ps) ∙ h) (le-of-suc-le-suc l)
+keys-ascend k (p ∷ ps) (suc i) (suc j) h u l =
+    keys-ascend k ps i j (from-ascending k (take k p) ps (sym (ascending-from k p ps) ∙ h)) (le-of-suc-le-suc u) (le-of-suc-le-suc l)
+
 -- where places ascend, one that comes before the key lies below its position
 pub rank-above : (k : ℕ) (key : List ℕ) (ps : List (List ℕ)) (i : ℕ) → ascending k ps ≡ true → i < length ps → isBefore (take k (getD ps i [])) key ≡ true → i < rank k key ps
 rank-above k key [] i h l b = absurd (not-suc-le-zero l)

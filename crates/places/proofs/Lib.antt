@@ -4,3 +4,4 @@ pub mod Keys
 pub mod Putting
 pub mod Keeping
 pub mod Trying
+pub mod Ways

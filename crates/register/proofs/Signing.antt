@@ -22,6 +22,7 @@ use Rattle.places.specs.declared.Put.the-variants.{Held, Full, New}
 use Rattle.places.proofs.Tables.{wide, wide-at, table-length, place-at, replace-table}
 use Rattle.places.proofs.Keys.{hasKey, rank-le, holds-at-rank}
 use Rattle.places.proofs.Putting.{put-new, put-held, put-length-held}
+use Rattle.places.proofs.Ways.{Way, way, held-told, full-told, new-told, held-at, new-length}
 use Rattle.places.proofs.Trying.{tried-table}
 use Rattle.models.specs.Summary.{summarySize}
 use Rattle.record.specs.Layout.{recordSize}
@@ -30,58 +31,6 @@ use Rattle.register.specs.Register.{Register, after, signedBy, signedInt
 use Rattle.register.specs.Memory.{convictedIn, summaryCount, recordCount, summariesIn, recordsIn, decode, encode, settled}
 use Rattle.register.proofs.Frames.{frame, put-summary-count, put-record-count, frame-records-back, frame-summaries-back, put-in-records}
 use Rattle.register.proofs.Opened.{Opened, summaries-length, records-length, summaries-wide, records-wide, summaries-ascend, records-ascend, summaries-are, records-are, framed}
-
--- ---- which way a place went
-
-pub data Way (h full : Bool) (i : ℕ) (t t₁ : List ℕ) (a : Put) (t′ : List ℕ) : Type 0 where
-  held : h ≡ true → a ≡ Held i → t′ ≡ t → Way h full i t t₁ a t′
-  none : h ≡ false → full ≡ true → a ≡ Full → t′ ≡ t → Way h full i t t₁ a t′
-  new : h ≡ false → full ≡ false → a ≡ New → t′ ≡ t₁ → Way h full i t t₁ a t′
-
-pub way : (h full : Bool) (i : ℕ) (t t₁ : List ℕ) (a : Put) (t′ : List ℕ) → putting a t′ ≡ cond h (putting (Held i) t) (cond full (putting Full t) (putting New t₁)) → Way h full i t t₁ a t′
-way true full i t t₁ a t′ e = held refl (ap (λ (p : Putting). p .answer) e) (ap (λ (p : Putting). p .left) e)
-way false true i t t₁ a t′ e = none refl refl (ap (λ (p : Putting). p .answer) e) (ap (λ (p : Putting). p .left) e)
-way false false i t t₁ a t′ e = new refl refl (ap (λ (p : Putting). p .answer) e) (ap (λ (p : Putting). p .left) e)
-
--- the answers differ
-pub held-not-full : {a : Put} {i : ℕ} → a ≡ Held i → a ≡ Full → ⊥
-held-not-full p q = let v : _≡_ {A = ℕ} 0 1 = cc in omega arith
-
-pub held-not-new : {a : Put} {i : ℕ} → a ≡ Held i → a ≡ New → ⊥
-held-not-new p q = let v : _≡_ {A = ℕ} 0 1 = cc in omega arith
-
-pub full-not-new : {a : Put} → a ≡ Full → a ≡ New → ⊥
-full-not-new p q = let v : _≡_ {A = ℕ} 0 1 = cc in omega arith
-
--- what an answer tells
-module _ {h full : Bool} {i : ℕ} {t t₁ : List ℕ} {a : Put} {t′ : List ℕ} where
-  pub held-told : Way h full i t t₁ a t′ → (j : ℕ) → a ≡ Held j → (j ≡ i) × ((h ≡ true) × (t′ ≡ t))
-  held-told (held h q z) j p = (cc, (h, z))
-  held-told (none h g q z) j p = absurd (held-not-full p q)
-  held-told (new h g q z) j p = absurd (held-not-new p q)
-
-  pub full-told : Way h full i t t₁ a t′ → a ≡ Full → (h ≡ false) × ((full ≡ true) × (t′ ≡ t))
-  full-told (held h q z) p = absurd (held-not-full q p)
-  full-told (none h g q z) p = (h, (g, z))
-  full-told (new h g q z) p = absurd (full-not-new p q)
-
-  pub new-told : Way h full i t t₁ a t′ → a ≡ New → (h ≡ false) × ((full ≡ false) × (t′ ≡ t₁))
-  new-told (held h q z) p = absurd (held-not-new q p)
-  new-told (none h g q z) p = absurd (full-not-new q p)
-  new-told (new h g q z) p = (h, (g, z))
-
--- a key that is held stands at its position
-pub held-at : (k : ℕ) (key : List ℕ) (ps : List (List ℕ)) → ascending k ps ≡ true → holds k key ps ≡ true → (rank k key ps < length ps) × (take k (getD ps (rank k key ps) []) ≡ key)
-held-at k key ps a h =
-    let e : hasKey k key ps (rank k key ps) ≡ true = sym (holds-at-rank k key ps a) ∙ h in (
-      ltb-true (rank k key ps) (length ps) (and-left (ltb (rank k key ps) (length ps)) (same (take k (getD ps (rank k key ps) [])) key) e),
-      same-eq (take k (getD ps (rank k key ps) [])) key (and-right (ltb (rank k key ps) (length ps)) (same (take k (getD ps (rank k key ps) [])) key) e),
-    )
-
-new-length : (k : ℕ) (f : List ℕ → List ℕ) (key : List ℕ) (ps : List (List ℕ)) → holds k key ps ≡ false → length (putPlace k f key ps) ≡ length ps + 1
-new-length k f key ps h =
-    let r = rank-le k key ps in
-    ap length (put-new k f key ps h) ∙ simp (length-append, length-take, length-drop) (omega arith)
 
 -- ---- a number put into place i of a table
 

@@ -1,40 +1,21 @@
--- Fixes in the order of their identities have different identities: of two places whose keys ascend, the key of the earlier comes first.
-use Prim.Native.Nat.{ℕ, zero, suc, _*_, _<_}
-use mathlib.Core.Path.{_≡_, sym, ap, _∙_}
+-- Fixes in the order of their identities have different identities.
+use Prim.Native.Nat.{ℕ, _*_, _<_}
+use mathlib.Core.Path.{_≡_, ap, _∙_}
 use mathlib.Core.Bool.{true, false}
-use mathlib.Core.List.{List, [], _∷_}
+use mathlib.Core.List.{List, []}
 use native.Mathlib.Omega.{arith}
-use native.Mathlib.Nat.{not-suc-le-zero, le-of-suc-le-suc}
-use lib.ListN.{length, getD, take, drop}
+use lib.ListN.{getD, take, drop}
 use lib.Seq.{take-take}
 use Rattle.octets.specs.Order.{isBefore, same}
-use Rattle.octets.proofs.Comparison.{before-trans, more-same}
-use Rattle.places.specs.Places.{places, ascendingFrom, ascending}
-use Rattle.places.proofs.Keys.{from-head, from-tail, ascending-from, from-ascending}
+use Rattle.octets.proofs.Comparison.{more-same}
+use Rattle.places.specs.Places.{places}
+use Rattle.places.proofs.Keys.{keys-ascend}
 use Rattle.places.proofs.Tables.{length-places}
 use Rattle.places.proofs.Walks.{place-of}
 use Rattle.items.specs.Layout.{hashSize}
 use Rattle.fixes.specs.Layout.{fixSize, identityOf}
 use Rattle.representatives.specs.Gathered.{Gathered}
 use Rattle.representatives.proofs.Soundness.{gathered-ordered}
-
--- ---- of places, for every width of key
-
--- a key that comes before ascending places comes before each of them
-from-before : (k : ℕ) (from : List ℕ) (ps : List (List ℕ)) (j : ℕ) → ascendingFrom k from ps ≡ true → j < length ps → isBefore from (take k (getD ps j [])) ≡ true
-from-before k from [] j h l = absurd (not-suc-le-zero l)
-from-before k from (p ∷ ps) zero h l = from-head k from p ps h
-from-before k from (p ∷ ps) (suc j) h l =
-    before-trans from (take k p) (take k (getD ps j [])) (from-head k from p ps h) (from-before k (take k p) ps j (from-tail k from p ps h) (le-of-suc-le-suc l))
-
-pub keys-ascend : (k : ℕ) (ps : List (List ℕ)) (i j : ℕ) → ascending k ps ≡ true → i < j → j < length ps → isBefore (take k (getD ps i [])) (take k (getD ps j [])) ≡ true
-keys-ascend k [] i j h u l = absurd (not-suc-le-zero l)
-keys-ascend k (p ∷ ps) i zero h u l = absurd (not-suc-le-zero u)
-keys-ascend k (p ∷ ps) zero (suc j) h u l = from-before k (take k p) ps j (sym (ascending-from k p ps) ∙ h) (le-of-suc-le-suc l)
-keys-ascend k (p ∷ ps) (suc i) (suc j) h u l =
-    keys-ascend k ps i j (from-ascending k (take k p) ps (sym (ascending-from k p ps) ∙ h)) (le-of-suc-le-suc u) (le-of-suc-le-suc l)
-
--- ---- of a table of fixes
 
 module _ (n : ℕ) (t : List ℕ) (g : Gathered n t) where
   key-is : (i : ℕ) → i < n → take hashSize (getD (places fixSize n t) i []) ≡ identityOf t i

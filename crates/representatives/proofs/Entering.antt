@@ -1,7 +1,7 @@
 -- What putting a record into a table of fixes by its identity leaves: the table of the fixes with it.
 use Prim.Native.Nat.{ℕ, _+_, _*_, _-_, _≤_, _<_}
 use mathlib.Core.Path.{_≡_, refl, sym, ap, ap₂, _∙_}
-use mathlib.Core.Bool.{Bool, true, false, cond}
+use mathlib.Core.Bool.{Bool, true, false, cond, false≢true}
 use mathlib.Core.List.{List, [], _++_}
 use native.Mathlib.Omega.{arith}
 use lib.Bits.{bitOr}
@@ -22,6 +22,7 @@ use Rattle.places.proofs.Walks.{place-of, part-of}
 use Rattle.places.proofs.Tables.{length-places, wide-at, replace-table}
 use Rattle.places.proofs.Keys.{hasKey, rank-le, holds-at-rank}
 use Rattle.places.proofs.Putting.{put-new, put-held, put-length-held}
+use Rattle.places.proofs.Ways.{Way, held, none, new, way, held-not-full, held-not-new, full-not-new}
 use Rattle.places.proofs.Trying.{tried-table}
 use Rattle.record.specs.Layout.{recordSize}
 use Rattle.record.specs.Formed.{wellFormed}
@@ -40,34 +41,15 @@ pub copied : (b piece y : List ℕ) (at : ℕ) → y ≡ take (length piece) pie
 copied b piece y at e =
     tail-back b y at ∙ ap (λ (x : List ℕ). take at b ++ x) (e ∙ rw (take-length piece, tail-lent b at, drop-drop (length piece) at b) refl)
 
--- ---- which way a place went, where there is room
-
-pub data Way (h : Bool) (i : ℕ) (t t₁ : List ℕ) (a : Put) (t′ : List ℕ) : Type 0 where
-  held : h ≡ true → a ≡ Held i → t′ ≡ t → Way h i t t₁ a t′
-  new : h ≡ false → a ≡ New → t′ ≡ t₁ → Way h i t t₁ a t′
-
-way : (h : Bool) (i : ℕ) (t t₁ : List ℕ) (a : Put) (t′ : List ℕ) → putting a t′ ≡ cond h (putting (Held i) t) (putting New t₁) → Way h i t t₁ a t′
-way true i t t₁ a t′ e = held refl (ap (λ (p : Putting). p .answer) e) (ap (λ (p : Putting). p .left) e)
-way false i t t₁ a t′ e = new refl (ap (λ (p : Putting). p .answer) e) (ap (λ (p : Putting). p .left) e)
-
-held-not-new : {a : Put} {i : ℕ} → a ≡ Held i → a ≡ New → ⊥
-held-not-new p q = let v : _≡_ {A = ℕ} 0 1 = cc in omega arith
-
-held-not-full : {a : Put} {i : ℕ} → a ≡ Held i → a ≡ Full → ⊥
-held-not-full p q = let v : _≡_ {A = ℕ} 0 1 = cc in omega arith
-
-full-not-new : {a : Put} → a ≡ Full → a ≡ New → ⊥
-full-not-new p q = let v : _≡_ {A = ℕ} 0 1 = cc in omega arith
-
 -- ---- a record that is put in
 
 module _ (ss : List (List ℕ)) (r : List ℕ) (s n : ℕ) (t : List ℕ) where
   abbrev pub fixesIn : List (List ℕ)
   fixesIn = places fixSize n t
 
-  -- the record's fixes in the table, and where they went
+  -- the record's fixes in the table, and where they went; there is room
   abbrev pub Entered : Put → List ℕ → Type 0
-  Entered a t′ = Way (holds hashSize (identity ss r) fixesIn) (rank hashSize (identity ss r) fixesIn) t (tableOf fixSize maxFixes (signedIn ss r s fixesIn)) a t′
+  Entered a t′ = Way (holds hashSize (identity ss r) fixesIn) false (rank hashSize (identity ss r) fixesIn) t (tableOf fixSize maxFixes (signedIn ss r s fixesIn)) a t′
 
 -- the place that was made for it
 pub made : (ss : List (List ℕ)) (r : List ℕ) (s : ℕ) (set inputs id f : List ℕ) → set ≡ setHash r → inputs ≡ citedInputs ss r → id ≡ identityOf set inputs
@@ -103,7 +85,7 @@ module _ (ss : List (List ℕ)) (r : List ℕ) (s n : ℕ) (t : List ℕ) (g : G
       let w : tried n maxFixes fixSize hashSize (key ++ joined ss r s []) t ≡ cond (holds hashSize key fs) (putting (Held (rank hashSize key fs)) t) (putting New (tableOf fixSize maxFixes put)) =
       m ∙ tried-table maxFixes fixSize hashSize (joined ss r s) key fs (key-length ss r) (omega arith) made-length (ordered .wides) (ordered .ascends) (rw count (g .few))
       ∙ ap₂ (λ (b : Bool) (u : List ℕ). cond (holds hashSize key fs) (putting (Held (rank hashSize key fs)) u) (cond b (putting Full u) (putting New (tableOf fixSize maxFixes put)))) full (sym is) in
-      way (holds hashSize key fs) (rank hashSize key fs) t (tableOf fixSize maxFixes put) a t′ (q ∙ ap (λ (x : List ℕ). tried n maxFixes fixSize hashSize x t) e ∙ w)
+      way (holds hashSize key fs) false (rank hashSize key fs) t (tableOf fixSize maxFixes put) a t′ (q ∙ ap (λ (x : List ℕ). tried n maxFixes fixSize hashSize x t) e ∙ w)
 
   -- its identity was held: at place i, and nothing was written yet
   pub record Found (i : ℕ) (t′ : List ℕ) : Type 0 where
@@ -114,7 +96,8 @@ module _ (ss : List (List ℕ)) (r : List ℕ) (s n : ℕ) (t : List ℕ) (g : G
     pub standing : take hashSize (getD fs (rank hashSize key fs) []) ≡ key
 
   pub found : {a : Put} {t′ : List ℕ} → Entered ss r s n t a t′ → (i : ℕ) → a ≡ Held i → Found i t′
-  found (new x q z) i p = absurd (held-not-new p q)
+  found (none x g q z) i p = absurd (false≢true g)
+  found (new x g q z) i p = absurd (held-not-new p q)
   found (held x q z) i p =
       let k = rank hashSize key fs in
       let e : hasKey hashSize key fs k ≡ true = sym (holds-at-rank hashSize key fs (ordered .ascends)) ∙ x in
@@ -170,14 +153,16 @@ module _ (ss : List (List ℕ)) (r : List ℕ) (s n : ℕ) (t : List ℕ) (g : G
   -- its identity was not: it was put in
   pub fresh : {a : Put} {t′ : List ℕ} → Entered ss r s n t a t′ → a ≡ New → (n + 1 ≡ length put) × (t′ ≡ tableOf fixSize maxFixes put)
   fresh (held x q z) p = absurd (held-not-new q p)
-  fresh (new x q z) p = (ap (λ (i : ℕ). i + 1) (sym count) ∙ sym (one-more x), z)
+  fresh (none x g q z) p = absurd (false≢true g)
+  fresh (new x g q z) p = (ap (λ (i : ℕ). i + 1) (sym count) ∙ sym (one-more x), z)
     where
       one-more : holds hashSize key fs ≡ false → length put ≡ length fs + 1
       one-more x = let l = rank-le hashSize key fs in ap length (put-new hashSize (joined ss r s) key fs x) ∙ simp (length-append, length-take, length-drop) (omega arith)
 
   pub never-full : {a : Put} {t′ : List ℕ} → Entered ss r s n t a t′ → a ≡ Full → ⊥
   never-full (held x q z) p = held-not-full q p
-  never-full (new x q z) p = full-not-new p q
+  never-full (none x g q z) p = false≢true g
+  never-full (new x g q z) p = full-not-new p q
 
 -- ---- a place that is taken in
 
