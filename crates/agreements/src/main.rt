@@ -147,94 +147,54 @@ fn six(xx: u64, xy: u64, xz: u64, yy: u64, yz: u64, zz: u64) -> Covariance {
     }
 }
 
+// The bits of some numbers.
+const ONE: u64 = 0x3ff0_0000_0000_0000;
+
+const TWO: u64 = 0x4000_0000_0000_0000;
+
+const HUNDRED: u64 = 0x4059_0000_0000_0000;
+
+const MINUS_HUNDRED: u64 = 0xc059_0000_0000_0000;
+
+// About 1e300.
+const VAST: u64 = 0x7e37_e43c_8800_759c;
+
+const MINUS_ZERO: u64 = 0x8000_0000_0000_0000;
+
+const INFINITY: u64 = 0x7ff0_0000_0000_0000;
+
+const NAN: u64 = 0x7ff8_0000_0000_0000;
+
+// 400, 300 and 900 on the diagonal; 10, 5 and 7 beside it.
+fn usual() -> Covariance {
+    six(
+        0x4079_0000_0000_0000,
+        0x4024_0000_0000_0000,
+        0x4014_0000_0000_0000,
+        0x4072_c000_0000_0000,
+        0x401c_0000_0000_0000,
+        0x408c_2000_0000_0000,
+    )
+}
+
 // In this order: zero; 1e-320 and then infinity on the diagonal; one that is not positive definite and passes by rounding; one
 // that is not and fails at the second row, and at the third; NaN in the height's terms alone, and in xy; negative zero; a
 // negative variance; infinite off the diagonal; a plain one; the least subnormal.
 fn named(i: u64) -> Covariance {
     match i {
-        0 => six(0x0, 0x0, 0x0, 0x0, 0x0, 0x0),
-        1 => six(0x7e8, 0x0, 0x0, 0x7e8, 0x0, 0x7e8),
-        2 => six(
-            0x7ff0_0000_0000_0000,
-            0x0,
-            0x0,
-            0x7ff0_0000_0000_0000,
-            0x0,
-            0x7ff0_0000_0000_0000,
-        ),
-        3 => six(
-            0x7e37_e43c_8800_759c,
-            0x7e37_e43c_8800_759c,
-            0x0,
-            0x7e37_e43c_8800_759c,
-            0x0,
-            0x3ff0_0000_0000_0000,
-        ),
-        4 => six(
-            0x3ff0_0000_0000_0000,
-            0x4000_0000_0000_0000,
-            0x0,
-            0x3ff0_0000_0000_0000,
-            0x0,
-            0x3ff0_0000_0000_0000,
-        ),
-        5 => six(
-            0x4059_0000_0000_0000,
-            0x0,
-            0x4059_0000_0000_0000,
-            0x4059_0000_0000_0000,
-            0x0,
-            0x4059_0000_0000_0000,
-        ),
-        6 => six(
-            0x4059_0000_0000_0000,
-            0x0,
-            0x7ff8_0000_0000_0000,
-            0x4059_0000_0000_0000,
-            0x7ff8_0000_0000_0000,
-            0x7ff8_0000_0000_0000,
-        ),
-        7 => six(
-            0x4059_0000_0000_0000,
-            0x7ff8_0000_0000_0000,
-            0x0,
-            0x4059_0000_0000_0000,
-            0x0,
-            0x4059_0000_0000_0000,
-        ),
-        8 => six(
-            0x8000_0000_0000_0000,
-            0x0,
-            0x0,
-            0x4059_0000_0000_0000,
-            0x0,
-            0x4059_0000_0000_0000,
-        ),
-        9 => six(
-            0x4059_0000_0000_0000,
-            0x0,
-            0x0,
-            0xc059_0000_0000_0000,
-            0x0,
-            0x4059_0000_0000_0000,
-        ),
-        10 => six(
-            0x4059_0000_0000_0000,
-            0x0,
-            0x7ff0_0000_0000_0000,
-            0x4059_0000_0000_0000,
-            0x0,
-            0x7ff0_0000_0000_0000,
-        ),
-        11 => six(
-            0x4079_0000_0000_0000,
-            0x4024_0000_0000_0000,
-            0x4014_0000_0000_0000,
-            0x4072_c000_0000_0000,
-            0x401c_0000_0000_0000,
-            0x408c_2000_0000_0000,
-        ),
-        _ => six(0x1, 0x0, 0x0, 0x1, 0x0, 0x1),
+        0 => six(0, 0, 0, 0, 0, 0),
+        1 => six(0x7e8, 0, 0, 0x7e8, 0, 0x7e8),
+        2 => six(INFINITY, 0, 0, INFINITY, 0, INFINITY),
+        3 => six(VAST, VAST, 0, VAST, 0, ONE),
+        4 => six(ONE, TWO, 0, ONE, 0, ONE),
+        5 => six(HUNDRED, 0, HUNDRED, HUNDRED, 0, HUNDRED),
+        6 => six(HUNDRED, 0, NAN, HUNDRED, NAN, NAN),
+        7 => six(HUNDRED, NAN, 0, HUNDRED, 0, HUNDRED),
+        8 => six(MINUS_ZERO, 0, 0, HUNDRED, 0, HUNDRED),
+        9 => six(HUNDRED, 0, 0, MINUS_HUNDRED, 0, HUNDRED),
+        10 => six(HUNDRED, 0, INFINITY, HUNDRED, 0, INFINITY),
+        11 => usual(),
+        _ => six(1, 0, 0, 1, 0, 1),
     }
 }
 
