@@ -109,6 +109,27 @@ pub insert-table : (w cap : ℕ) (ps : List (List ℕ)) (k : ℕ) (x : List ℕ)
     → insertedAt (k * w) x (tableOf w cap ps) ≡ tableOf w cap (withPlace k x ps)
 insert-table w cap ps k x h e l g = rw (e, table-length w cap ps h (omega arith)) (put-in w cap ps k x h l g)
 
+-- a table with more room is the same and zeros
+pub wider-table : (w c cap : ℕ) (ps : List (List ℕ)) → length ps ≤ c → c ≤ cap → tableOf w cap ps ≡ tableOf w c ps ++ replicate ((cap - c) * w) 0
+wider-table w c cap ps h g =
+    let e : cap - length ps ≡ (c - length ps) + (cap - c) = omega arith in
+    ap (λ (n : ℕ). flat ps ++ replicate (n * w) 0) e
+    ∙ ap (λ (n : ℕ). flat ps ++ replicate n 0) (add-mul (c - length ps) (cap - c) w)
+    ∙ ap (λ (z : List ℕ). flat ps ++ z) (sym (replicate-append-replicate ((c - length ps) * w) ((cap - c) * w) 0))
+    ∙ sym (append-assoc (flat ps) (replicate ((c - length ps) * w) 0) (replicate ((cap - c) * w) 0))
+
+-- a place put in among the used ones and one more
+pub insert-used : (w cap : ℕ) (ps : List (List ℕ)) (k : ℕ) (x : List ℕ) → wide w ps → length x ≡ w → k ≤ length ps → length ps < cap
+    → insertedAt (k * w) x (take ((length ps + 1) * w) (tableOf w cap ps)) ++ drop ((length ps + 1) * w) (tableOf w cap ps) ≡ tableOf w cap (withPlace k x ps)
+insert-used w cap ps k x h e l g =
+    let c = length ps + 1 in
+    let z : List ℕ = replicate ((cap - c) * w) 0 in
+    let t = wider-table w c cap ps (omega arith) (omega arith) in
+    let n : length (tableOf w c ps) ≡ c * w = table-length w c ps h (omega arith) in
+    let m : length (withPlace k x ps) ≡ c = simp (length-append, length-take, length-drop) (omega arith) in
+    rw (t, take-at (tableOf w c ps) z (c * w) n, drop-at (tableOf w c ps) z (c * w) n, insert-table w c ps k x h e l (omega arith))
+    (sym (wider-table w c cap (withPlace k x ps) (omega arith) (omega arith)))
+
 -- the bytes of a table at place k: those before it, its own, and those after it
 pub record Split (w cap : ℕ) (ps : List (List ℕ)) (k : ℕ) : Type 0 where
   pub before : length (flat (take k ps)) ≡ k * w

@@ -13,7 +13,7 @@ use Rattle.octets.proofs.Cases.{by}
 use Rattle.places.specs.Places.{places, tableOf, ascending, rank, holds, keyAt, insertedAt, withPlace, putPlace}
 use Rattle.places.specs.Put.{Putting, putting, tried}
 use Rattle.places.specs.declared.Put.the-variants.{Held, Full, New}
-use Rattle.places.proofs.Tables.{wide, places-of-table, place-at, insert-table}
+use Rattle.places.proofs.Tables.{wide, places-of-table, place-at, insert-used}
 use Rattle.places.proofs.Keys.{rank-le, hasKey, holds-at-rank}
 use Rattle.places.proofs.Putting.{put-new}
 
@@ -44,4 +44,4 @@ module _ (cap w k : ℕ) (f : List ℕ → List ℕ) (key : List ℕ) (ps : List
       rw (key-of, places-of-table w cap ps wd, stands)
       (by (holds k key ps) (λ h. rw h refl)
       (λ h. rw h (by (leb cap (length ps)) (λ g. rw g refl)
-      (λ g. rw g (ap (putting New) (insert-table w cap ps (rank k key ps) (key ++ f []) wd x (rank-le k key ps) (leb-false cap (length ps) g) ∙ ap (tableOf w cap) (sym (put-new k f key ps h))))))))
+      (λ g. rw g (ap (putting New) (insert-used w cap ps (rank k key ps) (key ++ f []) wd x (rank-le k key ps) (leb-false cap (length ps) g) ∙ ap (tableOf w cap) (sym (put-new k f key ps h))))))))

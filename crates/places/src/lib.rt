@@ -126,7 +126,8 @@ pub fn put_by_key(t: &mut [u8], n: usize, cap: usize, w: usize, k: usize, x: &[u
     if cap <= n {
         return Put::Full;
     }
-    insert(t, i * w, x);
+    let end = (n + 1) * w;
+    insert(&mut t[..end], i * w, x);
     Put::New
 }
 
