@@ -1,5 +1,5 @@
--- The least by a strict total order of the indices below n at which a test holds: it comes before each other, and there is no second.
-use mathlib.Core.Path.{_≡_, refl, sym, ap, _∙_, subst}
+-- The least by a strict total order of the indices below n at which a test holds: it comes before each other.
+use mathlib.Core.Path.{_≡_, refl, ap, _∙_, subst}
 use mathlib.Core.Bool.{Bool, true, false, cond}
 use mathlib.Core.Logic.{_⊎_, inl, inr}
 use Prim.Native.Nat.{ℕ, zero, suc, _+_, _≤_, _<_}
@@ -9,13 +9,7 @@ use borrow.Author.Tests.{ne-eqb, eq-eqb}
 use Rattle.ranges.proofs.Bools.{by, or, clash}
 use Rattle.ranges.specs.Range.{least, better}
 
--- a strict total order of the indices below n
-pub record Strict (before : ℕ → ℕ → Bool) (n : ℕ) : Type 0 where
-  pub irrefl : (i : ℕ) → before i i ≡ false
-  pub trans : (i j k : ℕ) → before i j ≡ true → before j k ≡ true → before i k ≡ true
-  pub total : (i j : ℕ) → i < n → j < n → (i ≡ j) ⊎ ((before i j ≡ true) ⊎ (before j i ≡ true))
-
--- the same of those at which g holds alone
+-- a strict total order of the indices below n at which g holds
 pub record StrictAt (before : ℕ → ℕ → Bool) (n : ℕ) (g : ℕ → Bool) : Type 0 where
   pub irrefl : (i : ℕ) → before i i ≡ false
   pub trans : (i j k : ℕ) → before i j ≡ true → before j k ≡ true → before i k ≡ true
@@ -62,24 +56,3 @@ module _ (before : ℕ → ℕ → Bool) (none n : ℕ) (few : n ≤ none) (g : 
   least-at =
       let e : 0 + n ≡ n = omega arith in
       subst (λ (k : ℕ). First before none g k (least before none g none 0 n)) e (first-least none 0 n (omega arith) (nothing refl (λ j l. absurd (omega arith))))
-
-  -- and there is no second
-  pub only-at : (a b : ℕ) → First before none g n a → First before none g n b → a ≡ b
-  only-at a b (nothing e f) (nothing e′ f′) = e ∙ sym e′
-  only-at a b (nothing e f) (found l q h) = clash q (f b l)
-  only-at a b (found l q h) (nothing e f) = clash q (f a l)
-  only-at a b (found l q h) (found l′ q′ h′) =
-      or (h b l′ q′) (λ z. sym z)
-      (λ r. or (h′ a l q) (λ z. z) (λ s. clash (strict .trans a b a r s) (strict .irrefl a)))
-
--- ---- where all can be compared
-
-module _ (before : ℕ → ℕ → Bool) (none n : ℕ) (few : n ≤ none) (strict : Strict before n) (g : ℕ → Bool) where
-  strict-at : StrictAt before n g
-  strict-at = record { irrefl = strict .irrefl; trans = strict .trans; total = λ i j p q u v. strict .total i j p q }
-
-  pub least-is : First before none g n (least before none g none 0 n)
-  least-is = least-at before none n few g strict-at
-
-  pub only-first : (a b : ℕ) → First before none g n a → First before none g n b → a ≡ b
-  only-first = only-at before none n few g strict-at

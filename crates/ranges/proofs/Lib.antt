@@ -1,6 +1,9 @@
--- Laws of a range of indices.
+-- Laws of lists, and of a range of indices.
 pub mod Bools
 pub mod Range
 pub mod Tables
 pub mod Least
 pub mod Orders
+pub mod Lists
+pub mod Sorting
+pub mod Searches

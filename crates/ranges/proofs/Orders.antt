@@ -12,20 +12,20 @@ use Rattle.ranges.specs.Range.{filt}
 use Rattle.ranges.proofs.Bools.{by, or}
 use Rattle.ranges.proofs.Range.{filt-ext}
 
-pub perm-length : {l m : List ℕ} → List·Permᴰ l m → length l ≡ length m
+pub perm-length : {A : Type 0} {l m : List A} → List·Permᴰ l m → length l ≡ length m
 perm-length List·Permᴰ·nil = refl
 perm-length (List·Permᴰ·cons e p) = ap suc (perm-length p)
 perm-length (List·Permᴰ·swap e f) = refl
 perm-length (List·Permᴰ·trans p q) = perm-length p ∙ perm-length q
 
-pub perm-map : (f : ℕ → ℕ) {l m : List ℕ} → List·Permᴰ l m → List·Permᴰ (map f l) (map f m)
+pub perm-map : {A B : Type 0} (f : A → B) {l m : List A} → List·Permᴰ l m → List·Permᴰ (map f l) (map f m)
 perm-map f List·Permᴰ·nil = List·Permᴰ·nil
 perm-map f (List·Permᴰ·cons e p) = List·Permᴰ·cons (ap f e) (perm-map f p)
 perm-map f (List·Permᴰ·swap d e) = List·Permᴰ·swap (ap f d) (ap f e)
 perm-map f (List·Permᴰ·trans p q) = List·Permᴰ·trans (perm-map f p) (perm-map f q)
 
 -- what is in the one is in the other
-pub perm-mem : {i : ℕ} {l m : List ℕ} → List·Permᴰ l m → List·Memᴰ i m → List·Memᴰ i l
+pub perm-mem : {A : Type 0} {i : A} {l m : List A} → List·Permᴰ l m → List·Memᴰ i m → List·Memᴰ i l
 perm-mem List·Permᴰ·nil h = h
 perm-mem (List·Permᴰ·cons e p) h = or (List·Memᴰ·cases-cons h) (λ q. List·Memᴰ·head (q ∙ sym e)) (λ r. List·Memᴰ·tail (perm-mem p r))
 perm-mem (List·Permᴰ·swap d e) h =

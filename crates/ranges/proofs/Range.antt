@@ -162,26 +162,6 @@ module _ (before : ℕ → ℕ → Bool) (none : ℕ) where
       (λ p. rw p (least-some g best (suc k) f (omega arith) b (⊎-elim (λ l. inl l) (λ e. inr (rw p at e)) s)))
       (decide (g k))
 
--- ---- the best by a relation that is total and transitive
-module _ (R : ℕ → ℕ → Type 0) (tot : (a b : ℕ) → R a b ⊎ R b a) (trans : (a b c : ℕ) → R a b → R b c → R a c) where
-  pub best-of : (g : ℕ → Bool) (k f : ℕ) → any g k f ≡ true → (i : ℕ) × (k ≤ i) × (i < k + f) × (g i ≡ true) × ((j : ℕ) → k ≤ j → j < k + f → g j ≡ true → R i j)
-  unfolding any
-  best-of g k zero e = absurd (false≢true e)
-  best-of g k (suc f) e =
-      by (any g (suc k) f)
-      (λ p. let r = best-of g (suc k) f p in
-      by (g k)
-      (λ q. or (tot k (r .0))
-      (λ u. (k, omega arith, omega arith, q, λ j a b c. or (eq-or-lt-of-le a) (λ z. subst (R k) z (refl-R k)) (λ l. trans k (r .0) j u (r .4 j l (omega arith) c))))
-      (λ u. (r .0, omega arith, omega arith, r .3, λ j a b c. or (eq-or-lt-of-le a) (λ z. subst (R (r .0)) z u) (λ l. r .4 j l (omega arith) c))))
-      (λ q. (r .0, omega arith, omega arith, r .3, λ j a b c. or (eq-or-lt-of-le a) (λ z. clash (ap g z ∙ c) q) (λ l. r .4 j l (omega arith) c))))
-      (λ p. by (g k)
-      (λ q. (k, omega arith, omega arith, q, λ j a b c. or (eq-or-lt-of-le a) (λ z. subst (R k) z (refl-R k)) (λ l. clash c (any-no g (suc k) f j p l (omega arith)))))
-      (λ q. absurd (false≢true (sym (rw (q, p) refl) ∙ e))))
-    where
-      refl-R : (a : ℕ) → R a a
-      refl-R a = or (tot a a) (λ x. x) (λ x. x)
-
 -- ---- the list of the indices at which a test holds
 pub filt-mem : (g : ℕ → Bool) (k f i : ℕ) → k ≤ i → i < k + f → g i ≡ true → List·Memᴰ i (filt g k f)
 unfolding filt
@@ -364,27 +344,6 @@ collect-below g h b z k (suc f) m (suc i) e =
     (λ p. rw p (collect-below g h b z (suc k) f m i (λ j u v. e j (omega arith) (omega arith))))
     (λ p. rw p (collect-below g h b z (suc k) f m (suc i) (λ j u v. e j (omega arith) (omega arith))))
 
--- ---- the same laws as a `search` finds them: t is what is computed, r what the called test gave
-pub any-ret : (t : Bool) (g : ℕ → Bool) (i n : ℕ) (r : Bool) → t ≡ any g i (n - i) → i < n → r ≡ g i → r ≡ true → true ≡ t
-any-ret t g i n r e h p q = sym (e ∙ any-hit g i n h (sym p ∙ q))
-
-pub any-go : (t : Bool) (g : ℕ → Bool) (i n : ℕ) (r : Bool) → t ≡ any g i (n - i) → i < n → r ≡ g i → r ≡ false → t ≡ any g (i + 1) (n - (i + 1))
-any-go t g i n r e h p q = e ∙ any-miss g i n h (sym p ∙ q)
-
-pub any-out : (t : Bool) (g : ℕ → Bool) (i n : ℕ) → t ≡ any g i (n - i) → n ≤ i → false ≡ t
-any-out t g i n e h = sym (e ∙ any-end g i n h)
-
-pub ruleset anys = (any-start, any-ret, any-go, any-out)
-
-pub least-go : (t : ℕ) (before : ℕ → ℕ → Bool) (none : ℕ) (g : ℕ → Bool) (best i n r : ℕ) → t ≡ least before none g best i (n - i) → i < n
-    → r ≡ cond (g i) (better before none best i) best → t ≡ least before none g r (i + 1) (n - (i + 1))
-least-go t before none g best i n r e h q = rw q (e ∙ least-turn before none g best i n h)
-
-pub least-out : (t : ℕ) (before : ℕ → ℕ → Bool) (none : ℕ) (g : ℕ → Bool) (best i n : ℕ) → t ≡ least before none g best i (n - i) → n ≤ i → best ≡ t
-least-out t before none g best i n e h = sym (e ∙ least-end before none g best i n h)
-
-pub ruleset leasts = (least-start, least-go, least-out)
-
 -- ---- an index below n, or none
 pub valid-none : (none n : ℕ) → Valid none n none
 valid-none none n = record { below = λ f. absurd (f refl) }
@@ -394,11 +353,3 @@ valid-better before none n best k r v h e =
     or (better-is before none best k)
     (λ p. record { below = λ f. let q = e ∙ p in omega arith })
     (λ p. subst (Valid none n) (sym (e ∙ p)) v)
-
-pub valid-step : (before : ℕ → ℕ → Bool) (b : Bool) (none n best k r : ℕ) → Valid none n best → k < n → r ≡ cond b (better before none best k) best → Valid none n r
-valid-step before b none n best k r v h e =
-    by b
-    (λ p. valid-better before none n best k r v h (e ∙ ap (λ (t : Bool). cond t (better before none best k) best) p))
-    (λ p. subst (Valid none n) (sym (e ∙ ap (λ (t : Bool). cond t (better before none best k) best) p)) v)
-
-pub ruleset valids = (valid-none, valid-better, valid-step)

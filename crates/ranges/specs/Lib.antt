@@ -1,4 +1,4 @@
--- What is said of lists (Lists), and of a range of indices (Range, Tables).
+-- What is said of lists (Lists), and what loops over indices find and tables hold (Range, Tables).
 pub mod Lists
 pub mod Range
 pub mod Tables

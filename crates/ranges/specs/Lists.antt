@@ -1,7 +1,8 @@
 -- What is said of a list by a test of its members or by an order between them.
 use Prim.Native.Nat.{ℕ, zero, suc, _-_}
-use mathlib.Core.Bool.{Bool, false, cond, _||_}
-use mathlib.Core.List.{List, [], _∷_}
+use mathlib.Core.Path.{_≡_}
+use mathlib.Core.Bool.{Bool, true, false, cond, _||_}
+use mathlib.Core.List.{List, [], _∷_, List·Memᴰ}
 use lib.ListN.{length, drop}
 
 module _ {A : Type 0} where
@@ -42,3 +43,8 @@ countFrom k (suc n) = k ∷ countFrom (suc k) n
 -- the indices of n items
 abbrev pub upTo : ℕ → List ℕ
 upTo n = countFrom 0 n
+
+-- each member comes before every later one
+pub data Ascending {A : Type 0} (before : A → A → Bool) : List A → Type 0 where
+  none : Ascending before []
+  next : {x : A} {l : List A} → ((y : A) → List·Memᴰ y l → before x y ≡ true) → Ascending before l → Ascending before (x ∷ l)

@@ -1,6 +1,7 @@
--- Over the indices k, k + 1, .., k + f - 1: whether a test holds at some, the first and the least at which it holds, and the list of them.
+-- No claim rests on these definitions: they say what loops over the indices k, k + 1, .., k + f - 1 find: whether a test holds at some, the first and the
+-- least at which it holds, the list of them, and an array that holds such a list.
 use mathlib.Core.Path.{_≡_}
-use mathlib.Core.Bool.{Bool, true, false, cond, _||_}
+use mathlib.Core.Bool.{Bool, false, cond, _||_}
 use mathlib.Core.List.{List, [], _∷_, _++_}
 use Prim.Native.Nat.{ℕ, zero, suc, _+_, _-_, _≤_, _<_}
 use lib.ListN.{length, replicate}
@@ -36,6 +37,11 @@ module _ {A : Type 0} where
   -- the array a holds l, and d past it; there are N places
   unfoldable pub Filled : ℕ → A → List A → List A → Type 0
   Filled N d a l = a ≡ l ++ replicate (N - length l) d
+
+  -- the array a holds l, of k members, and d past it
+  pub record Holds (N : ℕ) (d : A) (a : List A) (k : ℕ) (l : List A) : Type 0 where
+    pub count : k ≡ length l
+    pub filled : Filled N d a l
 
   -- a loop over i that collects has put k of them into the array a
   pub record Collected (g : ℕ → Bool) (h : ℕ → A) (N : ℕ) (d : A) (a : List A) (k i : ℕ) : Type 0 where

@@ -1,4 +1,4 @@
--- Tables that hold a value at each index.
+-- No claim rests on these definitions: they say what a table of values holds at each index.
 use mathlib.Core.Bool.{Bool, false}
 use mathlib.Core.List.{List}
 use Prim.Native.Nat.{ℕ, _<_}
