@@ -11,10 +11,12 @@ use lib.Dec.{ltb}
 use lib.ListN.{length, getD, take, drop, length-drop, drop-of-length-le}
 use lib.Seq.{take-add, drop-cons, length-take-le}
 use borrow.Author.Tests.{lt-ltb, le-ltb, ltb-true, ltb-false}
-use Rattle.octets.specs.Order.{isBefore, same, lesserOf}
+use Rattle.octets.specs.Order.{isBefore, same}
+use Rattle.octets.specs.Lesser.{lesserOf}
 use Rattle.octets.specs.Words.{wordBytes, word, wordAt}
-use Rattle.octets.proofs.Cases.{by}
-use Rattle.octets.proofs.Numbers.{Bytes, bytes-take, bytes-drop, bytes-of-word}
+use Rattle.ranges.proofs.Bools.{by}
+use Rattle.octets.specs.Bytes.{Bytes}
+use Rattle.octets.proofs.Numbers.{bytes-take, bytes-drop, bytes-of-word}
 
 module _ (x y : ℕ) (xs ys : List ℕ) where
   first : x < y → isBefore (x ∷ xs) (y ∷ ys) ≡ true

@@ -1,4 +1,3 @@
-pub mod Cases
 pub mod Numbers
 pub mod Comparison
 pub mod Lookup

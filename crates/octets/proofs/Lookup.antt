@@ -10,7 +10,7 @@ use lib.Bits.{bitAnd, bitOr, and-step, or-step, or-zero-r, and-mask}
 use lib.Pow.{shr-shr, shl-exact}
 use lib.Arith.{bin-ind}
 use lib.Count.{ones, onesIn, ones-step}
-use Rattle.octets.proofs.Cases.{by}
+use Rattle.ranges.proofs.Bools.{by}
 use borrow.Author.Tests.{eq-eqb, ne-eqb, eqb-true, eqb-false}
 use Rattle.octets.specs.Masks.{bit, withBit, withoutBit, bits}
 

@@ -8,12 +8,9 @@ use native.Mathlib.Numerals.{add-one}
 use lib.Arith.{mod-mul}
 use lib.ListN.{length, getD, set, take, drop, length-append, length-take, length-drop, take-append-drop}
 use lib.Seq.{sets, sets-eq, take-add, drop-drop, drop-cons, take-at, drop-at, length-take-le}
-use Rattle.octets.specs.Words.{word, wordBytes, wordAt, putWord}
-
--- every element is a byte
-abbrev pub Bytes : List ℕ → Type 0
-Bytes [] = Unit {0}
-Bytes (b ∷ bs) = (b < 256) × Bytes bs
+use Rattle.octets.specs.Bytes.{Bytes}
+use Rattle.octets.specs.Words.{word, wordBytes, wordAt}
+use Rattle.octets.specs.Writes.{putWord}
 
 -- a slice's elements are bytes, place by place
 pub all-bytes : (s : List ℕ) → ((i : ℕ) → getD s i 0 < 256) → Bytes s

@@ -9,7 +9,7 @@ use lib.Bits.{bitOr, bitAnd, or-add-and, and-le-l, and-le-r}
 use lib.ListN.{length, replicate}
 use borrow.Author.Tests.{eq-eqb, ne-eqb, eqb-true, eqb-false}
 use Rattle.octets.specs.Runs.{allZero}
-use Rattle.octets.proofs.Cases.{by, and-left, and-right}
+use Rattle.ranges.proofs.Bools.{by, and-left, and-right}
 
 pub zero-run : (s : List ℕ) → allZero s ≡ true → s ≡ replicate (length s) 0
 unfolding allZero

@@ -14,7 +14,3 @@ isBefore (x ∷ a) (y ∷ b) = cond (ltb x y) true (cond (ltb y x) false (isBefo
 -- neither comes before the other
 unfoldable pub same : List ℕ → List ℕ → Bool
 same a b = not (isBefore a b) && not (isBefore b a)
-
--- the one that comes first
-abbrev pub lesserOf : List ℕ → List ℕ → List ℕ
-lesserOf a b = cond (isBefore b a) b a

@@ -27,7 +27,3 @@ signedOf x = cond (ltb x 0x8000_0000) (pos x) (negsuc (0xffff_ffff - x))
 -- the signed number in the 4 bytes of s at a place
 abbrev pub signedAt : ℕ → List ℕ → ℤ
 signedAt at s = signedOf (wordAt 4 at s)
-
--- s with the n lowest bytes of x at a place, in the place of what stood there
-abbrev pub putWord : ℕ → ℕ → ℕ → List ℕ → List ℕ
-putWord n at x s = take at s ++ (wordBytes n x ++ drop (at + n) s)

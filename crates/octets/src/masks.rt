@@ -33,37 +33,6 @@ pub fn without_u32(mask: u32, n: u32) -> u32
 }
 
 // How many bits are set.
-pub fn count_u32(mask: u32) -> u32
-    ensures { λ r. ⌜ r ≡ bits 32 mask ⌝ }
-{
-    u32::count_ones(mask)
-}
-
-// Whether bit n is set.
-pub fn has_u16(mask: u16, n: u32) -> bool
-    requires { ⌜ n < 16 ⌝ }
-    ensures { λ r. ⌜ r ≡ bit mask n ⌝ }
-{
-    has_u32(mask as u32, n)
-}
-
-// The mask with bit n set.
-pub fn with_u16(mask: u16, n: u32) -> u16
-    requires { ⌜ n < 16 ⌝ }
-    ensures { λ r. ⌜ r ≡ withBit mask n ⌝ }
-{
-    with_u32(mask as u32, n) as u16
-}
-
-// The mask with bit n clear.
-pub fn without_u16(mask: u16, n: u32) -> u16
-    requires { ⌜ n < 16 ⌝ }
-    ensures { λ r. ⌜ r ≡ withoutBit mask n ⌝ }
-{
-    without_u32(mask as u32, n) as u16
-}
-
-// How many bits are set.
 pub fn count_u16(mask: u16) -> u32
     ensures { λ r. ⌜ r ≡ bits 16 mask ⌝ }
 {

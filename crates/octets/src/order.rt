@@ -3,7 +3,8 @@ use crate::words::u64_at;
 ghost use mathlib.Core.Path.{_≡_};
 ghost use Prim.Native.Nat.{_≤_};
 ghost use lib.ListN.{length, take, drop};
-ghost use Rattle.octets.specs.Order.{isBefore, same, lesserOf};
+ghost use Rattle.octets.specs.Order.{isBefore, same};
+ghost use Rattle.octets.specs.Lesser.{lesserOf};
 
 // How many bytes both have.
 fn shorter(a: &[u8], b: &[u8]) -> usize

@@ -41,20 +41,6 @@ pub fn shift_up(s: &mut [u8], w: usize)
     }
 }
 
-// Moves the bytes down by w. The first w are lost, and w zeros come last.
-pub fn shift_down(s: &mut [u8], w: usize)
-    requires { ⌜ w ≤ length (now s) ⌝ }
-    ensures { λ _. ⌜ now (s .exit) ≡ drop w (now (s .entry)) ++ replicate w 0 ⌝ }
-{
-    let e = s.len() - w;
-    let mut j = 0;
-    while j < e {
-        s[j] = s[j + w];
-        j += 1;
-    }
-    clear(&mut s[e..]);
-}
-
 // Copies the w bytes at `from` down to `to`.
 pub fn copy_down(s: &mut [u8], from: usize, to: usize, w: usize)
     requires { ⌜ to ≤ from ⌝ }

@@ -3,7 +3,8 @@
 ghost use mathlib.Core.Path.{_≡_};
 ghost use Prim.Native.Nat.{_+_, _≤_, _<_};
 ghost use lib.ListN.{length};
-ghost use Rattle.octets.specs.Words.{wordAt, signedAt, putWord};
+ghost use Rattle.octets.specs.Words.{wordAt, signedAt};
+ghost use Rattle.octets.specs.Writes.{putWord};
 
 fn wide(b: u8) -> u16
     ensures { λ r. ⌜ (r ≡ b) × (r < 256) ⌝ }

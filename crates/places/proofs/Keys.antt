@@ -13,9 +13,10 @@ use lib.Dec.{ltb, leb·suc-suc, leb·zero}
 use lib.ListN.{length, getD, take, drop, take-append-drop}
 use lib.Seq.{take-nil, drop-nil}
 use Rattle.octets.specs.Order.{isBefore, same}
-use Rattle.octets.proofs.Cases.{by, and-left, and-right, and-both}
+use Rattle.ranges.proofs.Bools.{by, and-left, and-right, and-both}
 use Rattle.octets.proofs.Comparison.{before-trans, before-irrefl, before-asym, before-le, tri, same-refl, less-same, more-same, same-eq}
-use Rattle.places.specs.Places.{ascendingFrom, ascending, rank, holds, lookup, withPlace, withoutPlace}
+use Rattle.places.specs.Places.{ascendingFrom, ascending, holds, lookup}
+use Rattle.places.specs.Positions.{rank, withPlace}
 
 or-false : (b : Bool) → (b || false) ≡ b
 or-false true = refl
@@ -203,21 +204,6 @@ insert-ascending k x (p ∷ ps) h n =
     (λ b. rw (rank-more k (take k x) p ps b) (ascending-from k p (withPlace (rank k (take k x) ps) x ps)
     ∙ insert-from k (take k p) x ps b t (sym (holds-later k (take k x) p ps (less-same (take k p) (take k x) b)) ∙ n)))
     (λ b. rw (rank-here k (take k x) p ps b) (ascending-from k x (p ∷ ps) ∙ from-cons k (take k x) p ps (comes-after k (take k x) p ps n b) t))
-
-without-suc : (p : List ℕ) (ps : List (List ℕ)) (i : ℕ) → withoutPlace (suc i) (p ∷ ps) ≡ p ∷ withoutPlace i ps
-without-suc p ps i = ap (λ (n : ℕ). p ∷ (take i ps ++ drop n (p ∷ ps))) (add-one (suc i)) ∙ ap (λ (n : ℕ). p ∷ (take i ps ++ drop n ps)) (sym (add-one i))
-
-remove-from : (k : ℕ) (from : List ℕ) (ps : List (List ℕ)) (i : ℕ) → ascendingFrom k from ps ≡ true → ascendingFrom k from (withoutPlace i ps) ≡ true
-remove-from k from [] i h = rw (take-nil {A = List ℕ} i, drop-nil {A = List ℕ} (i + 1)) h
-remove-from k from (p ∷ ps) zero h = from-weaken k from (take k p) ps (from-head k from p ps h) (from-tail k from p ps h)
-remove-from k from (p ∷ ps) (suc i) h =
-    ap (ascendingFrom k from) (without-suc p ps i) ∙ from-cons k from p (withoutPlace i ps) (from-head k from p ps h) (remove-from k (take k p) ps i (from-tail k from p ps h))
-
-pub remove-ascending : (k : ℕ) (ps : List (List ℕ)) (i : ℕ) → ascending k ps ≡ true → ascending k (withoutPlace i ps) ≡ true
-remove-ascending k [] i h = rw (take-nil {A = List ℕ} i, drop-nil {A = List ℕ} (i + 1)) h
-remove-ascending k (p ∷ ps) zero h = from-ascending k (take k p) ps (sym (ascending-from k p ps) ∙ h)
-remove-ascending k (p ∷ ps) (suc i) h =
-    ap (ascending k) (without-suc p ps i) ∙ ascending-from k p (withoutPlace i ps) ∙ remove-from k (take k p) ps i (sym (ascending-from k p ps) ∙ h)
 
 -- ---- a table is what it holds
 

@@ -8,9 +8,10 @@ use native.Mathlib.Omega.{arith}
 use lib.ListN.{length, getD, take, drop, set, take-append-drop, length-append}
 use lib.Seq.{take-at, drop-at, length-take-le}
 use Rattle.octets.specs.Order.{isBefore, same}
-use Rattle.octets.proofs.Cases.{by, and-left, and-right, and-both}
+use Rattle.ranges.proofs.Bools.{by, and-left, and-right, and-both}
 use Rattle.octets.proofs.Comparison.{before-irrefl, before-asym, before-trans, tri, same-refl, less-same, more-same, same-eq}
-use Rattle.places.specs.Places.{ascendingFrom, ascending, rank, holds, lookup, withPlace, putPlace, allPlaces}
+use Rattle.places.specs.Places.{ascendingFrom, ascending, holds, lookup, putPlace, allPlaces}
+use Rattle.places.specs.Positions.{rank, withPlace}
 use Rattle.places.proofs.Tables.{wide}
 use Rattle.places.proofs.Keys.{holds-none, holds-here, holds-later, lookup-here, lookup-later, rank-more, rank-here, from-head, from-tail, from-cons, ascending-from, from-ascending, none-below, absent, comes-after}
 

@@ -9,9 +9,10 @@ use native.Mathlib.Nat.{suc-mul, zero-mul, mul-le-mul-right, add-mul, mul-comm, 
 use native.Mathlib.Numerals.{add-one}
 use lib.ListN.{length, getD, take, drop, set, replicate, length-append, length-drop, length-take, length-replicate, length-set, take-append-drop, replicate-append-replicate}
 use lib.Seq.{take-at, drop-at, take-add, take-append-add, length-take-le, split-at, set-split}
-use Rattle.places.specs.Places.{places, flat, tableOf, isTable, ascending, insertedAt, removedAt, withPlace, withoutPlace}
+use Rattle.places.specs.Places.{places, flat, tableOf, isTable, ascending}
+use Rattle.places.specs.Positions.{insertAt, withPlace}
 use Rattle.octets.specs.Runs.{allZero}
-use Rattle.octets.proofs.Cases.{and-left, and-right, and-both}
+use Rattle.ranges.proofs.Bools.{and-left, and-right, and-both}
 use Rattle.octets.proofs.Zeros.{zero-run, run-zero}
 
 abbrev pub wide : ℕ → List (List ℕ) → Type 0
@@ -106,7 +107,7 @@ table-length w cap ps h l =
 
 -- insertion of a place's bytes is insertion of the place
 pub insert-table : (w cap : ℕ) (ps : List (List ℕ)) (k : ℕ) (x : List ℕ) → wide w ps → length x ≡ w → k ≤ length ps → length ps < cap
-    → insertedAt (k * w) x (tableOf w cap ps) ≡ tableOf w cap (withPlace k x ps)
+    → insertAt (k * w) x (tableOf w cap ps) ≡ tableOf w cap (withPlace k x ps)
 insert-table w cap ps k x h e l g = rw (e, table-length w cap ps h (omega arith)) (put-in w cap ps k x h l g)
 
 -- a table with more room is the same and zeros
@@ -120,7 +121,7 @@ wider-table w c cap ps h g =
 
 -- a place put in among the used ones and one more
 pub insert-used : (w cap : ℕ) (ps : List (List ℕ)) (k : ℕ) (x : List ℕ) → wide w ps → length x ≡ w → k ≤ length ps → length ps < cap
-    → insertedAt (k * w) x (take ((length ps + 1) * w) (tableOf w cap ps)) ++ drop ((length ps + 1) * w) (tableOf w cap ps) ≡ tableOf w cap (withPlace k x ps)
+    → insertAt (k * w) x (take ((length ps + 1) * w) (tableOf w cap ps)) ++ drop ((length ps + 1) * w) (tableOf w cap ps) ≡ tableOf w cap (withPlace k x ps)
 insert-used w cap ps k x h e l g =
     let c = length ps + 1 in
     let z : List ℕ = replicate ((cap - c) * w) 0 in
@@ -150,24 +151,6 @@ split-at-place w cap ps k h l = record {
       ap (λ (l : List (List ℕ)). flat l ++ z) (split-at ps k [] l ∙ ap (λ (i : ℕ). take k ps ++ (getD ps k [] ∷ drop i ps)) (sym (add-one k)))
       ∙ rw (flat-append (take k ps) (getD ps k [] ∷ drop (k + 1) ps), flat-cons (getD ps k []) (drop (k + 1) ps), append-assoc (flat (take k ps)), append-assoc (getD ps k [])) refl;
 }
-
--- removal of a place's bytes is removal of the place
-pub remove-table : (w cap : ℕ) (ps : List (List ℕ)) (k : ℕ) → wide w ps → k < length ps → length ps ≤ cap
-    → removedAt (k * w) w (tableOf w cap ps) ≡ tableOf w cap (withoutPlace k ps)
-remove-table w cap ps k h l g =
-    let s = split-at-place w cap ps k h l in
-    let n = length ps in
-    let pre = flat (take k ps) in
-    let p = getD ps k [] in
-    let rest = flat (drop (k + 1) ps) in
-    let z : List ℕ = replicate ((cap - n) * w) 0 in
-    let m : length (withoutPlace k ps) ≡ n - 1 = simp (length-append, length-take, length-drop) (omega arith) in
-    let e : (cap - (n - 1)) * w ≡ (cap - n) * w + w = ap (λ (i : ℕ). i * w) (one-more cap n l g) ∙ suc-mul (cap - n) w in
-    rw (s .is, take-at pre (p ++ (rest ++ z)) (k * w) (s .before), drop-at pre (p ++ (rest ++ z)) (k * w) (s .before), drop-at p (rest ++ z) w (s .own), m, e, flat-append (take k ps) (drop (k + 1) ps))
-    (rw (append-assoc rest z, replicate-append-replicate {A = ℕ} ((cap - n) * w) w 0, append-assoc pre rest) refl)
-  where
-    one-more : (cap n : ℕ) {k : ℕ} → k < n → n ≤ cap → cap - (n - 1) ≡ suc (cap - n)
-    one-more cap n h g = omega arith
 
 flat-set : (w : ℕ) (ps : List (List ℕ)) (k : ℕ) (y : List ℕ) → k < length ps → flat (set ps k y) ≡ flat (take k ps) ++ (y ++ flat (drop (k + 1) ps))
 flat-set w ps k y l =

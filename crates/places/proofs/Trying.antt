@@ -9,9 +9,10 @@ use lib.ListN.{length, getD, take, drop}
 use lib.Seq.{take-take, take-at}
 use borrow.Author.Tests.{ltb-true, ltb-false, leb-false, lt-leb, le-leb}
 use Rattle.octets.specs.Order.{same}
-use Rattle.octets.proofs.Cases.{by}
-use Rattle.places.specs.Places.{places, tableOf, ascending, rank, holds, keyAt, insertedAt, withPlace, putPlace}
-use Rattle.places.specs.Put.{Putting, putting, tried}
+use Rattle.ranges.proofs.Bools.{by}
+use Rattle.places.specs.Places.{places, tableOf, ascending, holds, putPlace}
+use Rattle.places.specs.Positions.{rank, keyAt, insertAt, withPlace}
+use Rattle.places.specs.Put.{PutResult, putResult, tryPut}
 use Rattle.places.specs.declared.Put.the-variants.{Held, Full, New}
 use Rattle.places.proofs.Tables.{wide, places-of-table, place-at, insert-used}
 use Rattle.places.proofs.Keys.{rank-le, hasKey, holds-at-rank}
@@ -37,11 +38,11 @@ module _ (cap w k : ℕ) (f : List ℕ → List ℕ) (key : List ℕ) (ps : List
       let y : hasKey k key ps (rank k key ps) ≡ false = rw h refl in
       z ∙ sym (holds-at-rank k key ps a ∙ y))
 
-  pub tried-table : tried (length ps) cap w k (key ++ f []) table
-      ≡ cond (holds k key ps) (putting (Held (rank k key ps)) table) (cond (leb cap (length ps)) (putting Full table) (putting New (tableOf w cap (putPlace k f key ps))))
-  unfolding tried
+  pub tried-table : tryPut (length ps) cap w k (key ++ f []) table
+      ≡ cond (holds k key ps) (putResult (Held (rank k key ps)) table) (cond (leb cap (length ps)) (putResult Full table) (putResult New (tableOf w cap (putPlace k f key ps))))
+  unfolding tryPut
   tried-table =
       rw (key-of, places-of-table w cap ps wd, stands)
       (by (holds k key ps) (λ h. rw h refl)
       (λ h. rw h (by (leb cap (length ps)) (λ g. rw g refl)
-      (λ g. rw g (ap (putting New) (insert-used w cap ps (rank k key ps) (key ++ f []) wd x (rank-le k key ps) (leb-false cap (length ps) g) ∙ ap (tableOf w cap) (sym (put-new k f key ps h))))))))
+      (λ g. rw g (ap (putResult New) (insert-used w cap ps (rank k key ps) (key ++ f []) wd x (rank-le k key ps) (leb-false cap (length ps) g) ∙ ap (tableOf w cap) (sym (put-new k f key ps h))))))))

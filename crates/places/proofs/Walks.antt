@@ -8,7 +8,8 @@ use native.Mathlib.Nat.{suc-mul, zero-mul, mul-le-mul-right, le-trans, le-of-eq,
 use native.Mathlib.Numerals.{add-one}
 use lib.ListN.{getD, take, drop}
 use lib.Seq.{drop-drop, take-take}
-use Rattle.places.specs.Places.{places, keyAt, allPlaces}
+use Rattle.places.specs.Places.{places, allPlaces}
+use Rattle.places.specs.Positions.{keyAt}
 
 -- ---- where a place ends
 

@@ -8,10 +8,11 @@ use lib.Dec.{ltb}
 use lib.ListN.{length, getD, take, length-append, length-take, length-drop}
 use borrow.Author.Tests.{ltb-true}
 use Rattle.octets.specs.Order.{same}
-use Rattle.octets.proofs.Cases.{and-left, and-right}
+use Rattle.ranges.proofs.Bools.{and-left, and-right}
 use Rattle.octets.proofs.Comparison.{same-eq}
-use Rattle.places.specs.Places.{ascending, rank, holds, putPlace}
-use Rattle.places.specs.Put.{Putting, putting}
+use Rattle.places.specs.Places.{ascending, holds, putPlace}
+use Rattle.places.specs.Positions.{rank}
+use Rattle.places.specs.Put.{PutResult, putResult}
 use Rattle.places.specs.declared.Put.{Put}
 use Rattle.places.specs.declared.Put.the-variants.{Held, Full, New}
 use Rattle.places.proofs.Keys.{hasKey, rank-le, holds-at-rank}
@@ -22,10 +23,10 @@ pub data Way (h full : Bool) (i : ℕ) (t t₁ : List ℕ) (a : Put) (t′ : Lis
   none : h ≡ false → full ≡ true → a ≡ Full → t′ ≡ t → Way h full i t t₁ a t′
   new : h ≡ false → full ≡ false → a ≡ New → t′ ≡ t₁ → Way h full i t t₁ a t′
 
-pub way : (h full : Bool) (i : ℕ) (t t₁ : List ℕ) (a : Put) (t′ : List ℕ) → putting a t′ ≡ cond h (putting (Held i) t) (cond full (putting Full t) (putting New t₁)) → Way h full i t t₁ a t′
-way true full i t t₁ a t′ e = held refl (ap (λ (p : Putting). p .answer) e) (ap (λ (p : Putting). p .left) e)
-way false true i t t₁ a t′ e = none refl refl (ap (λ (p : Putting). p .answer) e) (ap (λ (p : Putting). p .left) e)
-way false false i t t₁ a t′ e = new refl refl (ap (λ (p : Putting). p .answer) e) (ap (λ (p : Putting). p .left) e)
+pub way : (h full : Bool) (i : ℕ) (t t₁ : List ℕ) (a : Put) (t′ : List ℕ) → putResult a t′ ≡ cond h (putResult (Held i) t) (cond full (putResult Full t) (putResult New t₁)) → Way h full i t t₁ a t′
+way true full i t t₁ a t′ e = held refl (ap (λ (p : PutResult). p .answer) e) (ap (λ (p : PutResult). p .left) e)
+way false true i t t₁ a t′ e = none refl refl (ap (λ (p : PutResult). p .answer) e) (ap (λ (p : PutResult). p .left) e)
+way false false i t t₁ a t′ e = new refl refl (ap (λ (p : PutResult). p .answer) e) (ap (λ (p : PutResult). p .left) e)
 
 -- the answers differ
 pub held-not-full : {a : Put} {i : ℕ} → a ≡ Held i → a ≡ Full → ⊥

@@ -23,10 +23,6 @@ flat (p ∷ ps) = p ++ flat ps
 abbrev pub tableOf : ℕ → ℕ → List (List ℕ) → List ℕ
 tableOf w cap ps = flat ps ++ replicate ((cap - length ps) * w) 0
 
--- the key of place i
-abbrev pub keyAt : ℕ → ℕ → ℕ → List ℕ → List ℕ
-keyAt k w i t = take k (drop (i * w) t)
-
 -- ---- order
 
 -- the keys ascend strictly, from one that comes before them all
@@ -43,11 +39,6 @@ ascending k (p ∷ ps) = ascendingFrom k (take k p) ps
 abbrev pub isTable : ℕ → ℕ → ℕ → List ℕ → Bool
 isTable k w n t = ascending k (places w n t) && allZero (drop (n * w) t)
 
--- how many places, from the first, come before a key
-unfoldable pub rank : ℕ → List ℕ → List (List ℕ) → ℕ
-rank k key [] = 0
-rank k key (p ∷ ps) = cond (isBefore (take k p) key) (suc (rank k key ps)) 0
-
 -- some place has this key
 unfoldable pub holds : ℕ → List ℕ → List (List ℕ) → Bool
 holds k key [] = false
@@ -57,23 +48,6 @@ holds k key (p ∷ ps) = same (take k p) key || holds k key ps
 unfoldable pub lookup : ℕ → List ℕ → List (List ℕ) → List ℕ
 lookup k key [] = []
 lookup k key (p ∷ ps) = cond (same (take k p) key) (drop k p) (lookup k key ps)
-
--- ---- moves
-
--- x put in at a byte; as many bytes at the end are lost
-abbrev pub insertedAt : ℕ → List ℕ → List ℕ → List ℕ
-insertedAt at x t = take at t ++ (x ++ take (length t - at - length x) (drop at t))
-
--- w bytes taken out at a byte; as many zeros come last
-abbrev pub removedAt : ℕ → ℕ → List ℕ → List ℕ
-removedAt at w t = take at t ++ (drop w (drop at t) ++ replicate w 0)
-
--- a place put in before place i, place i taken out, and place i put anew
-abbrev pub withPlace : ℕ → List ℕ → List (List ℕ) → List (List ℕ)
-withPlace i x ps = take i ps ++ (x ∷ drop i ps)
-
-abbrev pub withoutPlace : ℕ → List (List ℕ) → List (List ℕ)
-withoutPlace i ps = take i ps ++ drop (i + 1) ps
 
 -- ---- a table as a map from keys to what follows them
 
@@ -85,9 +59,9 @@ putPlace k f key (p ∷ ps) =
     (cond (isBefore key (take k p)) ((key ++ f []) ∷ (p ∷ ps)) ((take k p ++ f (drop k p)) ∷ ps))
 
 -- the places that pass a test, what follows their keys changed by f
-unfoldable pub keptPlaces : ℕ → (List ℕ → Bool) → (List ℕ → List ℕ) → List (List ℕ) → List (List ℕ)
-keptPlaces k test f [] = []
-keptPlaces k test f (p ∷ ps) = cond (test p) ((take k p ++ f (drop k p)) ∷ keptPlaces k test f ps) (keptPlaces k test f ps)
+unfoldable pub keepPlaces : ℕ → (List ℕ → Bool) → (List ℕ → List ℕ) → List (List ℕ) → List (List ℕ)
+keepPlaces k test f [] = []
+keepPlaces k test f (p ∷ ps) = cond (test p) ((take k p ++ f (drop k p)) ∷ keepPlaces k test f ps) (keepPlaces k test f ps)
 
 -- every place passes a test
 unfoldable pub allPlaces : (List ℕ → Bool) → List (List ℕ) → Bool

@@ -10,9 +10,10 @@ ghost use mathlib.Core.List.{_++_};
 ghost use Prim.Native.Nat.{_+_, _*_, _-_, _<_, _≤_};
 ghost use lib.ListN.{length, take, drop, replicate};
 ghost use lib.Dec.{ltb};
-ghost use Rattle.places.specs.Places.{places, ascending, isTable, rank, keyAt, insertedAt, removedAt};
+ghost use Rattle.places.specs.Places.{places, ascending, isTable};
+ghost use Rattle.places.specs.Positions.{rank, keyAt, insertAt};
 ghost use Rattle.octets.specs.Order.{same};
-ghost use Rattle.places.specs.Put.{putting, tried};
+ghost use Rattle.places.specs.Put.{putResult, tryPut};
 
 // Whether the keys of the first n places ascend strictly.
 pub fn ascends(t: &[u8], n: usize, w: usize, k: usize) -> bool
@@ -117,7 +118,7 @@ pub fn put_by_key(t: &mut [u8], n: usize, cap: usize, w: usize, k: usize, x: &[u
     requires { ⌜ ascending k (places w n (now t)) ≡ true ⌝ }
     requires { ⌜ length (now x) ≡ w ⌝ }
     requires { ⌜ length (now t) ≡ cap * w ⌝ }
-    ensures { λ r. ⌜ putting r (now (t .exit)) ≡ tried n cap w k (now (x .entry)) (now (t .entry)) ⌝ }
+    ensures { λ r. ⌜ putResult r (now (t .exit)) ≡ tryPut n cap w k (now (x .entry)) (now (t .entry)) ⌝ }
 {
     let i = position(t, n, w, k, &x[..k]);
     if stands_at(t, n, i, w, k, &x[..k]) {
@@ -134,16 +135,8 @@ pub fn put_by_key(t: &mut [u8], n: usize, cap: usize, w: usize, k: usize, x: &[u
 // Puts x in at a byte, before what stands there. As many bytes at the end are lost.
 pub fn insert(t: &mut [u8], at: usize, x: &[u8])
     requires { ⌜ at + length (now x) ≤ length (now t) ⌝ }
-    ensures { λ _. ⌜ now (t .exit) ≡ insertedAt at (now (x .entry)) (now (t .entry)) ⌝ }
+    ensures { λ _. ⌜ now (t .exit) ≡ insertAt at (now (x .entry)) (now (t .entry)) ⌝ }
 {
     octets::runs::shift_up(&mut t[at..], x.len());
     bytes::copy(x, &mut t[at..]);
-}
-
-// Takes the w bytes at a place out. What follows moves down, and as many zeros come last.
-pub fn remove(t: &mut [u8], at: usize, w: usize)
-    requires { ⌜ at + w ≤ length (now t) ⌝ }
-    ensures { λ _. ⌜ now (t .exit) ≡ removedAt at w (now (t .entry)) ⌝ }
-{
-    octets::runs::shift_down(&mut t[at..], w);
 }

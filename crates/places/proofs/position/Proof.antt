@@ -6,7 +6,8 @@ use mathlib.Core.List.{List, []}
 use native.Mathlib.Omega.{arith}
 use lib.ListN.{length, getD, take, drop}
 use Rattle.octets.specs.Order.{isBefore}
-use Rattle.places.specs.Places.{places, ascending, rank}
+use Rattle.places.specs.Places.{places, ascending}
+use Rattle.places.specs.Positions.{rank}
 use Rattle.places.proofs.Walks.{key-room, key-of}
 use Rattle.places.proofs.Tables.{length-places}
 use Rattle.places.proofs.Keys.{rank-le, rank-above, rank-below}

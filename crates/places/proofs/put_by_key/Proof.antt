@@ -10,8 +10,9 @@ use lib.Dec.{ltb}
 use lib.ListN.{length, take, drop}
 use lib.Seq.{length-take-le}
 use Rattle.octets.specs.Order.{same}
-use Rattle.places.specs.Places.{places, rank, keyAt, insertedAt}
-use Rattle.places.specs.Put.{Putting, putting, tried}
+use Rattle.places.specs.Places.{places}
+use Rattle.places.specs.Positions.{rank, keyAt, insertAt}
+use Rattle.places.specs.Put.{PutResult, putResult, tryPut}
 use Rattle.places.specs.declared.Put.the-variants.{Held, Full, New}
 use Rattle.places.proofs.Tables.{length-places}
 use Rattle.places.proofs.Keys.{rank-le}
@@ -20,18 +21,18 @@ use Rattle.places.proofs.put_by_key.Statement.{statement}
 use Rattle.places.proofs.put_by_key.Tie as tie
 
 module _ (n cap w k : ℕ) (x t : List ℕ) (i : ℕ) (e : i ≡ rank k (take k x) (places w n t)) where
-  held : (ltb i n && same (keyAt k w i t) (take k x)) ≡ true → putting (Held i) t ≡ tried n cap w k x t
-  unfolding tried
+  held : (ltb i n && same (keyAt k w i t) (take k x)) ≡ true → putResult (Held i) t ≡ tryPut n cap w k x t
+  unfolding tryPut
   held h = rw (← e, h) refl
 
-  full : (ltb i n && same (keyAt k w i t) (take k x)) ≡ false → cap ≤ n → putting Full t ≡ tried n cap w k x t
-  unfolding tried
+  full : (ltb i n && same (keyAt k w i t) (take k x)) ≡ false → cap ≤ n → putResult Full t ≡ tryPut n cap w k x t
+  unfolding tryPut
   full h l = rw (← e, h, le-leb cap n l) refl
 
-  new : (ltb i n && same (keyAt k w i t) (take k x)) ≡ false → n < cap → {t′ : List ℕ} → t′ ≡ insertedAt (i * w) x (take ((n + 1) * w) t) ++ drop ((n + 1) * w) t
-      → putting New t′ ≡ tried n cap w k x t
-  unfolding tried
-  new h l q = rw (← e, h, lt-leb cap n l) (ap (putting New) q)
+  new : (ltb i n && same (keyAt k w i t) (take k x)) ≡ false → n < cap → {t′ : List ℕ} → t′ ≡ insertAt (i * w) x (take ((n + 1) * w) t) ++ drop ((n + 1) * w) t
+      → putResult New t′ ≡ tryPut n cap w k x t
+  unfolding tryPut
+  new h l q = rw (← e, h, lt-leb cap n l) (ap (putResult New) q)
 
 -- ---- the places of the function
 

@@ -9,7 +9,7 @@ use lib.Bits.{bitOr}
 use lib.ListN.{length, getD, drop, drop-of-length-le}
 use lib.Seq.{drop-cons}
 use Rattle.octets.specs.Runs.{allZero}
-use Rattle.octets.proofs.Cases.{and-assoc, and-true}
+use Rattle.ranges.proofs.Bools.{and-assoc, and-unit}
 use Rattle.octets.proofs.Zeros.{or-zero}
 use borrow.Author.Needs.{needs}
 use Rattle.octets.proofs.runs.is_zero.Statement.{statement}
@@ -28,7 +28,7 @@ turn s i any h = rw (add-one, drop-cons s i 0 h, or-zero any (getD s i 0)) (sym 
 
 past : (s : List ℕ) (i any : ℕ) → length s ≤ i → (eqb any 0 && allZero (drop i s)) ≡ eqb any 0
 unfolding allZero
-past s i any h = rw (drop-of-length-le s h) (and-true (eqb any 0))
+past s i any h = rw (drop-of-length-le s h) (and-unit (eqb any 0))
 
 loop-holds : tie.Need-loop-holds Inv-loop μ-loop
 loop-holds c = refl
