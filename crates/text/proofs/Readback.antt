@@ -9,9 +9,11 @@ use borrow.Author.Tests.{lt-ltb, le-ltb, ltb-true, ltb-false}
 use lib.Dec.{ltb}
 use lib.IntN.{ℤ, pos, negsuc}
 use lib.ListN.{length, getD, length-append, List·getD-append}
-use Rattle.octets.proofs.Cases.{by}
-use Rattle.text.specs.Numbers.{digits, decimal, signed, hex, hexDigit, decimalValue, hexValue, hexDigitValue}
+use Rattle.ranges.proofs.Bools.{by}
+use Rattle.octets.specs.Ascii.{ascii}
+use Rattle.text.specs.Numbers.{digits, decimal, signed, hex, hexDigit, decimalValue}
 use Rattle.text.specs.Heights.{metres}
+use Rattle.text.specs.Claims.{hexValue, hexDigitValue, DecimalReadsBack, NoLeadingZero, NoMinusZero, DecimalWidth, HexReadsBack, HeightTexts}
 use Rattle.text.proofs.Shapes.{digits-one}
 
 -- ---- decimal
@@ -83,8 +85,29 @@ unfolding hex
 hex-width zero n = refl
 hex-width (suc k) n = rw (length-append, hex-width k (n / 16)) (omega arith)
 
--- ---- heights: position 5 of document 01, and the least height
+-- ---- what is claimed
 
+long : (n : ℕ) → n < 2 ^ 64 → n < 10 ^ 20
+long n h = omega arith
+
+pub decimal-reads-back : DecimalReadsBack
+decimal-reads-back n h = digits-value 19 n (long n h)
+
+pub decimal-no-leading-zero : NoLeadingZero
+unfolding ascii
+decimal-no-leading-zero = (zero-text 19, λ n h. no-leading-zero 19 n (long n h))
+
+pub signed-no-minus-zero : NoMinusZero
+unfolding ascii
+signed-no-minus-zero n h = no-minus-zero n (omega arith)
+
+pub decimal-width : DecimalWidth
+decimal-width n = digits-width 19 n
+
+pub hex-reads-back : HexReadsBack
+hex-reads-back k n h = (hex-value k n h, hex-width k n)
+
+-- position 5 of document 01
 pub position-5 :
     (signed (metres (pos 499)) ≡ 48 ∷ [])
     × (signed (metres (pos 500)) ≡ 49 ∷ [])
@@ -92,7 +115,6 @@ pub position-5 :
 unfolding signed digits
 position-5 = (refl, refl, refl)
 
--- -2,147,483,648 mm is -2147484
-pub least-height : signed (metres (negsuc 0x7fff_ffff)) ≡ 45 ∷ 50 ∷ 49 ∷ 52 ∷ 55 ∷ 52 ∷ 56 ∷ 52 ∷ []
-unfolding signed digits
-least-height = refl
+pub height-texts : HeightTexts
+unfolding signed digits ascii
+height-texts = (position-5 .0, position-5 .1, position-5 .2, refl)

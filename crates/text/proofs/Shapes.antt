@@ -9,8 +9,9 @@ use native.Mathlib.Decide.{decLt}
 use borrow.Author.Tests.{lt-ltb, le-ltb, le-leb, lt-leb}
 use lib.IntN.{ℤ, pos, negsuc, negℤ}
 use lib.Signed.{mag}
-use Rattle.text.specs.Numbers.{digits, signed, hex, hexDigit, raised, signedRaised}
-use Rattle.text.specs.Heights.{metres, roundedMetres, metresRaised}
+use Rattle.text.specs.Numbers.{digits, signed, hex, hexDigit}
+use Rattle.text.specs.Heights.{metres, roundedMetres}
+use Rattle.text.specs.OffsetBinary.{offset, offsetText, offsetMetres}
 
 pub digits-one : (k n : ℕ) → n < 10 → digits k n ≡ (48 + n % 10) ∷ []
 unfolding digits
@@ -35,22 +36,22 @@ unfolding hex
 hex-more zero n f = absurd (f refl)
 hex-more (suc k) n f = rw (sub-one (suc k)) refl
 
--- a signed number and its raised form have one text
-pub signed-raised : (v : ℤ) → mag v < 2 ^ 31 → signedRaised (raised v) ≡ signed v
+-- a signed number and its offset have one text
+pub signed-offset : (v : ℤ) → mag v < 2 ^ 31 → offsetText (offset v) ≡ signed v
 unfolding signed
-signed-raised (pos n) h = let e : n + 0x8000_0000 - 0x8000_0000 ≡ n = omega arith in rw (le-leb 0x8000_0000 (n + 0x8000_0000) (omega arith), e) refl
-signed-raised (negsuc n) h =
+signed-offset (pos n) h = let e : n + 0x8000_0000 - 0x8000_0000 ≡ n = omega arith in rw (le-leb 0x8000_0000 (n + 0x8000_0000) (omega arith), e) refl
+signed-offset (negsuc n) h =
     let e : 0x8000_0000 - (0x8000_0000 - suc n) ≡ suc n = omega arith in
     rw (lt-leb 0x8000_0000 (0x8000_0000 - suc n) (omega arith), e) refl
 
--- whole metres of the raised form
-pub metres-raised : (v : ℤ) → mag v < 2 ^ 31 → metresRaised (raised v) ≡ raised (metres v)
-metres-raised (pos n) h = let e : n + 0x8000_0000 - 0x8000_0000 ≡ n = omega arith in rw (le-leb 0x8000_0000 (n + 0x8000_0000) (omega arith), e) (omega arith)
-metres-raised (negsuc n) h =
+-- the whole metres of an offset
+pub metres-offset : (v : ℤ) → mag v < 2 ^ 31 → offsetMetres (offset v) ≡ offset (metres v)
+metres-offset (pos n) h = let e : n + 0x8000_0000 - 0x8000_0000 ≡ n = omega arith in rw (le-leb 0x8000_0000 (n + 0x8000_0000) (omega arith), e) (omega arith)
+metres-offset (negsuc n) h =
     let e : 0x8000_0000 - (0x8000_0000 - suc n) ≡ suc n = omega arith in
     rw (lt-leb 0x8000_0000 (0x8000_0000 - suc n) (omega arith), e) (under ((suc n + 500) / 1000) (omega arith))
   where
-    under : (m : ℕ) → m < 0x8000_0000 → 0x8000_0000 - m ≡ raised (negℤ (pos m))
+    under : (m : ℕ) → m < 0x8000_0000 → 0x8000_0000 - m ≡ offset (negℤ (pos m))
     under zero h = refl
     under (suc m) h = refl
 
@@ -62,8 +63,8 @@ metres-fits (negsuc n) h = under ((suc n + 500) / 1000) (omega arith)
     under zero h = h
     under (suc m) h = omega arith
 
-pub raised-plain : (n : ℕ) → 0x8000_0000 ≤ n → signedRaised n ≡ digits 9 (n - 0x8000_0000)
-raised-plain n h = rw (le-leb 0x8000_0000 n h) refl
+pub offset-plain : (n : ℕ) → 0x8000_0000 ≤ n → offsetText n ≡ digits 9 (n - 0x8000_0000)
+offset-plain n h = rw (le-leb 0x8000_0000 n h) refl
 
-pub raised-minus : (n : ℕ) → n < 0x8000_0000 → signedRaised n ≡ (45 ∷ []) ++ digits 9 (0x8000_0000 - n)
-raised-minus n h = rw (lt-leb 0x8000_0000 n h) refl
+pub offset-minus : (n : ℕ) → n < 0x8000_0000 → offsetText n ≡ (45 ∷ []) ++ digits 9 (0x8000_0000 - n)
+offset-minus n h = rw (lt-leb 0x8000_0000 n h) refl

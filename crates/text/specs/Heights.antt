@@ -1,7 +1,5 @@
 -- Heights as text: "Height is whole metres, half away from zero" (document 01, 'The board').
-use Prim.Native.Nat.{ℕ, suc, _+_, _-_, _/_}
-use mathlib.Core.Bool.{Bool, cond}
-use lib.Dec.{leb}
+use Prim.Native.Nat.{ℕ, suc, _+_, _/_}
 use lib.IntN.{ℤ, pos, negsuc, negℤ}
 
 -- the rounding rule: how many metres a distance of n millimetres is, half a metre counting as one
@@ -12,7 +10,3 @@ roundedMetres n = (n + 500) / 1000
 abbrev pub metres : ℤ → ℤ
 metres (pos n) = pos (roundedMetres n)
 metres (negsuc n) = negℤ (pos (roundedMetres (suc n)))
-
--- the same on numbers raised by 2 ^ 31, as the code has them
-abbrev pub metresRaised : ℕ → ℕ
-metresRaised n = cond (leb 0x8000_0000 n) (0x8000_0000 + roundedMetres (n - 0x8000_0000)) (0x8000_0000 - roundedMetres (0x8000_0000 - n))

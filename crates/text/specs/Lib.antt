@@ -1,3 +1,5 @@
 pub mod Buffer
 pub mod Numbers
 pub mod Heights
+pub mod Claims
+pub mod OffsetBinary

@@ -1,9 +1,9 @@
 -- Numbers as text, in ASCII: decimal "without leading zeros (a minus only on a negative one)" and lowercase hex digits, "highest first"
 -- (document 01, 'The track and the session' and 'The board').
 use Prim.Native.Nat.{ℕ, zero, suc, _+_, _-_, _*_, _/_, _%_}
-use mathlib.Core.Bool.{Bool, true, false, cond}
+use mathlib.Core.Bool.{cond}
 use mathlib.Core.List.{List, [], _∷_, _++_}
-use lib.Dec.{ltb, leb}
+use lib.Dec.{ltb}
 use lib.IntN.{ℤ, pos, negsuc}
 
 -- the last k + 1 decimal digits of n, without leading zeros
@@ -34,22 +34,3 @@ hex (suc k) n = hex k (n / 16) ++ (hexDigit (n % 16) ∷ [])
 unfoldable pub decimalValue : ℕ → List ℕ → ℕ
 decimalValue a [] = a
 decimalValue a (d ∷ t) = decimalValue (a * 10 + (d - 48)) t
-
--- the number that hex digits stand for, after those that stand for a
-abbrev pub hexDigitValue : ℕ → ℕ
-hexDigitValue c = cond (ltb c 97) (c - 48) (c - 87)
-
-unfoldable pub hexValue : ℕ → List ℕ → ℕ
-hexValue a [] = a
-hexValue a (d ∷ t) = hexValue (a * 16 + hexDigitValue d) t
-
--- ---- a signed number of 32 bits without its sign, as the code has it
-
--- v + 2 ^ 31
-abbrev pub raised : ℤ → ℕ
-raised (pos n) = n + 0x8000_0000
-raised (negsuc n) = 0x8000_0000 - suc n
-
--- the text of n - 2 ^ 31
-abbrev pub signedRaised : ℕ → List ℕ
-signedRaised n = cond (leb 0x8000_0000 n) (digits 9 (n - 0x8000_0000)) (45 ∷ digits 9 (0x8000_0000 - n))

@@ -5,8 +5,9 @@ ghost use mathlib.Core.Path.{_≡_};
 ghost use Prim.Native.Nat.{_+_, _-_, _*_, _≤_, _<_};
 ghost use lib.ListN.{length};
 ghost use Rattle.text.specs.Buffer.{Put};
-ghost use Rattle.text.specs.Numbers.{digits, decimal, signed, hexDigit, hex, raised};
+ghost use Rattle.text.specs.Numbers.{digits, decimal, signed, hexDigit, hex};
 ghost use Rattle.text.specs.Heights.{metres};
+ghost use Rattle.text.specs.OffsetBinary as Binary;
 
 // A constant word.
 pub fn put_bytes(out: &mut [u8], at: usize, word: &[u8]) -> usize
@@ -48,18 +49,18 @@ pub fn put_u64(out: &mut [u8], at: usize, n: u64) -> usize
     put_digits(out, at, 19, n)
 }
 
-// v + 2^31, which is not negative.
-fn raise(v: i32) -> u64
-    ensures { λ r. ⌜ r ≡ raised v ⌝ }
+// The offset of v: v + 2^31, which is not negative.
+fn offset(v: i32) -> u64
+    ensures { λ r. ⌜ r ≡ Binary.offset v ⌝ }
 {
     (v as i64 + 0x8000_0000) as u64
 }
 
-// The number n - 2^31 in decimal, with a minus where it is negative.
-fn put_raised(out: &mut [u8], at: usize, n: u64) -> usize
+// The number whose offset is n, n - 2^31, in decimal, with a minus where it is negative.
+fn put_offset(out: &mut [u8], at: usize, n: u64) -> usize
     requires { ⌜ n < 0x1_0000_0000 ⌝ }
     requires { ⌜ at + 11 ≤ length (now out) ⌝ }
-    ensures { λ r. ⌜ (r ≤ at + 11) × Put (now (out .entry)) at (Rattle.text.specs.Numbers.signedRaised n) r (now (out .exit)) ⌝ }
+    ensures { λ r. ⌜ (r ≤ at + 11) × Put (now (out .entry)) at (Binary.offsetText n) r (now (out .exit)) ⌝ }
 {
     if 0x8000_0000 <= n {
         return put_digits(out, at, 9, n - 0x8000_0000);
@@ -73,13 +74,13 @@ pub fn put_i32(out: &mut [u8], at: usize, v: i32) -> usize
     requires { ⌜ at + 11 ≤ length (now out) ⌝ }
     ensures { λ r. ⌜ (r ≤ at + 11) × Put (now (out .entry)) at (signed v) r (now (out .exit)) ⌝ }
 {
-    put_raised(out, at, raise(v))
+    put_offset(out, at, offset(v))
 }
 
-// The whole metres of a height in millimetres, raised by 2^31 as above.
-fn raised_metres(n: u64) -> u64
+// The offset of the whole metres of the height whose offset is n.
+fn offset_metres(n: u64) -> u64
     requires { ⌜ n < 0x1_0000_0000 ⌝ }
-    ensures { λ r. ⌜ (r ≡ Rattle.text.specs.Heights.metresRaised n) × (r < 0x1_0000_0000) ⌝ }
+    ensures { λ r. ⌜ (r ≡ Binary.offsetMetres n) × (r < 0x1_0000_0000) ⌝ }
 {
     if 0x8000_0000 <= n {
         return 0x8000_0000 + (n - 0x8000_0000 + 500) / 1000;
@@ -92,7 +93,7 @@ pub fn put_metres(out: &mut [u8], at: usize, height: i32) -> usize
     requires { ⌜ at + 11 ≤ length (now out) ⌝ }
     ensures { λ r. ⌜ (r ≤ at + 11) × Put (now (out .entry)) at (signed (metres height)) r (now (out .exit)) ⌝ }
 {
-    put_raised(out, at, raised_metres(raise(height)))
+    put_offset(out, at, offset_metres(offset(height)))
 }
 
 // A hex digit.

@@ -2,10 +2,10 @@ use mathlib.Core.Path.{_≡_, refl, sym, ap, _∙_}
 use native.Mathlib.Omega.{arith}
 use lib.ListN.{length-set}
 use Rattle.text.proofs.Writing.{put-as, put-put, put-one}
-use Rattle.text.proofs.Shapes.{raised-plain, raised-minus}
+use Rattle.text.proofs.Shapes.{offset-plain, offset-minus}
 use borrow.Author.Needs.{needs}
-use Rattle.text.proofs.put_raised.Statement.{statement}
-use Rattle.text.proofs.put_raised.Tie as tie
+use Rattle.text.proofs.put_offset.Statement.{statement}
+use Rattle.text.proofs.put_offset.Tie as tie
 
 put-digits-requires : tie.Need-put-digits-requires
 put-digits-requires c κs = search needs
@@ -14,7 +14,7 @@ same-length : tie.Need-same-length
 same-length c = search needs
 
 returns : tie.Need-returns
-returns c = let p = c .before .before .put-digits .ensures in (omega (arith, p .0), put-as (sym (raised-plain _ (c .before .before .before .before .if1 .taken))) (p .1))
+returns c = let p = c .before .before .put-digits .ensures in (omega (arith, p .0), put-as (sym (offset-plain _ (c .before .before .before .before .if1 .taken))) (p .1))
 
 slice-write-out : tie.Need-slice-write-out
 slice-write-out c = search needs
@@ -32,10 +32,10 @@ same-length-2 : tie.Need-same-length-2
 same-length-2 c = c .before .before .put-digits2 .kept .0 ∙ simp length-set
 
 returns-2 : tie.Need-returns-2
-returns-2 c = let p = c .before .before .put-digits2 .ensures in (omega (arith, p .0), put-as (sym (raised-minus _ (c .before .before .before .before .if1 .left))) (put-put (put-one _ _ _) (p .1)))
+returns-2 c = let p = c .before .before .put-digits2 .ensures in (omega (arith, p .0), put-as (sym (offset-minus _ (c .before .before .before .before .if1 .left))) (put-put (put-one _ _ _) (p .1)))
 
-pub put-raised-spec : {M : Type 1} → statement M
-put-raised-spec =
+pub put-offset-spec : {M : Type 1} → statement M
+put-offset-spec =
     tie.close
     (tie.spec
     put-digits-requires
