@@ -33,8 +33,8 @@ abbrev pub hashBytes : ℕ
 hashBytes = 32
 
 -- 2.3: w >>> n, which is (w >> n) ^ (w << (32 - n))
-unfoldable pub rotated : ℕ → ℕ → ℕ
-rotated w n = bitXor (w / 2 ^ n) (w * 2 ^ (32 - n) % 2 ^ 32)
+unfoldable pub rotateRight : ℕ → ℕ → ℕ
+rotateRight w n = bitXor (w / 2 ^ n) (w * 2 ^ (32 - n) % 2 ^ 32)
 
 -- 2.6: the initialization vector IV
 unfoldable pub iv : List ℕ
@@ -56,43 +56,43 @@ sigma =
     ∷ []
 
 -- 3.1: the statements of the mixing function: v[i] := (v[i] + v[j] + x) mod 2 ** w, and v[i] := (v[i] ^ v[j]) >>> n
-unfoldable pub added : List ℕ → ℕ → ℕ → ℕ → List ℕ
-added v i j x = set v i ((at v i + at v j + x) % 2 ^ 32)
+unfoldable pub addWord : List ℕ → ℕ → ℕ → ℕ → List ℕ
+addWord v i j x = set v i ((at v i + at v j + x) % 2 ^ 32)
 
-unfoldable pub turned : List ℕ → ℕ → ℕ → ℕ → List ℕ
-turned v i j n = set v i (rotated (bitXor (at v i) (at v j)) n)
+unfoldable pub turnWord : List ℕ → ℕ → ℕ → ℕ → List ℕ
+turnWord v i j n = set v i (rotateRight (bitXor (at v i) (at v j)) n)
 
 -- 3.1: four of the eight statements of the mixing function, with the word x and the rotations r and s
-unfoldable pub halfMixed : List ℕ → ℕ → ℕ → ℕ → ℕ → ℕ → ℕ → ℕ → List ℕ
-halfMixed v a b c d x r s =
-    let v₁ = added v a b x in
-    let v₂ = turned v₁ d a r in
-    let v₃ = added v₂ c d 0 in
-    turned v₃ b c s
+unfoldable pub halfMix : List ℕ → ℕ → ℕ → ℕ → ℕ → ℕ → ℕ → ℕ → List ℕ
+halfMix v a b c d x r s =
+    let v₁ = addWord v a b x in
+    let v₂ = turnWord v₁ d a r in
+    let v₃ = addWord v₂ c d 0 in
+    turnWord v₃ b c s
 
 -- 3.1: the mixing function G
-unfoldable pub mixed : List ℕ → ℕ → ℕ → ℕ → ℕ → ℕ → ℕ → List ℕ
-mixed v a b c d x y = halfMixed (halfMixed v a b c d x r₁ r₂) a b c d y r₃ r₄
+unfoldable pub mixWords : List ℕ → ℕ → ℕ → ℕ → ℕ → ℕ → ℕ → List ℕ
+mixWords v a b c d x y = halfMix (halfMix v a b c d x r₁ r₂) a b c d y r₃ r₄
 
 -- 3.2, the two halves of a round: the columns of the state, then its diagonals, with the words of m that s₀ to s₇ name
-unfoldable pub columns : List ℕ → List ℕ → ℕ → ℕ → ℕ → ℕ → ℕ → ℕ → ℕ → ℕ → List ℕ
-columns v m s₀ s₁ s₂ s₃ s₄ s₅ s₆ s₇ =
-    let v₁ = mixed v 0 4 8 12 (at m s₀) (at m s₁) in
-    let v₂ = mixed v₁ 1 5 9 13 (at m s₂) (at m s₃) in
-    let v₃ = mixed v₂ 2 6 10 14 (at m s₄) (at m s₅) in
-    mixed v₃ 3 7 11 15 (at m s₆) (at m s₇)
+unfoldable pub mixColumns : List ℕ → List ℕ → ℕ → ℕ → ℕ → ℕ → ℕ → ℕ → ℕ → ℕ → List ℕ
+mixColumns v m s₀ s₁ s₂ s₃ s₄ s₅ s₆ s₇ =
+    let v₁ = mixWords v 0 4 8 12 (at m s₀) (at m s₁) in
+    let v₂ = mixWords v₁ 1 5 9 13 (at m s₂) (at m s₃) in
+    let v₃ = mixWords v₂ 2 6 10 14 (at m s₄) (at m s₅) in
+    mixWords v₃ 3 7 11 15 (at m s₆) (at m s₇)
 
-unfoldable pub diagonals : List ℕ → List ℕ → ℕ → ℕ → ℕ → ℕ → ℕ → ℕ → ℕ → ℕ → List ℕ
-diagonals v m s₀ s₁ s₂ s₃ s₄ s₅ s₆ s₇ =
-    let v₁ = mixed v 0 5 10 15 (at m s₀) (at m s₁) in
-    let v₂ = mixed v₁ 1 6 11 12 (at m s₂) (at m s₃) in
-    let v₃ = mixed v₂ 2 7 8 13 (at m s₄) (at m s₅) in
-    mixed v₃ 3 4 9 14 (at m s₆) (at m s₇)
+unfoldable pub mixDiagonals : List ℕ → List ℕ → ℕ → ℕ → ℕ → ℕ → ℕ → ℕ → ℕ → ℕ → List ℕ
+mixDiagonals v m s₀ s₁ s₂ s₃ s₄ s₅ s₆ s₇ =
+    let v₁ = mixWords v 0 5 10 15 (at m s₀) (at m s₁) in
+    let v₂ = mixWords v₁ 1 6 11 12 (at m s₂) (at m s₃) in
+    let v₃ = mixWords v₂ 2 7 8 13 (at m s₄) (at m s₅) in
+    mixWords v₃ 3 4 9 14 (at m s₆) (at m s₇)
 
 -- 3.2: a round with the row s of SIGMA
 unfoldable pub roundBy : List ℕ → List ℕ → List ℕ → List ℕ
 roundBy s m v =
-    diagonals (columns v m (at s 0) (at s 1) (at s 2) (at s 3) (at s 4) (at s 5) (at s 6) (at s 7))
+    mixDiagonals (mixColumns v m (at s 0) (at s 1) (at s 2) (at s 3) (at s 4) (at s 5) (at s 6) (at s 7))
     m (at s 8) (at s 9) (at s 10) (at s 11) (at s 12) (at s 13) (at s 14) (at s 15)
 
 -- 3.2: round i, and the first n rounds
@@ -108,22 +108,22 @@ abbrev pub allOnes : ℕ
 allOnes = 0xffff_ffff
 
 -- 3.2: the state that a block starts from. t is the offset, and xoring with f inverts v[14] in the last block
-unfoldable pub started : List ℕ → ℕ → ℕ → List ℕ
-started h t f =
+unfoldable pub startState : List ℕ → ℕ → ℕ → List ℕ
+startState h t f =
     at h 0 ∷ at h 1 ∷ at h 2 ∷ at h 3 ∷ at h 4 ∷ at h 5 ∷ at h 6 ∷ at h 7
     ∷ at iv 0 ∷ at iv 1 ∷ at iv 2 ∷ at iv 3
     ∷ bitXor (at iv 4) (t % 2 ^ 32) ∷ bitXor (at iv 5) (t / 2 ^ 32) ∷ bitXor (at iv 6) f ∷ at iv 7 ∷ []
 
 -- 3.2: h[i] ^ v[i] ^ v[i + 8], and all eight
-abbrev pub xored : List ℕ → List ℕ → ℕ → ℕ
-xored h v i = bitXor (bitXor (at h i) (at v i)) (at v (i + 8))
+abbrev pub xorLane : List ℕ → List ℕ → ℕ → ℕ
+xorLane h v i = bitXor (bitXor (at h i) (at v i)) (at v (i + 8))
 
-abbrev pub folded : List ℕ → List ℕ → List ℕ
-folded h v = xored h v 0 ∷ xored h v 1 ∷ xored h v 2 ∷ xored h v 3 ∷ xored h v 4 ∷ xored h v 5 ∷ xored h v 6 ∷ xored h v 7 ∷ []
+abbrev pub foldState : List ℕ → List ℕ → List ℕ
+foldState h v = xorLane h v 0 ∷ xorLane h v 1 ∷ xorLane h v 2 ∷ xorLane h v 3 ∷ xorLane h v 4 ∷ xorLane h v 5 ∷ xorLane h v 6 ∷ xorLane h v 7 ∷ []
 
 -- 3.2: the compression function F, with the ten rounds of 2.1
-unfoldable pub compressed : List ℕ → List ℕ → ℕ → ℕ → List ℕ
-compressed h m t f = folded h (rounds 10 m (started h t f))
+unfoldable pub compressBlock : List ℕ → List ℕ → ℕ → ℕ → List ℕ
+compressBlock h m t f = foldState h (rounds 10 m (startState h t f))
 
 -- 2.4: the sixteen little-endian words of a block
 unfoldable pub wordsOf : List ℕ → List ℕ
@@ -132,34 +132,34 @@ wordsOf b =
     ∷ wordAt 4 32 b ∷ wordAt 4 36 b ∷ wordAt 4 40 b ∷ wordAt 4 44 b ∷ wordAt 4 48 b ∷ wordAt 4 52 b ∷ wordAt 4 56 b ∷ wordAt 4 60 b ∷ []
 
 -- 3.3: filled up with zeros to a whole block
-unfoldable pub padded : List ℕ → List ℕ
-padded s = s ++ replicate (blockBytes - length s) 0
+unfoldable pub padBlock : List ℕ → List ℕ
+padBlock s = s ++ replicate (blockBytes - length s) 0
 
 -- 3.3: the words of block d[i] of the input s
 abbrev pub block : List ℕ → ℕ → List ℕ
-block s i = wordsOf (padded (take blockBytes (drop (i * blockBytes) s)))
+block s i = wordsOf (padBlock (take blockBytes (drop (i * blockBytes) s)))
 
 -- 2.5 and 3.3: the first state, h[0] := IV[0] ^ 0x01010000 ^ (kk << 8) ^ nn, where the first word of the parameter block is all that is not zero
-unfoldable pub first : List ℕ
-first = set iv 0 (bitXor (bitXor (bitXor (at iv 0) 0x01010000) (keyBytes * 2 ^ 8)) hashBytes)
+unfoldable pub firstState : List ℕ
+firstState = set iv 0 (bitXor (bitXor (bitXor (at iv 0) 0x01010000) (keyBytes * 2 ^ 8)) hashBytes)
 
 -- 3.3: the state after the first n blocks of s, of which none is the last
-unfoldable pub chained : ℕ → List ℕ → List ℕ
-chained zero s = first
-chained (suc n) s = compressed (chained n s) (block s n) (suc n * blockBytes) 0
+unfoldable pub chainBlocks : ℕ → List ℕ → List ℕ
+chainBlocks zero s = firstState
+chainBlocks (suc n) s = compressBlock (chainBlocks n s) (block s n) (suc n * blockBytes) 0
 
 -- 3.3: the number of blocks before the last. The last has 1 to 64 bytes, or none where the input is empty
-abbrev pub before : List ℕ → ℕ
-before s = (length s - 1) / blockBytes
+abbrev pub blocksBefore : List ℕ → ℕ
+blocksBefore s = (length s - 1) / blockBytes
 
 -- 3.3: the eight words at the end
 unfoldable pub hashWords : List ℕ → List ℕ
-hashWords s = compressed (chained (before s) s) (block s (before s)) (length s) allOnes
+hashWords s = compressBlock (chainBlocks (blocksBefore s) s) (block s (blocksBefore s)) (length s) allOnes
 
 -- 2.4 and 3.3: words as bytes, lowest first. All 32 bytes of the eight words are the hash
-unfoldable pub bytesOf : List ℕ → List ℕ
-bytesOf [] = []
-bytesOf (w ∷ ws) = wordBytes 4 w ++ bytesOf ws
+unfoldable pub bytesOfWords : List ℕ → List ℕ
+bytesOfWords [] = []
+bytesOfWords (w ∷ ws) = wordBytes 4 w ++ bytesOfWords ws
 
 unfoldable pub blake2s256 : List ℕ → List ℕ
-blake2s256 s = bytesOf (hashWords s)
+blake2s256 s = bytesOfWords (hashWords s)

@@ -1,7 +1,7 @@
 // The compression function F (RFC 7693, 3.2), over the bytes of a block.
 ghost use mathlib.Core.Path.{_≡_};
 ghost use lib.ListN.{length};
-ghost use Rattle.hashing.specs.Blake2s.{wordsOf, started, folded, compressed, blockBytes};
+ghost use Rattle.hashing.specs.Blake2s.{wordsOf, startState, foldState, compressBlock, blockBytes};
 use crate::rounds::all_rounds;
 use octets::words::u32_at;
 
@@ -50,7 +50,7 @@ fn message_words(b: &[u8]) -> [u32; 16]
 
 // The state that a block starts from.
 fn start(h: &[u32; 8], t: u64, f: u32) -> [u32; 16]
-    ensures { λ r. ⌜ r ≡ started (now (h .entry)) t f ⌝ }
+    ensures { λ r. ⌜ r ≡ startState (now (h .entry)) t f ⌝ }
 {
     let low = (t % 0x1_0000_0000) as u32;
     let high = (t / 0x1_0000_0000) as u32;
@@ -76,7 +76,7 @@ fn start(h: &[u32; 8], t: u64, f: u32) -> [u32; 16]
 
 // Both folded of the state, xored into h.
 fn fold(h: &[u32; 8], v: &[u32; 16]) -> [u32; 8]
-    ensures { λ r. ⌜ r ≡ folded (now (h .entry)) (now (v .entry)) ⌝ }
+    ensures { λ r. ⌜ r ≡ foldState (now (h .entry)) (now (v .entry)) ⌝ }
 {
     [
         h[0] ^ v[0] ^ v[8],
@@ -93,7 +93,7 @@ fn fold(h: &[u32; 8], v: &[u32; 16]) -> [u32; 8]
 // F on a block of 64 bytes: t bytes are hashed with it, and f is all ones if it is the last.
 pub fn compress(h: &[u32; 8], b: &[u8], t: u64, f: u32) -> [u32; 8]
     requires { ⌜ length (now b) ≡ blockBytes ⌝ }
-    ensures { λ r. ⌜ r ≡ compressed (now (h .entry)) (wordsOf (now (b .entry))) t f ⌝ }
+    ensures { λ r. ⌜ r ≡ compressBlock (now (h .entry)) (wordsOf (now (b .entry))) t f ⌝ }
 {
     let m = message_words(b);
     let v = all_rounds(start(h, t, f), &m);

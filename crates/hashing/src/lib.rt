@@ -6,7 +6,7 @@ mod rounds;
 ghost use mathlib.Core.Path.{_≡_};
 ghost use Prim.Native.Nat.{_-_, _*_, _/_, _≤_};
 ghost use lib.ListN.{length};
-ghost use Rattle.hashing.specs.Blake2s.{padded, chained, hashWords, bytesOf, blake2s256, blockBytes};
+ghost use Rattle.hashing.specs.Blake2s.{padBlock, chainBlocks, hashWords, bytesOfWords, blake2s256, blockBytes};
 use compression::compress;
 use octets::words::put_u32;
 
@@ -34,7 +34,7 @@ fn before_last(len: usize) -> usize
 // Filled up with zeros to a whole block.
 fn padded_block(s: &[u8]) -> [u8; BLOCK]
     requires { ⌜ length (now s) ≤ blockBytes ⌝ }
-    ensures { λ r. ⌜ r ≡ padded (now (s .entry)) ⌝ }
+    ensures { λ r. ⌜ r ≡ padBlock (now (s .entry)) ⌝ }
 {
     let mut b = [0; BLOCK];
     bytes::copy(s, &mut b);
@@ -44,7 +44,7 @@ fn padded_block(s: &[u8]) -> [u8; BLOCK]
 // The state after the first n blocks, of which none is the last.
 fn chain(s: &[u8], n: usize) -> [u32; 8]
     requires { ⌜ n * blockBytes ≤ length (now s) ⌝ }
-    ensures { λ r. ⌜ r ≡ chained n (now (s .entry)) ⌝ }
+    ensures { λ r. ⌜ r ≡ chainBlocks n (now (s .entry)) ⌝ }
 {
     let mut h = [
         compression::IV0 ^ PARAMETERS,
@@ -79,7 +79,7 @@ fn hash_words(s: &[u8]) -> [u32; 8]
 
 // Eight words as bytes, lowest first.
 fn word_bytes(h: [u32; 8]) -> [u8; 32]
-    ensures { λ r. ⌜ r ≡ bytesOf h ⌝ }
+    ensures { λ r. ⌜ r ≡ bytesOfWords h ⌝ }
 {
     let mut out = [0; 32];
     let mut i = 0;

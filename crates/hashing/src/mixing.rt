@@ -1,7 +1,7 @@
 // The mixing function G and the halves of a round (RFC 7693, 3.1 and 3.2).
 ghost use mathlib.Core.Path.{_≡_};
 ghost use Prim.Native.Nat.{_<_};
-ghost use Rattle.hashing.specs.Blake2s.{at, rotated, added, turned, halfMixed, mixed, columns, diagonals};
+ghost use Rattle.hashing.specs.Blake2s.{at, rotateRight, addWord, turnWord, halfMix, mixWords, mixColumns, mixDiagonals};
 
 // The rotations of G (2.1).
 const R1: u32 = 16;
@@ -14,7 +14,7 @@ const R4: u32 = 7;
 
 fn rotate_right(w: u32, n: u32) -> u32
     requires { ⌜ (0 < n) × (n < 32) ⌝ }
-    ensures { λ r. ⌜ r ≡ rotated w n ⌝ }
+    ensures { λ r. ⌜ r ≡ rotateRight w n ⌝ }
 {
     (w >> n) ^ (w << (32 - n))
 }
@@ -22,7 +22,7 @@ fn rotate_right(w: u32, n: u32) -> u32
 // v[i] := v[i] + v[j] + x, modulo 2^32.
 fn add(v: &mut [u32; 16], i: usize, j: usize, x: u32)
     requires { ⌜ (i < 16) × (j < 16) ⌝ }
-    ensures { λ _. ⌜ now (v .exit) ≡ added (now (v .entry)) i j x ⌝ }
+    ensures { λ _. ⌜ now (v .exit) ≡ addWord (now (v .entry)) i j x ⌝ }
 {
     v[i] = std::num::wrapping_add_u32(std::num::wrapping_add_u32(v[i], v[j]), x);
 }
@@ -30,7 +30,7 @@ fn add(v: &mut [u32; 16], i: usize, j: usize, x: u32)
 // v[i] := v[i] ^ v[j], rotated by n.
 fn turn(v: &mut [u32; 16], i: usize, j: usize, n: u32)
     requires { ⌜ (i < 16) × (j < 16) × (0 < n) × (n < 32) ⌝ }
-    ensures { λ _. ⌜ now (v .exit) ≡ turned (now (v .entry)) i j n ⌝ }
+    ensures { λ _. ⌜ now (v .exit) ≡ turnWord (now (v .entry)) i j n ⌝ }
 {
     v[i] = rotate_right(v[i] ^ v[j], n);
 }
@@ -38,7 +38,7 @@ fn turn(v: &mut [u32; 16], i: usize, j: usize, n: u32)
 // Four of the eight statements of G.
 fn half_mix(v: &mut [u32; 16], a: usize, b: usize, c: usize, d: usize, x: u32, r: u32, s: u32)
     requires { ⌜ (a < 16) × (b < 16) × (c < 16) × (d < 16) × (0 < r) × (r < 32) × (0 < s) × (s < 32) ⌝ }
-    ensures { λ _. ⌜ now (v .exit) ≡ halfMixed (now (v .entry)) a b c d x r s ⌝ }
+    ensures { λ _. ⌜ now (v .exit) ≡ halfMix (now (v .entry)) a b c d x r s ⌝ }
 {
     add(v, a, b, x);
     turn(v, d, a, r);
@@ -49,7 +49,7 @@ fn half_mix(v: &mut [u32; 16], a: usize, b: usize, c: usize, d: usize, x: u32, r
 // G with the words i and j of the message.
 fn mix(v: &mut [u32; 16], m: &[u32; 16], a: usize, b: usize, c: usize, d: usize, i: usize, j: usize)
     requires { ⌜ (a < 16) × (b < 16) × (c < 16) × (d < 16) × (i < 16) × (j < 16) ⌝ }
-    ensures { λ _. ⌜ now (v .exit) ≡ mixed (now (v .entry)) a b c d (at (now (m .entry)) i) (at (now (m .entry)) j) ⌝ }
+    ensures { λ _. ⌜ now (v .exit) ≡ mixWords (now (v .entry)) a b c d (at (now (m .entry)) i) (at (now (m .entry)) j) ⌝ }
 {
     half_mix(v, a, b, c, d, m[i], R1, R2);
     half_mix(v, a, b, c, d, m[j], R3, R4);
@@ -69,7 +69,7 @@ pub fn columns(
     s7: usize,
 )
     requires { ⌜ (s0 < 16) × (s1 < 16) × (s2 < 16) × (s3 < 16) × (s4 < 16) × (s5 < 16) × (s6 < 16) × (s7 < 16) ⌝ }
-    ensures { λ _. ⌜ now (v .exit) ≡ columns (now (v .entry)) (now (m .entry)) s0 s1 s2 s3 s4 s5 s6 s7 ⌝ }
+    ensures { λ _. ⌜ now (v .exit) ≡ mixColumns (now (v .entry)) (now (m .entry)) s0 s1 s2 s3 s4 s5 s6 s7 ⌝ }
 {
     mix(v, m, 0, 4, 8, 12, s0, s1);
     mix(v, m, 1, 5, 9, 13, s2, s3);
@@ -91,7 +91,7 @@ pub fn diagonals(
     s7: usize,
 )
     requires { ⌜ (s0 < 16) × (s1 < 16) × (s2 < 16) × (s3 < 16) × (s4 < 16) × (s5 < 16) × (s6 < 16) × (s7 < 16) ⌝ }
-    ensures { λ _. ⌜ now (v .exit) ≡ diagonals (now (v .entry)) (now (m .entry)) s0 s1 s2 s3 s4 s5 s6 s7 ⌝ }
+    ensures { λ _. ⌜ now (v .exit) ≡ mixDiagonals (now (v .entry)) (now (m .entry)) s0 s1 s2 s3 s4 s5 s6 s7 ⌝ }
 {
     mix(v, m, 0, 5, 10, 15, s0, s1);
     mix(v, m, 1, 6, 11, 12, s2, s3);

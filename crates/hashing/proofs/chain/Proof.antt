@@ -1,7 +1,7 @@
 -- The state after each block that is not the last: the loop goes as the recursion of `chained` does.
 use borrow.Author.Needs.{needs}
 use Rattle.hashing.proofs.Blocks.{length-part, chain-more}
-use Rattle.hashing.specs.Blake2s.{chained, first, iv}
+use Rattle.hashing.specs.Blake2s.{chainBlocks, firstState, iv}
 use mathlib.Core.Path.{_≡_, refl}
 use Prim.Native.Nat.{_-_, _≤_}
 use native.Mathlib.Omega.{arith}
@@ -9,13 +9,13 @@ use Rattle.hashing.proofs.chain.Statement.{statement}
 use Rattle.hashing.proofs.chain.Tie as tie
 
 abbrev Inv-loop : tie.InvT-loop
-Inv-loop s n h₀ i₀ h i = (i ≤ n) × (h ≡ chained i s)
+Inv-loop s n h₀ i₀ h i = (i ≤ n) × (h ≡ chainBlocks i s)
 
 abbrev μ-loop : tie.MeasureT-loop
 μ-loop s n h₀ i₀ h i = n - i
 
 loop-holds : tie.Need-loop-holds Inv-loop μ-loop
-unfolding chained first iv
+unfolding chainBlocks firstState iv
 loop-holds c = (omega arith, refl)
 
 mul-at : tie.Need-mul-at Inv-loop μ-loop

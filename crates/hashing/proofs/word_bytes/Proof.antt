@@ -1,9 +1,9 @@
 -- Each turn writes one more word after those before it.
 use borrow.Author.Needs.{needs}
 use Rattle.hashing.proofs.Digest.{written, all-written}
-use Rattle.octets.specs.Words.{putWord}
+use Rattle.octets.specs.Writes.{putWord}
 use Rattle.octets.proofs.Numbers.{length-put}
-use Rattle.hashing.specs.Blake2s.{bytesOf}
+use Rattle.hashing.specs.Blake2s.{bytesOfWords}
 use lib.ListN.{length, getD, take, drop, replicate}
 use mathlib.Core.List.{_++_}
 use mathlib.Core.Path.{_≡_, refl, ap, _∙_}
@@ -13,13 +13,13 @@ use Rattle.hashing.proofs.word_bytes.Statement.{statement}
 use Rattle.hashing.proofs.word_bytes.Tie as tie
 
 abbrev Inv-loop : tie.InvT-loop
-Inv-loop h out₀ i₀ out i = (i ≤ 8) × (length h ≡ 8) × (length out ≡ 32) × (out ≡ bytesOf (take i h) ++ drop (i * 4) out₀)
+Inv-loop h out₀ i₀ out i = (i ≤ 8) × (length h ≡ 8) × (length out ≡ 32) × (out ≡ bytesOfWords (take i h) ++ drop (i * 4) out₀)
 
 abbrev μ-loop : tie.MeasureT-loop
 μ-loop h out₀ i₀ out i = 8 - i
 
 loop-holds : tie.Need-loop-holds Inv-loop μ-loop
-unfolding bytesOf
+unfolding bytesOfWords
 loop-holds c = (omega arith, search needs, refl, refl)
 
 slice-aggregate-put-u32 : tie.Need-slice-aggregate-put-u32 Inv-loop μ-loop

@@ -1,6 +1,6 @@
 -- `compress` is the compression function F.
 use borrow.Author.Needs.{needs}
-use Rattle.hashing.specs.Blake2s.{compressed}
+use Rattle.hashing.specs.Blake2s.{compressBlock}
 use Rattle.hashing.proofs.compression.compress.Statement.{statement}
 use Rattle.hashing.proofs.compression.compress.Tie as tie
 
@@ -17,7 +17,7 @@ fold-requires : tie.Need-fold-requires
 fold-requires c κs = search needs
 
 returns : tie.Need-returns
-unfolding compressed
+unfolding compressBlock
 returns c = rw (
   c .fold .ensures,
   c .before .before .all-rounds .ensures,

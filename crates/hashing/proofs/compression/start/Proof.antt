@@ -1,6 +1,6 @@
 -- The state that a block starts from.
 use borrow.Author.Needs.{needs}
-use Rattle.hashing.specs.Blake2s.{started, iv}
+use Rattle.hashing.specs.Blake2s.{startState, iv}
 use Rattle.hashing.proofs.compression.start.Statement.{statement}
 use Rattle.hashing.proofs.compression.start.Tie as tie
 
@@ -35,7 +35,7 @@ element-copy-out-t30 : tie.Need-element-copy-out-t30
 element-copy-out-t30 c = search needs
 
 returns : tie.Need-returns
-unfolding started iv
+unfolding startState iv
 returns c = search needs
 
 pub start-spec : {M : Type 1} → statement M

@@ -1,7 +1,7 @@
 -- `add` is the definition's `added`: the code wraps twice, the definition once, which is the same (`mod-add-mod`).
 use borrow.Author.Needs.{needs}
 use native.Mathlib.Nat.{mod-add-mod}
-use Rattle.hashing.specs.Blake2s.{added}
+use Rattle.hashing.specs.Blake2s.{addWord}
 use Rattle.hashing.proofs.mixing.add.Statement.{statement}
 use Rattle.hashing.proofs.mixing.add.Tie as tie
 
@@ -30,7 +30,7 @@ element-write-v : tie.Need-element-write-v
 element-write-v c = search needs
 
 returns : tie.Need-returns
-unfolding added
+unfolding addWord
 returns c = rw (c .wrapping-add-u322 .ensures, c .before .wrapping-add-u32 .ensures, mod-add-mod)
 
 pub add-spec : {M : Type 1} → statement M

@@ -1,6 +1,6 @@
 -- `columns` is the first half of a round.
 use borrow.Author.Needs.{needs}
-use Rattle.hashing.specs.Blake2s.{columns}
+use Rattle.hashing.specs.Blake2s.{mixColumns}
 use Rattle.hashing.proofs.mixing.columns.Statement.{statement}
 use Rattle.hashing.proofs.mixing.columns.Tie as tie
 
@@ -17,7 +17,7 @@ mix-requires-4 : tie.Need-mix-requires-4
 mix-requires-4 c κs = search needs
 
 returns : tie.Need-returns
-unfolding columns
+unfolding mixColumns
 returns c = rw
     (c .mix4 .ensures, c .before .before .mix3 .ensures, c .before .before .before .before .mix2 .ensures, c .before .before .before .before .before .before .mix .ensures)
 

@@ -1,6 +1,6 @@
 -- `diagonals` is the second half of a round.
 use borrow.Author.Needs.{needs}
-use Rattle.hashing.specs.Blake2s.{diagonals}
+use Rattle.hashing.specs.Blake2s.{mixDiagonals}
 use Rattle.hashing.proofs.mixing.diagonals.Statement.{statement}
 use Rattle.hashing.proofs.mixing.diagonals.Tie as tie
 
@@ -17,7 +17,7 @@ mix-requires-4 : tie.Need-mix-requires-4
 mix-requires-4 c κs = search needs
 
 returns : tie.Need-returns
-unfolding diagonals
+unfolding mixDiagonals
 returns c = rw
     (c .mix4 .ensures, c .before .before .mix3 .ensures, c .before .before .before .before .mix2 .ensures, c .before .before .before .before .before .before .mix .ensures)
 

@@ -1,6 +1,6 @@
 -- `half_mix` is half of the mixing function.
 use borrow.Author.Needs.{needs}
-use Rattle.hashing.specs.Blake2s.{halfMixed}
+use Rattle.hashing.specs.Blake2s.{halfMix}
 use Rattle.hashing.proofs.mixing.half_mix.Statement.{statement}
 use Rattle.hashing.proofs.mixing.half_mix.Tie as tie
 
@@ -17,7 +17,7 @@ turn-requires-2 : tie.Need-turn-requires-2
 turn-requires-2 c κs = search needs
 
 returns : tie.Need-returns
-unfolding halfMixed
+unfolding halfMix
 returns c = rw
     (c .turn2 .ensures, c .before .before .add2 .ensures, c .before .before .before .before .turn .ensures, c .before .before .before .before .before .before .add .ensures)
 

@@ -1,6 +1,6 @@
 -- `mix` is the mixing function G, with the rotations of RFC 7693.
 use borrow.Author.Needs.{needs}
-use Rattle.hashing.specs.Blake2s.{mixed}
+use Rattle.hashing.specs.Blake2s.{mixWords}
 use Rattle.hashing.proofs.mixing.mix.Statement.{statement}
 use Rattle.hashing.proofs.mixing.mix.Tie as tie
 
@@ -23,7 +23,7 @@ half-mix-requires-2 : tie.Need-half-mix-requires-2
 half-mix-requires-2 c κs = search needs
 
 returns : tie.Need-returns
-unfolding mixed
+unfolding mixWords
 returns c = rw (c .half-mix2 .ensures, c .before .before .before .half-mix .ensures)
 
 pub mix-spec : {M : Type 1} → statement M

@@ -1,6 +1,6 @@
 -- `rotate_right` is the rotation of the definition.
 use borrow.Author.Needs.{needs}
-use Rattle.hashing.specs.Blake2s.{rotated}
+use Rattle.hashing.specs.Blake2s.{rotateRight}
 use Rattle.hashing.proofs.mixing.rotate_right.Statement.{statement}
 use Rattle.hashing.proofs.mixing.rotate_right.Tie as tie
 
@@ -14,7 +14,7 @@ shl-result : tie.Need-shl-result
 shl-result c = search needs
 
 returns : tie.Need-returns
-unfolding rotated
+unfolding rotateRight
 returns c = search needs
 
 pub rotate-right-spec : {M : Type 1} → statement M

@@ -1,6 +1,6 @@
 -- `turn` is the definition's `turned`.
 use borrow.Author.Needs.{needs}
-use Rattle.hashing.specs.Blake2s.{turned}
+use Rattle.hashing.specs.Blake2s.{turnWord}
 use Rattle.hashing.proofs.mixing.turn.Statement.{statement}
 use Rattle.hashing.proofs.mixing.turn.Tie as tie
 
@@ -26,7 +26,7 @@ element-write-v : tie.Need-element-write-v
 element-write-v c = search needs
 
 returns : tie.Need-returns
-unfolding turned
+unfolding turnWord
 returns c = rw (c .rotate-right .ensures)
 
 pub turn-spec : {M : Type 1} → statement M
