@@ -1,27 +1,16 @@
 -- When a chi-square is infinite, and that it is never a NaN.
-use mathlib.Core.Path.{_≡_, refl, sym, ap, _∙_}
-use mathlib.Core.Bool.{Bool, true, false, cond}
+use mathlib.Core.Path.{_≡_, refl}
+use mathlib.Core.Bool.{Bool, true, false}
 use mathlib.Core.List.{List}
 use mathlib.Core.Option.{Option, none, some}
 use lib.Ieee.{Float, nan, inf, fin, isNan, le, round}
 use lib.Ieee.Scale.{finite}
-use Rattle.arithmetic.specs.Numbers.{decimal, notAbove}
+use Rattle.arithmetic.specs.Numbers.{fromDecimal, notAbove}
 use Rattle.arithmetic.specs.Linalg.{less, rowsBelow, columns, choleskyOf}
 use Rattle.arithmetic.specs.Agree.{limitOf, rowsOf, matrixOf, lengthUnder, chiSquareOf, finiteOr, differenceOf, threeOf, agreementOf, agreesOf}
+use Rattle.arithmetic.specs.Claims.{factorUnder, sumUnder, Unmeasurable, refused, overflows, NeverNan, InfiniteExactlyWhen, ElseTheSum}
 use Rattle.arithmetic.specs.declared.standing.Covariance.{Covariance}
 use Rattle.arithmetic.specs.declared.standing.Claimed.{Claimed}
-
--- the factor that `agreementOf` solves with, and the sum that it gets
-abbrev pub factorUnder : Claimed → Claimed → Option (List Float)
-factorUnder smaller larger = choleskyOf (rowsOf (threeOf smaller larger)) (matrixOf (threeOf smaller larger) (smaller .covariance))
-
-abbrev pub sumUnder : Claimed → Claimed → List Float → Float
-sumUnder smaller larger factor = lengthUnder (rowsOf (threeOf smaller larger)) (differenceOf smaller larger) (some factor)
-
--- Cholesky refuses the smaller fix's covariance, or the sum is a NaN or an infinity.
-pub data Unmeasurable (smaller larger : Claimed) : Type 0 where
-  refused : factorUnder smaller larger ≡ none → Unmeasurable smaller larger
-  overflows : (factor : List Float) → factorUnder smaller larger ≡ some factor → finite (sumUnder smaller larger factor) ≡ false → Unmeasurable smaller larger
 
 never-nan-or : (x : Float) → isNan (finiteOr x) ≡ false
 unfolding finiteOr isNan
@@ -30,7 +19,7 @@ never-nan-or (inf s) = refl
 never-nan-or (fin s m e) = refl
 
 -- no agreement's chi-square is a NaN
-pub never-nan : (smaller larger : Claimed) → isNan (agreementOf smaller larger .chi2) ≡ false
+pub never-nan : NeverNan
 unfolding agreementOf
 never-nan smaller larger = never-nan-or (chiSquareOf (threeOf smaller larger) (smaller .covariance) (differenceOf smaller larger))
 
@@ -58,10 +47,13 @@ infinite-only-if smaller larger e = go (factorUnder smaller larger) refl
     go none f = refused f
     go (some factor) f = overflows factor f (only-infinite (sumUnder smaller larger factor) (rw f at e))
 
+pub infinite-exactly-when : InfiniteExactlyWhen
+infinite-exactly-when smaller larger = (infinite-only-if smaller larger, infinite-if smaller larger)
+
 -- where it is not infinite, it is the sum
-pub measured : (smaller larger : Claimed) (factor : List Float) → factorUnder smaller larger ≡ some factor → finite (sumUnder smaller larger factor) ≡ true → agreementOf smaller larger .chi2 ≡ sumUnder smaller larger factor
+pub else-the-sum : ElseTheSum
 unfolding agreementOf chiSquareOf lengthUnder finiteOr
-measured smaller larger factor e f = rw (e, f)
+else-the-sum smaller larger factor e f = rw (e, f)
 
 -- a covariance whose first entry is a NaN, zero or negative is refused
 first-none : (three : Bool) (c : Covariance) → notAbove (c .xx) ≡ true → choleskyOf (rowsOf three) (matrixOf three c) ≡ none
@@ -73,7 +65,7 @@ pub refused-first : (smaller larger : Claimed) → notAbove (smaller .covariance
 refused-first smaller larger e = infinite-if smaller larger (refused (first-none (threeOf smaller larger) (smaller .covariance) e))
 
 above-limit : (three : Bool) → le (inf false) (limitOf three) ≡ false
-unfolding le limitOf decimal round
+unfolding le limitOf fromDecimal round
 above-limit true = refl
 above-limit false = refl
 

@@ -1,19 +1,19 @@
 -- The quadrant and the rest of an angle: the laws that document 01's floor division has, and what the code works out in their place,
 -- from v + 3,150,000,000, which is not negative.
-use mathlib.Core.Path.{_≡_, refl, sym, ap, _∙_, subst}
+use mathlib.Core.Path.{_≡_, refl, sym, ap, _∙_}
 use Prim.Native.Nat.{ℕ, zero, suc, _+_, _-_, _*_, _/_, _%_, _^_, _≤_, _<_}
 use native.Mathlib.Nat.{lt-trans, mod-lt}
-use native.Mathlib.Decide.{decLe, decLt}
+use native.Mathlib.Decide.{decLt}
 use native.Mathlib.Omega.{arith}
-use mathlib.Core.Bool.{Bool, true, false, cond}
 use borrow.Author.Tests.{lt-ltb, le-ltb}
-use lib.Dec.{T, ltb, leb, le→leb, lt→ltb, lit<}
-use lib.IntN.{ℤ, pos, negsuc, subℕ, negℤ, negℤ-negℤ, _+ℤ_, _-ℤ_, _*ℤ_, +ℤ-comm, -ℤ-+ℤ-cancel}
-use lib.Signed.{mag, leZ, ltZ}
+use lib.Dec.{ltb, leb, le→leb, lt→ltb, lit<}
+use lib.IntN.{ℤ, pos, negsuc, subℕ, negℤ-negℤ, _+ℤ_, _-ℤ_, _*ℤ_, +ℤ-comm, -ℤ-+ℤ-cancel}
+use lib.Signed.{mag}
 use mir.Syntax.{w32, w64}
 use mir.Val.{SFits, toZ, ofZ}
 use mir.Facts.{toZ-ofZ, sfits-widen}
-use Rattle.arithmetic.specs.Angles.{floorDiv, floorMod, quadrantOf, restOf}
+use Rattle.arithmetic.specs.Angles.{floorMod, quadrantOf, restOf}
+use Rattle.arithmetic.specs.Claims.{InRest, InTurn, QuadrantAndRest}
 
 sub-up : (a b : ℕ) → b ≤ a → subℕ a b ≡ pos (a - b)
 sub-up a b h = rw (le-ltb a b h)
@@ -115,10 +115,6 @@ pub whole-law : (v : ℤ) → v ≡ pos 900000000 *ℤ quadrantOf v +ℤ restOf 
 whole-law v =
     sym (-ℤ-+ℤ-cancel v (pos 900000000 *ℤ quadrantOf v)) ∙ +ℤ-comm (restOf v) (pos 900000000 *ℤ quadrantOf v)
 
--- -450,000,000 ≤ r < 450,000,000
-abbrev pub InRest : ℤ → Type 0
-InRest r = T (leZ (negsuc 449999999) r) × T (ltZ r (pos 450000000))
-
 within : (a b : ℕ) → b ≤ a + 450000000 → a < b + 450000000 → InRest (subℕ a b)
 within a b h l = go (decLt a b)
   where
@@ -142,10 +138,6 @@ rest-in (negsuc n) = go (decLt 449999999 n)
         rw (sub-up 450000000 (suc n) (omega arith), neg-minus-is n (900000000 * q))
         (le→leb (n + 900000000 * q) 449999999 (omega arith), tt)
 
--- q is from -2 to 2 for a v of 32 bits
-abbrev pub InTurn : ℤ → Type 0
-InTurn q = T (leZ (negsuc 1) q) × T (leZ q (pos 2))
-
 pub quadrant-in : (v : ℤ) → mag v < 2 ^ 31 → InTurn (quadrantOf v)
 quadrant-in (pos n) h = (tt, le→leb ((n + 450000000) / 900000000) 2 (omega arith))
 quadrant-in (negsuc n) h = go (decLt 449999999 n)
@@ -156,11 +148,5 @@ quadrant-in (negsuc n) h = go (decLt 449999999 n)
     go (no l) =
         rw (sub-up 450000000 (suc n) (omega arith)) (tt, le→leb ((450000000 - suc n) / 900000000) 2 (omega arith))
 
--- and its remainder by 4 is the one that is not negative
-pub remainders :
-    (floorMod (negsuc 1) 4 ≡ 2)
-    × (floorMod (negsuc 0) 4 ≡ 3)
-    × (floorMod (pos 0) 4 ≡ 0)
-    × (floorMod (pos 1) 4 ≡ 1)
-    × (floorMod (pos 2) 4 ≡ 2)
-remainders = (refl, refl, refl, refl, refl)
+pub quadrant-and-rest : QuadrantAndRest
+quadrant-and-rest = record { whole-law = whole-law; rest-in = rest-in; quadrant-in = quadrant-in; remainders = (refl, refl, refl, refl, refl) }

@@ -3,17 +3,17 @@ use mathlib.Core.Path.{_≡_, refl, ap, _∙_}
 use mathlib.Core.Bool.{true, false}
 use lib.Ieee.{Float, nan, lt, mul, ofInt, round}
 use Rattle.floats.proofs.Ieee754.{root-zero}
-use Rattle.arithmetic.specs.Numbers.{_⊕_, _⊗_, whole, decimal}
+use Rattle.arithmetic.specs.Numbers.{_⊕_, _⊗_, whole, fromDecimal}
 use Rattle.arithmetic.specs.Agree.{sigmaOf}
 use Rattle.arithmetic.specs.declared.standing.Covariance.{Covariance}
 
-pub low-sigma : (c : Covariance) → lt (whole 0) (decimal 5 1 ⊗ (c .xx ⊕ c .yy)) ≡ false → sigmaOf c ≡ whole 0
+pub low-sigma : (c : Covariance) → lt (whole 0) (fromDecimal 5 1 ⊗ (c .xx ⊕ c .yy)) ≡ false → sigmaOf c ≡ whole 0
 unfolding sigmaOf ofInt
 low-sigma c e = rw e (root-zero false)
 
-half-nan : lt (whole 0) (decimal 5 1 ⊗ nan) ≡ false
-unfolding decimal round ofInt mul lt
+half-nan : lt (whole 0) (fromDecimal 5 1 ⊗ nan) ≡ false
+unfolding fromDecimal round ofInt mul lt
 half-nan = refl
 
 pub nan-sigma : (c : Covariance) → c .xx ⊕ c .yy ≡ nan → sigmaOf c ≡ whole 0
-nan-sigma c e = low-sigma c (ap (λ (x : Float). lt (whole 0) (decimal 5 1 ⊗ x)) e ∙ half-nan)
+nan-sigma c e = low-sigma c (ap (λ (x : Float). lt (whole 0) (fromDecimal 5 1 ⊗ x)) e ∙ half-nan)

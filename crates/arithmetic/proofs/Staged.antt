@@ -1,20 +1,23 @@
 -- The two stages together are the definition: the same operations on the same values. The laws of a table of prepared fixes.
 use mathlib.Core.Path.{_≡_, refl, sym, ap, _∙_}
 use Prim.Native.Nat.{ℕ, _+_, _-_, _*_, _≤_, _<_}
-use mathlib.Core.Bool.{Bool, true, false, cond, _&&_}
-use mathlib.Core.List.{List, [], _∷_, _++_, append-nil, append-assoc}
+use mathlib.Core.Bool.{Bool, true, false, cond}
+use mathlib.Core.List.{List, _++_, append-nil, append-assoc}
 use native.Mathlib.Omega.{arith}
 use native.Mathlib.Decide.{decLt}
 use lib.ListN.{length, take, drop, drop-of-length-le, length-append, length-drop, take-append-drop}
 use lib.Seq.{sets, sets-eq, drop-drop, drop-at, take-at, length-take-le, drop-append-le, take-append-le, drop-append-add}
-use lib.Ieee.{Float}
+use lib.Ieee.{Float, inf, eq, ofInt}
 use Rattle.floats.specs.Root.{root}
-use Rattle.arithmetic.specs.Numbers.{_⊕_, _⊖_, _⊗_, _⊘_, notAbove}
+use Rattle.arithmetic.specs.Numbers.{_⊖_, _⊗_, _⊘_, notAbove}
 use Rattle.arithmetic.specs.Geodesy.{toEcef}
 use Rattle.arithmetic.specs.Linalg.{less, rowsBelow, columns, choleskyOf, forwards, forward, backwards, backward, solveOf, plus}
 use Rattle.arithmetic.specs.Agree.{geodeticOf, matrixOf, lengthUnder, chiSquareOf, differenceOf, agreementOf}
-use Rattle.arithmetic.specs.Stages.{noFactor, factorOf, flatLength, fullLength, measuredOf, enuOf, partsOf, judgedOf, coordinates, numbersOf, preparedOf, flagAt, partsIn, comparedOf, preparedSize, entryOf, entered}
+use Rattle.arithmetic.specs.Stages.{factorOf, factorOfTwo, factorOfThree, flatLength, fullLength, lengthOfTwo, lengthOfThree, measuredOf, enuOf, partsOf, judgedOf, coordinates, placeNumbers, twoRowsOf, thirdRowOf, flagsOf, factorNumbers, numbersOf, preparedOf, flagAt, twoRowsIn, thirdRowIn, factorIn, partsIn, comparedOf, preparedSize, entryOf, entered}
 use Rattle.arithmetic.specs.declared.geodesy.Vec3.{Vec3}
+use Rattle.arithmetic.specs.declared.geodesy.Basis.{Basis}
+use Rattle.arithmetic.specs.declared.linalg.Factor.{Factor}
+use Rattle.arithmetic.specs.declared.linalg.Factor.the-variants.{None, Flat, Full}
 use Rattle.arithmetic.specs.declared.stages.Prepared.{Prepared}
 use Rattle.arithmetic.specs.declared.standing.Covariance.{Covariance}
 use Rattle.arithmetic.specs.declared.standing.Claimed.{Claimed}
@@ -22,7 +25,7 @@ use Rattle.arithmetic.proofs.Comparing.{by, flag-back}
 
 -- ---- the linear algebra at two rows and at three
 
-module _ (c : Covariance) (v : Vec3) where
+module _ (c : Covariance) where
   abbrev l10 : Float
   l10 = c .xy ⊘ root (c .xx)
 
@@ -38,23 +41,47 @@ module _ (c : Covariance) (v : Vec3) where
   abbrev d2 : Float
   d2 = c .zz ⊖ l20 ⊗ l20 ⊖ l21 ⊗ l21
 
-  flat-is : chiSquareOf false c (coordinates v) ≡ flatLength (factorOf c) v
-  unfolding chiSquareOf lengthUnder matrixOf choleskyOf columns rowsBelow less solveOf forward forwards backward backwards plus noFactor factorOf flatLength
-  flat-is =
-      by (notAbove (c .xx))
-      (λ e. rw e)
-      (λ e. by (notAbove d1) (λ f. rw (e, f)) (λ f. by (notAbove d2) (λ g. rw (e, f, g)) (λ g. rw (e, f, g))))
+  cases : (A : Type 0) → (notAbove (c .xx) ≡ true → A) → (notAbove (c .xx) ≡ false → notAbove d1 ≡ true → A)
+      → (notAbove (c .xx) ≡ false → notAbove d1 ≡ false → notAbove d2 ≡ true → A)
+      → (notAbove (c .xx) ≡ false → notAbove d1 ≡ false → notAbove d2 ≡ false → A) → A
+  cases A f g h k = by (notAbove (c .xx)) f (λ x. by (notAbove d1) (g x) (λ y. by (notAbove d2) (h x y) (k x y)))
 
-  full-is : chiSquareOf true c (coordinates v) ≡ fullLength (factorOf c) v
-  unfolding chiSquareOf lengthUnder matrixOf choleskyOf columns rowsBelow less solveOf forward forwards backward backwards plus noFactor factorOf fullLength
-  full-is =
-      by (notAbove (c .xx))
-      (λ e. rw e)
-      (λ e. by (notAbove d1) (λ f. rw (e, f)) (λ f. by (notAbove d2) (λ g. rw (e, f, g)) (λ g. rw (e, f, g))))
+  -- the case of a factor says what document 01's Cholesky gives for two rows, and for three
+  pub two-is : factorOfTwo (factorOf c) ≡ choleskyOf 2 (matrixOf false c)
+  unfolding matrixOf choleskyOf columns rowsBelow less factorOf
+  two-is = cases _ (λ x. rw x) (λ x y. rw (x, y)) (λ x y z. rw (x, y, z)) (λ x y z. rw (x, y, z))
 
-pub chi-is : (three : Bool) (c : Covariance) (v : Vec3) → chiSquareOf three c (coordinates v) ≡ cond three (fullLength (factorOf c) v) (flatLength (factorOf c) v)
-chi-is true c v = full-is c v
-chi-is false c v = flat-is c v
+  pub three-is : factorOfThree (factorOf c) ≡ choleskyOf 3 (matrixOf true c)
+  unfolding matrixOf choleskyOf columns rowsBelow less factorOf
+  three-is = cases _ (λ x. rw x) (λ x y. rw (x, y)) (λ x y z. rw (x, y, z)) (λ x y z. rw (x, y, z))
+
+-- the length under it is the length under the factor that it has
+two-under : (f : Factor) (v : Vec3) → lengthUnder 2 (coordinates v) (factorOfTwo f) ≡ lengthOfTwo f v
+unfolding lengthUnder solveOf forward forwards backward backwards less plus lengthOfTwo flatLength
+two-under None v = refl
+two-under (Flat r) v = refl
+two-under (Full r t) v = refl
+
+three-under : (f : Factor) (v : Vec3) → lengthUnder 3 (coordinates v) (factorOfThree f) ≡ lengthOfThree f v
+unfolding lengthUnder solveOf forward forwards backward backwards less plus lengthOfThree fullLength
+three-under None v = refl
+three-under (Flat r) v = refl
+three-under (Full r t) v = refl
+
+pub chi-is : (three : Bool) (c : Covariance) (v : Vec3) → chiSquareOf three c (coordinates v) ≡ cond three (lengthOfThree (factorOf c) v) (lengthOfTwo (factorOf c) v)
+unfolding chiSquareOf
+chi-is true c v = ap (lengthUnder 3 (coordinates v)) (sym (three-is c)) ∙ three-under (factorOf c) v
+chi-is false c v = ap (lengthUnder 2 (coordinates v)) (sym (two-is c)) ∙ two-under (factorOf c) v
+
+-- the factor that a prepared fix keeps, read where it stands
+module _ (p : List Float) (v : Vec3) where
+  pub two-in : lengthOfTwo (factorIn p) v ≡ cond (flagAt p 18) (flatLength (twoRowsIn p) v) (inf false)
+  unfolding lengthOfTwo
+  two-in = by (flagAt p 18) (λ e. rw e (by (flagAt p 19) (λ f. rw f refl) (λ f. rw f refl))) (λ e. rw e refl)
+
+  pub three-in : lengthOfThree (factorIn p) v ≡ cond (flagAt p 18) (cond (flagAt p 19) (fullLength (twoRowsIn p) (thirdRowIn p) v) (inf false)) (inf false)
+  unfolding lengthOfThree
+  three-in = by (flagAt p 18) (λ e. rw e (by (flagAt p 19) (λ f. rw f refl) (λ f. rw f refl))) (λ e. rw e refl)
 
 -- ---- the two stages
 
@@ -63,15 +90,27 @@ unfolding judgedOf partsOf measuredOf enuOf agreementOf differenceOf
 judged-is a b = rw (← chi-is)
 
 -- the numbers of a prepared fix read back
+factor-back : (ecef : Vec3) (basis : Basis) (f : Factor) (high : Bool) → factorIn (placeNumbers ecef basis ++ factorNumbers f high) ≡ f
+unfolding twoRowsOf thirdRowOf flagsOf eq ofInt
+factor-back ecef basis None high = refl
+factor-back ecef basis (Flat r) high = refl
+factor-back ecef basis (Full r t) high = refl
+
+high-back : (ecef : Vec3) (basis : Basis) (f : Factor) (high : Bool) → flagAt (placeNumbers ecef basis ++ factorNumbers f high) 20 ≡ high
+unfolding flagsOf
+high-back ecef basis None high = flag-back high
+high-back ecef basis (Flat r) high = flag-back high
+high-back ecef basis (Full r t) high = flag-back high
+
 pub parts-back : (p : Prepared) → partsIn (numbersOf p) ≡ p
 unfolding numbersOf
-parts-back p = rw (flag-back (p .factor .flat), flag-back (p .factor .full), flag-back (p .«has_height»))
+parts-back p = rw (factor-back (p .ecef) (p .basis) (p .factor) (p .«has_height»), high-back (p .ecef) (p .basis) (p .factor) (p .«has_height»))
 
 compared-parts : (p q : Prepared) → comparedOf (numbersOf p) (numbersOf q) ≡ judgedOf p (q .ecef) (q .«has_height»)
 unfolding comparedOf numbersOf
 compared-parts p q =
     ap (λ (r : Prepared). judgedOf r (q .ecef) (flagAt (numbersOf q) 20)) (parts-back p)
-    ∙ ap (judgedOf p (q .ecef)) (flag-back (q .«has_height»))
+    ∙ ap (judgedOf p (q .ecef)) (high-back (q .ecef) (q .basis) (q .factor) (q .«has_height»))
 
 -- a comparison of two prepared fixes is the agreement of their claims
 pub staged : (smaller larger : Claimed) → comparedOf (preparedOf smaller) (preparedOf larger) ≡ agreementOf smaller larger

@@ -8,7 +8,7 @@ use lib.IntN.{ℤ, pos}
 use lib.Ieee.{Float, inf, binary64, ofInt, le, lt}
 use lib.Ieee.Scale.{finite}
 use Rattle.floats.specs.Root.{root}
-use Rattle.arithmetic.specs.Numbers.{_⊕_, _⊗_, _⊘_, whole, decimal}
+use Rattle.arithmetic.specs.Numbers.{_⊕_, _⊗_, _⊘_, whole, fromDecimal}
 use Rattle.arithmetic.specs.Angles.{sincosOf}
 use Rattle.arithmetic.specs.Geodesy.{toEcef, enuBasis, subOf, dotOf}
 use Rattle.arithmetic.specs.Linalg.{item, choleskyOf, solveOf, plus}
@@ -19,8 +19,8 @@ use Rattle.arithmetic.specs.declared.standing.Agreement.{Agreement}
 
 -- AGREE_CHI2, with both heights, and AGREE_CHI2_2D: 16.266 and 13.815_51
 unfoldable pub limitOf : Bool → Float
-limitOf true = decimal 16_266 3
-limitOf false = decimal 1_381_551 5
+limitOf true = fromDecimal 16_266 3
+limitOf false = fromDecimal 1_381_551 5
 
 -- millimetres as metres; a height that is absent counts as 0
 abbrev pub metresOf : Bool → ℤ → Float
@@ -90,5 +90,5 @@ agreesOf a = le (a .chi2) (a .limit)
 -- (0.5 * (xx + yy)).max(0.0).sqrt(), where Rust's `max` drops a NaN
 unfoldable pub sigmaOf : Covariance → Float
 sigmaOf c =
-    let mean = decimal 5 1 ⊗ (c .xx ⊕ c .yy) in
+    let mean = fromDecimal 5 1 ⊗ (c .xx ⊕ c .yy) in
     root (cond (lt (whole 0) mean) mean (whole 0))

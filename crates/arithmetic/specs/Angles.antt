@@ -4,7 +4,7 @@ use mathlib.Core.Bool.{false}
 use mathlib.Core.List.{List, [], _∷_, foldl}
 use lib.IntN.{ℤ, pos, negsuc, _+ℤ_, _-ℤ_, _*ℤ_}
 use lib.Ieee.{Float, binary64, round, neg, ofInt}
-use Rattle.arithmetic.specs.Numbers.{_⊕_, _⊗_, _⊘_, whole, decimal}
+use Rattle.arithmetic.specs.Numbers.{_⊕_, _⊗_, _⊘_, whole, fromDecimal}
 use Rattle.arithmetic.specs.declared.angles.Turn.{Turn}
 
 -- the quotient rounded down, and the remainder from 0 up that it leaves: negsuc a is -(a + 1)
@@ -34,7 +34,7 @@ degree = round binary64 false piDigits (180 * 10 ^ 35)
 
 -- t is r as f64, times 1e-7, times the value nearest to pi / 180
 unfoldable pub radiansOf : ℤ → Float
-radiansOf r = ofInt binary64 r ⊗ decimal 1 7 ⊗ degree
+radiansOf r = ofInt binary64 r ⊗ fromDecimal 1 7 ⊗ degree
 
 unfoldable pub factorial : ℕ → ℕ
 factorial zero = 1

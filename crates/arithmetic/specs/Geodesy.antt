@@ -2,7 +2,7 @@
 -- as their sine and cosine, since document 01's stand-in takes the angle itself and no radians.
 use lib.Ieee.{Float, neg}
 use Rattle.floats.specs.Root.{root}
-use Rattle.arithmetic.specs.Numbers.{_⊕_, _⊖_, _⊗_, _⊘_, whole, decimal}
+use Rattle.arithmetic.specs.Numbers.{_⊕_, _⊖_, _⊗_, _⊘_, whole, fromDecimal}
 use Rattle.arithmetic.specs.declared.geodesy.Vec3.{Vec3}
 use Rattle.arithmetic.specs.declared.geodesy.Basis.{Basis}
 use Rattle.arithmetic.specs.declared.geodesy.Geodetic.{Geodetic}
@@ -13,7 +13,7 @@ semiMajor = whole 6_378_137
 
 -- F = 1.0 / 298.257_223_563: the flattening
 unfoldable pub flattening : Float
-flattening = whole 1 ⊘ decimal 298_257_223_563 9
+flattening = whole 1 ⊘ fromDecimal 298_257_223_563 9
 
 -- E2 = F * (2.0 - F): the first eccentricity squared
 unfoldable pub eccentricity2 : Float

@@ -25,8 +25,8 @@ abbrev pub whole : ℕ → Float
 whole n = ofInt binary64 (pos n)
 
 -- the value nearest to digits / 10 ^ places: 16.266 is `decimal 16266 3`
-unfoldable pub decimal : ℕ → ℕ → Float
-decimal digits places = round binary64 false digits (10 ^ places)
+unfoldable pub fromDecimal : ℕ → ℕ → Float
+fromDecimal digits places = round binary64 false digits (10 ^ places)
 
 -- Rust's `x.is_nan() || x <= 0.0`
 abbrev pub notAbove : Float → Bool

@@ -4,12 +4,15 @@ ghost use mathlib.Core.Bool.{_&&_};
 ghost use Prim.Native.Nat.{_+_, _≤_};
 ghost use lib.ListN.{length};
 ghost use lib.Seq.{sets};
+ghost use Rattle.arithmetic.specs.Geodesy.{subOf};
 ghost use Rattle.arithmetic.specs.Agree.{metresOf, geodeticOf, finiteOr};
-ghost use Rattle.arithmetic.specs.Stages.{preparedSize, enuOf, partsOf, measuredOf, judgedOf, flagOf, coordinates, placeNumbers, factorNumbers, numbersOf, flagAt, vec3At, basisIn, factorIn, partsIn, comparedOf};
+ghost use Rattle.arithmetic.specs.Stages.{preparedSize, enuOf, partsOf, lengthOfTwo, lengthOfThree, withLimit, measuredOf, judgedOf, heightFlag, zeroVector, twoRowsOf, thirdRowOf, flagsOf, coordinates, placeNumbers, factorNumbers, numbersOf, flagAt, vec3At, basisIn, twoRowsIn, thirdRowIn, factorIn, comparedOf};
 use crate::geodesy::Basis;
 use crate::geodesy::Geodetic;
 use crate::geodesy::Vec3;
 use crate::linalg::Factor;
+use crate::linalg::ThirdRow;
+use crate::linalg::TwoRows;
 use crate::standing::Agreement;
 use crate::standing::Claimed;
 
@@ -86,22 +89,30 @@ fn both(a: bool, b: bool) -> bool
     false
 }
 
+// A chi-square and its limit: with both heights, and without.
+fn with_limit(three: bool, chi2: f64) -> Agreement
+    ensures { λ r. ⌜ r ≡ withLimit three chi2 ⌝ }
+{
+    if three {
+        return Agreement {
+            chi2: finite_or(chi2),
+            limit: crate::standing::AGREE_CHI2,
+        };
+    }
+    Agreement {
+        chi2: finite_or(chi2),
+        limit: crate::standing::AGREE_CHI2_2D,
+    }
+}
+
 // By the factor for three rows where both fixes have a height, else by that for two.
 fn measured(three: bool, f: Factor, v: Vec3) -> Agreement
     ensures { λ r. ⌜ r ≡ measuredOf three f v ⌝ }
 {
     if three {
-        let chi2 = finite_or(crate::linalg::full_length(f, v));
-        return Agreement {
-            chi2,
-            limit: crate::standing::AGREE_CHI2,
-        };
+        return with_limit(three, crate::linalg::length_of_three(f, v));
     }
-    let chi2 = finite_or(crate::linalg::flat_length(f, v));
-    Agreement {
-        chi2,
-        limit: crate::standing::AGREE_CHI2_2D,
-    }
+    with_limit(three, crate::linalg::length_of_two(f, v))
 }
 
 pub fn judged(from: Prepared, to: Vec3, high: bool) -> Agreement
@@ -109,16 +120,27 @@ pub fn judged(from: Prepared, to: Vec3, high: bool) -> Agreement
 {
     let d = crate::geodesy::sub(to, from.ecef);
     let v = enu(from.basis, d);
-    measured(both(from.has_height, high), from.factor, v)
+    let factor = from.factor;
+    measured(both(from.has_height, high), factor, v)
 }
 
 fn flag(b: bool) -> f64
-    ensures { λ r. ⌜ r ≡ flagOf b ⌝ }
+    ensures { λ r. ⌜ r ≡ heightFlag b ⌝ }
 {
     if b {
         return 1.0;
     }
     0.0
+}
+
+fn zeros() -> Vec3
+    ensures { λ r. ⌜ r ≡ zeroVector ⌝ }
+{
+    Vec3 {
+        x: 0.0,
+        y: 0.0,
+        z: 0.0,
+    }
 }
 
 fn put3(p: &mut [f64], at: usize, v: Vec3)
@@ -140,37 +162,69 @@ fn put_place(p: &mut [f64], ecef: Vec3, basis: Basis)
     put3(p, 9, basis.up);
 }
 
+// The numbers of the first two rows, of the third, and of the case; a number that a factor has not is 0.
+fn two_rows(f: Factor) -> Vec3
+    ensures { λ r. ⌜ r ≡ twoRowsOf f ⌝ }
+{
+    match f {
+        Factor::None => zeros(),
+        Factor::Flat(rows) => Vec3 {
+            x: rows.l00,
+            y: rows.l10,
+            z: rows.l11,
+        },
+        Factor::Full(rows, _) => Vec3 {
+            x: rows.l00,
+            y: rows.l10,
+            z: rows.l11,
+        },
+    }
+}
+
+fn third_row(f: Factor) -> Vec3
+    ensures { λ r. ⌜ r ≡ thirdRowOf f ⌝ }
+{
+    match f {
+        Factor::None => zeros(),
+        Factor::Flat(_) => zeros(),
+        Factor::Full(_, third) => Vec3 {
+            x: third.l20,
+            y: third.l21,
+            z: third.l22,
+        },
+    }
+}
+
+fn flags(f: Factor, high: bool) -> Vec3
+    ensures { λ r. ⌜ r ≡ flagsOf f high ⌝ }
+{
+    let height = flag(high);
+    match f {
+        Factor::None => Vec3 {
+            x: 0.0,
+            y: 0.0,
+            z: height,
+        },
+        Factor::Flat(_) => Vec3 {
+            x: 1.0,
+            y: 0.0,
+            z: height,
+        },
+        Factor::Full(_, _) => Vec3 {
+            x: 1.0,
+            y: 1.0,
+            z: height,
+        },
+    }
+}
+
 fn put_factor(p: &mut [f64], f: Factor, high: bool)
     requires { ⌜ length (now p) ≡ preparedSize ⌝ }
     ensures { λ _. ⌜ now (p .exit) ≡ sets (now (p .entry)) 12 (factorNumbers f high) ⌝ }
 {
-    put3(
-        p,
-        12,
-        Vec3 {
-            x: f.l00,
-            y: f.l10,
-            z: f.l11,
-        },
-    );
-    put3(
-        p,
-        15,
-        Vec3 {
-            x: f.l20,
-            y: f.l21,
-            z: f.l22,
-        },
-    );
-    put3(
-        p,
-        18,
-        Vec3 {
-            x: flag(f.flat),
-            y: flag(f.full),
-            z: flag(high),
-        },
-    );
+    put3(p, 12, two_rows(f));
+    put3(p, 15, third_row(f));
+    put3(p, 18, flags(f, high));
 }
 
 pub fn put(p: &mut [f64], parts: Prepared)
@@ -178,7 +232,8 @@ pub fn put(p: &mut [f64], parts: Prepared)
     ensures { λ _. ⌜ now (p .exit) ≡ numbersOf parts ⌝ }
 {
     put_place(p, parts.ecef, parts.basis);
-    put_factor(p, parts.factor, parts.has_height);
+    let factor = parts.factor;
+    put_factor(p, factor, parts.has_height);
 }
 
 fn vec3_at(p: &[f64], at: usize) -> Vec3
@@ -199,20 +254,61 @@ fn flag_at(p: &[f64], at: usize) -> bool
     p[at] == 1.0
 }
 
-fn factor_in(p: &[f64]) -> Factor
+fn two_rows_in(p: &[f64]) -> TwoRows
     requires { ⌜ length (now p) ≡ preparedSize ⌝ }
-    ensures { λ r. ⌜ r ≡ factorIn (now (p .entry)) ⌝ }
+    ensures { λ r. ⌜ r ≡ twoRowsIn (now (p .entry)) ⌝ }
 {
-    Factor {
-        flat: p[18] == 1.0,
-        full: p[19] == 1.0,
+    TwoRows {
         l00: p[12],
         l10: p[13],
         l11: p[14],
+    }
+}
+
+fn third_row_in(p: &[f64]) -> ThirdRow
+    requires { ⌜ length (now p) ≡ preparedSize ⌝ }
+    ensures { λ r. ⌜ r ≡ thirdRowIn (now (p .entry)) ⌝ }
+{
+    ThirdRow {
         l20: p[15],
         l21: p[16],
         l22: p[17],
     }
+}
+
+// The squared length under the factor that a prepared fix keeps. The factor is read where it stands and not made again: pairs are
+// compared most.
+fn length_of_two_in(p: &[f64], v: Vec3) -> f64
+    requires { ⌜ length (now p) ≡ preparedSize ⌝ }
+    ensures { λ r. ⌜ r ≡ lengthOfTwo (factorIn (now (p .entry))) v ⌝ }
+{
+    if !flag_at(p, 18) {
+        return 1.0 / 0.0;
+    }
+    crate::linalg::flat_length(two_rows_in(p), v)
+}
+
+fn length_of_three_in(p: &[f64], v: Vec3) -> f64
+    requires { ⌜ length (now p) ≡ preparedSize ⌝ }
+    ensures { λ r. ⌜ r ≡ lengthOfThree (factorIn (now (p .entry))) v ⌝ }
+{
+    if !flag_at(p, 18) {
+        return 1.0 / 0.0;
+    }
+    if !flag_at(p, 19) {
+        return 1.0 / 0.0;
+    }
+    crate::linalg::full_length(two_rows_in(p), third_row_in(p), v)
+}
+
+fn measured_in(three: bool, p: &[f64], v: Vec3) -> Agreement
+    requires { ⌜ length (now p) ≡ preparedSize ⌝ }
+    ensures { λ r. ⌜ r ≡ measuredOf three (factorIn (now (p .entry))) v ⌝ }
+{
+    if three {
+        return with_limit(three, length_of_three_in(p, v));
+    }
+    with_limit(three, length_of_two_in(p, v))
 }
 
 fn basis_in(p: &[f64]) -> Basis
@@ -225,27 +321,22 @@ fn basis_in(p: &[f64]) -> Basis
     Basis { east, north, up }
 }
 
-fn parts_in(p: &[f64]) -> Prepared
-    requires { ⌜ length (now p) ≡ preparedSize ⌝ }
-    ensures { λ r. ⌜ r ≡ partsIn (now (p .entry)) ⌝ }
+// The difference of two prepared fixes, in east, north and up at the smaller's.
+fn difference<'a>(smaller: &'a [f64], larger: &'a [f64]) -> Vec3
+    requires { ⌜ (length (now smaller) ≡ preparedSize) × (length (now larger) ≡ preparedSize) ⌝ }
+    ensures { λ r. ⌜ r ≡ enuOf (basisIn (now (smaller .entry))) (subOf (vec3At (now (larger .entry)) 0) (vec3At (now (smaller .entry)) 0)) ⌝ }
 {
-    let ecef = vec3_at(p, 0);
-    let basis = basis_in(p);
-    let factor = factor_in(p);
-    let has_height = flag_at(p, 20);
-    Prepared {
-        ecef,
-        basis,
-        factor,
-        has_height,
-    }
+    let from = vec3_at(smaller, 0);
+    let to = vec3_at(larger, 0);
+    let basis = basis_in(smaller);
+    enu(basis, crate::geodesy::sub(to, from))
 }
 
 pub fn compared<'a>(smaller: &'a [f64], larger: &'a [f64]) -> Agreement
     requires { ⌜ (length (now smaller) ≡ preparedSize) × (length (now larger) ≡ preparedSize) ⌝ }
     ensures { λ r. ⌜ r ≡ comparedOf (now (smaller .entry)) (now (larger .entry)) ⌝ }
 {
-    let from = parts_in(smaller);
-    let to = vec3_at(larger, 0);
-    judged(from, to, flag_at(larger, 20))
+    let v = difference(smaller, larger);
+    let three = both(flag_at(smaller, 20), flag_at(larger, 20));
+    measured_in(three, smaller, v)
 }

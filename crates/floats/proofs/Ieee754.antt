@@ -2,6 +2,7 @@
 -- binary64 value x, and of no other result.
 --   root-is-squareRoot : (x : Float) → T (fits binary64 x) → SquareRoot x (root x)
 --   squareRoot-is-root : (x r : Float) → T (fits binary64 x) → SquareRoot x r → r ≡ root x
+-- Together they are the claim of specs/Claims, `root-is-ieee754`.
 -- `in-range` says that the exact root is far below where 4.3.1 rounds to an infinity. The rest are the theorem's cases.
 use mathlib.Core.Path.{_≡_, refl, sym, ap, _∙_, subst}
 use mathlib.Core.Bool.{Bool, true, false, _&&_}
@@ -18,6 +19,7 @@ use lib.Ieee.Bits.{ofBits-toBits, ofBits-fits}
 use lib.Ieee.Fits.{up-pos, and-r}
 use lib.Ieee.Positive.{positive-of-value, first-pos}
 use Rattle.floats.specs.Root.{root, rootBits, rootOf, rootFinite, fieldOf, digitsIn}
+use Rattle.floats.specs.Claims.{RootIsIeee754}
 use Rattle.floats.specs.SquareRoot.{SquareRoot, Nearest, Nearer, units, negative}
 use Rattle.floats.proofs.Pattern.{Short, Bits, bits-value, value-units, units-value, of-value}
 use Rattle.floats.proofs.Positives.{Best, best-bits}
@@ -160,3 +162,7 @@ in-range s m e f =
     let u : units x * down e < 2 ^ 2098 * down e =
     lt-of-le-of-lt (le-of-eq (sym (units-value x f tt .value .1))) (subst (λ (z : ℕ). suc m * up e * 2 ^ 1074 < z) (mul-right-comm (2 ^ 1024) (down e) (2 ^ 1074)) (mul-lt-mul-of-pos-right l (pow-pos 1074))) in
     lt-trans (mul-lt-mul-of-pos-right (lt-of-mul-lt-mul-right (down e) u) (pow-pos 1074)) (lit< tt)
+
+-- what is claimed
+pub root-is-ieee754 : RootIsIeee754
+root-is-ieee754 = record { asked = root-is-squareRoot; only = squareRoot-is-root }

@@ -1,7 +1,7 @@
 -- `angles::radians` meets its contract: its two literals are the definition's constants.
 use mir.Facts.{toZ-ofZ}
 use lib.Ieee.{ofBits, round}
-use Rattle.arithmetic.specs.Numbers.{decimal}
+use Rattle.arithmetic.specs.Numbers.{fromDecimal}
 use Rattle.arithmetic.specs.Angles.{radiansOf, degree}
 use borrow.Author.Needs.{needs}
 use Rattle.arithmetic.proofs.angles.radians.Statement.{statement}
@@ -11,7 +11,7 @@ int-to-float-result : tie.Need-int-to-float-result
 int-to-float-result c = search needs
 
 returns : tie.Need-returns
-unfolding radiansOf decimal degree ofBits round
+unfolding radiansOf fromDecimal degree ofBits round
 returns c = rw (toZ-ofZ (c .before .fits .r))
 
 pub radians-spec : {M : Type 1} → statement M

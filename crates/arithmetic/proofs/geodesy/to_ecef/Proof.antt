@@ -2,13 +2,13 @@
 use mathlib.Core.Path.{_≡_, refl}
 use lib.Ieee.{ofInt, ofBits, div, mul, sub, round, binary64}
 use borrow.Author.Needs.{needs}
-use Rattle.arithmetic.specs.Numbers.{decimal}
+use Rattle.arithmetic.specs.Numbers.{fromDecimal}
 use Rattle.arithmetic.specs.Geodesy.{toEcef, eccentricity2, flattening}
 use Rattle.arithmetic.proofs.geodesy.to_ecef.Statement.{statement}
 use Rattle.arithmetic.proofs.geodesy.to_ecef.Tie as tie
 
 squared : eccentricity2 ≡ ofBits binary64 4574368116804326640
-unfolding eccentricity2 flattening decimal round ofInt ofBits div mul sub
+unfolding eccentricity2 flattening fromDecimal round ofInt ofBits div mul sub
 squared = refl
 
 root-requires : tie.Need-root-requires

@@ -1,26 +1,37 @@
 -- `stages::compared` meets its contract.
-use Rattle.arithmetic.specs.Stages.{comparedOf}
+use Rattle.arithmetic.specs.Stages.{judgedOf, comparedOf}
 use borrow.Author.Needs.{needs}
 use Rattle.arithmetic.proofs.stages.compared.Statement.{statement}
 use Rattle.arithmetic.proofs.stages.compared.Tie as tie
 
-parts-in-requires : tie.Need-parts-in-requires
-parts-in-requires c κs = search needs
-
-vec3-at-requires : tie.Need-vec3-at-requires
-vec3-at-requires c κs = search needs
+difference-requires : tie.Need-difference-requires
+difference-requires c κs = search needs
 
 flag-at-requires : tie.Need-flag-at-requires
 flag-at-requires c κs = search needs
 
-judged-requires : tie.Need-judged-requires
-judged-requires c κs = search needs
+flag-at-requires-2 : tie.Need-flag-at-requires-2
+flag-at-requires-2 c κs = search needs
+
+both-requires : tie.Need-both-requires
+both-requires c κs = search needs
+
+measured-in-requires : tie.Need-measured-in-requires
+measured-in-requires c κs = search needs
 
 returns : tie.Need-returns
-unfolding comparedOf
-returns c = rw (c .judged .ensures, c .before .flag-at .ensures, c .before .before .vec3-at .ensures, c .before .before .before .parts-in .ensures)
+unfolding judgedOf comparedOf
+returns c =
+    let b = c .before .before in
+    rw (c .measured-in .ensures, c .before .both .ensures, b .flag-at2 .ensures, b .before .flag-at .ensures, b .before .before .difference .ensures)
 
 pub compared-spec : {M : Type 1} → statement M
 compared-spec =
     tie.close
-    (tie.spec parts-in-requires vec3-at-requires flag-at-requires judged-requires returns)
+    (tie.spec
+    difference-requires
+    flag-at-requires
+    flag-at-requires-2
+    both-requires
+    measured-in-requires
+    returns)
