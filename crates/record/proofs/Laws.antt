@@ -7,7 +7,7 @@ use native.Mathlib.Omega.{arith}
 use native.Mathlib.Nat.{lt-trans, le-refl}
 use lib.Dec.{ltb, eqb}
 use borrow.Author.Tests.{lt-ltb, le-ltb, ltb-true, eq-eqb, eqb-true}
-use Rattle.octets.proofs.Cases.{by, and-left, and-right, and-both}
+use Rattle.ranges.proofs.Bools.{by, and-left, and-right, and-both}
 use Rattle.octets.proofs.Comparison.{same-refl, same-eq}
 use Rattle.record.specs.Fields.{message, tagCount, tags}
 use Rattle.record.specs.Relations.{member, allIn, anyIn, sameMessage, subset, sharesTag}

@@ -7,7 +7,7 @@ use native.Mathlib.Omega.{arith}
 use native.Mathlib.Nat.{lt-trans}
 use lib.Dec.{ltb, eqb}
 use borrow.Author.Tests.{lt-ltb, le-ltb, ltb-true, eq-eqb, ne-eqb, eqb-true}
-use Rattle.octets.proofs.Cases.{by, and-left, and-right}
+use Rattle.ranges.proofs.Bools.{by, and-left, and-right}
 use Rattle.record.specs.Fields.{tagAt, tagsFrom}
 use Rattle.record.specs.Formed.{ascends, ascendsFrom}
 use Rattle.record.specs.Relations.{member, allIn, anyIn}

@@ -8,7 +8,7 @@ use lib.Dec.{ltb, leb, eqb}
 use lib.ListN.{length, take, drop, length-take, length-drop}
 use borrow.Author.Tests.{ltb-true, leb-true, eqb-true}
 use Rattle.octets.specs.Runs.{allZero}
-use Rattle.octets.proofs.Cases.{by, and-left, and-right}
+use Rattle.ranges.proofs.Bools.{by, and-left, and-right}
 use Rattle.record.specs.Layout as L
 use Rattle.record.specs.Fields.{byteAt, messageLength, message, tagCount, used, tags, tagsFrom, modelCount, models}
 use Rattle.record.specs.Relations.{allIn, anyIn}

@@ -13,8 +13,9 @@ use lib.Seq.{drop-drop, take-add, length-take-le, take-suc, drop-cons}
 use borrow.Author.Tests.{lt-ltb, le-ltb, ltb-true, ltb-false, eqb-true, eqb-false, eq-eqb}
 use Rattle.octets.specs.Words.{word, wordBytes, wordAt, signedOf, signedAt}
 use Rattle.octets.specs.Runs.{allZero}
-use Rattle.octets.proofs.Cases.{by}
-use Rattle.octets.proofs.Numbers.{Bytes, bytes-take, bytes-drop, bytes-of-word, word-lt}
+use Rattle.ranges.proofs.Bools.{by}
+use Rattle.octets.specs.Bytes.{Bytes}
+use Rattle.octets.proofs.Numbers.{bytes-take, bytes-drop, bytes-of-word, word-lt}
 use Rattle.octets.proofs.Zeros.{zero-run}
 use Rattle.record.specs.Layout as L
 use Rattle.record.specs.Fields as F

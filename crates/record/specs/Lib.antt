@@ -2,3 +2,5 @@ pub mod Layout
 pub mod Fields
 pub mod Formed
 pub mod Relations
+pub mod Worked
+pub mod Added

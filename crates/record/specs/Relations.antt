@@ -21,11 +21,6 @@ unfoldable pub anyIn : List ℕ → List ℕ → Bool
 anyIn [] l = false
 anyIn (x ∷ k) l = member x l || anyIn k l
 
--- the numbers of the second list that are not in the first, in their order
-unfoldable pub notIn : List ℕ → List ℕ → List ℕ
-notIn k [] = []
-notIn k (x ∷ l) = cond (member x k) (notIn k l) (x ∷ notIn k l)
-
 -- the same message, which has the same length
 abbrev pub sameMessage : List ℕ → List ℕ → Bool
 sameMessage a b = same (message a) (message b)
@@ -36,7 +31,3 @@ subset a b = sameMessage a b && (ltb (tagCount a) (tagCount b) && allIn (tags a)
 -- a tag of the one is a tag of the other
 unfoldable pub sharesTag : List ℕ → List ℕ → Bool
 sharesTag a b = anyIn (tags a) (tags b)
-
--- the tags that the second has and the first has not
-abbrev pub added : List ℕ → List ℕ → List ℕ
-added a b = notIn (tags a) (tags b)
