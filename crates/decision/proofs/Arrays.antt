@@ -1,25 +1,24 @@
 -- The arrays that the loops leave are those of the answer.
 use mathlib.Core.Path.{_≡_}
 use mathlib.Core.Bool.{Bool}
+use mathlib.Core.List.{List}
 use Prim.Native.Nat.{ℕ}
-use Rattle.ranges.specs.Range.{collect, Collected, Filled}
+use Rattle.ranges.specs.Range.{collect, Collected, Holds, Filled}
 use Rattle.ranges.specs.Tables.{itself}
 use Rattle.items.specs.Layout.{maxItems}
 use Rattle.decision.specs.declared.Refusal.{Refusal}
 use Rattle.decision.specs.declared.Refusals.{Refusals}
 use Rattle.decision.specs.declared.Indices.{Indices}
-use Rattle.decision.specs.Decide.{Rel, noRefusal, ranked}
-use Rattle.decision.specs.Rank.{Ranked}
-use Rattle.decision.specs.Answer.{indices, refusals}
+use Rattle.decision.specs.Answer.{noRefusal, indices, refusals}
 
-pub ranked-indices : (x : Rel) (a : Indices) → Ranked x (a .list) (a .count) → a ≡ indices (ranked x)
+pub held-indices : (l : List ℕ) (a : Indices) → Holds maxItems 0 (a .list) (a .count) l → a ≡ indices l
 unfolding indices Filled
-ranked-indices x a r = λ i. record { list = r .filled i; count = r .count i }
+held-indices l a w = λ i. record { list = w .filled i; count = w .count i }
 
-pub collected-indices : (g : ℕ → Bool) (n : ℕ) (a : Indices) → Collected g itself maxItems 0 (a .list) (a .count) n → a ≡ indices (collect g itself 0 n)
-unfolding indices Filled
-collected-indices g n a r = λ i. record { list = r .filled i; count = r .count i }
-
-pub collected-refusals : (g : ℕ → Bool) (h : ℕ → Refusal) (n : ℕ) (a : Refusals) → Collected g h maxItems noRefusal (a .list) (a .count) n → a ≡ refusals (collect g h 0 n)
+pub held-refusals : (l : List Refusal) (a : Refusals) → Holds maxItems noRefusal (a .list) (a .count) l → a ≡ refusals l
 unfolding refusals Filled
-collected-refusals g h n a r = λ i. record { list = r .filled i; count = r .count i }
+held-refusals l a w = λ i. record { list = w .filled i; count = w .count i }
+
+-- the same of a loop that collects indices
+pub collected-indices : (g : ℕ → Bool) (n : ℕ) (a : Indices) → Collected g itself maxItems 0 (a .list) (a .count) n → a ≡ indices (collect g itself 0 n)
+collected-indices g n a w = held-indices (collect g itself 0 n) a (record { count = w .count; filled = w .filled })

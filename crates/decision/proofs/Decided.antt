@@ -1,72 +1,177 @@
--- The laws of `decide`'s answer, where it is 0 (document 01, 'Decide').
-use mathlib.Core.Path.{_≡_, refl, ap}
-use mathlib.Core.Bool.{true, false, not, _||_}
-use mathlib.Core.List.{List, [], _∷_, map}
-use Prim.Native.Nat.{ℕ, zero, suc, _*_, _/_, _%_, _≤_, _<_}
-use lib.Dec.{ltb, eqb}
-use lib.ListN.{length}
-use Rattle.ranges.proofs.Bools.{by, neither-r}
-use Rattle.ranges.specs.Range.{any, filt, collect}
-use Rattle.ranges.proofs.Range.{collect-filt}
-use Rattle.ranges.specs.Tables.{itself}
-use Rattle.arithmetic.specs.Agree.{agreesOf}
-use Rattle.items.specs.Layout.{maxItems, itemSize}
-use Rattle.items.specs.Items.{consistentOf, subsetAt, agreementAt, outstandsAt, verifiedOf, isPassed}
-use Rattle.decision.specs.declared.Refusal.{Refusal}
-use Rattle.decision.specs.Decide.{Rel, superseded, superBy, contested, against, refused, dominated, refusal, ranked, dominatedList, refusedList}
-use Rattle.decision.specs.Related.{rel}
-use Rattle.decision.specs.Answer.{bad, badAt, decided, decision}
-use Rattle.decision.proofs.Passed.{few-items}
-use Rattle.decision.proofs.Laws.{Lists, lists, ranked-some, Ascends, ranked-ascends, super-is}
-use Rattle.decision.proofs.Sound.{rel-sound, rel-ordered, refused-against, is-subset}
+-- Every decision that is not refused keeps the laws of specs/Claims, and none depends on the order of its items.
+use mathlib.Core.Path.{_≡_, refl, sym, ap, _∙_, subst}
+use mathlib.Core.Bool.{Bool, false}
+use mathlib.Core.List.{List, [], _∷_, map, List·Memᴰ, List·Memᴰ·not-nil, List·Permᴰ, Permᴰ·symm}
+use Prim.Native.Nat.{ℕ, zero, suc, _+_, _*_, _≤_, _<_}
+use native.Mathlib.Omega.{arith}
+use lib.ListN.{getD, take, drop}
+use lib.Seq.{take-take, drop-drop, getD-take, getD-drop}
+use Rattle.ranges.specs.Lists.{upTo}
+use Rattle.ranges.proofs.Lists.{up-in, up-of}
+use Rattle.ranges.proofs.Orders.{perm-mem}
+use Rattle.ranges.proofs.Sorting.{Strict, strict-sub, sort-ascends}
+use Rattle.octets.specs.Words.{word}
+use Rattle.record.specs.Layout.{recordSize}
+use Rattle.items.specs.Layout.{hashSize, itemInputsAt, itemIdentityAt, standingAt, consistentAt, preferredAt, verifiedAt, itemSize}
+use Rattle.items.specs.Items.{itemRecord, itemInputs, itemIdentity, itemStanding, itemConsistent, itemPreferred, itemVerified, verifiedCase, subsetAt, agreementAt, disagreesAt, withinAt, lowerAt, aheadAt, aheadByStanding, aheadByWeight}
+use Rattle.decision.specs.Standing.{decide}
+use Rattle.decision.specs.Outcome.{Refused, Outcome}
+use Rattle.decision.specs.Related.{itemRelations}
+use Rattle.decision.specs.Answer.{bad, outcome, decided, decision}
+use Rattle.decision.specs.Claims.{EachOnce, Names, contest, succession, DecisionsLawful, itemCount, itemAt, Reordered, SameDecision, OrderFree}
+use Rattle.decision.proofs.Carried.{Alike, carried, carriedOutcome}
+use Rattle.decision.proofs.Laws.{Named, opponent, successor, listed-once, refused-names, some-ranked, same-ranked, same-dominated, same-refused}
+use Rattle.decision.proofs.Passed.{good-items}
+use Rattle.decision.proofs.Sound.{rel-sound, by-identity, by-rank, rank-apart, ahead-trans, is-consistent, is-subset, is-apart}
 
--- what the answer lists as dominated, and as refused, are the lists that the laws speak of
-pub dominated-are : (x : Rel) → collect (dominated x) itself 0 (x .n) ≡ dominatedList x
-unfolding dominatedList
-dominated-are x = collect-filt (dominated x) 0 (x .n)
+pub each-once : EachOnce
+each-once A r all = listed-once r all
 
-pub refused-are : (x : Rel) → map (λ (r : Refusal). r .refused) (collect (refused x) (refusal x) 0 (x .n)) ≡ refusedList x
-unfolding refusedList refusal collect filt
-refused-are x = go 0 (x .n)
+-- what is answered where nothing is bad
+pub decided-is : (s : List ℕ) → bad s ≡ false → decided s ≡ decision (outcome s)
+unfolding decided
+decided-is s e = rw e refl
+
+named : (s : List ℕ) (x : Refused ℕ) → Named (itemRelations s) (upTo (itemCount s)) x → Names s x
+named s x (opponent p c m d u) =
+    contest p c
+    (record {
+      an-item = up-in (itemCount s) (x .against) m;
+      consistent = is-consistent s (x .item) (x .against) d;
+      subset = is-subset s (x .item) (x .against) d;
+      disagreeing = is-apart s (x .item) (x .against) d;
+      unsuperseded = u;
+    })
+named s x (successor p c m d v o) =
+    succession p c
+    (record {
+      an-item = up-in (itemCount s) (x .against) m;
+      superset = is-subset s (x .against) (x .item) d;
+      disagreeing = is-apart s (x .against) (x .item) d;
+      verified = v;
+      more-standing = o;
+    })
+
+-- one is ranked where there is an item
+pub ranks-some : (s : List ℕ) → 0 < itemCount s → (i : ℕ) × List·Memᴰ i (outcome s .ranked)
+ranks-some s h = some-ranked (itemRelations s) (upTo (itemCount s)) (rel-sound s) 0 (up-of (itemCount s) 0 h)
+
+pub lawful : DecisionsLawful
+unfolding decide
+lawful s e = record {
+  each-once = listed-once (itemRelations s) (upTo (itemCount s));
+  some-ranked = λ q. none q (itemCount s) refl;
+  by-rank = sort-ascends (aheadAt s) (ahead-trans s) _ (rank-apart s (itemCount s) (good-items s e) _);
+  names = λ x m. named s x (refused-names (itemRelations s) (upTo (itemCount s)) x m);
+}
   where
-    names : (i : ℕ) → refusal x i .refused ≡ i
-    names i = by (superseded x i) (λ p. rw p refl) (λ p. rw p refl)
+    none : outcome s .ranked ≡ [] → (k : ℕ) → itemCount s ≡ k → itemCount s ≡ 0
+    none q zero z = z
+    none q (suc k) z =
+        let r = ranks-some s (omega arith) in
+        absurd (List·Memᴰ·not-nil (subst (λ (l : List ℕ). List·Memᴰ (r .0) l) q (r .1)))
 
-    go : (k f : ℕ) → map (λ (r : Refusal). r .refused) (collect (refused x) (refusal x) k f) ≡ filt (refused x) k f
-    go k zero = refl
-    go k (suc f) = by (refused x k) (λ p. rw (p, names k) (ap (λ (l : List ℕ). k ∷ l) (go (suc k) f))) (λ p. rw p (go (suc k) f))
+-- ---- the order of the items
 
-pub record Lawful (s : List ℕ) (n : ℕ) : Type 0 where
-  -- every index falls in exactly one of the three
-  pub one-list : (i : ℕ) → Lists (rel s n) i
-  -- ranked is empty only without items
-  pub not-empty : ranked (rel s n) ≡ [] → n ≡ 0
-  -- and ascends strictly in rank
-  pub by-rank : Ascends (rel s n) (ranked (rel s n))
-  -- a refusal that isn't superseding names a consistent, disagreeing, unsuperseded subset
-  pub contest : (i : ℕ) → contested (rel s n) i ≡ true
-      → let k = against (rel s n) i in
-      (k < n) × (consistentOf s k ≡ true) × (subsetAt s k i ≡ true) × (agreesOf (agreementAt s i k) ≡ false) × (superseded (rel s n) k ≡ false)
-  -- a superseding one names a verified superset with strictly more standing
-  pub superseding : (i : ℕ) → i < n → superseded (rel s n) i ≡ true
-      → let k = superBy (rel s n) i in
-      (k < n) × (isPassed (verifiedOf s k) ≡ true) × (subsetAt s i k ≡ true) × (outstandsAt s k i ≡ true)
+-- what is read of an item is read of its bytes
+part-in : (k j w : ℕ) (l : List ℕ) → j + k ≤ w → take k (drop j (take w l)) ≡ take k (drop j l)
+part-in k zero w l h = take-take k w l (omega arith)
+part-in k (suc j) zero l h = absurd (omega arith)
+part-in k (suc j) (suc w) [] h = refl
+part-in k (suc j) (suc w) (x ∷ l) h = part-in k j w l (omega arith)
 
-lawful-of : (s : List ℕ) (n : ℕ) → n ≤ maxItems → any (badAt s) 0 n ≡ false → Lawful s n
-lawful-of s n h e =
-    let w = rel-sound s n h in
-    record {
-      one-list = lists (rel s n) w;
-      not-empty = ranked-some (rel s n) w;
-      by-rank = ranked-ascends (rel s n) w (rel-ordered s n h e .by-rank);
-      contest = refused-against s n h;
-      superseding = λ i l q. let r = super-is (rel s n) w i l q in (r .0, r .1, is-subset s (superBy (rel s n) i) i (r .2), r .3);
+module _ (s : List ℕ) (i : ℕ) where
+  part-at : (k j : ℕ) → j + k ≤ itemSize → take k (drop (i * itemSize + j) s) ≡ take k (drop j (itemAt s i))
+  part-at k j h = sym (part-in k j itemSize (drop (i * itemSize) s) h ∙ ap (take k) (drop-drop j (i * itemSize) s))
+
+  record-at : itemRecord s i ≡ take recordSize (itemAt s i)
+  record-at = sym (take-take recordSize itemSize (drop (i * itemSize) s) (omega arith))
+
+  byte-at : (j : ℕ) → j < itemSize → getD s (i * itemSize + j) 0 ≡ getD (itemAt s i) j 0
+  byte-at j h = sym (getD-take itemSize (drop (i * itemSize) s) j 0 h ∙ getD-drop (i * itemSize) s j 0)
+
+module _ (s t : List ℕ) (i j : ℕ) (e : itemAt t j ≡ itemAt s i) where
+  same-record : itemRecord t j ≡ itemRecord s i
+  same-record = record-at t j ∙ ap (take recordSize) e ∙ sym (record-at s i)
+
+  same-part : (k at : ℕ) → at + k ≤ itemSize → take k (drop (j * itemSize + at) t) ≡ take k (drop (i * itemSize + at) s)
+  same-part k at h = part-at t j k at h ∙ ap (λ (x : List ℕ). take k (drop at x)) e ∙ sym (part-at s i k at h)
+
+  same-byte : (at : ℕ) → at < itemSize → getD t (j * itemSize + at) 0 ≡ getD s (i * itemSize + at) 0
+  same-byte at h = byte-at t j at h ∙ ap (λ (x : List ℕ). getD x at 0) e ∙ sym (byte-at s i at h)
+
+  same-inputs : itemInputs t j ≡ itemInputs s i
+  same-inputs = same-part hashSize itemInputsAt (omega arith)
+
+  same-identity : itemIdentity t j ≡ itemIdentity s i
+  same-identity = same-part hashSize itemIdentityAt (omega arith)
+
+  same-standing : itemStanding t j ≡ itemStanding s i
+  same-standing = ap word (same-part 8 standingAt (omega arith))
+
+  same-consistent : itemConsistent t j ≡ itemConsistent s i
+  same-consistent = rw (same-byte consistentAt (omega arith)) refl
+
+  same-preferred : itemPreferred t j ≡ itemPreferred s i
+  same-preferred = rw (same-byte preferredAt (omega arith)) refl
+
+  same-verified : itemVerified t j ≡ itemVerified s i
+  same-verified = ap verifiedCase (same-byte verifiedAt (omega arith))
+
+module _ (s t : List ℕ) (to : ℕ → ℕ) (w : Reordered s t to) where
+  abbrev n : ℕ
+  n = itemCount s
+
+  -- the items relate as they did
+  alike : Alike (itemRelations s) (itemRelations t) to (upTo n)
+  unfolding disagreesAt withinAt subsetAt agreementAt aheadAt aheadByStanding aheadByWeight
+  alike = record {
+    disagrees = λ i j h l. rw (same-consistent s t j (to j) (at j l), same-record s t j (to j) (at j l), same-record s t i (to i) (at i h)) refl;
+    chiSquare = λ i j h l. rw (same-record s t j (to j) (at j l), same-record s t i (to i) (at i h)) refl;
+    outstands = λ i j h l. rw (same-standing s t j (to j) (at j l), same-standing s t i (to i) (at i h)) refl;
+    passed = λ i h. rw (same-verified s t i (to i) (at i h)) refl;
+    within = λ i j h l.
+        rw (same-record s t i (to i) (at i h), same-record s t j (to j) (at j l), same-inputs s t i (to i) (at i h), same-inputs s t j (to j) (at j l)) refl;
+    lower = λ i j h l. rw (same-identity s t i (to i) (at i h), same-identity s t j (to j) (at j l)) refl;
+    ahead = λ i j h l.
+        rw (
+          same-preferred s t i (to i) (at i h),
+          same-preferred s t j (to j) (at j l),
+          same-standing s t i (to i) (at i h),
+          same-standing s t j (to j) (at j l),
+          same-record s t i (to i) (at i h),
+          same-record s t j (to j) (at j l),
+          same-identity s t i (to i) (at i h),
+          same-identity s t j (to j) (at j l),
+        ) refl;
+  }
+    where
+      at : (i : ℕ) → List·Memᴰ i (upTo n) → itemAt t (to i) ≡ itemAt s i
+      at i m = w .items i (up-in n i m)
+
+  moved-over : decide (itemRelations t) (map to (upTo n)) ≡ carriedOutcome to (outcome s)
+  moved-over = carried (itemRelations s) (itemRelations t) to (upTo n) alike
+
+  module _ (good : bad t ≡ false) where
+    -- identity and rank order the items of t, in either order
+    turned : {before : ℕ → ℕ → Bool} → Strict before (upTo (itemCount t)) → Strict before (map to (upTo n))
+    turned {before} o = strict-sub before (λ i m. perm-mem (Permᴰ·symm (w .places)) m) o
+
+    lower : Strict (lowerAt t) (map to (upTo n))
+    lower = turned (by-identity t (itemCount t) (good-items t good))
+
+    same : SameDecision s t to
+    same = record {
+      ranked =
+          sym (same-ranked (itemRelations t) (map to (upTo n)) (upTo (itemCount t)) (w .places) lower (turned (by-rank t (itemCount t) (good-items t good))))
+          ∙ ap (λ (o : Outcome ℕ). o .ranked) moved-over;
+      dominated =
+          subst (λ (o : Outcome ℕ). List·Permᴰ (outcome t .dominated) (o .dominated)) moved-over
+          (Permᴰ·symm (same-dominated (itemRelations t) (map to (upTo n)) (upTo (itemCount t)) (w .places) lower));
+      refused =
+          subst (λ (o : Outcome ℕ). List·Permᴰ (outcome t .refused) (o .refused)) moved-over
+          (Permᴰ·symm (same-refused (itemRelations t) (map to (upTo n)) (upTo (itemCount t)) (w .places) lower));
     }
 
-pub lawful : (s : List ℕ) → bad s ≡ false → (decided s ≡ decision (rel s (length s / itemSize))) × Lawful s (length s / itemSize)
-unfolding bad decided
-lawful s e =
-    let a = ltb (maxItems * itemSize) (length s) in
-    let b = not (eqb (length s % itemSize) 0) in
-    let r = any (badAt s) 0 (length s / itemSize) in
-    (rw e refl, lawful-of s (length s / itemSize) (few-items s e) (neither-r b r (neither-r a (b || r) e)))
+pub order-free : OrderFree
+order-free s t to e f w = same s t to w f

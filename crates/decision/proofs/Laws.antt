@@ -1,236 +1,294 @@
--- The laws of the decision, over abstract relations (document 01, 'Decide'): every index falls in exactly one of ranked, dominated, refused; ranked is empty
--- only without items; what a refusal names.
-use mathlib.Core.Path.{_≡_, refl, sym, ap, _∙_}
-use mathlib.Core.Bool.{Bool, true, false, not, _&&_}
-use mathlib.Core.Logic.{_⊎_, inl, inr, _↔_}
-use mathlib.Core.List.{List, [], _∷_, List·Memᴰ, List·Memᴰ·not-nil, List·Memᴰ·cases-cons, List·Permᴰ, List·Permᴰ·nil, List·Permᴰ·cons, List·Permᴰ·trans}
-use Prim.Native.Nat.{ℕ, zero, suc, _-_, _≤_, _<_}
+-- The laws of a decision, over any items (document 01, 'Decide'): every item falls in exactly one of ranked, dominated, refused; ranked is empty only without
+-- items; what a refusal names; the order of the items makes no difference.
+use mathlib.Core.Path.{_≡_, refl, sym, ap, ap₂, _∙_, subst}
+use mathlib.Core.Bool.{Bool, true, false, not, _&&_, _||_}
+use mathlib.Core.Logic.{_⊎_, inl, inr}
+use mathlib.Core.List.{List, [], _∷_, _++_, map, flatMap, List·Memᴰ, List·Memᴰ·head, List·Memᴰ·tail, List·Memᴰ·not-nil, List·Memᴰ·cases-cons, List·Permᴰ, List·Permᴰ·nil, List·Permᴰ·cons, List·Permᴰ·trans, Permᴰ·symm, Permᴰ·append-left, Permᴰ·append-right, Permᴰ·middle}
+use Prim.Native.Nat.{ℕ, _≤_, _<_}
 use native.Mathlib.Omega.{arith}
 use native.Mathlib.Nat.{le-trans, le-of-lt}
-use lib.Dec.{leb, eqb}
-use lib.ListN.{length}
-use borrow.Author.Tests.{leb-true, leb-false, eqb-false, ne-eqb, eq-eqb}
-use Rattle.ranges.proofs.Bools.{clash, no-true, and-true, and-l, and-r, not-t, not-f, by, or}
-use Rattle.ranges.specs.Range.{any, least, filt}
-use Rattle.ranges.proofs.Range.{any-of, any-at, any-no, least-in, least-some, best-of, filt-mem, filt-at, filt-none, filt-few}
-use Rattle.ranges.proofs.Orders.{perm-length, perm-mem, without, filt-one}
-use Rattle.ranges.proofs.Least.{Strict, First, nothing, found, least-is}
-use Rattle.decision.specs.Decide.{Rel, none, resists, supersedes, beats, superseded, superBy, blames, contested, against, refused, covers, dominated, stands, order, ranked, dominatedList, refusedList}
+use lib.Dec.{leb}
+use borrow.Author.Tests.{leb-true, leb-false}
+use Rattle.ranges.proofs.Bools.{clash, no-true, and-both, and-left, and-right, not-t, not-f, by, or}
+use Rattle.ranges.specs.Lists.{anyOf, filter, foremost}
+use Rattle.ranges.proofs.Orders.{perm-mem}
+use Rattle.ranges.proofs.Lists.{any-in, any-of, any-perm, any-same, filter-in, filter-of, filter-some, filter-same, filter-perm, sort-perm, foremost-in, flat-in, flat-same, flat-perm}
+use Rattle.ranges.proofs.Sorting.{Strict, strict-sub, foremost-perm, sort-same}
+use Rattle.decision.specs.Standing.{Relations, supersedes, replaces, isSuperseded, opposes, isContested, isRefused, isCovered, replaced, opposed, refusalOf, decide}
+use Rattle.decision.specs.Outcome.{Refused}
+use Rattle.decision.specs.Claims.{listedIn}
 
 total : (a b : ℕ) → (a ≤ b) ⊎ (b ≤ a)
 total a b = by (leb a b) (λ p. inl (leb-true a b p)) (λ p. inr (le-of-lt (leb-false a b p)))
 
+-- of the members that pass a test one that is best by a relation that is total and transitive
+module _ {A : Type 0} (R : A → A → Type 0) (tot : (a b : A) → R a b ⊎ R b a) (trans : (a b c : A) → R a b → R b c → R a c) (test : A → Bool) where
+  best-of : (l : List A) → anyOf test l ≡ true → (x : A) × List·Memᴰ x l × (test x ≡ true) × ((y : A) → List·Memᴰ y l → test y ≡ true → R x y)
+  unfolding anyOf
+  best-of [] e = clash {b = true} refl (sym e)
+  best-of (x ∷ l) e =
+      by (anyOf test l)
+      (λ p. let r = best-of l p in
+      by (test x)
+      (λ q. or (tot x (r .0))
+      (λ u. (x, List·Memᴰ·head refl, q, λ y m t. or (List·Memᴰ·cases-cons m) (λ z. at x y (sym z) (self x)) (λ k. trans x (r .0) y u (r .3 y k t))))
+      (λ u. (r .0, List·Memᴰ·tail (r .1), r .2, λ y m t. or (List·Memᴰ·cases-cons m) (λ z. at (r .0) y (sym z) u) (λ k. r .3 y k t))))
+      (λ q. (r .0, List·Memᴰ·tail (r .1), r .2, λ y m t. or (List·Memᴰ·cases-cons m) (λ z. clash (ap test (sym z) ∙ t) q) (λ k. r .3 y k t))))
+      (λ p. by (test x)
+      (λ q. (x, List·Memᴰ·head refl, q, λ y m t. or (List·Memᴰ·cases-cons m) (λ z. at x y (sym z) (self x)) (λ k. clash (any-of test l y k t) p)))
+      (λ q. clash e (rw (q, p) refl)))
+    where
+      self : (a : A) → R a a
+      self a = or (tot a a) (λ w. w) (λ w. w)
+
+      at : (a y : A) {x : A} → x ≡ y → R a x → R a y
+      at a y z w = subst (R a) z w
+
+module _ {A : Type 0} (r : Relations A) (all : List A) where
+  -- ---- each item falls in one of the three
+
+  -- a refused item has one refusal, another none
+  pub refused-one : (f : A) → isRefused r all f ≡ true → (x : Refused A) × (refusalOf r all f ≡ x ∷ []) × (x .item ≡ f)
+  unfolding isRefused isContested isSuperseded refusalOf
+  refused-one f e =
+      by (anyOf (replaces r all f) all)
+      (λ p. let w = filter-some (replaces r all f) all p in
+      let k = foremost (r .lower) (w .0) (w .1) in
+      (record { item = f; against = k; chi2 = r .chiSquare k f; superseded = true }, rw (p, w .2) refl, refl))
+      (λ p. let c = rw p at e in
+      let o = and-right (not (supersedes r all f)) (anyOf (opposes r all f) all) c in
+      let w = filter-some (opposes r all f) all o in
+      let k = foremost (r .lower) (w .0) (w .1) in
+      (record { item = f; against = k; chi2 = r .chiSquare f k; superseded = false }, rw (p, c, w .2) refl, refl))
+
+  pub refused-none : (f : A) → isRefused r all f ≡ false → refusalOf r all f ≡ []
+  unfolding isRefused refusalOf
+  refused-none f e =
+      by (isSuperseded r all f)
+      (λ p. clash {b = true} refl (rw p at e))
+      (λ p. rw (p, rw p at e) refl)
+
+  -- those of a list, in their three lists, are those of the list
+  three : (l : List A)
+      → List·Permᴰ (filter (λ f. not (isRefused r all f) && not (isCovered r all f)) l ++ (filter (λ f. not (isRefused r all f) && isCovered r all f) l ++ map (λ x. x .item) (flatMap (refusalOf r all) l))) l
+  unfolding filter flatMap
+  three [] = List·Permᴰ·nil
+  three (f ∷ l) =
+      let a = filter (λ f. not (isRefused r all f) && not (isCovered r all f)) l in
+      let b = filter (λ f. not (isRefused r all f) && isCovered r all f) l in
+      let c = map (λ (x : Refused A). x .item) (flatMap (refusalOf r all) l) in
+      let w = three l in
+      by (isRefused r all f)
+      (λ p. let x = refused-one f p in
+      rw (p, x .1)
+      (List·Permᴰ·trans (Permᴰ·append-left a (Permᴰ·middle (x .0 .item) b c))
+      (List·Permᴰ·trans (Permᴰ·middle (x .0 .item) a (b ++ c)) (List·Permᴰ·cons (x .2) w))))
+      (λ p. by (isCovered r all f)
+      (λ q. rw (p, q, refused-none f p) (List·Permᴰ·trans (Permᴰ·middle f a (b ++ c)) (List·Permᴰ·cons refl w)))
+      (λ q. rw (p, q, refused-none f p) (List·Permᴰ·cons refl w)))
+
+  pub listed-once : List·Permᴰ (listedIn (decide r all)) all
+  unfolding decide
+  listed-once =
+      let g : A → Bool = λ f. not (isRefused r all f) && not (isCovered r all f) in
+      List·Permᴰ·trans (Permᴰ·append-right (decide r all .dominated ++ map (λ (x : Refused A). x .item) (decide r all .refused)) (sort-perm (r .ahead) (filter g all))) (three all)
+
+  -- ---- what a refusal names
+
+  pub superseded-in : (f : A) → isSuperseded r all f ≡ true → (g : A) × List·Memᴰ g all × (replaces r all f g ≡ true)
+  unfolding isSuperseded
+  superseded-in f e = any-in (replaces r all f) all e
+
+  pub contested-in : (f : A) → isContested r all f ≡ true → (g : A) × List·Memᴰ g all × (opposes r all f g ≡ true)
+  unfolding isContested
+  contested-in f e = any-in (opposes r all f) all (and-right (not (isSuperseded r all f)) _ (and-right (not (supersedes r all f)) _ e))
+
+  supersedes-over : (f g : A) → List·Memᴰ g all → supersedes r all f ≡ true → r .disagrees f g ≡ true → r .outstands f g ≡ true
+  unfolding supersedes
+  supersedes-over f g m s d =
+      by (r .outstands f g) (λ p. p)
+      (λ p. clash (any-of (λ h. r .disagrees f h && not (r .outstands f h)) all g m (and-both _ _ d (not-f _ p)))
+      (not-t _ (and-right (anyOf (r .disagrees f) all) _ (and-right (r .passed f) _ s))))
+
+  passed-of : (f : A) → supersedes r all f ≡ true → r .passed f ≡ true
+  unfolding supersedes
+  passed-of f s = and-left (r .passed f) (anyOf (r .disagrees f) all && not (anyOf (λ g. r .disagrees f g && not (r .outstands f g)) all)) s
+
+  -- one that opposes it, or one that takes its place
+  pub data Named (x : Refused A) : Type 0 where
+    opponent : x .superseded ≡ false → x .chi2 ≡ r .chiSquare (x .item) (x .against) → List·Memᴰ (x .against) all
+        → r .disagrees (x .item) (x .against) ≡ true → isSuperseded r all (x .against) ≡ false → Named x
+    successor : x .superseded ≡ true → x .chi2 ≡ r .chiSquare (x .against) (x .item) → List·Memᴰ (x .against) all
+        → r .disagrees (x .against) (x .item) ≡ true → r .passed (x .against) ≡ true → r .outstands (x .against) (x .item) ≡ true → Named x
+
+  single : {x y : Refused A} → List·Memᴰ x (y ∷ []) → x ≡ y
+  single m = or (List·Memᴰ·cases-cons m) (λ e. e) (λ k. absurd (List·Memᴰ·not-nil k))
+
+  replaced-names : (f : A) → List·Memᴰ f all → (l : List A) → ((g : A) → List·Memᴰ g l → List·Memᴰ g all × (replaces r all f g ≡ true)) → (x : Refused A) → List·Memᴰ x (replaced r all f l) → Named x
+  replaced-names f m [] w x n = absurd (List·Memᴰ·not-nil n)
+  replaced-names f m (g ∷ l) w x n =
+      let k = foremost (r .lower) g l in
+      let u = w k (foremost-in (r .lower) g l) in
+      let s = and-left (supersedes r all k) (r .disagrees k f) (u .1) in
+      let d = and-right (supersedes r all k) (r .disagrees k f) (u .1) in
+      subst Named (sym (single n)) (successor refl refl (u .0) d (passed-of k s) (supersedes-over k f m s d))
+
+  opposed-names : (f : A) (l : List A) → ((g : A) → List·Memᴰ g l → List·Memᴰ g all × (opposes r all f g ≡ true)) → (x : Refused A) → List·Memᴰ x (opposed r all f l) → Named x
+  opposed-names f [] w x n = absurd (List·Memᴰ·not-nil n)
+  opposed-names f (g ∷ l) w x n =
+      let k = foremost (r .lower) g l in
+      let u = w k (foremost-in (r .lower) g l) in
+      subst Named (sym (single n))
+      (opponent refl refl (u .0) (and-left (r .disagrees f k) (not (isSuperseded r all k)) (u .1)) (not-t _ (and-right (r .disagrees f k) (not (isSuperseded r all k)) (u .1))))
+
+  refusal-names : (f : A) → List·Memᴰ f all → (x : Refused A) → List·Memᴰ x (refusalOf r all f) → Named x
+  unfolding refusalOf
+  refusal-names f m x n =
+      by (isSuperseded r all f)
+      (λ p. replaced-names f m (filter (replaces r all f) all) (λ g k. filter-in (replaces r all f) all g k) x (rw p at n))
+      (λ p. by (isContested r all f)
+      (λ q. opposed-names f (filter (opposes r all f) all) (λ g k. filter-in (opposes r all f) all g k) x (rw (p, q) at n))
+      (λ q. absurd (List·Memᴰ·not-nil (rw (p, q) at n))))
+
+  pub refused-names : (x : Refused A) → List·Memᴰ x (decide r all .refused) → Named x
+  unfolding decide
+  refused-names x m = let w = flat-in (refusalOf r all) all x m in refusal-names (w .0) (w .1) x (w .2)
+
+-- ---- ranked is empty only without items
+
 -- what is asked of the relations: standing and the number of tags are numbers
-pub record Sound (x : Rel) : Type 0 where
-  pub few : x .n ≤ none
-  pub standing : ℕ → ℕ
-  pub size : ℕ → ℕ
-  pub over-is : (i j : ℕ) → x .outstands i j ≡ true → standing j < standing i
-  pub dis-size : (i j : ℕ) → x .disagrees i j ≡ true → size j < size i
-  pub sub-size : (i j : ℕ) → x .within i j ≡ true → size i < size j
+pub record Sound {A : Type 0} (r : Relations A) : Type 0 where
+  pub standing : A → ℕ
+  pub size : A → ℕ
+  pub over-is : (f g : A) → r .outstands f g ≡ true → standing g < standing f
+  pub dis-size : (f g : A) → r .disagrees f g ≡ true → size g < size f
+  pub sub-size : (f g : A) → r .within f g ≡ true → size f < size g
 
-module _ (x : Rel) where
-  -- each index is in exactly one of the three
-  pub data One (i : ℕ) : Type 0 where
-    isRefused : refused x i ≡ true → dominated x i ≡ false → stands x i ≡ false → One i
-    isDominated : refused x i ≡ false → dominated x i ≡ true → stands x i ≡ false → One i
-    stood : refused x i ≡ false → dominated x i ≡ false → stands x i ≡ true → One i
+module _ {A : Type 0} (r : Relations A) (all : List A) (w : Sound r) where
+  -- the highest standing is not superseded
+  one-free : anyOf (λ f. true) all ≡ true → anyOf (λ f. not (isSuperseded r all f)) all ≡ true
+  one-free some =
+      let st = w .standing in
+      let b = best-of (λ f g. st g ≤ st f) (λ f g. total (st g) (st f)) (λ f g h p q. le-trans q p) (λ f. true) all some in
+      any-of (λ f. not (isSuperseded r all f)) all (b .0) (b .1)
+      (not-f _ (no-true _ (λ e.
+      let s = superseded-in r all (b .0) e in
+      let p = and-left (supersedes r all (s .0)) (r .disagrees (s .0) (b .0)) (s .2) in
+      let d = and-right (supersedes r all (s .0)) (r .disagrees (s .0) (b .0)) (s .2) in
+      let o = w .over-is (s .0) (b .0) (supersedes-over r all (s .0) (b .0) (b .1) p d) in
+      let m = b .3 (s .0) (s .1) refl in
+      omega arith)))
 
-  pub one : (i : ℕ) → One i
-  unfolding dominated stands
-  one i =
-      by (refused x i) (λ p. isRefused p (rw p refl) (rw p refl))
-      (λ p. by (any (covers x i) 0 (x .n)) (λ q. isDominated p (rw (p, q) refl) (rw (p, q) refl)) (λ q. stood p (rw (p, q) refl) (rw (p, q) refl)))
+  -- of those the one with the fewest tags is not refused
+  one-unrefused : anyOf (λ f. true) all ≡ true → anyOf (λ f. not (isRefused r all f)) all ≡ true
+  unfolding isRefused
+  one-unrefused some =
+      let sz = w .size in
+      let b = best-of (λ f g. sz f ≤ sz g) (λ f g. total (sz f) (sz g)) (λ f g h p q. le-trans p q) (λ f. not (isSuperseded r all f)) all (one-free some) in
+      any-of (λ f. not (isRefused r all f)) all (b .0) (b .1)
+      (rw (not-t (isSuperseded r all (b .0)) (b .2)) (not-f _ (no-true _ (λ e.
+      let s = contested-in r all (b .0) e in
+      let o = w .dis-size (b .0) (s .0) (and-left (r .disagrees (b .0) (s .0)) (not (isSuperseded r all (s .0))) (s .2)) in
+      let m = b .3 (s .0) (s .1) (and-right (r .disagrees (b .0) (s .0)) (not (isSuperseded r all (s .0))) (s .2)) in
+      omega arith))))
 
-  supersedes-over : (i j : ℕ) → j < x .n → supersedes x i ≡ true → x .disagrees i j ≡ true → x .outstands i j ≡ true
+  -- of those the one with the most tags is covered by none
+  one-stands : anyOf (λ f. true) all ≡ true → anyOf (λ f. not (isRefused r all f) && not (isCovered r all f)) all ≡ true
+  unfolding isCovered
+  one-stands some =
+      let sz = w .size in
+      let b = best-of (λ f g. sz g ≤ sz f) (λ f g. total (sz g) (sz f)) (λ f g h p q. le-trans q p) (λ f. not (isRefused r all f)) all (one-unrefused some) in
+      any-of (λ f. not (isRefused r all f) && not (isCovered r all f)) all (b .0) (b .1)
+      (and-both _ _ (b .2) (not-f _ (no-true _ (λ e.
+      let s = any-in (λ g. not (isRefused r all g) && r .within (b .0) g) all e in
+      let o = w .sub-size (b .0) (s .0) (and-right (not (isRefused r all (s .0))) _ (s .2)) in
+      let m = b .3 (s .0) (s .1) (and-left (not (isRefused r all (s .0))) (r .within (b .0) (s .0)) (s .2)) in
+      omega arith))))
+
+  pub some-ranked : (f : A) → List·Memᴰ f all → (g : A) × List·Memᴰ g (decide r all .ranked)
+  unfolding decide
+  some-ranked f m =
+      let stands : A → Bool = λ g. not (isRefused r all g) && not (isCovered r all g) in
+      let s = any-in stands all (one-stands (any-of (λ g. true) all f m refl)) in
+      (s .0, perm-mem (sort-perm (r .ahead) (filter stands all)) (filter-of stands all (s .0) (s .1) (s .2)))
+
+-- ---- the order of the items makes no difference
+
+module _ {A : Type 0} (r : Relations A) (l m : List A) (p : List·Permᴰ l m) where
+  supersedes-same : (f : A) → supersedes r l f ≡ supersedes r m f
   unfolding supersedes
-  supersedes-over i j h s d =
-      by (x .outstands i j) (λ p. p)
-      (λ p. clash (any-of (resists x i) 0 (x .n) j (omega arith) (omega arith) (and-true _ _ d (not-f _ p)))
-      (not-t _ (and-r (any (x .disagrees i) 0 (x .n)) _ (and-r (x .passed i) _ s))))
+  supersedes-same f = rw (any-perm (r .disagrees f) p, any-perm (λ g. r .disagrees f g && not (r .outstands f g)) p) refl
 
-  passed-of : (k : ℕ) → supersedes x k ≡ true → x .passed k ≡ true
-  unfolding supersedes
-  passed-of k s = and-l (x .passed k) (any (x .disagrees k) 0 (x .n) && not (any (resists x k) 0 (x .n))) s
+  superseded-same : (f : A) → isSuperseded r l f ≡ isSuperseded r m f
+  unfolding isSuperseded
+  superseded-same f = any-perm (replaces r l f) p ∙ any-same (replaces r l f) (replaces r m f) m (λ g k. ap (λ (b : Bool). b && r .disagrees g f) (supersedes-same g))
 
-  first-ahead : (g : ℕ → Bool) (b j : ℕ) → (b ≡ none → ⊥) → First (x .ahead) none g (x .n) b → j < x .n → g j ≡ true → (j ≡ b → ⊥) → x .ahead b j ≡ true
-  first-ahead g b j u (nothing e f) h q d = absurd (u e)
-  first-ahead g b j u (found l p f) h q d = or (f j h q) (λ e. absurd (d e)) (λ r. r)
+  opposes-same : (f g : A) → opposes r l f g ≡ opposes r m f g
+  opposes-same f g = ap (λ (b : Bool). r .disagrees f g && not b) (superseded-same g)
 
-  -- who supersedes j
-  superseded-at : (j : ℕ) → superseded x j ≡ true → (i : ℕ) × (i < x .n) × (supersedes x i ≡ true) × (x .disagrees i j ≡ true)
-  unfolding superseded
-  superseded-at j e = let r = any-at (beats x j) 0 (x .n) e in (r .0, omega arith, and-l (supersedes x (r .0)) (x .disagrees (r .0) j) (r .3), and-r (supersedes x (r .0)) _ (r .3))
+  contested-same : (f : A) → isContested r l f ≡ isContested r m f
+  unfolding isContested
+  contested-same f =
+      ap₂ (λ (a b : Bool). not a && b) (supersedes-same f)
+      (ap₂ (λ (a b : Bool). not a && b) (superseded-same f) (any-perm (opposes r l f) p ∙ any-same (opposes r l f) (opposes r m f) m (λ g k. opposes-same f g)))
 
-  contested-at : (i : ℕ) → contested x i ≡ true → (j : ℕ) × (j < x .n) × (x .disagrees i j ≡ true) × (superseded x j ≡ false)
-  unfolding contested
-  contested-at i e =
-      let r = any-at (blames x i) 0 (x .n) (and-r (not (superseded x i)) _ (and-r (not (supersedes x i)) _ e)) in
-      (r .0, omega arith, and-l (x .disagrees i (r .0)) (not (superseded x (r .0))) (r .3), not-t _ (and-r (x .disagrees i (r .0)) _ (r .3)))
+  refused-same : (f : A) → isRefused r l f ≡ isRefused r m f
+  unfolding isRefused
+  refused-same f = ap₂ _||_ (superseded-same f) (contested-same f)
 
-  -- a refusal that isn't superseding names a disagreeing, unsuperseded subset
-  pub against-is : Sound x → (i : ℕ) → contested x i ≡ true → let k = against x i in (k < x .n) × (x .disagrees i k ≡ true) × (superseded x k ≡ false)
-  unfolding against contested
-  against-is w i e =
-      or (least-in (x .lower) none (blames x i) none 0 (x .n))
-      (λ q. let l = least-some (x .lower) none (blames x i) none 0 (x .n) (let f = w .few in omega arith) (omega arith) (inr (and-r (not (superseded x i)) _ (and-r (not (supersedes x i)) _ e))) in absurd (omega arith))
-      (λ t. (omega arith, and-l (x .disagrees i _) (not (superseded x _)) (t .2), not-t _ (and-r (x .disagrees i _) _ (t .2))))
+  covered-same : (f : A) → isCovered r l f ≡ isCovered r m f
+  unfolding isCovered
+  covered-same f =
+      any-perm (λ g. not (isRefused r l g) && r .within f g) p
+      ∙ any-same (λ g. not (isRefused r l g) && r .within f g) (λ g. not (isRefused r m g) && r .within f g) m (λ g k. ap (λ (b : Bool). not b && r .within f g) (refused-same g))
 
-  module _ (w : Sound x) (some : 0 < x .n) where
-    -- the highest standing is not superseded
-    one-free : any (λ j. not (superseded x j)) 0 (x .n) ≡ true
-    one-free =
-        let st = w .standing in
-        let r = best-of (λ i j. st j ≤ st i) (λ a b. total (st b) (st a)) (λ a b c p q. le-trans q p) (λ _. true) 0 (x .n) (any-of (λ _. true) 0 (x .n) 0 (omega arith) (omega arith) refl) in
-        any-of (λ j. not (superseded x j)) 0 (x .n) (r .0) (omega arith) (omega arith)
-        (not-f _ (no-true _ (λ e.
-        let s = superseded-at (r .0) e in
-        let o = w .over-is (s .0) (r .0) (supersedes-over (s .0) (r .0) (omega arith) (s .2) (s .3)) in
-        let m = r .4 (s .0) (omega arith) (omega arith) refl in
-        omega arith)))
+  module _ (by-identity : Strict (r .lower) l) where
+    replaced-same : (f : A) (j k : List A) → List·Permᴰ j k → ((g : A) → List·Memᴰ g j → List·Memᴰ g l) → replaced r l f j ≡ replaced r m f k
+    replaced-same f [] [] q sub = refl
+    replaced-same f [] (y ∷ k) q sub = absurd (List·Memᴰ·not-nil (perm-mem q (List·Memᴰ·head refl)))
+    replaced-same f (x ∷ j) [] q sub = absurd (List·Memᴰ·not-nil (perm-mem (Permᴰ·symm q) (List·Memᴰ·head refl)))
+    replaced-same f (x ∷ j) (y ∷ k) q sub = rw (foremost-perm (r .lower) x j y k (strict-sub (r .lower) sub by-identity) q) refl
 
-    -- of those the one with the fewest tags is not refused
-    one-unrefused : any (λ j. not (refused x j)) 0 (x .n) ≡ true
-    unfolding refused
-    one-unrefused =
-        let sz = w .size in
-        let r = best-of (λ i j. sz i ≤ sz j) (λ a b. total (sz a) (sz b)) (λ a b c p q. le-trans p q) (λ j. not (superseded x j)) 0 (x .n) one-free in
-        any-of (λ j. not (refused x j)) 0 (x .n) (r .0) (omega arith) (omega arith)
-        (rw (not-t (superseded x (r .0)) (r .3)) (not-f _ (no-true _ (λ e.
-        let s = contested-at (r .0) e in
-        let o = w .dis-size (r .0) (s .0) (s .2) in
-        let m = r .4 (s .0) (omega arith) (omega arith) (not-f _ (s .3)) in
-        omega arith))))
+    opposed-same : (f : A) (j k : List A) → List·Permᴰ j k → ((g : A) → List·Memᴰ g j → List·Memᴰ g l) → opposed r l f j ≡ opposed r m f k
+    opposed-same f [] [] q sub = refl
+    opposed-same f [] (y ∷ k) q sub = absurd (List·Memᴰ·not-nil (perm-mem q (List·Memᴰ·head refl)))
+    opposed-same f (x ∷ j) [] q sub = absurd (List·Memᴰ·not-nil (perm-mem (Permᴰ·symm q) (List·Memᴰ·head refl)))
+    opposed-same f (x ∷ j) (y ∷ k) q sub = rw (foremost-perm (r .lower) x j y k (strict-sub (r .lower) sub by-identity) q) refl
 
-    -- of those the one with the most tags stands
-    one-stands : any (stands x) 0 (x .n) ≡ true
-    unfolding stands
-    one-stands =
-        let sz = w .size in
-        let r = best-of (λ i j. sz j ≤ sz i) (λ a b. total (sz b) (sz a)) (λ a b c p q. le-trans q p) (λ j. not (refused x j)) 0 (x .n) one-unrefused in
-        any-of (stands x) 0 (x .n) (r .0) (omega arith) (omega arith)
-        (and-true _ _ (r .3) (not-f _ (no-true _ (λ e.
-        let s = any-at (covers x (r .0)) 0 (x .n) e in
-        let o = w .sub-size (r .0) (s .0) (and-r (not (refused x (s .0))) _ (s .3)) in
-        let m = r .4 (s .0) (omega arith) (omega arith) (and-l (not (refused x (s .0))) (x .within (r .0) (s .0)) (s .3)) in
-        omega arith))))
+    -- what passes one of two tests that agree, in two orders
+    filters : (g h : A → Bool) → ((f : A) → g f ≡ h f) → List·Permᴰ (filter g l) (filter h m)
+    filters g h e = subst (λ (k : List A). List·Permᴰ (filter g l) k) (filter-same g h m (λ f k. e f)) (filter-perm g p)
 
-  -- ---- the list by rank
-  pub first-of : Sound x → (g : ℕ → Bool) → any g 0 (x .n) ≡ true → let b = least (x .ahead) none g none 0 (x .n) in (b < x .n) × (g b ≡ true) × (eqb b none ≡ false)
-  first-of w g e =
-      let l = least-some (x .ahead) none g none 0 (x .n) (let f = w .few in omega arith) (omega arith) (inr e) in
-      or (least-in (x .ahead) none g none 0 (x .n)) (λ q. absurd (omega arith)) (λ t. (omega arith, t .2, ne-eqb (least (x .ahead) none g none 0 (x .n)) none (λ q. omega arith)))
+    refusal-same : (f : A) → refusalOf r l f ≡ refusalOf r m f
+    unfolding refusalOf
+    refusal-same f =
+        by (isSuperseded r l f)
+        (λ s. rw (s, sym (superseded-same f) ∙ s)
+        (replaced-same f (filter (replaces r l f) l) (filter (replaces r m f) m)
+        (filters (replaces r l f) (replaces r m f) (λ g. ap (λ (b : Bool). b && r .disagrees g f) (supersedes-same g)))
+        (λ g k. filter-in (replaces r l f) l g k .0)))
+        (λ s. by (isContested r l f)
+        (λ t. rw (s, sym (superseded-same f) ∙ s, t, sym (contested-same f) ∙ t)
+        (opposed-same f (filter (opposes r l f) l) (filter (opposes r m f) m)
+        (filters (opposes r l f) (opposes r m f) (opposes-same f))
+        (λ g k. filter-in (opposes r l f) l g k .0)))
+        (λ t. rw (s, sym (superseded-same f) ∙ s, t, sym (contested-same f) ∙ t) refl))
 
-  order-some : Sound x → (f : ℕ) (g : ℕ → Bool) → any g 0 (x .n) ≡ true → order x (suc f) g ≡ [] → ⊥
-  unfolding order
-  order-some w f g e q = cons-nil (rw (first-of w g e .2) at q)
-    where
-      cons-nil : {a : ℕ} {l : List ℕ} → _≡_ {A = List ℕ} (a ∷ l) [] → ⊥
-      cons-nil z = let y : _≡_ {A = ℕ} 0 1 = cc in omega arith
+    pub same-refused : List·Permᴰ (decide r l .refused) (decide r m .refused)
+    unfolding decide
+    same-refused =
+        subst (λ k. List·Permᴰ (flatMap (refusalOf r l) l) k) (flat-same (refusalOf r l) (refusalOf r m) m (λ f k. refusal-same f)) (flat-perm (refusalOf r l) p)
 
-  -- RANKED IS EMPTY ONLY WITHOUT ITEMS
-  pub ranked-some : Sound x → ranked x ≡ [] → x .n ≡ 0
-  unfolding ranked
-  ranked-some w e = go (x .n) refl
-    where
-      go : (k : ℕ) → x .n ≡ k → x .n ≡ 0
-      go zero q = q
-      go (suc k) q = absurd (order-some w k (stands x) (one-stands w (omega arith)) (ap (λ (m : ℕ). order x m (stands x)) (sym q) ∙ e))
+    pub same-dominated : List·Permᴰ (decide r l .dominated) (decide r m .dominated)
+    unfolding decide
+    same-dominated =
+        filters (λ f. not (isRefused r l f) && isCovered r l f) (λ f. not (isRefused r m f) && isCovered r m f)
+        (λ f. ap₂ (λ (a b : Bool). not a && b) (refused-same f) (covered-same f))
 
-  -- what is listed is of g
-  pub order-at : Sound x → (f : ℕ) (g : ℕ → Bool) (i : ℕ) → List·Memᴰ i (order x f g) → (i < x .n) × (g i ≡ true)
-  unfolding order
-  order-at w zero g i m = absurd (List·Memᴰ·not-nil m)
-  order-at w (suc f) g i m =
-      let b = least (x .ahead) none g none 0 (x .n) in
-      by (eqb b none)
-      (λ p. absurd (List·Memᴰ·not-nil (rw p at m)))
-      (λ p. or (List·Memᴰ·cases-cons (rw p at m))
-      (λ q. or (least-in (x .ahead) none g none 0 (x .n)) (λ z. absurd (eqb-false b none p z)) (λ t. (omega arith, ap g q ∙ t .2)))
-      (λ r. let z = order-at w f (λ i. g i && not (eqb i b)) i r in (z .0, and-l (g i) (not (eqb i b)) (z .1))))
-
-  -- ---- all of g are listed, in another order, where f is enough
-  order-none : (f : ℕ) (g : ℕ → Bool) → any g 0 (x .n) ≡ false → List·Permᴰ (order x (suc f) g) (filt g 0 (x .n))
-  unfolding order
-  order-none f g e =
-      let n = filt-none g 0 (x .n) (λ i u v. any-no g 0 (x .n) i e u v) in
-      or (least-in (x .ahead) none g none 0 (x .n))
-      (λ q. rw (eq-eqb (least (x .ahead) none g none 0 (x .n)) none q, n) List·Permᴰ·nil)
-      (λ r. clash (r .2) (any-no g 0 (x .n) (least (x .ahead) none g none 0 (x .n)) e (r .0) (r .1)))
-
-  pub order-perm : Sound x → (f : ℕ) (g : ℕ → Bool) → length (filt g 0 (x .n)) ≤ f → List·Permᴰ (order x f g) (filt g 0 (x .n))
-  unfolding order
-  order-perm w zero g h = none-left (filt g 0 (x .n)) h
-    where
-      none-left : (l : List ℕ) → length l ≤ 0 → List·Permᴰ [] l
-      none-left [] h = List·Permᴰ·nil
-      none-left (a ∷ l) h = absurd (omega arith)
-  order-perm w (suc f) g h =
-      let b = least (x .ahead) none g none 0 (x .n) in
-      by (any g 0 (x .n))
-      (λ e.
-      let o = first-of w g e in
-      let p = filt-one g b 0 (x .n) (omega arith) (omega arith) (o .1) in
-      let l = perm-length p in
-      rw (o .2) (List·Permᴰ·trans (List·Permᴰ·cons refl (order-perm w f (without g b) (omega arith))) p))
-      (λ e. order-none f g e)
-
-  pub ranked-perm : Sound x → List·Permᴰ (ranked x) (filt (stands x) 0 (x .n))
-  unfolding ranked
-  ranked-perm w = order-perm w (x .n) (stands x) (filt-few (stands x) 0 (x .n))
-
-  -- THE THREE LISTS: an index is in exactly one
-  pub record Lists (i : ℕ) : Type 0 where
-    pub in-ranked : List·Memᴰ i (ranked x) ↔ ((i < x .n) × (stands x i ≡ true))
-    pub in-dominated : List·Memᴰ i (dominatedList x) ↔ ((i < x .n) × (dominated x i ≡ true))
-    pub in-refused : List·Memᴰ i (refusedList x) ↔ ((i < x .n) × (refused x i ≡ true))
-    pub just-one : One i
-
-  pub lists : Sound x → (i : ℕ) → Lists i
-  unfolding ranked dominatedList refusedList
-  lists w i = record {
-    in-ranked = (order-at w (x .n) (stands x) i, λ p. perm-mem (ranked-perm w) (filt-mem (stands x) 0 (x .n) i (omega arith) (omega arith) (p .1)));
-    in-dominated = (λ m. let r = filt-at (dominated x) 0 (x .n) i m in (omega arith, r .2), λ p. filt-mem (dominated x) 0 (x .n) i (omega arith) (omega arith) (p .1));
-    in-refused = (λ m. let r = filt-at (refused x) 0 (x .n) i m in (omega arith, r .2), λ p. filt-mem (refused x) 0 (x .n) i (omega arith) (omega arith) (p .1));
-    just-one = one i;
-  }
-
-  -- a superseding refusal names a verified superset that disagrees and has strictly more standing
-  pub super-is : Sound x → (i : ℕ) → i < x .n → superseded x i ≡ true
-      → let k = superBy x i in (k < x .n) × (x .passed k ≡ true) × (x .disagrees k i ≡ true) × (x .outstands k i ≡ true)
-  unfolding superBy superseded
-  super-is w i h e =
-      let f = w .few in
-      let k = least (x .lower) none (beats x i) none 0 (x .n) in
-      or (least-in (x .lower) none (beats x i) none 0 (x .n))
-      (λ q. let l = least-some (x .lower) none (beats x i) none 0 (x .n) (omega arith) (omega arith) (inr e) in absurd (omega arith))
-      (λ t.
-      let s = and-l (supersedes x k) (x .disagrees k i) (t .2) in
-      let d = and-r (supersedes x k) (x .disagrees k i) (t .2) in
-      (omega arith, passed-of k s, d, supersedes-over k i h s d))
-
-  -- ---- ranked ascends strictly in rank
-
-  -- each comes before every later one
-  pub data Ascends : List ℕ → Type 0 where
-    empty : Ascends []
-    next : {b : ℕ} {l : List ℕ} → ((j : ℕ) → List·Memᴰ j l → x .ahead b j ≡ true) → Ascends l → Ascends (b ∷ l)
-
-  order-ascends : Sound x → Strict (x .ahead) (x .n) → (f : ℕ) (g : ℕ → Bool) → Ascends (order x f g)
-  unfolding order
-  order-ascends w o zero g = empty
-  order-ascends w o (suc f) g =
-      let b = least (x .ahead) none g none 0 (x .n) in
-      let g′ : ℕ → Bool = λ i. g i && not (eqb i b) in
-      by (eqb b none)
-      (λ p. rw p empty)
-      (λ p. rw p (next
-      (λ j m.
-      let z = order-at w f g′ j m in
-      let d = eqb-false j b (not-t (eqb j b) (and-r (g j) (not (eqb j b)) (z .1))) in
-      first-ahead g b j (eqb-false b none p) (least-is (x .ahead) none (x .n) (w .few) o g) (z .0) (and-l (g j) (not (eqb j b)) (z .1)) d)
-      (order-ascends w o f g′)))
-
-  pub ranked-ascends : Sound x → Strict (x .ahead) (x .n) → Ascends (ranked x)
-  unfolding ranked
-  ranked-ascends w o = order-ascends w o (x .n) (stands x)
+    pub same-ranked : Strict (r .ahead) l → decide r l .ranked ≡ decide r m .ranked
+    unfolding decide
+    same-ranked o =
+        let g : A → Bool = λ f. not (isRefused r l f) && not (isCovered r l f) in
+        sort-same (r .ahead)
+        (filters g (λ f. not (isRefused r m f) && not (isCovered r m f)) (λ f. ap₂ (λ (a b : Bool). not a && not b) (refused-same f) (covered-same f)))
+        (strict-sub (r .ahead) (λ f k. filter-in g l f k .0) o)

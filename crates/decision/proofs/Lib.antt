@@ -1,11 +1,11 @@
-pub mod Tests
+pub mod Carried
+pub mod Laws
+pub mod Choosing
+pub mod Findings
 pub mod Ranking
 pub mod Arrays
 pub mod Passed
-pub mod Laws
-pub mod Renamed
 pub mod Sound
 pub mod Decided
-pub mod Reordered
 pub mod Positions
 pub mod Counted

@@ -1,93 +1,104 @@
--- What a loop leaves that takes the first by rank of those that are left, and lists it, until none is left (`order` of `Decide`).
-use mathlib.Core.Path.{_≡_, refl, sym, ap, ap₂, _∙_}
-use mathlib.Core.Bool.{Bool, false, not, cond, _&&_}
-use mathlib.Core.List.{List, [], _∷_, _++_, append-nil}
-use Prim.Native.Nat.{ℕ, zero, suc, _+_, _-_, _≤_, _<_}
+-- What a loop leaves that takes the first by rank of those that are left, and lists it, until none is left: the list sorted by rank.
+use mathlib.Core.Path.{_≡_, refl, sym, ap, _∙_, subst}
+use mathlib.Core.Bool.{Bool, true, false, not}
+use mathlib.Core.List.{List, [], _∷_, _++_, append-nil, List·Permᴰ, Permᴰ·symm}
+use Prim.Native.Nat.{ℕ, _+_, _≤_, _<_}
 use native.Mathlib.Omega.{arith}
-use native.Mathlib.Nat.{sub-zero}
-use native.Mathlib.Numerals.{add-one}
 use lib.Dec.{eqb}
-use lib.ListN.{length, getD, set, take, replicate, length-set}
-use lib.Seq.{getD-set-same, getD-set-other, take-suc-set, length-take-le, append-snoc}
-use borrow.Author.Tests.{eqb-false, eqb-true, ne-eqb}
-use Rattle.ranges.proofs.Bools.{by}
-use Rattle.ranges.specs.Range.{least, Filled}
-use Rattle.ranges.proofs.Range.{least-below, least-ext, filled-none, filled-more}
-use Rattle.decision.specs.Decide.{Rel, none, stands, order, ranked}
+use lib.ListN.{length, getD, set, replicate, length-set, length-append}
+use lib.Seq.{getD-set-same, getD-set-other, append-snoc}
+use borrow.Author.Tests.{eqb-false, eqb-true}
+use Rattle.ranges.proofs.Bools.{by, or, and-left, and-right, not-t}
+use Rattle.ranges.specs.Lists.{filter, sort, upTo}
+use Rattle.ranges.specs.Range.{Holds}
 use Rattle.ranges.specs.Tables.{Cached, marked}
 use Rattle.ranges.proofs.Tables.{cached-at}
+use Rattle.ranges.proofs.Orders.{perm-length, without, filt-one}
+use Rattle.ranges.proofs.Lists.{filter-in, filter-of, filter-same, sort-perm, up-in}
+use Rattle.ranges.proofs.Sorting.{Strict, strict-sub, sort-first}
+use Rattle.ranges.proofs.Searches.{filter-range, filter-up, holds-none, holds-more}
 use Rattle.items.specs.Layout.{maxItems}
-use Rattle.decision.specs.Rank.{Ranked}
+use Rattle.decision.specs.declared.Choice.the-variants.{Nobody, Item}
+use Rattle.decision.specs.Choosing.{choose}
+use Rattle.decision.proofs.Choosing.{chose-none, chose-among, chose-first}
 
-order-ext : (x : Rel) (f : ℕ) (g h : ℕ → Bool) → ((i : ℕ) → i < x .n → g i ≡ h i) → order x f g ≡ order x f h
-unfolding order
-order-ext x zero g h e = refl
-order-ext x (suc f) g h e =
-    let b = least (x .ahead) none g none 0 (x .n) in
-    let q = least-ext (x .ahead) none g h none 0 (x .n) (λ i u v. e i (omega arith)) in
-    ap (λ (r : List ℕ). cond (eqb b none) [] (b ∷ r)) (order-ext x f (λ i. g i && not (eqb i b)) (λ i. h i && not (eqb i b)) (λ i l. ap (λ (t : Bool). t && not (eqb i b)) (e i l)))
-    ∙ ap (λ (c : ℕ). cond (eqb c none) [] (c ∷ order x f (λ i. h i && not (eqb i c)))) q
-
-without : (m : List Bool) (b i : ℕ) → b < length m → marked (set m b false) i ≡ (marked m i && not (eqb i b))
-without m b i h =
+unmarked : (m : List Bool) (b i : ℕ) → b < length m → marked (set m b false) i ≡ without (marked m) b i
+unmarked m b i h =
     by (eqb i b)
     (λ p. rw (p, eqb-true i b p) (getD-set-same m b false false h ∙ by (getD m b false) (λ q. rw q refl) (λ q. rw q refl)))
     (λ p. rw p (getD-set-other m b i false false (eqb-false i b p) ∙ by (getD m i false) (λ q. rw q refl) (λ q. rw q refl)))
 
-pub record Ranking (x : Rel) (list : List ℕ) (k : ℕ) (left : List Bool) : Type 0 where
-  pub few : k ≤ x .n
-  pub long : length list ≡ maxItems
+-- of those that pass `test` the first k by rank are in the list, and the others are marked as left
+pub record Ranking (before : ℕ → ℕ → Bool) (n : ℕ) (test : ℕ → Bool) (list : List ℕ) (k : ℕ) (left : List Bool) : Type 0 where
+  pub few : k ≤ n
   pub wide : length left ≡ maxItems
-  pub filled : Filled maxItems 0 list (take k list)
-  pub rest : ranked x ≡ take k list ++ order x (x .n - k) (marked left)
+  pub so-far : List ℕ
+  pub holds : Holds maxItems 0 list k so-far
+  pub rest : sort before (filter test (upTo n)) ≡ so-far ++ sort before (filter (marked left) (upTo n))
 
-pub ranking-none : (x : Rel) (left : List Bool) → length left ≡ maxItems → Cached false left (stands x) (x .n) → Ranking x (replicate maxItems 0) 0 left
-unfolding ranked
-ranking-none x left h c = record {
-  few = omega arith;
-  long = refl;
-  wide = h;
-  filled = filled-none maxItems 0;
-  rest = rw sub-zero (order-ext x (x .n) (stands x) (marked left) (λ i l. sym (cached-at false left (stands x) (x .n) i c l)));
-}
+module _ (before : ℕ → ℕ → Bool) (n : ℕ) (test : ℕ → Bool) where
+  pub ranking-none : (left : List Bool) → length left ≡ maxItems → Cached false left test n → Ranking before n test (replicate maxItems 0) 0 left
+  ranking-none left h c = record {
+    few = omega arith;
+    wide = h;
+    so-far = [];
+    holds = holds-none maxItems 0;
+    rest = ap (sort before) (filter-same test (marked left) (upTo n) (λ i m. sym (cached-at false left test n i c (up-in n i m))));
+  }
 
-pub ranking-more : (x : Rel) (list : List ℕ) (k : ℕ) (left : List Bool) (b : ℕ) → x .n ≤ maxItems → k < x .n → b ≡ least (x .ahead) none (marked left) none 0 (x .n) → (b ≡ 255 → ⊥)
-    → Ranking x list k left → Ranking x (set list k b) (k + 1) (set left b false)
-unfolding order
-ranking-more x list k left b n h e f r =
-    let l = least-below (x .ahead) none (marked left) (x .n) b e f in
-    let lg = r .long in
-    let wd = r .wide in
-    let t : take (k + 1) (set list k b) ≡ take k list ++ (b ∷ []) = rw add-one (take-suc-set list k b (omega arith)) in
-    let z : x .n - k ≡ suc (x .n - (k + 1)) = omega arith in
-    record {
+  module _ (few : n ≤ maxItems) (strict : Strict before (upTo n)) (list : List ℕ) (k : ℕ) (left : List Bool) (w : Ranking before n test list k left) where
+    -- the first of those left, and the others
+    taken : (b : ℕ) → b < n → marked left b ≡ true → List·Permᴰ (filter (marked left) (upTo n)) (b ∷ filter (marked (set left b false)) (upTo n))
+    taken b h e =
+        let wd = w .wide in
+        rw (
+          filter-same (marked (set left b false)) (without (marked left) b) (upTo n) (λ i m. unmarked left b i (omega arith)),
+          filter-range (marked left) 0 n,
+          filter-range (without (marked left) b) 0 n,
+        )
+        (Permᴰ·symm (filt-one (marked left) b 0 n (omega arith) (omega arith) e))
+
+    first : (b : ℕ) → choose before Nobody (filter (marked left) (upTo n)) ≡ Item b
+        → sort before (filter (marked left) (upTo n)) ≡ b ∷ sort before (filter (marked (set left b false)) (upTo n))
+    first b e =
+        let l = filter (marked left) (upTo n) in
+        let o = chose-among before (marked left) n b e in
+        let wd = w .wide in
+        let s : Strict before l = strict-sub before (λ i m. filter-in (marked left) (upTo n) i m .0) strict in
+        sort-first before (taken b (o .0) (o .1)) s
+        (λ y m.
+        let u = filter-in (marked (set left b false)) (upTo n) y m in
+        let v = sym (unmarked left b y (omega arith)) ∙ u .1 in
+        let q = eqb-false y b (not-t (eqb y b) (and-right (marked left y) (not (eqb y b)) v)) in
+        let z = filter-of (marked left) (upTo n) y (u .0) (and-left (marked left y) (not (eqb y b)) v) in
+        or (chose-first before l b s e y z) (λ p. absurd (q p)) (λ p. p))
+
+    pub ranking-more : (b : ℕ) → k < n → choose before Nobody (filter (marked left) (upTo n)) ≡ Item b → Ranking before n test (set list k b) (k + 1) (set left b false)
+    ranking-more b h e = record {
       few = omega arith;
-      long = length-set list k b ∙ r .long;
-      wide = length-set left b false ∙ r .wide;
-      filled = rw t (filled-more maxItems 0 list (take k list) k b (sym (length-take-le k list (omega arith))) (omega arith) (r .filled));
-      rest = r .rest
-          ∙ ap (λ (m : ℕ). take k list ++ order x m (marked left)) z
-          ∙ ap (λ (c : ℕ). take k list ++ cond (eqb c none) [] (c ∷ order x (x .n - (k + 1)) (λ i. marked left i && not (eqb i c)))) (sym e)
-          ∙ rw (ne-eqb b 255 f) (sym (append-snoc (take k list) b _))
-          ∙ ap₂ _++_ (sym t) (order-ext x (x .n - (k + 1)) (λ i. marked left i && not (eqb i b)) (marked (set left b false)) (λ i q. sym (without left b i (omega arith))));
+      wide = length-set left b false ∙ w .wide;
+      so-far = w .so-far ++ (b ∷ []);
+      holds = holds-more maxItems 0 list k (w .so-far) b (omega arith) (w .holds);
+      rest = w .rest ∙ ap (λ (l : List ℕ). w .so-far ++ l) (first b e) ∙ sym (append-snoc (w .so-far) b (sort before (filter (marked (set left b false)) (upTo n))));
     }
 
-ranked-of : (x : Rel) (list : List ℕ) (k : ℕ) → k ≤ maxItems → length list ≡ maxItems → Filled maxItems 0 list (take k list) → ranked x ≡ take k list → Ranked x list k
-ranked-of x list k h g f e = record { count = sym (ap length e ∙ length-take-le k list (omega arith)); filled = rw e f }
+    -- none is left
+    done : sort before (filter (marked left) (upTo n)) ≡ [] → Holds maxItems 0 list k (sort before (filter test (upTo n)))
+    done e = subst (λ (l : List ℕ). Holds maxItems 0 list k l) (sym (w .rest ∙ ap (λ (l : List ℕ). w .so-far ++ l) e ∙ append-nil (w .so-far))) (w .holds)
 
-pub ranking-full : (x : Rel) (list : List ℕ) (k : ℕ) (left : List Bool) → x .n ≤ maxItems → x .n ≤ k → Ranking x list k left → Ranked x list k
-unfolding order
-ranking-full x list k left n h r =
-    let fw = r .few in
-    let z : x .n - k ≡ 0 = omega arith in
-    ranked-of x list k (omega arith) (r .long) (r .filled) (r .rest ∙ ap (λ (m : ℕ). take k list ++ order x m (marked left)) z ∙ append-nil (take k list))
+    pub ranking-end : choose before Nobody (filter (marked left) (upTo n)) ≡ Nobody → Holds maxItems 0 list k (sort before (filter test (upTo n)))
+    unfolding sort
+    ranking-end e = done (ap (sort before) (chose-none before (filter (marked left) (upTo n)) e))
 
-pub ranking-end : (x : Rel) (list : List ℕ) (k : ℕ) (left : List Bool) (b : ℕ) → x .n ≤ maxItems → k < x .n → b ≡ least (x .ahead) none (marked left) none 0 (x .n) → b ≡ 255 → Ranking x list k left → Ranked x list k
-unfolding order
-ranking-end x list k left b n h e f r =
-    let z : x .n - k ≡ suc (x .n - (k + 1)) = omega arith in
-    ranked-of x list k (omega arith) (r .long) (r .filled)
-    (r .rest
-    ∙ ap (λ (m : ℕ). take k list ++ order x m (marked left)) z
-    ∙ ap (λ (c : ℕ). take k list ++ cond (eqb c none) [] (c ∷ order x (x .n - (k + 1)) (λ i. marked left i && not (eqb i c)))) (sym e ∙ f)
-    ∙ append-nil (take k list))
+    pub ranking-full : n ≤ k → Holds maxItems 0 list k (sort before (filter test (upTo n)))
+    ranking-full h =
+        let l = sort before (filter (marked left) (upTo n)) in
+        let a = perm-length (sort-perm before (filter test (upTo n))) in
+        let b = filter-up test n in
+        let c = sym (ap length (w .rest) ∙ length-append (w .so-far) l) ∙ a in
+        let d = w .holds .count in
+        done (empty l (omega arith))
+      where
+        empty : (l : List ℕ) → length l ≤ 0 → l ≡ []
+        empty [] h = refl
+        empty (x ∷ l) h = absurd (omega arith)

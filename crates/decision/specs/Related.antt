@@ -1,26 +1,16 @@
--- The relations that a decision goes by (`Decide`), of the items in a string of bytes.
+-- How the items in a string of bytes relate (`Standing`), by their indices.
 use mathlib.Core.List.{List}
-use Prim.Native.Nat.{ℕ, _*_, _≤_}
-use lib.ListN.{length}
-use Rattle.items.specs.Layout.{itemSize}
-use Rattle.items.specs.Pairs.{Coded}
-use Rattle.items.specs.Items.{isPassed, verifiedOf, agreementAt, disagreesAt, withinAt, outstandsAt, lowerAt, aheadAt}
-use Rattle.decision.specs.Decide.{Rel}
+use Prim.Native.Nat.{ℕ}
+use Rattle.items.specs.Items.{isPassed, itemVerified, agreementAt, disagreesAt, withinAt, outstandsAt, lowerAt, aheadAt}
+use Rattle.decision.specs.Standing.{Relations}
 
--- of the first n items in s
-abbrev pub rel : List ℕ → ℕ → Rel
-rel s n = record {
-  n = n;
+abbrev pub itemRelations : List ℕ → Relations ℕ
+itemRelations s = record {
   disagrees = disagreesAt s;
   chiSquare = λ i j. agreementAt s i j .chi2;
   outstands = outstandsAt s;
-  passed = λ i. isPassed (verifiedOf s i);
+  passed = λ i. isPassed (itemVerified s i);
   within = withinAt s;
   lower = lowerAt s;
   ahead = aheadAt s;
 }
-
--- n items lie in s, and their pairs' codes in m
-pub record Ready (s m : List ℕ) (n : ℕ) : Type 0 where
-  pub long : n * itemSize ≤ length s
-  pub coded : Coded s m n

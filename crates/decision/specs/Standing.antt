@@ -3,6 +3,7 @@
 use mathlib.Core.Bool.{Bool, true, false, not, cond, _&&_, _||_}
 use mathlib.Core.List.{List, [], _∷_, flatMap}
 use lib.Ieee.{Float}
+use Rattle.decision.specs.Outcome.{Refused, Outcome}
 use Rattle.ranges.specs.Lists.{anyOf, filter, sort, foremost}
 
 pub record Relations (A : Type 0) : Type 0 where
@@ -20,19 +21,6 @@ pub record Relations (A : Type 0) : Type 0 where
   pub lower : A → A → Bool
   -- the first ranks before the second
   pub ahead : A → A → Bool
-
--- a refused item, the one that it is refused against, their chi-square, and whether that one took its place
-pub record Refused (A : Type 0) : Type 0 where
-  pub item : A
-  pub against : A
-  pub chi2 : Float
-  pub superseded : Bool
-
--- what is decided: the ranked in rank, the dominated and the refused in the order of the items
-pub record Outcome (A : Type 0) : Type 0 where
-  pub ranked : List A
-  pub dominated : List A
-  pub refused : List (Refused A)
 
 module _ {A : Type 0} (r : Relations A) (all : List A) where
   -- f passed, has disagreeing subsets, and more standing than each of them

@@ -4,15 +4,16 @@
 use items::layout::ITEM_SIZE;
 use items::layout::MAX_ITEMS;
 ghost use mathlib.Core.Path.{_≡_};
-ghost use mathlib.Core.Bool.{true};
+ghost use mathlib.Core.Bool.{false};
 ghost use Prim.Native.Nat.{_+_, _*_, _≤_, _<_};
 ghost use lib.ListN.{length};
-ghost use Rattle.ranges.specs.Range.{any};
+ghost use Rattle.ranges.specs.Lists.{anyOf, upTo};
 ghost use Rattle.arithmetic.specs.Stages.{preparedSize};
 ghost use Rattle.items.specs.Layout.{itemSize};
 ghost use Rattle.items.specs.Items.{sameIdentity};
 ghost use Rattle.items.specs.Pairs.{stride, Whole};
-ghost use Rattle.decision.specs.Related.{rel};
+ghost use Rattle.decision.specs.Standing as S;
+ghost use Rattle.decision.specs.Related.{itemRelations};
 ghost use Rattle.decision.specs.Answer.{badAt, decision, decided, refusedDecision};
 
 mod rule;
@@ -60,10 +61,16 @@ pub struct Decision {
     pub refusals: Refusals,
 }
 
+// What a search for the first of some items finds.
+pub enum Choice {
+    Nobody,
+    Item(u8),
+}
+
 // Whether item i has the identity of one before it.
 fn repeated(s: &[u8], i: u8) -> bool
     requires { ⌜ i * itemSize + itemSize ≤ length (now s) ⌝ }
-    ensures { λ r. ⌜ r ≡ any (sameIdentity (now (s .entry)) i) 0 i ⌝ }
+    ensures { λ r. ⌜ r ≡ anyOf (sameIdentity (now (s .entry)) i) (upTo i) ⌝ }
 {
     let mut j: u8 = 0;
     while j < i {
@@ -87,7 +94,7 @@ fn bad_at(s: &[u8], i: u8) -> bool
 
 fn any_bad(s: &[u8], n: u8) -> bool
     requires { ⌜ n * itemSize ≤ length (now s) ⌝ }
-    ensures { λ r. ⌜ r ≡ any (badAt (now (s .entry))) 0 n ⌝ }
+    ensures { λ r. ⌜ r ≡ anyOf (badAt (now (s .entry))) (upTo n) ⌝ }
 {
     let mut i: u8 = 0;
     while i < n {
@@ -129,8 +136,8 @@ fn refused_decision() -> Decision
 
 // Fills the lent tables, and decides by them.
 fn decide_in(s: &[u8], n: u8, table: &mut [f64], codes: &mut [u8], chis: &mut [f64]) -> Decision
-    requires { ⌜ Whole (now s) n × (n * preparedSize ≤ length (now table)) × (n * stride ≤ length (now codes)) × (n * n ≤ length (now chis)) ⌝ }
-    ensures { λ r. ⌜ r ≡ decision (rel (now (s .entry)) n) ⌝ }
+    requires { ⌜ Whole (now s) n × (anyOf (badAt (now s)) (upTo n) ≡ false) × (n * preparedSize ≤ length (now table)) × (n * stride ≤ length (now codes)) × (n * n ≤ length (now chis)) ⌝ }
+    ensures { λ r. ⌜ r ≡ decision (S.decide (itemRelations (now (s .entry))) (upTo n)) ⌝ }
 {
     items::pairs::prepare_all(s, n, table);
     items::pairs::code_all(s, n, table, codes, chis);
@@ -138,8 +145,8 @@ fn decide_in(s: &[u8], n: u8, table: &mut [f64], codes: &mut [u8], chis: &mut [f
 }
 
 fn decide_few(s: &[u8], n: u8) -> Decision
-    requires { ⌜ Whole (now s) n × (n ≤ 8) ⌝ }
-    ensures { λ r. ⌜ r ≡ decision (rel (now (s .entry)) n) ⌝ }
+    requires { ⌜ Whole (now s) n × (anyOf (badAt (now s)) (upTo n) ≡ false) × (n ≤ 8) ⌝ }
+    ensures { λ r. ⌜ r ≡ decision (S.decide (itemRelations (now (s .entry))) (upTo n)) ⌝ }
 {
     let mut table = [0.0; FEW_NUMBERS];
     let mut codes = [0u8; FEW_CODES];
@@ -148,8 +155,8 @@ fn decide_few(s: &[u8], n: u8) -> Decision
 }
 
 fn decide_many(s: &[u8], n: u8) -> Decision
-    requires { ⌜ Whole (now s) n ⌝ }
-    ensures { λ r. ⌜ r ≡ decision (rel (now (s .entry)) n) ⌝ }
+    requires { ⌜ Whole (now s) n × (anyOf (badAt (now s)) (upTo n) ≡ false) ⌝ }
+    ensures { λ r. ⌜ r ≡ decision (S.decide (itemRelations (now (s .entry))) (upTo n)) ⌝ }
 {
     let mut table = [0.0; MANY_NUMBERS];
     let mut codes = [0u8; MANY_CODES];

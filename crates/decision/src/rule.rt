@@ -1,5 +1,6 @@
-// The rule, over tables: who supersedes, who is superseded and by whom, who is contested and by whom, who is refused, who is
-// dominated, and the rest by rank. Each test is a function of one or two indices, and each table is filled by one loop.
+// The rule, over tables: who supersedes, who is superseded, who is refused and against whom, who is dominated, and the rest by
+// rank. Each test is a function of one or two indices, and each table is filled by one loop.
+use crate::Choice;
 use crate::Decision;
 use crate::Indices;
 use crate::Refusal;
@@ -8,22 +9,28 @@ use items::layout::MAX_ITEMS;
 use items::pairs::APART;
 use items::pairs::DISAGREES;
 ghost use mathlib.Core.Path.{_≡_};
-ghost use mathlib.Core.Bool.{true, false, cond};
+ghost use mathlib.Core.Bool.{true, false};
+ghost use mathlib.Core.List.{map, flatMap};
 ghost use Prim.Native.Nat.{_+_, _*_, _≤_, _<_};
 ghost use lib.ListN.{length};
-ghost use Rattle.ranges.specs.Range.{any, least, better, Collected, Valid};
-ghost use Rattle.ranges.specs.Tables.{Cached, marked, itself};
+ghost use Rattle.ranges.specs.Lists.{anyOf, filter, sort, upTo};
+ghost use Rattle.ranges.specs.Range.{Holds};
+ghost use Rattle.ranges.specs.Tables.{Cached, marked};
 ghost use Rattle.items.specs.Layout.{itemSize, maxItems};
-ghost use Rattle.items.specs.Items.{subsetAt, disagreesAt, withinAt};
+ghost use Rattle.items.specs.Items.{subsetAt, disagreesAt, withinAt, lowerAt, aheadAt};
 ghost use Rattle.items.specs.Pairs.{Kept};
-ghost use Rattle.decision.specs.Decide.{none, resists, beats, blames, covers, superBy, contestedBy, refusal, noRefusal};
-ghost use Rattle.decision.specs.Decide.{supersedes as isSuperseding, against as leastAgainst, refused as isRefused, dominated as isDominated, stands as isStanding};
-ghost use Rattle.decision.specs.Related.{rel, Ready};
-ghost use Rattle.decision.specs.Rank.{Ranked};
-ghost use Rattle.decision.specs.Answer.{decision};
+ghost use Rattle.decision.specs.Standing as S;
+ghost use Rattle.decision.specs.Related.{itemRelations};
+ghost use Rattle.decision.specs.Answer.{badAt, refusal, noRefusal, decision};
+ghost use Rattle.decision.specs.Choosing.{better, choose, Below};
+ghost use Rattle.decision.specs.Rule.{Ready, resists, covers, finding};
+ghost use Rattle.decision.specs.Rule.{stands as isStanding, dominated as isDominated};
 
-// The number that stands for no item.
-const NONE: u8 = 255;
+// Whether an item is refused, and how.
+enum Finding {
+    Unrefused,
+    Refused(Refusal),
+}
 
 // Whether item i's record is a subset of item j's.
 fn subset(s: &[u8], codes: &[u8], n: u8, i: u8, j: u8) -> bool
@@ -56,7 +63,7 @@ fn within(s: &[u8], codes: &[u8], n: u8, i: u8, j: u8) -> bool
 
 fn has_disagreeing(s: &[u8], codes: &[u8], n: u8, i: u8) -> bool
     requires { ⌜ (i < n) × Ready (now s) (now codes) n ⌝ }
-    ensures { λ r. ⌜ r ≡ any (disagreesAt (now (s .entry)) i) 0 n ⌝ }
+    ensures { λ r. ⌜ r ≡ anyOf (disagreesAt (now (s .entry)) i) (upTo n) ⌝ }
 {
     let mut j: u8 = 0;
     while j < n {
@@ -70,17 +77,17 @@ fn has_disagreeing(s: &[u8], codes: &[u8], n: u8, i: u8) -> bool
 
 fn resists_at(s: &[u8], codes: &[u8], n: u8, i: u8, j: u8) -> bool
     requires { ⌜ (i < n) × (j < n) × Ready (now s) (now codes) n ⌝ }
-    ensures { λ r. ⌜ r ≡ resists (rel (now (s .entry)) n) i j ⌝ }
+    ensures { λ r. ⌜ r ≡ resists (itemRelations (now (s .entry))) i j ⌝ }
 {
     if disagrees(s, codes, n, i, j) {
-        return !items::outstands(s, i, j);
+        return !items::outstands(items::candidate_at(s, i), items::candidate_at(s, j));
     }
     false
 }
 
 fn resisted(s: &[u8], codes: &[u8], n: u8, i: u8) -> bool
     requires { ⌜ (i < n) × Ready (now s) (now codes) n ⌝ }
-    ensures { λ r. ⌜ r ≡ any (resists (rel (now (s .entry)) n) i) 0 n ⌝ }
+    ensures { λ r. ⌜ r ≡ anyOf (resists (itemRelations (now (s .entry))) i) (upTo n) ⌝ }
 {
     let mut j: u8 = 0;
     while j < n {
@@ -94,9 +101,9 @@ fn resisted(s: &[u8], codes: &[u8], n: u8, i: u8) -> bool
 
 fn supersedes(s: &[u8], codes: &[u8], n: u8, i: u8) -> bool
     requires { ⌜ (i < n) × Ready (now s) (now codes) n ⌝ }
-    ensures { λ r. ⌜ r ≡ isSuperseding (rel (now (s .entry)) n) i ⌝ }
+    ensures { λ r. ⌜ r ≡ S.supersedes (itemRelations (now (s .entry))) (upTo n) i ⌝ }
 {
-    if items::passed(s, i) {
+    if items::passed(items::candidate_at(s, i)) {
         if has_disagreeing(s, codes, n, i) {
             return !resisted(s, codes, n, i);
         }
@@ -108,7 +115,7 @@ fn supersedes(s: &[u8], codes: &[u8], n: u8, i: u8) -> bool
 // Who supersedes.
 fn super_table(s: &[u8], codes: &[u8], n: u8) -> [bool; MAX_ITEMS]
     requires { ⌜ (n ≤ maxItems) × Ready (now s) (now codes) n ⌝ }
-    ensures { λ r. ⌜ Cached false r (isSuperseding (rel (now (s .entry)) n)) n ⌝ }
+    ensures { λ r. ⌜ Cached false r (S.supersedes (itemRelations (now (s .entry))) (upTo n)) n ⌝ }
 {
     let mut m = [false; MAX_ITEMS];
     let mut i: u8 = 0;
@@ -119,204 +126,243 @@ fn super_table(s: &[u8], codes: &[u8], n: u8) -> [bool; MAX_ITEMS]
     m
 }
 
-// The lower identity of best, if there is one, and k.
-fn better_identity(s: &[u8], n: u8, best: u8, k: u8) -> u8
-    requires { ⌜ (n * itemSize ≤ length (now s)) × (k < n) × Valid none n best ⌝ }
-    ensures { λ r. ⌜ r ≡ better (rel (now (s .entry)) n .lower) none best k ⌝ }
+// Whether item j takes the place of item i.
+fn replaces(s: &[u8], codes: &[u8], n: u8, sup: &[bool; MAX_ITEMS], i: u8, j: u8) -> bool
+    requires { ⌜ (j < n) × (i < n) × (n ≤ maxItems) × Ready (now s) (now codes) n × Cached false (now sup) (S.supersedes (itemRelations (now s)) (upTo n)) n ⌝ }
+    ensures { λ r. ⌜ r ≡ S.replaces (itemRelations (now (s .entry))) (upTo n) i j ⌝ }
 {
-    if best == NONE {
-        return k;
+    if sup[j as usize] {
+        return disagrees(s, codes, n, j, i);
     }
-    if items::lower(s, k, best) {
-        return k;
-    }
-    best
+    false
 }
 
-// A turn of the search for what supersedes j.
-fn super_step(s: &[u8], codes: &[u8], n: u8, sup: &[bool; MAX_ITEMS], j: u8, best: u8, i: u8) -> u8
-    requires { ⌜ (i < n) × (j < n) × (n ≤ maxItems) × Valid none n best × Ready (now s) (now codes) n × Cached false (now sup) (isSuperseding (rel (now s) n)) n ⌝ }
-    ensures { λ r. ⌜ r ≡ cond (beats (rel (now (s .entry)) n) j i) (better (rel (now (s .entry)) n .lower) none best i) best ⌝ }
+fn is_superseded(s: &[u8], codes: &[u8], n: u8, sup: &[bool; MAX_ITEMS], i: u8) -> bool
+    requires { ⌜ (i < n) × (n ≤ maxItems) × Ready (now s) (now codes) n × Cached false (now sup) (S.supersedes (itemRelations (now s)) (upTo n)) n ⌝ }
+    ensures { λ r. ⌜ r ≡ S.isSuperseded (itemRelations (now (s .entry))) (upTo n) i ⌝ }
 {
-    if sup[i as usize] {
-        if disagrees(s, codes, n, i, j) {
-            return better_identity(s, n, best, i);
+    let mut j: u8 = 0;
+    while j < n {
+        if replaces(s, codes, n, sup, i, j) {
+            return true;
         }
-        return best;
+        j += 1;
     }
-    best
+    false
 }
 
-// The lowest identity of what supersedes j.
-fn super_by(s: &[u8], codes: &[u8], n: u8, sup: &[bool; MAX_ITEMS], j: u8) -> u8
-    requires { ⌜ (j < n) × (n ≤ maxItems) × Ready (now s) (now codes) n × Cached false (now sup) (isSuperseding (rel (now s) n)) n ⌝ }
-    ensures { λ r. ⌜ r ≡ superBy (rel (now (s .entry)) n) j ⌝ }
+// Who is superseded.
+fn superseded_table(s: &[u8], codes: &[u8], n: u8, sup: &[bool; MAX_ITEMS]) -> [bool; MAX_ITEMS]
+    requires { ⌜ (n ≤ maxItems) × Ready (now s) (now codes) n × Cached false (now sup) (S.supersedes (itemRelations (now s)) (upTo n)) n ⌝ }
+    ensures { λ r. ⌜ Cached false r (S.isSuperseded (itemRelations (now (s .entry))) (upTo n)) n ⌝ }
 {
-    let mut best: u8 = NONE;
+    let mut m = [false; MAX_ITEMS];
     let mut i: u8 = 0;
     while i < n {
-        best = super_step(s, codes, n, sup, j, best, i);
-        i += 1;
-    }
-    best
-}
-
-// By whom each is superseded.
-fn by_table(s: &[u8], codes: &[u8], n: u8, sup: &[bool; MAX_ITEMS]) -> [u8; MAX_ITEMS]
-    requires { ⌜ (n ≤ maxItems) × Ready (now s) (now codes) n × Cached false (now sup) (isSuperseding (rel (now s) n)) n ⌝ }
-    ensures { λ r. ⌜ Cached 0 r (superBy (rel (now (s .entry)) n)) n ⌝ }
-{
-    let mut m = [0u8; MAX_ITEMS];
-    let mut i: u8 = 0;
-    while i < n {
-        m[i as usize] = super_by(s, codes, n, sup, i);
+        m[i as usize] = is_superseded(s, codes, n, sup, i);
         i += 1;
     }
     m
 }
 
-// Whether j is a disagreeing subset of i that nothing supersedes.
-fn blamed(s: &[u8], codes: &[u8], n: u8, by: &[u8; MAX_ITEMS], i: u8, j: u8) -> bool
-    requires { ⌜ (j < n) × (i < n) × (n ≤ maxItems) × Ready (now s) (now codes) n × Cached 0 (now by) (superBy (rel (now s) n)) n ⌝ }
-    ensures { λ r. ⌜ r ≡ blames (rel (now (s .entry)) n) i j ⌝ }
+// Whether item j is a disagreeing subset of item i that nothing supersedes.
+fn opposes(s: &[u8], codes: &[u8], n: u8, sd: &[bool; MAX_ITEMS], i: u8, j: u8) -> bool
+    requires { ⌜ (j < n) × (i < n) × (n ≤ maxItems) × Ready (now s) (now codes) n × Cached false (now sd) (S.isSuperseded (itemRelations (now s)) (upTo n)) n ⌝ }
+    ensures { λ r. ⌜ r ≡ S.opposes (itemRelations (now (s .entry))) (upTo n) i j ⌝ }
 {
     if disagrees(s, codes, n, i, j) {
-        return by[j as usize] == NONE;
+        return !sd[j as usize];
     }
     false
 }
 
-// A turn of the search for what stands against i.
-fn against_step(s: &[u8], codes: &[u8], n: u8, by: &[u8; MAX_ITEMS], i: u8, best: u8, j: u8) -> u8
-    requires { ⌜ (j < n) × (i < n) × (n ≤ maxItems) × Valid none n best × Ready (now s) (now codes) n × Cached 0 (now by) (superBy (rel (now s) n)) n ⌝ }
-    ensures { λ r. ⌜ r ≡ cond (blames (rel (now (s .entry)) n) i j) (better (rel (now (s .entry)) n .lower) none best j) best ⌝ }
+fn opposed(s: &[u8], codes: &[u8], n: u8, sd: &[bool; MAX_ITEMS], i: u8) -> bool
+    requires { ⌜ (i < n) × (n ≤ maxItems) × Ready (now s) (now codes) n × Cached false (now sd) (S.isSuperseded (itemRelations (now s)) (upTo n)) n ⌝ }
+    ensures { λ r. ⌜ r ≡ anyOf (S.opposes (itemRelations (now (s .entry))) (upTo n) i) (upTo n) ⌝ }
 {
-    if blamed(s, codes, n, by, i, j) {
-        return better_identity(s, n, best, j);
+    let mut j: u8 = 0;
+    while j < n {
+        if opposes(s, codes, n, sd, i, j) {
+            return true;
+        }
+        j += 1;
+    }
+    false
+}
+
+fn is_contested(
+    s: &[u8],
+    codes: &[u8],
+    n: u8,
+    sup: &[bool; MAX_ITEMS],
+    sd: &[bool; MAX_ITEMS],
+    i: u8,
+) -> bool
+    requires { ⌜ (i < n) × (n ≤ maxItems) × Ready (now s) (now codes) n × Cached false (now sup) (S.supersedes (itemRelations (now s)) (upTo n)) n × Cached false (now sd) (S.isSuperseded (itemRelations (now s)) (upTo n)) n ⌝ }
+    ensures { λ r. ⌜ r ≡ S.isContested (itemRelations (now (s .entry))) (upTo n) i ⌝ }
+{
+    if sup[i as usize] {
+        return false;
+    }
+    if sd[i as usize] {
+        return false;
+    }
+    opposed(s, codes, n, sd, i)
+}
+
+fn refused_at(
+    s: &[u8],
+    codes: &[u8],
+    n: u8,
+    sup: &[bool; MAX_ITEMS],
+    sd: &[bool; MAX_ITEMS],
+    i: u8,
+) -> bool
+    requires { ⌜ (i < n) × (n ≤ maxItems) × Ready (now s) (now codes) n × Cached false (now sup) (S.supersedes (itemRelations (now s)) (upTo n)) n × Cached false (now sd) (S.isSuperseded (itemRelations (now s)) (upTo n)) n ⌝ }
+    ensures { λ r. ⌜ r ≡ S.isRefused (itemRelations (now (s .entry))) (upTo n) i ⌝ }
+{
+    if sd[i as usize] {
+        return true;
+    }
+    is_contested(s, codes, n, sup, sd, i)
+}
+
+// Who is refused.
+fn refused_table(
+    s: &[u8],
+    codes: &[u8],
+    n: u8,
+    sup: &[bool; MAX_ITEMS],
+    sd: &[bool; MAX_ITEMS],
+) -> [bool; MAX_ITEMS]
+    requires { ⌜ (n ≤ maxItems) × Ready (now s) (now codes) n × Cached false (now sup) (S.supersedes (itemRelations (now s)) (upTo n)) n × Cached false (now sd) (S.isSuperseded (itemRelations (now s)) (upTo n)) n ⌝ }
+    ensures { λ r. ⌜ Cached false r (S.isRefused (itemRelations (now (s .entry))) (upTo n)) n ⌝ }
+{
+    let mut m = [false; MAX_ITEMS];
+    let mut i: u8 = 0;
+    while i < n {
+        m[i as usize] = refused_at(s, codes, n, sup, sd, i);
+        i += 1;
+    }
+    m
+}
+
+// The lower identity of best, if there is one, and k.
+fn better_identity(s: &[u8], n: u8, best: Choice, k: u8) -> Choice
+    requires { ⌜ (n * itemSize ≤ length (now s)) × (k < n) × Below n best ⌝ }
+    ensures { λ r. ⌜ r ≡ better (lowerAt (now (s .entry))) best k ⌝ }
+{
+    let Choice::Item(b) = best else {
+        return Choice::Item(k);
+    };
+    if items::lower(s, k, b) {
+        return Choice::Item(k);
     }
     best
 }
 
-// The lowest identity of what stands against i.
-fn against(s: &[u8], codes: &[u8], n: u8, by: &[u8; MAX_ITEMS], i: u8) -> u8
-    requires { ⌜ (i < n) × (n ≤ maxItems) × Ready (now s) (now codes) n × Cached 0 (now by) (superBy (rel (now s) n)) n ⌝ }
-    ensures { λ r. ⌜ r ≡ leastAgainst (rel (now (s .entry)) n) i ⌝ }
+// The lowest identity of what takes the place of item i.
+fn replacing(s: &[u8], codes: &[u8], n: u8, sup: &[bool; MAX_ITEMS], i: u8) -> Choice
+    requires { ⌜ (i < n) × (n ≤ maxItems) × Ready (now s) (now codes) n × Cached false (now sup) (S.supersedes (itemRelations (now s)) (upTo n)) n ⌝ }
+    ensures { λ r. ⌜ r ≡ choose (lowerAt (now (s .entry))) Choice.Nobody (filter (S.replaces (itemRelations (now (s .entry))) (upTo n) i) (upTo n)) ⌝ }
 {
-    let mut best: u8 = NONE;
+    let mut best = Choice::Nobody;
     let mut j: u8 = 0;
     while j < n {
-        best = against_step(s, codes, n, by, i, best, j);
+        if !replaces(s, codes, n, sup, i, j) {
+            j += 1;
+            continue;
+        }
+        best = better_identity(s, n, best, j);
         j += 1;
     }
     best
 }
 
-// Whom i is refused against if it is contested.
-fn contested_by(
-    s: &[u8],
-    codes: &[u8],
-    n: u8,
-    sup: &[bool; MAX_ITEMS],
-    by: &[u8; MAX_ITEMS],
-    i: u8,
-) -> u8
-    requires { ⌜ (i < n) × (n ≤ maxItems) × Ready (now s) (now codes) n × Cached false (now sup) (isSuperseding (rel (now s) n)) n × Cached 0 (now by) (superBy (rel (now s) n)) n ⌝ }
-    ensures { λ r. ⌜ r ≡ contestedBy (rel (now (s .entry)) n) i ⌝ }
+// The lowest identity of what opposes item i.
+fn opposing(s: &[u8], codes: &[u8], n: u8, sd: &[bool; MAX_ITEMS], i: u8) -> Choice
+    requires { ⌜ (i < n) × (n ≤ maxItems) × Ready (now s) (now codes) n × Cached false (now sd) (S.isSuperseded (itemRelations (now s)) (upTo n)) n ⌝ }
+    ensures { λ r. ⌜ r ≡ choose (lowerAt (now (s .entry))) Choice.Nobody (filter (S.opposes (itemRelations (now (s .entry))) (upTo n) i) (upTo n)) ⌝ }
 {
-    if sup[i as usize] {
-        return NONE;
+    let mut best = Choice::Nobody;
+    let mut j: u8 = 0;
+    while j < n {
+        if !opposes(s, codes, n, sd, i, j) {
+            j += 1;
+            continue;
+        }
+        best = better_identity(s, n, best, j);
+        j += 1;
     }
-    if by[i as usize] != NONE {
-        return NONE;
-    }
-    against(s, codes, n, by, i)
+    best
 }
 
-// By whom each is contested.
-fn contested_table(
-    s: &[u8],
-    codes: &[u8],
-    n: u8,
-    sup: &[bool; MAX_ITEMS],
-    by: &[u8; MAX_ITEMS],
-) -> [u8; MAX_ITEMS]
-    requires { ⌜ (n ≤ maxItems) × Ready (now s) (now codes) n × Cached false (now sup) (isSuperseding (rel (now s) n)) n × Cached 0 (now by) (superBy (rel (now s) n)) n ⌝ }
-    ensures { λ r. ⌜ Cached 0 r (contestedBy (rel (now (s .entry)) n)) n ⌝ }
+// The refusal of item i that another takes the place of.
+fn replaced(s: &[u8], codes: &[u8], chis: &[f64], n: u8, sup: &[bool; MAX_ITEMS], i: u8) -> Finding
+    requires { ⌜ (i < n) × (n ≤ maxItems) × Ready (now s) (now codes) n × Cached false (now sup) (S.supersedes (itemRelations (now s)) (upTo n)) n × Kept (now s) (now chis) n (n * n) ⌝ }
+    ensures { λ r. ⌜ r ≡ finding (S.replaced (itemRelations (now (s .entry))) (upTo n) i (filter (S.replaces (itemRelations (now (s .entry))) (upTo n) i) (upTo n))) ⌝ }
 {
-    let mut m = [0u8; MAX_ITEMS];
-    let mut i: u8 = 0;
-    while i < n {
-        m[i as usize] = contested_by(s, codes, n, sup, by, i);
-        i += 1;
-    }
-    m
-}
-
-fn refused_at(s: &[u8], n: u8, by: &[u8; MAX_ITEMS], ct: &[u8; MAX_ITEMS], i: u8) -> bool
-    requires { ⌜ (i < n) × (n ≤ maxItems) × Cached 0 (now by) (superBy (rel (now s) n)) n × Cached 0 (now ct) (contestedBy (rel (now s) n)) n ⌝ }
-    ensures { λ r. ⌜ r ≡ isRefused (rel (now (s .entry)) n) i ⌝ }
-{
-    if by[i as usize] == NONE {
-        return ct[i as usize] != NONE;
-    }
-    true
-}
-
-// Who is refused.
-fn refused_table(s: &[u8], n: u8, by: &[u8; MAX_ITEMS], ct: &[u8; MAX_ITEMS]) -> [bool; MAX_ITEMS]
-    requires { ⌜ (n ≤ maxItems) × Cached 0 (now by) (superBy (rel (now s) n)) n × Cached 0 (now ct) (contestedBy (rel (now s) n)) n ⌝ }
-    ensures { λ r. ⌜ Cached false r (isRefused (rel (now (s .entry)) n)) n ⌝ }
-{
-    let mut m = [false; MAX_ITEMS];
-    let mut i: u8 = 0;
-    while i < n {
-        m[i as usize] = refused_at(s, n, by, ct, i);
-        i += 1;
-    }
-    m
-}
-
-fn refusal_at(
-    s: &[u8],
-    chis: &[f64],
-    n: u8,
-    by: &[u8; MAX_ITEMS],
-    ct: &[u8; MAX_ITEMS],
-    i: u8,
-) -> Refusal
-    requires { ⌜ (i < n) × (n ≤ maxItems) × Cached 0 (now by) (superBy (rel (now s) n)) n × Cached 0 (now ct) (contestedBy (rel (now s) n)) n × Kept (now s) (now chis) n (n * n) × (isRefused (rel (now s) n) i ≡ true) ⌝ }
-    ensures { λ r. ⌜ r ≡ refusal (rel (now (s .entry)) n) i ⌝ }
-{
-    let k = by[i as usize];
-    if k == NONE {
-        let j = ct[i as usize];
-        let chi2 = items::pairs::chi_square(s, n, chis, i, j);
-        return Refusal {
-            refused: i,
-            kept: j,
-            chi2,
-            superseded: false,
-        };
-    }
+    let by = replacing(s, codes, n, sup, i);
+    let Choice::Item(k) = by else {
+        return Finding::Unrefused;
+    };
     let chi2 = items::pairs::chi_square(s, n, chis, k, i);
-    Refusal {
+    Finding::Refused(Refusal {
         refused: i,
         kept: k,
         chi2,
         superseded: true,
+    })
+}
+
+// The refusal of item i that another opposes.
+fn contested(s: &[u8], codes: &[u8], chis: &[f64], n: u8, sd: &[bool; MAX_ITEMS], i: u8) -> Finding
+    requires { ⌜ (i < n) × (n ≤ maxItems) × Ready (now s) (now codes) n × Cached false (now sd) (S.isSuperseded (itemRelations (now s)) (upTo n)) n × Kept (now s) (now chis) n (n * n) ⌝ }
+    ensures { λ r. ⌜ r ≡ finding (S.opposed (itemRelations (now (s .entry))) (upTo n) i (filter (S.opposes (itemRelations (now (s .entry))) (upTo n) i) (upTo n))) ⌝ }
+{
+    let by = opposing(s, codes, n, sd, i);
+    let Choice::Item(k) = by else {
+        return Finding::Unrefused;
+    };
+    let chi2 = items::pairs::chi_square(s, n, chis, i, k);
+    Finding::Refused(Refusal {
+        refused: i,
+        kept: k,
+        chi2,
+        superseded: false,
+    })
+}
+
+// The refusal of an item that is refused.
+fn refusal_of(
+    s: &[u8],
+    codes: &[u8],
+    chis: &[f64],
+    n: u8,
+    sup: &[bool; MAX_ITEMS],
+    sd: &[bool; MAX_ITEMS],
+    i: u8,
+) -> Finding
+    requires { ⌜ (i < n) × (n ≤ maxItems) × Ready (now s) (now codes) n × Cached false (now sup) (S.supersedes (itemRelations (now s)) (upTo n)) n × Cached false (now sd) (S.isSuperseded (itemRelations (now s)) (upTo n)) n × Kept (now s) (now chis) n (n * n) × (S.isRefused (itemRelations (now s)) (upTo n) i ≡ true) ⌝ }
+    ensures { λ r. ⌜ r ≡ finding (S.refusalOf (itemRelations (now (s .entry))) (upTo n) i) ⌝ }
+{
+    if sd[i as usize] {
+        return replaced(s, codes, chis, n, sup, i);
     }
+    contested(s, codes, chis, n, sd, i)
 }
 
 fn refuse_all(
     s: &[u8],
+    codes: &[u8],
     chis: &[f64],
     n: u8,
-    by: &[u8; MAX_ITEMS],
-    ct: &[u8; MAX_ITEMS],
+    sup: &[bool; MAX_ITEMS],
+    sd: &[bool; MAX_ITEMS],
     rf: &[bool; MAX_ITEMS],
 ) -> Refusals
-    requires { ⌜ (n ≤ maxItems) × Cached 0 (now by) (superBy (rel (now s) n)) n × Cached 0 (now ct) (contestedBy (rel (now s) n)) n × Cached false (now rf) (isRefused (rel (now s) n)) n × Kept (now s) (now chis) n (n * n) ⌝ }
-    ensures { λ r. ⌜ Collected (isRefused (rel (now (s .entry)) n)) (refusal (rel (now (s .entry)) n)) maxItems noRefusal (r .list) (r .count) n ⌝ }
+    requires { ⌜ (n ≤ maxItems) × Ready (now s) (now codes) n × Cached false (now sup) (S.supersedes (itemRelations (now s)) (upTo n)) n × Cached false (now sd) (S.isSuperseded (itemRelations (now s)) (upTo n)) n × Cached false (now rf) (S.isRefused (itemRelations (now s)) (upTo n)) n × Kept (now s) (now chis) n (n * n) ⌝ }
+    ensures { λ r. ⌜ Holds maxItems noRefusal (r .list) (r .count) (map refusal (flatMap (S.refusalOf (itemRelations (now (s .entry))) (upTo n)) (upTo n))) ⌝ }
 {
     let none = Refusal {
         refused: 0,
@@ -332,17 +378,30 @@ fn refuse_all(
             i += 1;
             continue;
         }
-        list[count as usize] = refusal_at(s, chis, n, by, ct, i);
+        let found = refusal_of(s, codes, chis, n, sup, sd, i);
+        let Finding::Refused(x) = found else {
+            i += 1;
+            continue;
+        };
+        list[count as usize] = x;
         count += 1;
         i += 1;
     }
     Refusals { list, count }
 }
 
+// What the table says of i.
+fn is_refused(s: &[u8], n: u8, rf: &[bool; MAX_ITEMS], i: u8) -> bool
+    requires { ⌜ (i < n) × (n ≤ maxItems) × Cached false (now rf) (S.isRefused (itemRelations (now s)) (upTo n)) n ⌝ }
+    ensures { λ r. ⌜ r ≡ S.isRefused (itemRelations (now (s .entry))) (upTo n) i ⌝ }
+{
+    rf[i as usize]
+}
+
 // Whether k is not refused, i is a subset of it, and has its model inputs.
 fn covers_at(s: &[u8], codes: &[u8], n: u8, rf: &[bool; MAX_ITEMS], i: u8, k: u8) -> bool
-    requires { ⌜ (k < n) × (i < n) × (n ≤ maxItems) × Ready (now s) (now codes) n × Cached false (now rf) (isRefused (rel (now s) n)) n ⌝ }
-    ensures { λ r. ⌜ r ≡ covers (rel (now (s .entry)) n) i k ⌝ }
+    requires { ⌜ (k < n) × (i < n) × (n ≤ maxItems) × Ready (now s) (now codes) n × Cached false (now rf) (S.isRefused (itemRelations (now s)) (upTo n)) n ⌝ }
+    ensures { λ r. ⌜ r ≡ covers (itemRelations (now (s .entry))) (upTo n) i k ⌝ }
 {
     if is_refused(s, n, rf, k) {
         return false;
@@ -351,8 +410,8 @@ fn covers_at(s: &[u8], codes: &[u8], n: u8, rf: &[bool; MAX_ITEMS], i: u8, k: u8
 }
 
 fn covered(s: &[u8], codes: &[u8], n: u8, rf: &[bool; MAX_ITEMS], i: u8) -> bool
-    requires { ⌜ (i < n) × (n ≤ maxItems) × Ready (now s) (now codes) n × Cached false (now rf) (isRefused (rel (now s) n)) n ⌝ }
-    ensures { λ r. ⌜ r ≡ any (covers (rel (now (s .entry)) n) i) 0 n ⌝ }
+    requires { ⌜ (i < n) × (n ≤ maxItems) × Ready (now s) (now codes) n × Cached false (now rf) (S.isRefused (itemRelations (now s)) (upTo n)) n ⌝ }
+    ensures { λ r. ⌜ r ≡ S.isCovered (itemRelations (now (s .entry))) (upTo n) i ⌝ }
 {
     let mut k: u8 = 0;
     while k < n {
@@ -364,17 +423,9 @@ fn covered(s: &[u8], codes: &[u8], n: u8, rf: &[bool; MAX_ITEMS], i: u8) -> bool
     false
 }
 
-// What the table says of i.
-fn is_refused(s: &[u8], n: u8, rf: &[bool; MAX_ITEMS], i: u8) -> bool
-    requires { ⌜ (i < n) × (n ≤ maxItems) × Cached false (now rf) (isRefused (rel (now s) n)) n ⌝ }
-    ensures { λ r. ⌜ r ≡ isRefused (rel (now (s .entry)) n) i ⌝ }
-{
-    rf[i as usize]
-}
-
 fn dominated_at(s: &[u8], codes: &[u8], n: u8, rf: &[bool; MAX_ITEMS], i: u8) -> bool
-    requires { ⌜ (i < n) × (n ≤ maxItems) × Ready (now s) (now codes) n × Cached false (now rf) (isRefused (rel (now s) n)) n ⌝ }
-    ensures { λ r. ⌜ r ≡ isDominated (rel (now (s .entry)) n) i ⌝ }
+    requires { ⌜ (i < n) × (n ≤ maxItems) × Ready (now s) (now codes) n × Cached false (now rf) (S.isRefused (itemRelations (now s)) (upTo n)) n ⌝ }
+    ensures { λ r. ⌜ r ≡ isDominated (itemRelations (now (s .entry))) (upTo n) i ⌝ }
 {
     if is_refused(s, n, rf, i) {
         return false;
@@ -383,8 +434,8 @@ fn dominated_at(s: &[u8], codes: &[u8], n: u8, rf: &[bool; MAX_ITEMS], i: u8) ->
 }
 
 fn stands_at(s: &[u8], codes: &[u8], n: u8, rf: &[bool; MAX_ITEMS], i: u8) -> bool
-    requires { ⌜ (i < n) × (n ≤ maxItems) × Ready (now s) (now codes) n × Cached false (now rf) (isRefused (rel (now s) n)) n ⌝ }
-    ensures { λ r. ⌜ r ≡ isStanding (rel (now (s .entry)) n) i ⌝ }
+    requires { ⌜ (i < n) × (n ≤ maxItems) × Ready (now s) (now codes) n × Cached false (now rf) (S.isRefused (itemRelations (now s)) (upTo n)) n ⌝ }
+    ensures { λ r. ⌜ r ≡ isStanding (itemRelations (now (s .entry))) (upTo n) i ⌝ }
 {
     if is_refused(s, n, rf, i) {
         return false;
@@ -394,8 +445,8 @@ fn stands_at(s: &[u8], codes: &[u8], n: u8, rf: &[bool; MAX_ITEMS], i: u8) -> bo
 
 // Who stands.
 fn stands_table(s: &[u8], codes: &[u8], n: u8, rf: &[bool; MAX_ITEMS]) -> [bool; MAX_ITEMS]
-    requires { ⌜ (n ≤ maxItems) × Ready (now s) (now codes) n × Cached false (now rf) (isRefused (rel (now s) n)) n ⌝ }
-    ensures { λ r. ⌜ Cached false r (isStanding (rel (now (s .entry)) n)) n ⌝ }
+    requires { ⌜ (n ≤ maxItems) × Ready (now s) (now codes) n × Cached false (now rf) (S.isRefused (itemRelations (now s)) (upTo n)) n ⌝ }
+    ensures { λ r. ⌜ Cached false r (isStanding (itemRelations (now (s .entry))) (upTo n)) n ⌝ }
 {
     let mut m = [false; MAX_ITEMS];
     let mut i: u8 = 0;
@@ -407,8 +458,8 @@ fn stands_table(s: &[u8], codes: &[u8], n: u8, rf: &[bool; MAX_ITEMS]) -> [bool;
 }
 
 fn dominate_all(s: &[u8], codes: &[u8], n: u8, rf: &[bool; MAX_ITEMS]) -> Indices
-    requires { ⌜ (n ≤ maxItems) × Ready (now s) (now codes) n × Cached false (now rf) (isRefused (rel (now s) n)) n ⌝ }
-    ensures { λ r. ⌜ Collected (isDominated (rel (now (s .entry)) n)) itself maxItems 0 (r .list) (r .count) n ⌝ }
+    requires { ⌜ (n ≤ maxItems) × Ready (now s) (now codes) n × Cached false (now rf) (S.isRefused (itemRelations (now s)) (upTo n)) n ⌝ }
+    ensures { λ r. ⌜ Holds maxItems 0 (r .list) (r .count) (filter (isDominated (itemRelations (now (s .entry))) (upTo n)) (upTo n)) ⌝ }
 {
     let mut list = [0u8; MAX_ITEMS];
     let mut count: u8 = 0;
@@ -426,49 +477,49 @@ fn dominate_all(s: &[u8], codes: &[u8], n: u8, rf: &[bool; MAX_ITEMS]) -> Indice
 }
 
 // The first by rank of best, if there is one, and k.
-fn better_rank(s: &[u8], n: u8, best: u8, k: u8) -> u8
-    requires { ⌜ (n * itemSize ≤ length (now s)) × (k < n) × Valid none n best ⌝ }
-    ensures { λ r. ⌜ r ≡ better (rel (now (s .entry)) n .ahead) none best k ⌝ }
+fn better_rank(s: &[u8], n: u8, best: Choice, k: u8) -> Choice
+    requires { ⌜ (n * itemSize ≤ length (now s)) × (k < n) × Below n best ⌝ }
+    ensures { λ r. ⌜ r ≡ better (aheadAt (now (s .entry))) best k ⌝ }
 {
-    if best == NONE {
-        return k;
-    }
-    if items::ahead(s, k, best) {
-        return k;
+    let Choice::Item(b) = best else {
+        return Choice::Item(k);
+    };
+    if items::ahead(s, k, b) {
+        return Choice::Item(k);
     }
     best
 }
 
 // The first by rank of those that are left.
-fn first_left(s: &[u8], n: u8, left: &[bool; MAX_ITEMS]) -> u8
+fn first_left(s: &[u8], n: u8, left: &[bool; MAX_ITEMS]) -> Choice
     requires { ⌜ (n ≤ maxItems) × (n * itemSize ≤ length (now s)) ⌝ }
-    ensures { λ r. ⌜ r ≡ least (rel (now (s .entry)) n .ahead) none (marked (now (left .entry))) none 0 n ⌝ }
+    ensures { λ r. ⌜ r ≡ choose (aheadAt (now (s .entry))) Choice.Nobody (filter (marked (now (left .entry))) (upTo n)) ⌝ }
 {
-    let mut best: u8 = NONE;
-    let mut i: u8 = 0;
-    while i < n {
-        if !left[i as usize] {
-            i += 1;
+    let mut best = Choice::Nobody;
+    let mut j: u8 = 0;
+    while j < n {
+        if !left[j as usize] {
+            j += 1;
             continue;
         }
-        best = better_rank(s, n, best, i);
-        i += 1;
+        best = better_rank(s, n, best, j);
+        j += 1;
     }
     best
 }
 
 fn rank_all(s: &[u8], n: u8, stands: [bool; MAX_ITEMS]) -> Indices
-    requires { ⌜ (n ≤ maxItems) × (n * itemSize ≤ length (now s)) × Cached false stands (isStanding (rel (now s) n)) n ⌝ }
-    ensures { λ r. ⌜ Ranked (rel (now (s .entry)) n) (r .list) (r .count) ⌝ }
+    requires { ⌜ (n ≤ maxItems) × (n * itemSize ≤ length (now s)) × (anyOf (badAt (now s)) (upTo n) ≡ false) × Cached false stands (isStanding (itemRelations (now s)) (upTo n)) n ⌝ }
+    ensures { λ r. ⌜ Holds maxItems 0 (r .list) (r .count) (sort (aheadAt (now (s .entry))) (filter (isStanding (itemRelations (now (s .entry))) (upTo n)) (upTo n))) ⌝ }
 {
     let mut left = stands;
     let mut list = [0u8; MAX_ITEMS];
     let mut count: u8 = 0;
     while count < n {
-        let b = first_left(s, n, &left);
-        if b == NONE {
+        let first = first_left(s, n, &left);
+        let Choice::Item(b) = first else {
             return Indices { list, count };
-        }
+        };
         list[count as usize] = b;
         left[b as usize] = false;
         count += 1;
@@ -476,15 +527,15 @@ fn rank_all(s: &[u8], n: u8, stands: [bool; MAX_ITEMS]) -> Indices
     Indices { list, count }
 }
 
+// What is decided of n items that are not bad.
 pub fn decide_all(s: &[u8], codes: &[u8], chis: &[f64], n: u8) -> Decision
-    requires { ⌜ (n ≤ maxItems) × Ready (now s) (now codes) n × Kept (now s) (now chis) n (n * n) ⌝ }
-    ensures { λ r. ⌜ r ≡ decision (rel (now (s .entry)) n) ⌝ }
+    requires { ⌜ (n ≤ maxItems) × Ready (now s) (now codes) n × Kept (now s) (now chis) n (n * n) × (anyOf (badAt (now s)) (upTo n) ≡ false) ⌝ }
+    ensures { λ r. ⌜ r ≡ decision (S.decide (itemRelations (now (s .entry))) (upTo n)) ⌝ }
 {
     let sup = super_table(s, codes, n);
-    let by = by_table(s, codes, n, &sup);
-    let ct = contested_table(s, codes, n, &sup, &by);
-    let rf = refused_table(s, n, &by, &ct);
-    let refusals = refuse_all(s, chis, n, &by, &ct, &rf);
+    let sd = superseded_table(s, codes, n, &sup);
+    let rf = refused_table(s, codes, n, &sup, &sd);
+    let refusals = refuse_all(s, codes, chis, n, &sup, &sd, &rf);
     let dominated = dominate_all(s, codes, n, &rf);
     let ranked = rank_all(s, n, stands_table(s, codes, n, &rf));
     Decision {

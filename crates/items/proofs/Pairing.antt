@@ -9,15 +9,16 @@ use borrow.Author.Count.{below-more}
 use borrow.Author.Tests.{eqb-true, eqb-false, ltb-true, ltb-false}
 use lib.Dec.{eqb, ltb}
 use lib.Ieee.{Float}
-use lib.ListN.{length, getD, set, length-set}
-use lib.Seq.{getD-set-same, getD-set-other}
+use lib.ListN.{length, getD, take, drop, set, length-set, length-drop}
+use lib.Seq.{length-take-le, getD-set-same, getD-set-other}
 use Rattle.arithmetic.specs.Agree.{agreesOf}
 use Rattle.arithmetic.specs.Linalg.{item}
 use Rattle.arithmetic.specs.Stages.{preparedSize, preparedOf, entryOf, entered}
 use Rattle.arithmetic.specs.declared.standing.Claimed.{Claimed}
 use Rattle.arithmetic.proofs.Staged.{entry-here, entry-other, length-entered, length-prepared}
 use Rattle.items.specs.Layout.{maxItems}
-use Rattle.items.specs.Items.{recordOf, claimOf, consistentOf, subsetAt, agreementAt, disagreesAt}
+use Rattle.items.specs.Items.{itemRecord, itemConsistent, subsetAt, agreementAt, disagreesAt}
+use Rattle.items.specs.Claimed.{claimOf}
 use Rattle.items.specs.Pairs.{pairCode, keptAt, stride, Coded, CodedRow, Kept}
 
 by : {A : Type 0} (b : Bool) → (b ≡ true → A) → (b ≡ false → A) → A
@@ -28,21 +29,25 @@ by false f g = g refl
 pub width : (w a : ℕ) → a + w - a ≡ w
 width w a = omega arith
 
+-- and it is as long as that
+pub taken : (w a : ℕ) (t : List ℕ) → a + w ≤ length t → length (take w (drop a t)) ≡ w
+taken w a t h = length-take-le w (drop a t) (rw length-drop (omega arith))
+
 -- a prepared claim more
-pub prepared-more : (s : List ℕ) (t : List Float) (i n : ℕ) (claim : Claimed) → claim ≡ claimOf (recordOf s i) → i < n → n * preparedSize ≤ length t
-    → ((k : ℕ) → k < i → entryOf t k ≡ preparedOf (claimOf (recordOf s k)))
-    → (k : ℕ) → k < i + 1 → entryOf (entered t i (preparedOf claim)) k ≡ preparedOf (claimOf (recordOf s k))
+pub prepared-more : (s : List ℕ) (t : List Float) (i n : ℕ) (claim : Claimed) → claim ≡ claimOf (itemRecord s i) → i < n → n * preparedSize ≤ length t
+    → ((k : ℕ) → k < i → entryOf t k ≡ preparedOf (claimOf (itemRecord s k)))
+    → (k : ℕ) → k < i + 1 → entryOf (entered t i (preparedOf claim)) k ≡ preparedOf (claimOf (itemRecord s k))
 prepared-more s t i n claim e h l g =
     let room : i * preparedSize + preparedSize ≤ length t = omega arith in
-    below-more (λ k. entryOf (entered t i (preparedOf claim)) k ≡ preparedOf (claimOf (recordOf s k))) i
+    below-more (λ k. entryOf (entered t i (preparedOf claim)) k ≡ preparedOf (claimOf (itemRecord s k))) i
     (λ k z. entry-other t i (preparedOf claim) (length-prepared claim) room k (λ q. omega arith) ∙ g k z)
     (entry-here t i (preparedOf claim) (length-prepared claim) room ∙ ap preparedOf e)
 
 pub prepared-turn : (s : List ℕ) (t₀ t u : List Float) (i n : ℕ) (claim : Claimed)
-    → n * preparedSize ≤ length t₀ → i < n → claim ≡ claimOf (recordOf s i) → length t ≡ length t₀
-    → ((k : ℕ) → k < i → entryOf t k ≡ preparedOf (claimOf (recordOf s k)))
+    → n * preparedSize ≤ length t₀ → i < n → claim ≡ claimOf (itemRecord s i) → length t ≡ length t₀
+    → ((k : ℕ) → k < i → entryOf t k ≡ preparedOf (claimOf (itemRecord s k)))
     → u ≡ entered t i (preparedOf claim)
-    → (length u ≡ length t₀) × ((k : ℕ) → k < i + 1 → entryOf u k ≡ preparedOf (claimOf (recordOf s k)))
+    → (length u ≡ length t₀) × ((k : ℕ) → k < i + 1 → entryOf u k ≡ preparedOf (claimOf (itemRecord s k)))
 prepared-turn s t₀ t u i n claim room h c l g e = (
   ap length e ∙ length-entered t i (preparedOf claim) (length-prepared claim) (omega arith) ∙ l,
   λ k z. ap (λ (w : List Float). entryOf w k) e ∙ prepared-more s t i n claim c h (omega arith) g k z,
@@ -84,13 +89,13 @@ module _ (s : List ℕ) (i j : ℕ) where
   unfolding pairCode
   code-subset =
       by (subsetAt s j i)
-      (λ p. rw p (by (consistentOf s j) (λ q. rw q (by (agreesOf (agreementAt s i j)) (λ r. rw r refl) (λ r. rw r refl))) (λ q. rw q refl)))
+      (λ p. rw p (by (itemConsistent s j) (λ q. rw q (by (agreesOf (agreementAt s i j)) (λ r. rw r refl) (λ r. rw r refl))) (λ q. rw q refl)))
       (λ p. rw p refl)
 
   pub code-disagrees : eqb (pairCode s i j) 2 ≡ disagreesAt s i j
   unfolding pairCode disagreesAt
   code-disagrees =
-      by (consistentOf s j)
+      by (itemConsistent s j)
       (λ q. by (subsetAt s j i) (λ p. rw (p, q) (by (agreesOf (agreementAt s i j)) (λ r. rw r refl) (λ r. rw r refl))) (λ p. rw (p, q) refl))
       (λ q. by (subsetAt s j i) (λ p. rw (p, q) refl) (λ p. rw (p, q) refl))
 

@@ -11,14 +11,14 @@ maxItems = 96
 abbrev pub hashSize : ℕ
 hashSize = 32
 
-abbrev pub inputsAt : ℕ
-inputsAt = recordSize
+abbrev pub itemInputsAt : ℕ
+itemInputsAt = recordSize
 
-abbrev pub identityAt : ℕ
-identityAt = inputsAt + hashSize
+abbrev pub itemIdentityAt : ℕ
+itemIdentityAt = itemInputsAt + hashSize
 
 abbrev pub standingAt : ℕ
-standingAt = identityAt + hashSize
+standingAt = itemIdentityAt + hashSize
 
 abbrev pub consistentAt : ℕ
 consistentAt = standingAt + 8

@@ -1,5 +1,5 @@
--- The tables that a decision is worked out from: each item's claim prepared once, and for each ordered pair of items a code, and a chi-square where it
--- disagrees, so that a pair is compared at most once. Document 01 says nothing of them: they hold what `Items` defines.
+-- No claim rests on these definitions: they say what the tables hold that a decision is worked out from. Each item's claim is prepared once, and each
+-- ordered pair of items has a code, and a chi-square where it disagrees, so that a pair is compared at most once.
 use mathlib.Core.Path.{_≡_}
 use mathlib.Core.Bool.{true, cond}
 use mathlib.Core.List.{List}
@@ -11,11 +11,12 @@ use Rattle.arithmetic.specs.Agree.{agreesOf}
 use Rattle.arithmetic.specs.Linalg.{item}
 use Rattle.arithmetic.specs.Stages.{preparedSize, preparedOf, entryOf}
 use Rattle.items.specs.Layout.{maxItems, itemSize}
-use Rattle.items.specs.Items.{recordOf, claimOf, consistentOf, subsetAt, agreementAt, disagreesAt}
+use Rattle.items.specs.Items.{itemRecord, itemConsistent, subsetAt, agreementAt, disagreesAt}
+use Rattle.items.specs.Claimed.{claimOf}
 
 -- 0 where j is no subset of i, 2 where it is a consistent one that disagrees, else 1
 unfoldable pub pairCode : List ℕ → ℕ → ℕ → ℕ
-pairCode s i j = cond (subsetAt s j i) (cond (consistentOf s j) (cond (agreesOf (agreementAt s i j)) 1 2) 1) 0
+pairCode s i j = cond (subsetAt s j i) (cond (itemConsistent s j) (cond (agreesOf (agreementAt s i j)) 1 2) 1) 0
 
 -- a row of codes has room for every index
 abbrev pub stride : ℕ
@@ -25,12 +26,12 @@ stride = maxItems
 pub record Whole (s : List ℕ) (n : ℕ) : Type 0 where
   pub few : n ≤ maxItems
   pub long : length s ≡ n * itemSize
-  pub formed : (i : ℕ) → i < n → wellFormed (recordOf s i) ≡ true
+  pub formed : (i : ℕ) → i < n → wellFormed (itemRecord s i) ≡ true
 
 -- the first n entries are the prepared claims of the items
 pub record Prepared (s : List ℕ) (t : List Float) (n : ℕ) : Type 0 where
   pub room : n * preparedSize ≤ length t
-  pub entries : (i : ℕ) → i < n → entryOf t i ≡ preparedOf (claimOf (recordOf s i))
+  pub entries : (i : ℕ) → i < n → entryOf t i ≡ preparedOf (claimOf (itemRecord s i))
 
 -- the codes of the pairs of n items
 pub record Coded (s : List ℕ) (m : List ℕ) (n : ℕ) : Type 0 where

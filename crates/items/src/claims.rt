@@ -6,20 +6,21 @@ ghost use Prim.Native.Nat.{_+_, _*_, _≤_, _<_};
 ghost use lib.ListN.{length};
 ghost use Rattle.record.specs.Layout.{recordSize};
 ghost use Rattle.items.specs.Layout.{itemSize};
+ghost use Rattle.items.specs.Claimed as C;
 ghost use Rattle.items.specs.Items as I;
 
 // The k-th number of the covariance.
 fn number(r: &[u8], k: usize) -> f64
     requires { ⌜ length (now r) ≡ recordSize ⌝ }
     requires { ⌜ k < 6 ⌝ }
-    ensures { λ x. ⌜ x ≡ I.numberOf (now (r .entry)) k ⌝ }
+    ensures { λ x. ⌜ x ≡ C.varianceAt (now (r .entry)) k ⌝ }
 {
     floats::of_bits(record::fields::covariance_bits(r, k))
 }
 
 fn covariance(r: &[u8]) -> Covariance
     requires { ⌜ length (now r) ≡ recordSize ⌝ }
-    ensures { λ x. ⌜ x ≡ I.covarianceOf (now (r .entry)) ⌝ }
+    ensures { λ x. ⌜ x ≡ C.covarianceOf (now (r .entry)) ⌝ }
 {
     let xx = number(r, 0);
     let xy = number(r, 1);
@@ -40,7 +41,7 @@ fn covariance(r: &[u8]) -> Covariance
 // What a record claims.
 pub fn claimed(r: &[u8]) -> Claimed
     requires { ⌜ length (now r) ≡ recordSize ⌝ }
-    ensures { λ x. ⌜ x ≡ I.claimOf (now (r .entry)) ⌝ }
+    ensures { λ x. ⌜ x ≡ C.claimOf (now (r .entry)) ⌝ }
 {
     let lat = record::fields::latitude(r);
     let lon = record::fields::longitude(r);
@@ -59,9 +60,7 @@ pub fn claimed(r: &[u8]) -> Claimed
 // What item i claims.
 pub fn claim_at(s: &[u8], i: u8) -> Claimed
     requires { ⌜ i * itemSize + itemSize ≤ length (now s) ⌝ }
-    ensures { λ x. ⌜ x ≡ I.claimOf (I.recordOf (now (s .entry)) i) ⌝ }
+    ensures { λ x. ⌜ x ≡ C.claimOf (I.itemRecord (now (s .entry)) i) ⌝ }
 {
-    let a = i as usize * crate::layout::ITEM_SIZE;
-    let a_end = a + crate::layout::INPUTS_AT;
-    claimed(&s[a..a_end])
+    claimed(crate::record_of(s, i))
 }

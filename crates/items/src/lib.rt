@@ -2,10 +2,12 @@
 // that a decision is worked out from.
 ghost use mathlib.Core.Path.{_≡_};
 ghost use mathlib.Core.Bool.{true};
-ghost use Prim.Native.Nat.{_+_, _*_, _≤_};
+ghost use Prim.Native.Nat.{_+_, _*_, _≤_, _<_};
 ghost use lib.ListN.{length};
+ghost use Rattle.octets.specs.Order.{same};
+ghost use Rattle.record.specs.Layout.{recordSize};
 ghost use Rattle.record.specs.Formed.{wellFormed};
-ghost use Rattle.items.specs.Layout.{itemSize};
+ghost use Rattle.items.specs.Layout.{itemSize, hashSize};
 ghost use Rattle.items.specs.Items as I;
 
 pub mod claims;
@@ -17,6 +19,15 @@ pub enum Verified {
     Passed,
     Failed,
     Unjudged,
+}
+
+// What a decision goes by of an item, besides its record, its model inputs and its identity.
+pub struct Candidate {
+    pub standing: u64,
+    pub weight: u32,
+    pub consistent: bool,
+    pub preferred: bool,
+    pub verified: Verified,
 }
 
 // The case of a number.
@@ -42,52 +53,82 @@ pub fn is_passed(v: Verified) -> bool
     }
 }
 
-pub fn verified_at(s: &[u8], i: u8) -> Verified
+// The record of item i.
+pub fn record_of(s: &[u8], i: u8) -> &[u8]
     requires { ⌜ i * itemSize + itemSize ≤ length (now s) ⌝ }
-    ensures { λ r. ⌜ r ≡ I.verifiedOf (now (s .entry)) i ⌝ }
+    ensures { λ r. ⌜ (now r ≡ I.itemRecord (now (s .entry)) i) × (length (now r) ≡ recordSize) ⌝ }
+{
+    let a = i as usize * layout::ITEM_SIZE;
+    let e = a + layout::INPUTS_AT;
+    &s[a..e]
+}
+
+// The 32 bytes of item i from `at` on: its model inputs or its identity.
+pub fn hash_of(s: &[u8], i: u8, at: usize) -> &[u8]
+    requires { ⌜ (i * itemSize + itemSize ≤ length (now s)) × (at + hashSize ≤ itemSize) ⌝ }
+    ensures { λ r. ⌜ (now r ≡ I.hashOf at (now (s .entry)) i) × (length (now r) ≡ hashSize) ⌝ }
+{
+    let a = i as usize * layout::ITEM_SIZE + at;
+    let e = a + layout::HASH_SIZE;
+    &s[a..e]
+}
+
+// Whether the byte of item i at `at` is set.
+fn flag(s: &[u8], i: u8, at: usize) -> bool
+    requires { ⌜ (i * itemSize + itemSize ≤ length (now s)) × (at < itemSize) ⌝ }
+    ensures { λ r. ⌜ r ≡ I.flagOf at (now (s .entry)) i ⌝ }
+{
+    let k = i as usize * layout::ITEM_SIZE + at;
+    s[k] != 0
+}
+
+fn verified_at(s: &[u8], i: u8) -> Verified
+    requires { ⌜ i * itemSize + itemSize ≤ length (now s) ⌝ }
+    ensures { λ r. ⌜ r ≡ I.itemVerified (now (s .entry)) i ⌝ }
 {
     let at = i as usize * layout::ITEM_SIZE + layout::VERIFIED_AT;
     verified_case(s[at])
 }
 
-pub fn passed(s: &[u8], i: u8) -> bool
-    requires { ⌜ i * itemSize + itemSize ≤ length (now s) ⌝ }
-    ensures { λ r. ⌜ r ≡ I.isPassed (I.verifiedOf (now (s .entry)) i) ⌝ }
-{
-    is_passed(verified_at(s, i))
-}
-
 pub fn consistent(s: &[u8], i: u8) -> bool
     requires { ⌜ i * itemSize + itemSize ≤ length (now s) ⌝ }
-    ensures { λ r. ⌜ r ≡ I.consistentOf (now (s .entry)) i ⌝ }
+    ensures { λ r. ⌜ r ≡ I.itemConsistent (now (s .entry)) i ⌝ }
 {
-    let at = i as usize * layout::ITEM_SIZE + layout::CONSISTENT_AT;
-    s[at] != 0
+    flag(s, i, layout::CONSISTENT_AT)
 }
 
-pub fn preferred(s: &[u8], i: u8) -> bool
+// What a decision goes by of item i.
+pub fn candidate_at(s: &[u8], i: u8) -> Candidate
     requires { ⌜ i * itemSize + itemSize ≤ length (now s) ⌝ }
-    ensures { λ r. ⌜ r ≡ I.preferredOf (now (s .entry)) i ⌝ }
+    ensures { λ r. ⌜ r ≡ I.candidateOf (now (s .entry)) i ⌝ }
 {
-    let at = i as usize * layout::ITEM_SIZE + layout::PREFERRED_AT;
-    s[at] != 0
+    let standing = octets::words::u64_at(s, i as usize * layout::ITEM_SIZE + layout::STANDING_AT);
+    let weight = record::fields::weight(record_of(s, i));
+    let consistent = consistent(s, i);
+    let preferred = flag(s, i, layout::PREFERRED_AT);
+    let verified = verified_at(s, i);
+    Candidate {
+        standing,
+        weight,
+        consistent,
+        preferred,
+        verified,
+    }
 }
 
-pub fn standing(s: &[u8], i: u8) -> u64
-    requires { ⌜ i * itemSize + itemSize ≤ length (now s) ⌝ }
-    ensures { λ r. ⌜ r ≡ I.standingOf (now (s .entry)) i ⌝ }
+// Whether it is verified, and passed.
+pub fn passed(a: Candidate) -> bool
+    ensures { λ r. ⌜ r ≡ I.isPassed (a .verified) ⌝ }
 {
-    let at = i as usize * layout::ITEM_SIZE + layout::STANDING_AT;
-    octets::words::u64_at(s, at)
+    let v = a.verified;
+    is_passed(v)
 }
 
-pub fn weight(s: &[u8], i: u8) -> u32
-    requires { ⌜ i * itemSize + itemSize ≤ length (now s) ⌝ }
-    ensures { λ r. ⌜ r ≡ I.weightOf (now (s .entry)) i ⌝ }
+// Whether a has strictly more standing than b.
+pub fn outstands(a: Candidate, b: Candidate) -> bool
+    ensures { λ r. ⌜ r ≡ I.outstands a b ⌝ }
 {
-    let a = i as usize * layout::ITEM_SIZE;
-    let a_end = a + layout::INPUTS_AT;
-    record::fields::weight(&s[a..a_end])
+    b.standing < a.standing
 }
 
 // Whether item i has the lower identity.
@@ -95,95 +136,78 @@ pub fn lower(s: &[u8], i: u8, j: u8) -> bool
     requires { ⌜ (i * itemSize + itemSize ≤ length (now s)) × (j * itemSize + itemSize ≤ length (now s)) ⌝ }
     ensures { λ r. ⌜ r ≡ I.lowerAt (now (s .entry)) i j ⌝ }
 {
-    let a = i as usize * layout::ITEM_SIZE + layout::IDENTITY_AT;
-    let b = j as usize * layout::ITEM_SIZE + layout::IDENTITY_AT;
-    let a_end = a + layout::HASH_SIZE;
-    let b_end = b + layout::HASH_SIZE;
-    octets::order::precedes(&s[a..a_end], &s[b..b_end])
+    octets::order::precedes(
+        hash_of(s, i, layout::IDENTITY_AT),
+        hash_of(s, j, layout::IDENTITY_AT),
+    )
+}
+
+// Whether items i and j have the same 32 bytes at `at`.
+fn same_hash(s: &[u8], i: u8, j: u8, at: usize) -> bool
+    requires { ⌜ (i * itemSize + itemSize ≤ length (now s)) × (j * itemSize + itemSize ≤ length (now s)) × (at + hashSize ≤ itemSize) ⌝ }
+    ensures { λ r. ⌜ r ≡ same (I.hashOf at (now (s .entry)) i) (I.hashOf at (now (s .entry)) j) ⌝ }
+{
+    octets::order::equal(hash_of(s, i, at), hash_of(s, j, at))
 }
 
 pub fn same_identity(s: &[u8], i: u8, j: u8) -> bool
     requires { ⌜ (i * itemSize + itemSize ≤ length (now s)) × (j * itemSize + itemSize ≤ length (now s)) ⌝ }
     ensures { λ r. ⌜ r ≡ I.sameIdentity (now (s .entry)) i j ⌝ }
 {
-    let a = i as usize * layout::ITEM_SIZE + layout::IDENTITY_AT;
-    let b = j as usize * layout::ITEM_SIZE + layout::IDENTITY_AT;
-    let a_end = a + layout::HASH_SIZE;
-    let b_end = b + layout::HASH_SIZE;
-    octets::order::equal(&s[a..a_end], &s[b..b_end])
+    same_hash(s, i, j, layout::IDENTITY_AT)
 }
 
 pub fn same_inputs(s: &[u8], i: u8, j: u8) -> bool
     requires { ⌜ (i * itemSize + itemSize ≤ length (now s)) × (j * itemSize + itemSize ≤ length (now s)) ⌝ }
     ensures { λ r. ⌜ r ≡ I.sameInputs (now (s .entry)) i j ⌝ }
 {
-    let a = i as usize * layout::ITEM_SIZE + layout::INPUTS_AT;
-    let b = j as usize * layout::ITEM_SIZE + layout::INPUTS_AT;
-    let a_end = a + layout::HASH_SIZE;
-    let b_end = b + layout::HASH_SIZE;
-    octets::order::equal(&s[a..a_end], &s[b..b_end])
+    same_hash(s, i, j, layout::INPUTS_AT)
 }
 
 pub fn well_formed(s: &[u8], i: u8) -> bool
     requires { ⌜ i * itemSize + itemSize ≤ length (now s) ⌝ }
-    ensures { λ r. ⌜ r ≡ wellFormed (I.recordOf (now (s .entry)) i) ⌝ }
+    ensures { λ r. ⌜ r ≡ wellFormed (I.itemRecord (now (s .entry)) i) ⌝ }
 {
-    let a = i as usize * layout::ITEM_SIZE;
-    let a_end = a + layout::INPUTS_AT;
-    record::formed::well_formed(&s[a..a_end])
+    record::formed::well_formed(record_of(s, i))
 }
 
 // Whether item i's record is a subset of item j's.
 pub fn subset(s: &[u8], i: u8, j: u8) -> bool
     requires { ⌜ (i * itemSize + itemSize ≤ length (now s)) × (j * itemSize + itemSize ≤ length (now s)) ⌝ }
-    requires { ⌜ (wellFormed (I.recordOf (now s) i) ≡ true) × (wellFormed (I.recordOf (now s) j) ≡ true) ⌝ }
+    requires { ⌜ (wellFormed (I.itemRecord (now s) i) ≡ true) × (wellFormed (I.itemRecord (now s) j) ≡ true) ⌝ }
     ensures { λ r. ⌜ r ≡ I.subsetAt (now (s .entry)) i j ⌝ }
 {
-    let a = i as usize * layout::ITEM_SIZE;
-    let b = j as usize * layout::ITEM_SIZE;
-    let a_end = a + layout::INPUTS_AT;
-    let b_end = b + layout::INPUTS_AT;
-    record::relations::subset(&s[a..a_end], &s[b..b_end])
-}
-
-// Whether item i has strictly more standing than item j.
-pub fn outstands(s: &[u8], i: u8, j: u8) -> bool
-    requires { ⌜ (i * itemSize + itemSize ≤ length (now s)) × (j * itemSize + itemSize ≤ length (now s)) ⌝ }
-    ensures { λ r. ⌜ r ≡ I.outstandsAt (now (s .entry)) i j ⌝ }
-{
-    standing(s, j) < standing(s, i)
+    record::relations::subset(record_of(s, i), record_of(s, j))
 }
 
 // More weight first, then the lower identity.
-fn ahead_by_weight(s: &[u8], i: u8, j: u8) -> bool
+fn ahead_by_weight(s: &[u8], i: u8, j: u8, a: Candidate, b: Candidate) -> bool
     requires { ⌜ (i * itemSize + itemSize ≤ length (now s)) × (j * itemSize + itemSize ≤ length (now s)) ⌝ }
+    requires { ⌜ (a ≡ I.candidateOf (now s) i) × (b ≡ I.candidateOf (now s) j) ⌝ }
     ensures { λ r. ⌜ r ≡ I.aheadByWeight (now (s .entry)) i j ⌝ }
 {
-    let a = weight(s, i);
-    let b = weight(s, j);
-    if b < a {
+    if b.weight < a.weight {
         return true;
     }
-    if a < b {
+    if a.weight < b.weight {
         return false;
     }
     lower(s, i, j)
 }
 
 // More standing first, then as above.
-fn ahead_by_standing(s: &[u8], i: u8, j: u8) -> bool
+fn ahead_by_standing(s: &[u8], i: u8, j: u8, a: Candidate, b: Candidate) -> bool
     requires { ⌜ (i * itemSize + itemSize ≤ length (now s)) × (j * itemSize + itemSize ≤ length (now s)) ⌝ }
+    requires { ⌜ (a ≡ I.candidateOf (now s) i) × (b ≡ I.candidateOf (now s) j) ⌝ }
     ensures { λ r. ⌜ r ≡ I.aheadByStanding (now (s .entry)) i j ⌝ }
 {
-    let a = standing(s, i);
-    let b = standing(s, j);
-    if b < a {
+    if outstands(a, b) {
         return true;
     }
-    if a < b {
+    if outstands(b, a) {
         return false;
     }
-    ahead_by_weight(s, i, j)
+    ahead_by_weight(s, i, j, a, b)
 }
 
 // Whether item i ranks before item j: preferred first, then as above.
@@ -191,14 +215,10 @@ pub fn ahead(s: &[u8], i: u8, j: u8) -> bool
     requires { ⌜ (i * itemSize + itemSize ≤ length (now s)) × (j * itemSize + itemSize ≤ length (now s)) ⌝ }
     ensures { λ r. ⌜ r ≡ I.aheadAt (now (s .entry)) i j ⌝ }
 {
-    if preferred(s, i) {
-        if preferred(s, j) {
-            return ahead_by_standing(s, i, j);
-        }
-        return true;
+    let a = candidate_at(s, i);
+    let b = candidate_at(s, j);
+    if a.preferred != b.preferred {
+        return a.preferred;
     }
-    if preferred(s, j) {
-        return false;
-    }
-    ahead_by_standing(s, i, j)
+    ahead_by_standing(s, i, j, a, b)
 }

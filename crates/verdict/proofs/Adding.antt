@@ -9,9 +9,11 @@ use Rattle.ranges.proofs.Bools.{by}
 use Rattle.ranges.specs.Range.{any, collect, Collected, Filled}
 use Rattle.record.specs.Layout.{maxTags}
 use Rattle.record.specs.Fields.{tags, tagsFrom, tagAt, tagCount}
-use Rattle.record.specs.Relations.{member, notIn, added}
+use Rattle.record.specs.Relations.{member}
+use Rattle.record.specs.Added.{notIn, addedTags}
 use Rattle.verdict.specs.declared.Tags.{Tags}
-use Rattle.verdict.specs.Supersets.{hasTag, isAdded, tagsOf}
+use Rattle.verdict.specs.Supersets.{tagsOf}
+use Rattle.verdict.specs.Added.{hasTag, isAdded}
 
 member-any : (a : List ℕ) (t k f : ℕ) → member t (tagsFrom a k f) ≡ any (hasTag a t) k f
 unfolding member tagsFrom any
@@ -28,6 +30,6 @@ collect-added a b k (suc f) =
     (λ p. rw (add-one k, e, p) r)
     (λ p. rw (add-one k, e, p) (ap (λ (l : List ℕ). tagAt b k ∷ l) r))
 
-pub tags-of : (a b : List ℕ) (r : Tags) → Collected (isAdded a b) (tagAt b) maxTags 0 (r .list) (r .count) (tagCount b) → r ≡ tagsOf (added a b)
+pub tags-of : (a b : List ℕ) (r : Tags) → Collected (isAdded a b) (tagAt b) maxTags 0 (r .list) (r .count) (tagCount b) → r ≡ tagsOf (addedTags a b)
 unfolding tagsOf Filled
 tags-of a b r c = (λ i. record { list = c .filled i; count = c .count i }) ∙ ap tagsOf (collect-added a b 0 (tagCount b))

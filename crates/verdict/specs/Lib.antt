@@ -1,2 +1,3 @@
--- What comparing two records finds.
+-- What comparing two records finds (Supersets), and what its loops look for (Added).
 pub mod Supersets
+pub mod Added

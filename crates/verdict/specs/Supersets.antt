@@ -1,17 +1,15 @@
 -- What comparing a superset with the smaller fix that it would replace finds (document 01, 'How to write each place' and 'Rust forms and their
 -- replacements', as `contest::superset_verdict`): the enum keeps its chi-square in the disagreeing case, the added tags stand beside it.
-use mathlib.Core.Bool.{Bool, not, cond, _&&_}
-use mathlib.Core.List.{List, [], _++_}
+use mathlib.Core.Bool.{cond, _&&_}
+use mathlib.Core.List.{List, [], _∷_, _++_}
 use Prim.Native.Nat.{ℕ, _-_}
-use lib.Dec.{eqb}
+use lib.Ieee.{Float}
 use lib.ListN.{length, replicate}
-use Rattle.ranges.specs.Range.{any}
 use Rattle.record.specs.Layout.{maxTags}
-use Rattle.record.specs.Fields.{tagAt, tagCount}
 use Rattle.record.specs.Formed.{wellFormed}
-use Rattle.record.specs.Relations.{added}
+use Rattle.record.specs.Added.{addedTags}
 use Rattle.arithmetic.specs.Agree.{agreementOf, agreesOf}
-use Rattle.items.specs.Items.{claimOf}
+use Rattle.items.specs.Claimed.{claimOf}
 use Rattle.verdict.specs.declared.SupersetVerdict.{SupersetVerdict}
 use Rattle.verdict.specs.declared.SupersetVerdict.the-variants.{Malformed, Agrees, Contested}
 use Rattle.verdict.specs.declared.Tags.{Tags}
@@ -24,22 +22,24 @@ tagsOf l = record { list = l ++ replicate (maxTags - length l) 0; count = length
 abbrev pub plainly : SupersetVerdict → Comparison
 plainly v = record { verdict = v; added = tagsOf [] }
 
+-- "When an answer is an enum, a definition gives this paper's number and values for each of its cases": a malformed record is 3, as where one is reported;
+-- the other two cases are answers, and a contested one has the chi-square.
+abbrev pub numberOf : SupersetVerdict → ℕ
+numberOf Malformed = 3
+numberOf Agrees = 0
+numberOf (Contested chi2) = 0
+
+abbrev pub chiSquareIn : SupersetVerdict → List Float
+chiSquareIn Malformed = []
+chiSquareIn Agrees = []
+chiSquareIn (Contested chi2) = chi2 ∷ []
+
 -- of two records
 unfoldable pub comparisonOf : List ℕ → List ℕ → Comparison
 comparisonOf smaller larger =
     let a = agreementOf (claimOf smaller) (claimOf larger) in
-    cond (agreesOf a) (plainly Agrees) (record { verdict = Contested (a .chi2); added = tagsOf (added smaller larger) })
+    cond (agreesOf a) (plainly Agrees) (record { verdict = Contested (a .chi2); added = tagsOf (addedTags smaller larger) })
 
 -- of any bytes
 unfoldable pub verdictOf : List ℕ → List ℕ → Comparison
 verdictOf smaller larger = cond (wellFormed smaller && wellFormed larger) (comparisonOf smaller larger) (plainly Malformed)
-
--- ---- what the loops look for
-
--- the i-th tag of a is t
-abbrev pub hasTag : List ℕ → ℕ → ℕ → Bool
-hasTag a t i = eqb t (tagAt a i)
-
--- the i-th tag of b is none of a's
-abbrev pub isAdded : List ℕ → List ℕ → ℕ → Bool
-isAdded a b i = not (any (hasTag a (tagAt b i)) 0 (tagCount a))

@@ -8,7 +8,8 @@ ghost use Rattle.ranges.specs.Range.{any, Collected};
 ghost use Rattle.record.specs.Layout.{recordSize, maxTags};
 ghost use Rattle.record.specs.Fields.{tagAt, tagCount};
 ghost use Rattle.record.specs.Formed.{wellFormed};
-ghost use Rattle.verdict.specs.Supersets.{hasTag, isAdded, verdictOf, comparisonOf, plainly};
+ghost use Rattle.verdict.specs.Supersets.{verdictOf, comparisonOf, plainly};
+ghost use Rattle.verdict.specs.Added.{hasTag, isAdded};
 
 // Whether the larger fix agrees with the smaller. A record that is malformed has no verdict.
 pub enum SupersetVerdict {

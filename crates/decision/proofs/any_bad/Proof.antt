@@ -3,26 +3,26 @@ use Prim.Native.Nat.{_-_, _≤_}
 use mathlib.Core.Path.{_≡_}
 use native.Mathlib.Omega.{arith}
 use borrow.Author.Needs.{needs}
-use Rattle.ranges.specs.Range.{any}
-use Rattle.ranges.proofs.Range.{anys}
+use Rattle.ranges.specs.Lists.{anyOf, countFrom, upTo}
+use Rattle.ranges.proofs.Searches.{searches}
 use Rattle.decision.specs.Answer.{badAt}
 use Rattle.decision.proofs.any_bad.Statement.{statement}
 use Rattle.decision.proofs.any_bad.Tie as tie
 
 abbrev Inv-loop : tie.InvT-loop
-Inv-loop s n i₀ i = (i ≤ n) × (any (badAt s) 0 n ≡ any (badAt s) i (n - i))
+Inv-loop s n i₀ i = (i ≤ n) × (anyOf (badAt s) (upTo n) ≡ anyOf (badAt s) (countFrom i (n - i)))
 
 abbrev μ-loop : tie.MeasureT-loop
 μ-loop s n i₀ i = n - i
 
 loop-holds : tie.Need-loop-holds Inv-loop μ-loop
-loop-holds c = (omega arith, search anys)
+loop-holds c = (omega arith, search searches)
 
 bad-at-requires : tie.Need-bad-at-requires Inv-loop μ-loop
 bad-at-requires c κs = search needs
 
 returns : tie.Need-returns Inv-loop μ-loop
-returns c = search anys
+returns c = search searches
 
 add-i : tie.Need-add-i Inv-loop μ-loop
 add-i c = search needs
@@ -31,10 +31,10 @@ loop-less : tie.Need-loop-less Inv-loop μ-loop
 loop-less c = search needs
 
 loop-again : tie.Need-loop-again Inv-loop μ-loop
-loop-again c = (omega arith, search anys)
+loop-again c = (omega arith, search searches)
 
 returns-2 : tie.Need-returns-2 Inv-loop μ-loop
-returns-2 c = search anys
+returns-2 c = search searches
 
 pub any-bad-spec : {M : Type 1} → statement M
 any-bad-spec =

@@ -1,9 +1,14 @@
 -- `decide` meets its contract.
-use mathlib.Core.Path.{sym, _∙_}
+use mathlib.Core.Path.{_≡_, sym, _∙_}
+use mathlib.Core.Bool.{false}
+use Prim.Native.Nat.{_/_}
 use native.Mathlib.Omega.{arith}
+use lib.ListN.{length}
 use borrow.Author.Needs.{needs}
 use borrow.Author.Tests.{eq-eqb, ne-eqb, lt-ltb, le-ltb}
-use Rattle.decision.specs.Answer.{bad, decided}
+use Rattle.ranges.specs.Lists.{anyOf, upTo}
+use Rattle.items.specs.Layout.{itemSize}
+use Rattle.decision.specs.Answer.{bad, badAt, decided}
 use Rattle.decision.proofs.Passed.{whole-of}
 use Rattle.decision.proofs.decide.Statement.{statement}
 use Rattle.decision.proofs.decide.Tie as tie
@@ -38,15 +43,23 @@ returns-3 : tie.Need-returns-3
 unfolding bad decided
 returns-3 c = rw (le-ltb _ _ (c .before .before .before .before .if1 .left), eq-eqb _ _ (c .before .before .before .if2 .left), ← c .before .before .any-bad .ensures, c .before .if3 .taken) (c .refused-decision3 .ensures)
 
+-- none of the items is bad
+module _ (a : tie.Else3) where
+  abbrev start : tie.Start
+  start = a .before .before .before .before .before
+
+  good : anyOf (badAt (start .args .s .now)) (upTo (length (start .args .s .now) / itemSize)) ≡ false
+  good = sym (a .before .any-bad .ensures) ∙ a .if3 .left
+
 decide-few-requires : tie.Need-decide-few-requires
-decide-few-requires c κs = (whole-of _ _ (omega arith) (omega arith) (sym (c .before .before .any-bad .ensures) ∙ c .before .if3 .left), c .if4 .taken)
+decide-few-requires c κs = let g = good (c .before) in (whole-of _ _ (omega arith) (omega arith) g, g, c .if4 .taken)
 
 returns-4 : tie.Need-returns-4
 unfolding bad decided
 returns-4 c = rw (le-ltb _ _ (c .before .before .before .before .before .if1 .left), eq-eqb _ _ (c .before .before .before .before .if2 .left), ← c .before .before .before .any-bad .ensures, c .before .before .if3 .left) (c .decide-few .ensures)
 
 decide-many-requires : tie.Need-decide-many-requires
-decide-many-requires c κs = whole-of _ _ (omega arith) (omega arith) (sym (c .before .before .any-bad .ensures) ∙ c .before .if3 .left)
+decide-many-requires c κs = let g = good (c .before) in (whole-of _ _ (omega arith) (omega arith) g, g)
 
 returns-5 : tie.Need-returns-5
 unfolding bad decided

@@ -15,7 +15,7 @@ slice-aggregate-decide-in-3 : tie.Need-slice-aggregate-decide-in-3
 slice-aggregate-decide-in-3 c = search needs
 
 decide-in-requires : tie.Need-decide-in-requires
-decide-in-requires c κs = let a = c .before .before .before .before in let p = a .pre in (p .0, omega arith, omega arith, rows-within (a .args .n) 8 (p .1))
+decide-in-requires c κs = let a = c .before .before .before .before in let p = a .pre in (p .0, p .1, omega arith, omega arith, rows-within (a .args .n) 8 (p .2))
 
 returns : tie.Need-returns
 returns c = search needs

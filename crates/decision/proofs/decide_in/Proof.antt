@@ -4,6 +4,13 @@ use borrow.Author.Needs.{needs}
 use Rattle.decision.proofs.decide_in.Statement.{statement}
 use Rattle.decision.proofs.decide_in.Tie as tie
 
+-- from a place to one before it
+abbrev to-start : tie.After-prepare-all → tie.Start
+to-start a = a .before .before .before .before .before .before
+
+abbrev to-prepared : tie.After-code-all → tie.After-prepare-all
+to-prepared a = a .before .before .before .before .before .before
+
 prepare-all-requires : tie.Need-prepare-all-requires
 prepare-all-requires c κs = search needs
 
@@ -12,10 +19,11 @@ code-all-requires c κs = search needs
 
 decide-all-requires : tie.Need-decide-all-requires
 decide-all-requires c κs =
-    let w = c .before .before .before .before .before .before .before .before .before .before .before .before .before .before .before .before .before .before .pre .0 in
-    let l = w .long in
-    let e = c .before .before .before .before .before .before .code-all .ensures in
-    (w .few, record { long = omega arith; coded = e .0 }, e .1)
+    let a = c .before .before .before .before .before .before in
+    let p = to-start (to-prepared a) .pre in
+    let l = p .0 .long in
+    let e = a .code-all .ensures in
+    (p .0 .few, record { long = omega arith; coded = e .0 }, e .1, p .1)
 
 same-length : tie.Need-same-length
 same-length c = search needs

@@ -16,7 +16,7 @@ slice-aggregate-decide-in-3 : tie.Need-slice-aggregate-decide-in-3
 slice-aggregate-decide-in-3 c = search needs
 
 decide-in-requires : tie.Need-decide-in-requires
-decide-in-requires c κs = let a = c .before .before .before .before in let p = a .pre in let f = p .few in (p, omega arith, omega arith, rows-within (a .args .n) maxItems f)
+decide-in-requires c κs = let a = c .before .before .before .before in let p = a .pre in let f = p .0 .few in (p .0, p .1, omega arith, omega arith, rows-within (a .args .n) maxItems f)
 
 returns : tie.Need-returns
 returns c = search needs

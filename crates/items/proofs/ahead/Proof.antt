@@ -1,51 +1,54 @@
 -- `ahead` meets its contract.
-use mathlib.Core.Path.{refl}
-use Rattle.items.specs.Items.{aheadAt}
+use mathlib.Core.Path.{_≡_, refl, ap, _∙_}
+use mathlib.Core.Bool.{Bool, true, false, not, cond, Bool·beq, true≢false, false≢true}
 use borrow.Author.Needs.{needs}
+use Rattle.items.specs.declared.Candidate.{Candidate}
+use Rattle.items.specs.Items.{aheadAt}
 use Rattle.items.proofs.ahead.Statement.{statement}
 use Rattle.items.proofs.ahead.Tie as tie
 
-preferred-requires : tie.Need-preferred-requires
-preferred-requires c κs = search needs
+-- the one that is preferred comes first where one alone is
+one-alone : (p q rest : Bool) → not (Bool·beq p q) ≡ true → p ≡ cond p (cond q rest true) (cond q false rest)
+one-alone true true rest e = absurd (false≢true e)
+one-alone true false rest e = refl
+one-alone false true rest e = refl
+one-alone false false rest e = absurd (false≢true e)
 
-preferred-requires-2 : tie.Need-preferred-requires-2
-preferred-requires-2 c κs = search needs
+both-or-none : (p q rest : Bool) → not (Bool·beq p q) ≡ false → rest ≡ cond p (cond q rest true) (cond q false rest)
+both-or-none true true rest e = refl
+both-or-none true false rest e = absurd (true≢false e)
+both-or-none false true rest e = absurd (true≢false e)
+both-or-none false false rest e = refl
+
+candidate-at-requires : tie.Need-candidate-at-requires
+candidate-at-requires c κs = search needs
+
+candidate-at-requires-2 : tie.Need-candidate-at-requires-2
+candidate-at-requires-2 c κs = search needs
+
+returns : tie.Need-returns
+unfolding aheadAt
+returns c =
+    let a = c .before .before .before in
+    rw (← ap (λ (x : Candidate). x .preferred) (a .before .candidate-at .ensures), ← ap (λ (x : Candidate). x .preferred) (a .candidate-at2 .ensures))
+    (one-alone _ _ _ (c .if1 .taken))
 
 ahead-by-standing-requires : tie.Need-ahead-by-standing-requires
 ahead-by-standing-requires c κs = search needs
 
-returns : tie.Need-returns
-unfolding aheadAt
-returns c = rw (← c .before .before .before .before .preferred .ensures, c .before .before .before .if1 .taken, ← c .before .before .preferred2 .ensures, c .before .if2 .taken) (c .ahead-by-standing .ensures)
-
 returns-2 : tie.Need-returns-2
 unfolding aheadAt
-returns-2 c = rw (← c .before .before .before .preferred .ensures, c .before .before .if1 .taken, ← c .before .preferred2 .ensures, c .if2 .left) refl
-
-preferred-requires-3 : tie.Need-preferred-requires-3
-preferred-requires-3 c κs = search needs
-
-returns-3 : tie.Need-returns-3
-unfolding aheadAt
-returns-3 c = rw (← c .before .before .before .preferred .ensures, c .before .before .if1 .left, ← c .before .preferred3 .ensures, c .if3 .taken) refl
-
-ahead-by-standing-requires-2 : tie.Need-ahead-by-standing-requires-2
-ahead-by-standing-requires-2 c κs = search needs
-
-returns-4 : tie.Need-returns-4
-unfolding aheadAt
-returns-4 c = rw (← c .before .before .before .before .preferred .ensures, c .before .before .before .if1 .left, ← c .before .before .preferred3 .ensures, c .before .if3 .left) (c .ahead-by-standing2 .ensures)
+returns-2 c =
+    let a = c .before .before .before .before in
+    rw (← ap (λ (x : Candidate). x .preferred) (a .before .candidate-at .ensures), ← ap (λ (x : Candidate). x .preferred) (a .candidate-at2 .ensures))
+    (c .ahead-by-standing .ensures ∙ both-or-none (a .before .candidate-at .result .preferred) (a .candidate-at2 .result .preferred) _ (c .before .if1 .left))
 
 pub ahead-spec : {M : Type 1} → statement M
 ahead-spec =
     tie.close
     (tie.spec
-    preferred-requires
-    preferred-requires-2
-    ahead-by-standing-requires
+    candidate-at-requires
+    candidate-at-requires-2
     returns
-    returns-2
-    preferred-requires-3
-    returns-3
-    ahead-by-standing-requires-2
-    returns-4)
+    ahead-by-standing-requires
+    returns-2)

@@ -8,7 +8,7 @@ use Rattle.ranges.specs.Range.{Collected}
 use Rattle.ranges.proofs.Range.{collected-none, collected-hit, collected-miss, collected-done}
 use Rattle.record.specs.Fields.{tagAt, tagCount}
 use Rattle.record.specs.Layout.{maxTags}
-use Rattle.verdict.specs.Supersets.{isAdded}
+use Rattle.verdict.specs.Added.{isAdded}
 use Rattle.verdict.proofs.added.Statement.{statement}
 use Rattle.verdict.proofs.added.Tie as tie
 

@@ -7,7 +7,7 @@ use borrow.Author.Tests.{eq-eqb, ne-eqb}
 use Rattle.ranges.specs.Range.{any}
 use Rattle.ranges.proofs.Range.{any-start, any-hit, any-miss, any-end}
 use Rattle.record.specs.Fields.{tagCount}
-use Rattle.verdict.specs.Supersets.{hasTag}
+use Rattle.verdict.specs.Added.{hasTag}
 use Rattle.verdict.proofs.has_tag.Statement.{statement}
 use Rattle.verdict.proofs.has_tag.Tie as tie
 

@@ -3,27 +3,29 @@ use Prim.Native.Nat.{_-_, _≤_}
 use mathlib.Core.Path.{_≡_}
 use native.Mathlib.Omega.{arith}
 use borrow.Author.Needs.{needs}
-use Rattle.ranges.specs.Range.{any}
-use Rattle.ranges.proofs.Range.{anys}
-use Rattle.decision.specs.Decide.{covers}
-use Rattle.decision.specs.Related.{rel}
+use Rattle.ranges.specs.Lists.{anyOf, countFrom, upTo}
+use Rattle.ranges.proofs.Searches.{searches}
+use Rattle.decision.specs.Standing.{isCovered}
+use Rattle.decision.specs.Related.{itemRelations}
+use Rattle.decision.specs.Rule.{covers}
 use Rattle.decision.proofs.rule.covered.Statement.{statement}
 use Rattle.decision.proofs.rule.covered.Tie as tie
 
 abbrev Inv-loop : tie.InvT-loop
-Inv-loop s codes n rf i k₀ k = (k ≤ n) × (any (covers (rel s n) i) 0 n ≡ any (covers (rel s n) i) k (n - k))
+Inv-loop s codes n rf i k₀ k = (k ≤ n) × (anyOf (covers (itemRelations s) (upTo n) i) (upTo n) ≡ anyOf (covers (itemRelations s) (upTo n) i) (countFrom k (n - k)))
 
 abbrev μ-loop : tie.MeasureT-loop
 μ-loop s codes n rf i k₀ k = n - k
 
 loop-holds : tie.Need-loop-holds Inv-loop μ-loop
-loop-holds c = (omega arith, search anys)
+loop-holds c = (omega arith, search searches)
 
 covers-at-requires : tie.Need-covers-at-requires Inv-loop μ-loop
 covers-at-requires c κs = search needs
 
 returns : tie.Need-returns Inv-loop μ-loop
-returns c = search anys
+unfolding isCovered
+returns c = search searches
 
 add-k : tie.Need-add-k Inv-loop μ-loop
 add-k c = search needs
@@ -32,10 +34,11 @@ loop-less : tie.Need-loop-less Inv-loop μ-loop
 loop-less c = search needs
 
 loop-again : tie.Need-loop-again Inv-loop μ-loop
-loop-again c = (omega arith, search anys)
+loop-again c = (omega arith, search searches)
 
 returns-2 : tie.Need-returns-2 Inv-loop μ-loop
-returns-2 c = search anys
+unfolding isCovered
+returns-2 c = search searches
 
 pub covered-spec : {M : Type 1} → statement M
 covered-spec =

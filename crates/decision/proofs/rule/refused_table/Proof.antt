@@ -5,19 +5,20 @@ use mathlib.Core.Bool.{false}
 use native.Mathlib.Omega.{arith}
 use lib.ListN.{length}
 use borrow.Author.Needs.{needs}
+use Rattle.ranges.specs.Lists.{upTo}
 use Rattle.ranges.specs.Tables.{Cached}
 use Rattle.ranges.proofs.Tables.{tables}
-use Rattle.decision.specs.Decide.{refused}
-use Rattle.decision.specs.Related.{rel}
+use Rattle.decision.specs.Standing.{isRefused}
+use Rattle.decision.specs.Related.{itemRelations}
 use Rattle.items.specs.Layout.{maxItems}
 use Rattle.decision.proofs.rule.refused_table.Statement.{statement}
 use Rattle.decision.proofs.rule.refused_table.Tie as tie
 
 abbrev Inv-loop : tie.InvT-loop
-Inv-loop s n by ct m₀ i₀ m i = (i ≤ n) × (length m ≡ maxItems) × Cached false m (refused (rel s n)) i
+Inv-loop s codes n sup sd m₀ i₀ m i = (i ≤ n) × (length m ≡ maxItems) × Cached false m (isRefused (itemRelations s) (upTo n)) i
 
 abbrev μ-loop : tie.MeasureT-loop
-μ-loop s n by ct m₀ i₀ m i = n - i
+μ-loop s codes n sup sd m₀ i₀ m i = n - i
 
 loop-holds : tie.Need-loop-holds Inv-loop μ-loop
 loop-holds c = search (tables, arith)

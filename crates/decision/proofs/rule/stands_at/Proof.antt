@@ -1,7 +1,6 @@
 -- `stands_at` meets its contract.
 use borrow.Author.Needs.{needs}
 use Rattle.ranges.proofs.Bools.{answers}
-use Rattle.decision.specs.Decide.{stands}
 use Rattle.decision.proofs.rule.stands_at.Statement.{statement}
 use Rattle.decision.proofs.rule.stands_at.Tie as tie
 
@@ -9,14 +8,12 @@ is-refused-requires : tie.Need-is-refused-requires
 is-refused-requires c κs = search needs
 
 returns : tie.Need-returns
-unfolding stands
 returns c = search answers
 
 covered-requires : tie.Need-covered-requires
 covered-requires c κs = search needs
 
 returns-2 : tie.Need-returns-2
-unfolding stands
 returns-2 c = search answers
 
 pub stands-at-spec : {M : Type 1} → statement M

@@ -5,16 +5,17 @@ use mathlib.Core.Bool.{false}
 use native.Mathlib.Omega.{arith}
 use lib.ListN.{length}
 use borrow.Author.Needs.{needs}
+use Rattle.ranges.specs.Lists.{upTo}
 use Rattle.ranges.specs.Tables.{Cached}
 use Rattle.ranges.proofs.Tables.{tables}
-use Rattle.decision.specs.Decide.{supersedes}
-use Rattle.decision.specs.Related.{rel}
+use Rattle.decision.specs.Standing.{supersedes}
+use Rattle.decision.specs.Related.{itemRelations}
 use Rattle.items.specs.Layout.{maxItems}
 use Rattle.decision.proofs.rule.super_table.Statement.{statement}
 use Rattle.decision.proofs.rule.super_table.Tie as tie
 
 abbrev Inv-loop : tie.InvT-loop
-Inv-loop s codes n m₀ i₀ m i = (i ≤ n) × (length m ≡ maxItems) × Cached false m (supersedes (rel s n)) i
+Inv-loop s codes n m₀ i₀ m i = (i ≤ n) × (length m ≡ maxItems) × Cached false m (supersedes (itemRelations s) (upTo n)) i
 
 abbrev μ-loop : tie.MeasureT-loop
 μ-loop s codes n m₀ i₀ m i = n - i

@@ -6,7 +6,7 @@ use mathlib.Core.Path.{_≡_}
 use Prim.Native.Nat.{_<_, _^_}
 use lib.IntN.{ℤ}
 use lib.Signed.{mag}
-use Rattle.items.specs.Items.{claimOf}
+use Rattle.items.specs.Claimed.{claimOf}
 use borrow.Author.Needs.{needs}
 use Rattle.items.proofs.claims.claimed.Statement.{statement}
 use Rattle.items.proofs.claims.claimed.Tie as tie

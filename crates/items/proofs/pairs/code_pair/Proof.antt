@@ -6,7 +6,7 @@ use mathlib.Core.List.{List}
 use Prim.Native.Nat.{ℕ}
 use native.Mathlib.Omega.{arith}
 use Rattle.arithmetic.specs.Agree.{agreesOf}
-use Rattle.items.specs.Items.{consistentOf, subsetAt, agreementAt}
+use Rattle.items.specs.Items.{itemConsistent, subsetAt, agreementAt}
 use Rattle.items.specs.Pairs.{pairCode}
 use Rattle.items.proofs.Pairing.{in-rows, place-fits, kept-not, kept-so}
 use borrow.Author.Needs.{needs}
@@ -22,15 +22,15 @@ module _ (s : List ℕ) (i j : ℕ) where
   unfolding pairCode
   apart p = rw p refl
 
-  unjudged : subsetAt s j i ≡ true → consistentOf s j ≡ false → 1 ≡ pairCode s i j
+  unjudged : subsetAt s j i ≡ true → itemConsistent s j ≡ false → 1 ≡ pairCode s i j
   unfolding pairCode
   unjudged p q = rw (p, q) refl
 
-  agreeing : subsetAt s j i ≡ true → consistentOf s j ≡ true → agreesOf (agreementAt s i j) ≡ true → 1 ≡ pairCode s i j
+  agreeing : subsetAt s j i ≡ true → itemConsistent s j ≡ true → agreesOf (agreementAt s i j) ≡ true → 1 ≡ pairCode s i j
   unfolding pairCode
   agreeing p q r = rw (p, q, r) refl
 
-  disagreeing : subsetAt s j i ≡ true → consistentOf s j ≡ true → agreesOf (agreementAt s i j) ≡ false → 2 ≡ pairCode s i j
+  disagreeing : subsetAt s j i ≡ true → itemConsistent s j ≡ true → agreesOf (agreementAt s i j) ≡ false → 2 ≡ pairCode s i j
   unfolding pairCode
   disagreeing p q r = rw (p, q, r) refl
 

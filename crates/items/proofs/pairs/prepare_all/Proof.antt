@@ -5,13 +5,14 @@ use mathlib.Core.Path.{_≡_, refl}
 use native.Mathlib.Omega.{arith}
 use lib.ListN.{length}
 use Rattle.arithmetic.specs.Stages.{entryOf, preparedOf}
-use Rattle.items.specs.Items.{claimOf, recordOf}
+use Rattle.items.specs.Items.{itemRecord}
+use Rattle.items.specs.Claimed.{claimOf}
 use borrow.Author.Needs.{needs}
 use Rattle.items.proofs.pairs.prepare_all.Statement.{statement}
 use Rattle.items.proofs.pairs.prepare_all.Tie as tie
 
 abbrev Inv-loop : tie.InvT-loop
-Inv-loop s n table₀ i₀ table i = (i ≤ n) × (length table ≡ length table₀) × ((k : ℕ) → k < i → entryOf table k ≡ preparedOf (claimOf (recordOf s k)))
+Inv-loop s n table₀ i₀ table i = (i ≤ n) × (length table ≡ length table₀) × ((k : ℕ) → k < i → entryOf table k ≡ preparedOf (claimOf (itemRecord s k)))
 
 abbrev μ-loop : tie.MeasureT-loop
 μ-loop s n table₀ i₀ table i = n - i
