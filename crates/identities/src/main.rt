@@ -28,8 +28,17 @@ fn show(n: u64) {
     io::print_decimal(STDOUT_FILENO, n);
 }
 
+// 6 for a model without a summary, 7 for one that is disputed, as a track refuses them; 0 for one that is agreed.
+fn number(s: ModelState) -> u64 {
+    match s {
+        ModelState::Missing => 6,
+        ModelState::Agreed(_) => 0,
+        ModelState::Disputed => 7,
+    }
+}
+
 fn show_state(s: ModelState) {
-    show(wide(models::states::number(s)));
+    show(number(s));
     if let ModelState::Agreed(i) = s {
         word(b"@");
         io::print_decimal(STDOUT_FILENO, i as u64);

@@ -8,52 +8,54 @@ use native.Mathlib.Nat.{not-suc-le-zero, le-of-suc-le-suc, le-trans}
 use lib.Dec.{ltb, leb, eqb}
 use lib.ListN.{length, getD, take, drop}
 use borrow.Author.Tests.{ltb-true, ltb-false, leb-true, leb-false}
-use Rattle.octets.proofs.Cases.{by}
+use Rattle.ranges.proofs.Bools.{by}
 use Rattle.places.specs.Places.{places, allPlaces}
 use Rattle.places.proofs.Tables.{length-places}
 use Rattle.places.proofs.Walks.{room, place-of, places-from, part-of}
 use Rattle.octets.specs.Words.{wordAt}
-use Rattle.models.specs.Summary.{summarySize, specAt, inputsAt, inputsSize, modelOf, specOf, inputsOf}
-use Rattle.models.specs.Models.{State, missing, agreed, disputed, summariesOf, claims, settled, stateOf, concurs, firstOf, answer, valueOf, isMissing}
+use Rattle.models.specs.Summary.{summarySize, summarySpecAt, summaryInputsAt, inputsSize, modelOf, specOf, summaryInputs}
+use Rattle.models.specs.Models.{State, missing, agreed, disputed, summariesFor, claims, stateFrom, stateOf}
+use Rattle.models.specs.Answers.{concurs, firstOf, answer, valueOf}
+use Rattle.models.specs.Refusals.{isMissing}
 use Rattle.models.specs.declared.states.ModelState.{ModelState}
 use Rattle.models.specs.declared.states.ModelState.the-variants.{Missing, Agreed, Disputed}
 
 -- ---- the first summary and those after it
 
 module _ (m : ℕ) where
-  pub none-first : (ps : List (List ℕ)) → length ps ≤ firstOf m ps → summariesOf m ps ≡ []
-  unfolding firstOf summariesOf
+  pub none-first : (ps : List (List ℕ)) → length ps ≤ firstOf m ps → summariesFor m ps ≡ []
+  unfolding firstOf summariesFor
   none-first [] h = refl
   none-first (p ∷ ps) h = by (eqb (modelOf p) m) (λ e. absurd (not-suc-le-zero (rw e at h))) (λ e. rw e (none-first ps (le-of-suc-le-suc (rw e at h))))
 
-  pub some-first : (ps : List (List ℕ)) → firstOf m ps < length ps → summariesOf m ps ≡ getD ps (firstOf m ps) [] ∷ summariesOf m (drop (suc (firstOf m ps)) ps)
-  unfolding firstOf summariesOf
+  pub some-first : (ps : List (List ℕ)) → firstOf m ps < length ps → summariesFor m ps ≡ getD ps (firstOf m ps) [] ∷ summariesFor m (drop (suc (firstOf m ps)) ps)
+  unfolding firstOf summariesFor
   some-first [] h = absurd (not-suc-le-zero h)
   some-first (p ∷ ps) h = by (eqb (modelOf p) m) (λ e. rw e refl) (λ e. rw e (some-first ps (le-of-suc-le-suc (rw e at h))))
 
   -- all its summaries have a spec and inputs
-  pub concur-all : (s : ℕ) (h : List ℕ) (ps : List (List ℕ)) → allPlaces (claims s h) (summariesOf m ps) ≡ allPlaces (concurs m s h) ps
-  unfolding allPlaces summariesOf
+  pub concur-all : (s : ℕ) (h : List ℕ) (ps : List (List ℕ)) → allPlaces (claims s h) (summariesFor m ps) ≡ allPlaces (concurs m s h) ps
+  unfolding allPlaces summariesFor
   concur-all s h [] = refl
   concur-all s h (p ∷ ps) = by (eqb (modelOf p) m) (λ e. rw e (ap (λ (b : Bool). claims s h p && b) (concur-all s h ps))) (λ e. rw e (concur-all s h ps))
 
 -- a model is missing exactly when no place is its first
-missing-some : (p : List ℕ) (ps : List (List ℕ)) → isMissing (settled (p ∷ ps)) ≡ false
-unfolding settled
-missing-some p ps = by (allPlaces (claims (specOf p) (inputsOf p)) ps) (λ a. rw a refl) (λ a. rw a refl)
+missing-some : (p : List ℕ) (ps : List (List ℕ)) → isMissing (stateFrom (p ∷ ps)) ≡ false
+unfolding stateFrom
+missing-some p ps = by (allPlaces (claims (specOf p) (summaryInputs p)) ps) (λ a. rw a refl) (λ a. rw a refl)
 
 missing-first : (m : ℕ) (ps : List (List ℕ)) → isMissing (stateOf m ps) ≡ leb (length ps) (firstOf m ps)
-unfolding settled
+unfolding stateFrom
 missing-first m ps =
     by (leb (length ps) (firstOf m ps))
     (λ h. rw (none-first m ps (leb-true (length ps) (firstOf m ps) h)) (sym h))
-    (λ h. rw (some-first m ps (leb-false (length ps) (firstOf m ps) h)) (missing-some (getD ps (firstOf m ps) []) (summariesOf m (drop (suc (firstOf m ps)) ps)) ∙ sym h))
+    (λ h. rw (some-first m ps (leb-false (length ps) (firstOf m ps) h)) (missing-some (getD ps (firstOf m ps) []) (summariesFor m (drop (suc (firstOf m ps)) ps)) ∙ sym h))
 
 -- ---- the same in a table, where the first summary is at place i
 
 module _ (m n : ℕ) (t : List ℕ) (i : ℕ) (e : i ≡ firstOf m (places summarySize n t)) where
   pub without : n ≤ i → Missing ≡ answer (firstOf m (places summarySize n t)) (stateOf m (places summarySize n t))
-  unfolding settled
+  unfolding stateFrom
   without h = rw (none-first m (places summarySize n t) (omega (arith, length-places summarySize n t))) refl
 
   pub lacks : leb n i ≡ isMissing (stateOf m (places summarySize n t))
@@ -61,7 +63,7 @@ module _ (m n : ℕ) (t : List ℕ) (i : ℕ) (e : i ≡ firstOf m (places summa
 
   -- p is the summary at place i, and u what follows it
   module _ (p u : List ℕ) (f : p ≡ take summarySize (drop (i * summarySize) t)) (g : u ≡ drop (i * summarySize + summarySize) t) (h : i < n) where
-    split : summariesOf m (places summarySize n t) ≡ p ∷ summariesOf m (places summarySize (n - i - 1) u)
+    split : summariesFor m (places summarySize n t) ≡ p ∷ summariesFor m (places summarySize (n - i - 1) u)
     split =
         let l = length-places summarySize n t in
         let a : getD (places summarySize n t) i [] ≡ p = place-of summarySize n i t h ∙ sym f in
@@ -70,25 +72,25 @@ module _ (m n : ℕ) (t : List ℕ) (i : ℕ) (e : i ≡ firstOf m (places summa
         let d : drop (suc i) (places summarySize n t) ≡ places summarySize (n - i - 1) u = places-from summarySize n (suc i) t ∙ rw (k, j, g) refl in
         some-first m (places summarySize n t) (omega arith) ∙ rw (← e, a, d) refl
 
-    settles : stateOf m (places summarySize n t) ≡ cond (allPlaces (concurs m (specOf p) (inputsOf p)) (places summarySize (n - i - 1) u)) (agreed (specOf p) (inputsOf p)) disputed
-    unfolding settled
-    settles = rw (split, concur-all m (specOf p) (inputsOf p) (places summarySize (n - i - 1) u)) refl
+    settles : stateOf m (places summarySize n t) ≡ cond (allPlaces (concurs m (specOf p) (summaryInputs p)) (places summarySize (n - i - 1) u)) (agreed (specOf p) (summaryInputs p)) disputed
+    unfolding stateFrom
+    settles = rw (split, concur-all m (specOf p) (summaryInputs p) (places summarySize (n - i - 1) u)) refl
 
-    pub unanimous : allPlaces (concurs m (specOf p) (inputsOf p)) (places summarySize (n - i - 1) u) ≡ true → Agreed i ≡ answer (firstOf m (places summarySize n t)) (stateOf m (places summarySize n t))
+    pub unanimous : allPlaces (concurs m (specOf p) (summaryInputs p)) (places summarySize (n - i - 1) u) ≡ true → Agreed i ≡ answer (firstOf m (places summarySize n t)) (stateOf m (places summarySize n t))
     unanimous q = rw (settles, q) (ap Agreed e)
 
-    pub divided : allPlaces (concurs m (specOf p) (inputsOf p)) (places summarySize (n - i - 1) u) ≡ false → Disputed ≡ answer (firstOf m (places summarySize n t)) (stateOf m (places summarySize n t))
+    pub divided : allPlaces (concurs m (specOf p) (summaryInputs p)) (places summarySize (n - i - 1) u) ≡ false → Disputed ≡ answer (firstOf m (places summarySize n t)) (stateOf m (places summarySize n t))
     divided q = rw (settles, q) refl
 
 -- ---- what the answer says
 
 -- it is the state
 pub answered : (m : ℕ) (ps : List (List ℕ)) → valueOf ps (answer (firstOf m ps) (stateOf m ps)) ≡ stateOf m ps
-unfolding settled
+unfolding stateFrom
 answered m ps =
     by (ltb (firstOf m ps) (length ps))
     (λ h. let e = some-first m ps (ltb-true (firstOf m ps) (length ps) h) in
-    by (allPlaces (claims (specOf (getD ps (firstOf m ps) [])) (inputsOf (getD ps (firstOf m ps) []))) (summariesOf m (drop (suc (firstOf m ps)) ps))) (λ a. rw (e, a) refl) (λ a. rw (e, a) refl))
+    by (allPlaces (claims (specOf (getD ps (firstOf m ps) [])) (summaryInputs (getD ps (firstOf m ps) []))) (summariesFor m (drop (suc (firstOf m ps)) ps))) (λ a. rw (e, a) refl) (λ a. rw (e, a) refl))
     (λ h. let e = ltb-false (firstOf m ps) (length ps) h in rw (none-first m ps (omega arith)) refl)
 
 pub told : (m : ℕ) (ps : List (List ℕ)) {r : ModelState} → r ≡ answer (firstOf m ps) (stateOf m ps) → (valueOf ps r ≡ stateOf m ps) × (r ≡ answer (firstOf m ps) (stateOf m ps))
@@ -107,7 +109,7 @@ named k i (agreed x h) e = cc
 named k i disputed e = absurd (disputed-not-agreed refl e)
 
 agreed-within : (m i : ℕ) (ps : List (List ℕ)) → answer (firstOf m ps) (stateOf m ps) ≡ Agreed i → i < length ps
-unfolding settled
+unfolding stateFrom
 agreed-within m i ps q =
     let k = named (firstOf m ps) i (stateOf m ps) q in
     by (ltb (firstOf m ps) (length ps))
@@ -122,7 +124,7 @@ module _ (m n : ℕ) (t : List ℕ) (i : ℕ) {r : ModelState} (e : r ≡ answer
   pub ends : n * summarySize ≤ length t → i * summarySize + summarySize ≤ length t
   ends h = le-trans (room i n summarySize within) h
 
-  pub as-agreed : stateOf m (places summarySize n t) ≡ agreed (wordAt 2 (i * summarySize + specAt) t) (take inputsSize (drop (i * summarySize + inputsAt) t))
+  pub as-agreed : stateOf m (places summarySize n t) ≡ agreed (wordAt 2 (i * summarySize + summarySpecAt) t) (take inputsSize (drop (i * summarySize + summaryInputsAt) t))
   as-agreed =
       sym (answered m (places summarySize n t)) ∙ ap (valueOf (places summarySize n t)) (sym e ∙ q)
-      ∙ rw (place-of summarySize n i t within, part-of 2 specAt summarySize (i * summarySize) t (omega arith), part-of inputsSize inputsAt summarySize (i * summarySize) t (omega arith)) refl
+      ∙ rw (place-of summarySize n i t within, part-of 2 summarySpecAt summarySize (i * summarySize) t (omega arith), part-of inputsSize summaryInputsAt summarySize (i * summarySize) t (omega arith)) refl

@@ -10,14 +10,16 @@ use lib.ListN.{getD, take, drop}
 use lib.Seq.{getD-take}
 use borrow.Author.Tests.{eq-eqb, eqb-true}
 use Rattle.octets.specs.Order.{same}
-use Rattle.octets.proofs.Cases.{by, and-left, and-right, and-both}
+use Rattle.ranges.proofs.Bools.{by, and-left, and-right, and-both}
 use Rattle.octets.proofs.Comparison.{same-refl, same-eq}
 use Rattle.places.specs.Places.{holds, allPlaces}
 use Rattle.places.proofs.Walks.{part-in}
 use Rattle.record.specs.Fields.{models, spec}
-use Rattle.models.specs.Summary.{summarySize, modelAt, specAt, inputsAt, inputsSize, modelOf, specOf, inputsOf}
-use Rattle.models.specs.Models.{State, missing, agreed, disputed, summariesOf, claims, settled, stateOf, concurs, agreedAs, isMissing, allAgreed, anyMissing, counts, citesMissing}
-use Rattle.models.specs.Identity.{agreedInputs, inputsInOrder, citedInputs, setHash, identityOf, identity}
+use Rattle.models.specs.Summary.{summarySize, modelAt, summarySpecAt, summaryInputsAt, inputsSize, modelOf, specOf, summaryInputs}
+use Rattle.models.specs.Models.{State, missing, agreed, disputed, summariesFor, claims, stateFrom, stateOf, agreedAs, allAgreed, counts}
+use Rattle.models.specs.Answers.{concurs}
+use Rattle.models.specs.Refusals.{isMissing, anyMissing, citesMissing}
+use Rattle.models.specs.Identity.{agreedInputs, inputsInOrder, citedInputs, setHash, identityFrom, identityOf}
 use Rattle.models.proofs.Agreeing.{concur-all}
 
 -- ---- agreed exactly when
@@ -40,28 +42,28 @@ agreed-on s h disputed e = absurd (false≢true e)
 pub on-agreed : (s : ℕ) (h : List ℕ) → agreedOn s h (agreed s h) ≡ true
 on-agreed s h = and-both (eqb s s) (same h h) (eq-eqb s s refl) (same-refl h)
 
-agreed-settled : (s : ℕ) (h : List ℕ) (l : List (List ℕ)) → agreedOn s h (settled l) ≡ (some l && allPlaces (claims s h) l)
-unfolding settled allPlaces
+agreed-settled : (s : ℕ) (h : List ℕ) (l : List (List ℕ)) → agreedOn s h (stateFrom l) ≡ (some l && allPlaces (claims s h) l)
+unfolding stateFrom allPlaces
 agreed-settled s h [] = refl
 agreed-settled s h (p ∷ l) =
     by (claims s h p)
-    (λ e. let x : specOf p ≡ s = eqb-true (specOf p) s (and-left (eqb (specOf p) s) (same (inputsOf p) h) e) in
-    let y : inputsOf p ≡ h = same-eq (inputsOf p) h (and-right (eqb (specOf p) s) (same (inputsOf p) h) e) in
-    rw e (by (allPlaces (claims (specOf p) (inputsOf p)) l)
+    (λ e. let x : specOf p ≡ s = eqb-true (specOf p) s (and-left (eqb (specOf p) s) (same (summaryInputs p) h) e) in
+    let y : summaryInputs p ≡ h = same-eq (summaryInputs p) h (and-right (eqb (specOf p) s) (same (summaryInputs p) h) e) in
+    rw e (by (allPlaces (claims (specOf p) (summaryInputs p)) l)
     (λ a. rw a (e ∙ sym (ap₂ (λ (i : ℕ) (j : List ℕ). allPlaces (claims i j) l) (sym x) (sym y) ∙ a)))
     (λ a. rw a (sym (ap₂ (λ (i : ℕ) (j : List ℕ). allPlaces (claims i j) l) (sym x) (sym y) ∙ a)))))
-    (λ e. rw e (by (allPlaces (claims (specOf p) (inputsOf p)) l) (λ a. rw a e) (λ a. rw a refl)))
+    (λ e. rw e (by (allPlaces (claims (specOf p) (summaryInputs p)) l) (λ a. rw a e) (λ a. rw a refl)))
 
-pub agreed-exactly : (m s : ℕ) (h : List ℕ) (ps : List (List ℕ)) → agreedOn s h (stateOf m ps) ≡ (some (summariesOf m ps) && allPlaces (claims s h) (summariesOf m ps))
-agreed-exactly m s h ps = agreed-settled s h (summariesOf m ps)
+pub agreed-exactly : (m s : ℕ) (h : List ℕ) (ps : List (List ℕ)) → agreedOn s h (stateOf m ps) ≡ (some (summariesFor m ps) && allPlaces (claims s h) (summariesFor m ps))
+agreed-exactly m s h ps = agreed-settled s h (summariesFor m ps)
 
-missing-settled : (l : List (List ℕ)) → isMissing (settled l) ≡ not (some l)
-unfolding settled
+missing-settled : (l : List (List ℕ)) → isMissing (stateFrom l) ≡ not (some l)
+unfolding stateFrom
 missing-settled [] = refl
-missing-settled (p ∷ l) = by (allPlaces (claims (specOf p) (inputsOf p)) l) (λ a. rw a refl) (λ a. rw a refl)
+missing-settled (p ∷ l) = by (allPlaces (claims (specOf p) (summaryInputs p)) l) (λ a. rw a refl) (λ a. rw a refl)
 
-pub missing-exactly : (m : ℕ) (ps : List (List ℕ)) → isMissing (stateOf m ps) ≡ not (some (summariesOf m ps))
-missing-exactly m ps = missing-settled (summariesOf m ps)
+pub missing-exactly : (m : ℕ) (ps : List (List ℕ)) → isMissing (stateOf m ps) ≡ not (some (summariesFor m ps))
+missing-exactly m ps = missing-settled (summariesFor m ps)
 
 -- ---- tests of all places that look at a summary's own bytes
 
@@ -104,12 +106,12 @@ module _ (p q : List ℕ) (e : take summarySize p ≡ take summarySize q) where
   own-part k j h = sym (part-in k j summarySize p h) ∙ ap (λ (l : List ℕ). take k (drop j l)) e ∙ part-in k j summarySize q h
 
   own-claims : (s : ℕ) (h : List ℕ) → claims s h p ≡ claims s h q
-  own-claims s h = rw (own-part 2 specAt (omega arith), own-part inputsSize inputsAt (omega arith)) refl
+  own-claims s h = rw (own-part 2 summarySpecAt (omega arith), own-part inputsSize summaryInputsAt (omega arith)) refl
 
 -- ---- that a model has no summary, as a test of all places
 
-none-of : (m : ℕ) (ps : List (List ℕ)) → not (some (summariesOf m ps)) ≡ allPlaces (λ (p : List ℕ). not (eqb (modelOf p) m)) ps
-unfolding summariesOf allPlaces
+none-of : (m : ℕ) (ps : List (List ℕ)) → not (some (summariesFor m ps)) ≡ allPlaces (λ (p : List ℕ). not (eqb (modelOf p) m)) ps
+unfolding summariesFor allPlaces
 none-of m [] = refl
 none-of m (p ∷ ps) = by (eqb (modelOf p) m) (λ e. rw e refl) (λ e. rw e (none-of m ps))
 
@@ -137,14 +139,14 @@ not-inj false false e = refl
 module _ (ps qs : List (List ℕ)) (held : (p : List ℕ) → holds summarySize p ps ≡ holds summarySize p qs) where
   pub state-held : (m : ℕ) → stateOf m ps ≡ stateOf m qs
   state-held m =
-      let none : not (some (summariesOf m ps)) ≡ not (some (summariesOf m qs)) =
+      let none : not (some (summariesFor m ps)) ≡ not (some (summariesFor m qs)) =
       none-of m ps ∙ all-held (λ (p : List ℕ). not (eqb (modelOf p) m)) (λ (p q : List ℕ) (e : take summarySize p ≡ take summarySize q). ap (λ (k : ℕ). not (eqb k m)) (own-model p q e)) ps qs held ∙ sym (none-of m qs) in
-      let each : (s : ℕ) (h : List ℕ) → allPlaces (claims s h) (summariesOf m ps) ≡ allPlaces (claims s h) (summariesOf m qs) =
+      let each : (s : ℕ) (h : List ℕ) → allPlaces (claims s h) (summariesFor m ps) ≡ allPlaces (claims s h) (summariesFor m qs) =
       λ (s : ℕ) (h : List ℕ). concur-all m s h ps
       ∙ all-held (concurs m s h) (λ (p q : List ℕ) (e : take summarySize p ≡ take summarySize q). ap₂ (λ (k : ℕ) (b : Bool). not (eqb k m) || b) (own-model p q e) (own-claims p q e s h)) ps qs held
       ∙ sym (concur-all m s h qs) in
       state-ext (stateOf m ps) (stateOf m qs) (missing-exactly m ps ∙ none ∙ sym (missing-exactly m qs))
-      (λ (s : ℕ) (h : List ℕ). agreed-exactly m s h ps ∙ ap₂ (λ (a b : Bool). a && b) (not-inj (some (summariesOf m ps)) (some (summariesOf m qs)) none) (each s h) ∙ sym (agreed-exactly m s h qs))
+      (λ (s : ℕ) (h : List ℕ). agreed-exactly m s h ps ∙ ap₂ (λ (a b : Bool). a && b) (not-inj (some (summariesFor m ps)) (some (summariesFor m qs)) none) (each s h) ∙ sym (agreed-exactly m s h qs))
 
   agreed-held : (s : ℕ) (ms : List ℕ) → allAgreed s ms ps ≡ allAgreed s ms qs
   unfolding allAgreed
@@ -171,5 +173,5 @@ module _ (ps qs : List (List ℕ)) (held : (p : List ℕ) → holds summarySize 
   unfolding citedInputs
   cited-inputs-held r = rw (inputs-held (models r)) refl
 
-  pub identity-held : (r : List ℕ) → identity ps r ≡ identity qs r
-  identity-held r = ap (identityOf (setHash r)) (cited-inputs-held r)
+  pub identity-held : (r : List ℕ) → identityOf ps r ≡ identityOf qs r
+  identity-held r = ap (identityFrom (setHash r)) (cited-inputs-held r)

@@ -6,13 +6,14 @@ use native.Mathlib.Omega.{arith}
 use lib.ListN.{length, take, drop, length-drop}
 use lib.Seq.{take-add, drop-drop, length-take-le}
 use Rattle.octets.specs.Words.{wordBytes, wordAt}
-use Rattle.octets.proofs.Numbers.{Bytes, bytes-take, bytes-drop, bytes-of-word}
+use Rattle.octets.specs.Bytes.{Bytes}
+use Rattle.octets.proofs.Numbers.{bytes-take, bytes-drop, bytes-of-word}
 use Rattle.hashing.specs.Blake2s.{hashBytes, blake2s256}
 use Rattle.hashing.proofs.Digest.{hash-length, hash-bytes}
 use Rattle.record.specs.Layout as L
 use Rattle.record.specs.Fields.{messageLength, message, tagCount, tagsFrom, tags, models}
 use Rattle.record.proofs.Parts.{Formed, message-has}
-use Rattle.models.specs.Identity.{citedDomain, mergeDomain, inputsInOrder, citedInputs, tagBytes, setHash, identityOf}
+use Rattle.models.specs.Identity.{citedDomain, mergeDomain, inputsInOrder, citedInputs, tagBytes, setHash, identityFrom}
 
 -- ---- 32 bytes
 
@@ -35,12 +36,12 @@ module _ (r : List ℕ) where
   set-bytes = hash-bytes (messageLength r ∷ (message r ++ (tagCount r ∷ tagBytes r)))
 
 module _ (set inputs : List ℕ) where
-  pub identity-length : length (identityOf set inputs) ≡ hashBytes
-  unfolding identityOf
+  pub identity-length : length (identityFrom set inputs) ≡ hashBytes
+  unfolding identityFrom
   identity-length = hash-length (mergeDomain ++ (0 ∷ (set ++ inputs)))
 
-  pub identity-bytes : Bytes (identityOf set inputs)
-  unfolding identityOf
+  pub identity-bytes : Bytes (identityFrom set inputs)
+  unfolding identityFrom
   identity-bytes = hash-bytes (mergeDomain ++ (0 ∷ (set ++ inputs)))
 
 -- ---- the tags' bytes are those of the numbers, the lowest first

@@ -10,7 +10,7 @@ use lib.Seq.{getD-take, getD-drop}
 use Rattle.places.specs.Places.{places}
 use Rattle.places.proofs.Walks.{places-next, places-end}
 use Rattle.models.specs.Summary.{summarySize, modelAt}
-use Rattle.models.specs.Models.{firstOf}
+use Rattle.models.specs.Answers.{firstOf}
 
 module _ (m n i at : ℕ) (t : List ℕ) where
   model-at : getD (take summarySize (drop at t)) modelAt 0 ≡ getD t (at + modelAt) 0

@@ -2,6 +2,7 @@
 use Prim.Native.Nat.{ℕ, _*_}
 use mathlib.Core.List.{List, [], _∷_, _++_}
 use lib.ListN.{take, drop}
+use Rattle.octets.specs.Ascii.{ascii}
 use Rattle.hashing.specs.Blake2s.{blake2s256}
 use Rattle.record.specs.Layout.{tagsAt}
 use Rattle.record.specs.Fields.{messageLength, message, tagCount, models}
@@ -9,14 +10,9 @@ use Rattle.models.specs.Models.{State, missing, agreed, disputed, stateO
 
 -- ---- model inputs: "`publish::cited_inputs` in the listed order"
 
--- 'tally pair model cited inputs', the Rust's CITED_INPUTS_DOMAIN
+-- the Rust's CITED_INPUTS_DOMAIN
 abbrev pub citedDomain : List ℕ
-citedDomain =
-    116 ∷ 97 ∷ 108 ∷ 108 ∷ 121 ∷ 32  -- 'tally '
-    ∷ 112 ∷ 97 ∷ 105 ∷ 114 ∷ 32  -- 'pair '
-    ∷ 109 ∷ 111 ∷ 100 ∷ 101 ∷ 108 ∷ 32  -- 'model '
-    ∷ 99 ∷ 105 ∷ 116 ∷ 101 ∷ 100 ∷ 32  -- 'cited '
-    ∷ 105 ∷ 110 ∷ 112 ∷ 117 ∷ 116 ∷ 115 ∷ []  -- 'inputs'
+citedDomain = ascii "tally pair model cited inputs"
 
 -- the inputs of a model that is agreed; of any other nothing is hashed
 abbrev pub agreedInputs : State → List ℕ
@@ -44,16 +40,12 @@ setHash r = blake2s256 (messageLength r ∷ (message r ++ (tagCount r ∷ tagByt
 -- ---- identity: "over `tally merge input set`, a zero byte, the set hash and the model inputs"
 
 abbrev pub mergeDomain : List ℕ
-mergeDomain =
-    116 ∷ 97 ∷ 108 ∷ 108 ∷ 121 ∷ 32  -- 'tally '
-    ∷ 109 ∷ 101 ∷ 114 ∷ 103 ∷ 101 ∷ 32  -- 'merge '
-    ∷ 105 ∷ 110 ∷ 112 ∷ 117 ∷ 116 ∷ 32  -- 'input '
-    ∷ 115 ∷ 101 ∷ 116 ∷ []  -- 'set'
+mergeDomain = ascii "tally merge input set"
 
 -- of a set hash and model inputs
-unfoldable pub identityOf : List ℕ → List ℕ → List ℕ
-identityOf set inputs = blake2s256 (mergeDomain ++ (0 ∷ (set ++ inputs)))
+unfoldable pub identityFrom : List ℕ → List ℕ → List ℕ
+identityFrom set inputs = blake2s256 (mergeDomain ++ (0 ∷ (set ++ inputs)))
 
 -- of a record among summaries
-abbrev pub identity : List (List ℕ) → List ℕ → List ℕ
-identity ps r = identityOf (setHash r) (citedInputs ps r)
+abbrev pub identityOf : List (List ℕ) → List ℕ → List ℕ
+identityOf ps r = identityFrom (setHash r) (citedInputs ps r)

@@ -10,18 +10,18 @@ engineAt = 0
 abbrev pub modelAt : ℕ
 modelAt = engineAt + 1
 
-abbrev pub specAt : ℕ
-specAt = modelAt + 1
+abbrev pub summarySpecAt : ℕ
+summarySpecAt = modelAt + 1
 
-abbrev pub inputsAt : ℕ
-inputsAt = specAt + 2
+abbrev pub summaryInputsAt : ℕ
+summaryInputsAt = summarySpecAt + 2
 
 -- a model's inputs are a hash
 abbrev pub inputsSize : ℕ
 inputsSize = 32
 
 abbrev pub summarySize : ℕ
-summarySize = inputsAt + inputsSize
+summarySize = summaryInputsAt + inputsSize
 
 abbrev pub engineOf : List ℕ → ℕ
 engineOf p = getD p engineAt 0
@@ -30,10 +30,10 @@ abbrev pub modelOf : List ℕ → ℕ
 modelOf p = getD p modelAt 0
 
 abbrev pub specOf : List ℕ → ℕ
-specOf p = wordAt 2 specAt p
+specOf p = wordAt 2 summarySpecAt p
 
-abbrev pub inputsOf : List ℕ → List ℕ
-inputsOf p = take inputsSize (drop inputsAt p)
+abbrev pub summaryInputs : List ℕ → List ℕ
+summaryInputs p = take inputsSize (drop summaryInputsAt p)
 
 -- the bytes of a summary
 abbrev pub summaryOf : ℕ → ℕ → ℕ → List ℕ → List ℕ

@@ -15,6 +15,7 @@ ghost use Rattle.record.specs.Layout.{maxModels};
 ghost use Rattle.record.specs.Formed.{wellFormed};
 ghost use Rattle.models.specs.Summary.{summarySize, inputsSize};
 ghost use Rattle.models.specs.Models as M;
+ghost use Rattle.models.specs.Refusals.{anyMissing, citesMissing};
 ghost use Rattle.models.specs.Identity.{agreedInputs, inputsInOrder, citedDomain, citedInputs};
 
 // The bytes that model inputs are hashed from: a domain and a zero byte, and the inputs of at most
@@ -66,7 +67,7 @@ pub fn counts(table: &[u8], count: usize, r: &[u8]) -> bool
 // Whether some of these models has no summary.
 fn any_missing(table: &[u8], count: usize, cited: &[u8]) -> bool
     requires { ⌜ count * summarySize ≤ length (now table) ⌝ }
-    ensures { λ r. ⌜ r ≡ M.anyMissing (now (cited .entry)) (places summarySize count (now (table .entry))) ⌝ }
+    ensures { λ r. ⌜ r ≡ anyMissing (now (cited .entry)) (places summarySize count (now (table .entry))) ⌝ }
 {
     let mut i = 0;
     while i < cited.len() {
@@ -82,7 +83,7 @@ fn any_missing(table: &[u8], count: usize, cited: &[u8]) -> bool
 pub fn cites_missing(table: &[u8], count: usize, r: &[u8]) -> bool
     requires { ⌜ count * summarySize ≤ length (now table) ⌝ }
     requires { ⌜ wellFormed (now r) ≡ true ⌝ }
-    ensures { λ a. ⌜ a ≡ M.citesMissing (places summarySize count (now (table .entry))) (now (r .entry)) ⌝ }
+    ensures { λ a. ⌜ a ≡ citesMissing (places summarySize count (now (table .entry))) (now (r .entry)) ⌝ }
 {
     let end = record::layout::MODELS_AT + record::fields::model_count(r) as usize;
     any_missing(table, count, &r[record::layout::MODELS_AT..end])

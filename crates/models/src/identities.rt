@@ -7,7 +7,7 @@ ghost use mathlib.Core.Bool.{true};
 ghost use lib.ListN.{length};
 ghost use Rattle.hashing.specs.Blake2s.{hashBytes};
 ghost use Rattle.record.specs.Formed.{wellFormed};
-ghost use Rattle.models.specs.Identity.{setHash, identityOf};
+ghost use Rattle.models.specs.Identity.{setHash, identityFrom};
 
 // The most that a set hash is over: the length byte, a long message, the count byte, all tags.
 const SET_SIZE: usize = 1 + layout::LONG_MESSAGE as usize + 1 + 8 * layout::MAX_TAGS;
@@ -33,7 +33,7 @@ pub fn set_hash(r: &[u8]) -> [u8; HASH_SIZE]
 pub fn identity(set: &[u8], inputs: &[u8]) -> [u8; HASH_SIZE]
     requires { ⌜ length (now set) ≡ hashBytes ⌝ }
     requires { ⌜ length (now inputs) ≡ hashBytes ⌝ }
-    ensures { λ h. ⌜ h ≡ identityOf (now (set .entry)) (now (inputs .entry)) ⌝ }
+    ensures { λ h. ⌜ h ≡ identityFrom (now (set .entry)) (now (inputs .entry)) ⌝ }
 {
     let mut b = [0u8; DOMAIN_SIZE + HASH_SIZE + HASH_SIZE];
     let at = join(&mut b, 0, b"tally merge input set\0");

@@ -4,8 +4,10 @@ ghost use mathlib.Core.Path.{_≡_};
 ghost use Prim.Native.Nat.{_+_, _*_, _-_, _<_, _≤_};
 ghost use lib.ListN.{length};
 ghost use Rattle.places.specs.Places.{places, allPlaces};
-ghost use Rattle.models.specs.Summary.{summarySize, specOf, inputsOf};
-ghost use Rattle.models.specs.Models.{concurs, firstOf, isMissing, stateOf, answer, valueOf, numberOf};
+ghost use Rattle.models.specs.Summary.{summarySize, specOf, summaryInputs};
+ghost use Rattle.models.specs.Models.{stateOf};
+ghost use Rattle.models.specs.Answers.{concurs, firstOf, answer, valueOf};
+ghost use Rattle.models.specs.Refusals.{isMissing};
 
 // The state of a model.
 pub enum ModelState {
@@ -15,17 +17,6 @@ pub enum ModelState {
     Agreed(usize),
     // Not all of them have the same.
     Disputed,
-}
-
-// The number that a track's report citing a model in this state is refused with, or 0.
-pub fn number(s: ModelState) -> u8
-    ensures { λ r. ⌜ r ≡ numberOf s ⌝ }
-{
-    match s {
-        ModelState::Missing => 6,
-        ModelState::Agreed(_) => 0,
-        ModelState::Disputed => 7,
-    }
 }
 
 // The place of a model's first summary, or `count`.
@@ -49,7 +40,7 @@ fn first(table: &[u8], count: usize, model: u8) -> usize
 fn concur(model: u8, p: &[u8], q: &[u8]) -> bool
     requires { ⌜ length (now p) ≡ summarySize ⌝ }
     requires { ⌜ length (now q) ≡ summarySize ⌝ }
-    ensures { λ r. ⌜ r ≡ concurs model (specOf (now (p .entry))) (inputsOf (now (p .entry))) (now (q .entry)) ⌝ }
+    ensures { λ r. ⌜ r ≡ concurs model (specOf (now (p .entry))) (summaryInputs (now (p .entry))) (now (q .entry)) ⌝ }
 {
     if q[layout::MODEL_AT] != model {
         return true;
@@ -67,7 +58,7 @@ fn concur(model: u8, p: &[u8], q: &[u8]) -> bool
 fn all_concur(table: &[u8], count: usize, model: u8, p: &[u8]) -> bool
     requires { ⌜ count * summarySize ≤ length (now table) ⌝ }
     requires { ⌜ length (now p) ≡ summarySize ⌝ }
-    ensures { λ r. ⌜ r ≡ allPlaces (concurs model (specOf (now (p .entry))) (inputsOf (now (p .entry)))) (places summarySize count (now (table .entry))) ⌝ }
+    ensures { λ r. ⌜ r ≡ allPlaces (concurs model (specOf (now (p .entry))) (summaryInputs (now (p .entry)))) (places summarySize count (now (table .entry))) ⌝ }
 {
     let mut i = 0;
     let mut at = 0;

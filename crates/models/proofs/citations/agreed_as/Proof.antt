@@ -3,7 +3,7 @@ use mathlib.Core.Path.{refl, sym, ap, _∙_}
 use native.Mathlib.Omega.{arith}
 use Rattle.places.specs.Places.{places}
 use Rattle.models.specs.Summary.{summarySize}
-use Rattle.models.specs.Models.{valueOf}
+use Rattle.models.specs.Answers.{valueOf}
 use Rattle.models.proofs.Agreeing.{ends, as-agreed}
 use borrow.Author.Needs.{needs}
 use Rattle.models.proofs.citations.agreed_as.Statement.{statement}

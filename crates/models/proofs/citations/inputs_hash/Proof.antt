@@ -12,6 +12,7 @@ use Rattle.models.specs.Summary.{summarySize, inputsSize}
 use Rattle.models.specs.Models.{stateOf}
 use Rattle.models.specs.Identity.{agreedInputs, inputsInOrder, citedDomain}
 use Rattle.models.proofs.Citing.{inputs-joined, all-joined}
+use Rattle.octets.specs.Ascii.{ascii}
 use borrow.Author.Needs.{needs}
 use Rattle.models.proofs.citations.inputs_hash.Statement.{statement}
 use Rattle.models.proofs.citations.inputs_hash.Tie as tie
@@ -54,17 +55,21 @@ join-requires : tie.Need-join-requires Inv-loop μ-loop
 join-requires c κs = search needs
 
 loop-holds : tie.Need-loop-holds Inv-loop μ-loop
+unfolding ascii
 loop-holds c =
     let a = c .before .before .before .before .before .before .args in
     (omega arith, omega arith, search needs, ap (λ (l : List ℕ). l ++ inputsInOrder (a .cited .now) (places summarySize (a .count) (a .table .now))) (c .before .join .ensures .1))
 
 slice-aggregate-join-inputs : tie.Need-slice-aggregate-join-inputs Inv-loop μ-loop
+unfolding ascii
 slice-aggregate-join-inputs c = search needs
 
 shared-slice-read-join-inputs : tie.Need-shared-slice-read-join-inputs Inv-loop μ-loop
+unfolding ascii
 shared-slice-read-join-inputs c = omega arith
 
 join-inputs-requires : tie.Need-join-inputs-requires Inv-loop μ-loop
+unfolding ascii
 join-inputs-requires c κs = (omega arith, s (c .before .before .before) .pre .0)
 
 add-i : tie.Need-add-i Inv-loop μ-loop
@@ -74,15 +79,18 @@ loop-less : tie.Need-loop-less Inv-loop μ-loop
 loop-less c = omega arith
 
 loop-again : tie.Need-loop-again Inv-loop μ-loop
+unfolding ascii
 loop-again c =
     let b = c .before .before .before .before in
     let j = c .before .join-inputs in
     (omega arith, omega (arith, j .ensures .0), search needs, one-more (b .before) (b .loop-test .taken) (take (j .result) (j .last .0)) (j .ensures .1))
 
 array-share-prefix-b : tie.Need-array-share-prefix-b Inv-loop μ-loop
+unfolding ascii
 array-share-prefix-b c = omega arith
 
 slice-aggregate-blake2s256 : tie.Need-slice-aggregate-blake2s256 Inv-loop μ-loop
+unfolding ascii
 slice-aggregate-blake2s256 c = let l = c .before .before .loop in sym (length-take-le (l .at) (l .b) (omega arith))
 
 blake2s256-requires : tie.Need-blake2s256-requires Inv-loop μ-loop

@@ -6,8 +6,9 @@ use native.Mathlib.Omega.{arith}
 use lib.ListN.{length, take, drop, length-take}
 use Rattle.octets.specs.Words.{wordAt}
 use Rattle.places.specs.Places.{places}
-use Rattle.models.specs.Summary.{summarySize, specAt, inputsAt, inputsSize}
-use Rattle.models.specs.Models.{agreed, stateOf, valueOf}
+use Rattle.models.specs.Summary.{summarySize, summarySpecAt, summaryInputsAt, inputsSize}
+use Rattle.models.specs.Models.{agreed, stateOf}
+use Rattle.models.specs.Answers.{valueOf}
 use Rattle.models.proofs.Agreeing.{ends, as-agreed}
 use borrow.Author.Needs.{needs}
 use Rattle.models.proofs.citations.join_inputs.Statement.{statement}
@@ -25,7 +26,7 @@ module _ (a : tie.After-i) where
   summary-within = ends (s .args .model) (s .args .count) (s .args .table .now) i (a .before .before .state .ensures .1) (a .i .given .1) (s .pre .1)
 
   agreed-is : stateOf (s .args .model) (places summarySize (s .args .count) (s .args .table .now))
-      ≡ agreed (wordAt 2 (i * summarySize + specAt) (s .args .table .now)) (take inputsSize (drop (i * summarySize + inputsAt) (s .args .table .now)))
+      ≡ agreed (wordAt 2 (i * summarySize + summarySpecAt) (s .args .table .now)) (take inputsSize (drop (i * summarySize + summaryInputsAt) (s .args .table .now)))
   agreed-is = as-agreed (s .args .model) (s .args .count) (s .args .table .now) i (a .before .before .state .ensures .1) (a .i .given .1)
 
 state-requires : tie.Need-state-requires
@@ -68,7 +69,7 @@ returns : tie.Need-returns
 returns c =
     let a = c .before .before .before .before .before .before in
     let j = c .before .before .join in
-    let at = i a * summarySize + inputsAt in
+    let at = i a * summarySize + summaryInputsAt in
     let z : at + inputsSize - at ≡ inputsSize = omega arith in
     (rw (j .ensures .0, length-take) (omega arith), j .ensures .1 ∙ rw (agreed-is a, z) refl)
 

@@ -5,7 +5,8 @@ use mathlib.Core.List.{List, _++_}
 use native.Mathlib.Omega.{arith}
 use lib.Seq.{length-take-le}
 use Rattle.hashing.specs.Blake2s.{blake2s256}
-use Rattle.models.specs.Identity.{identityOf}
+use Rattle.models.specs.Identity.{identityFrom}
+use Rattle.octets.specs.Ascii.{ascii}
 use borrow.Author.Needs.{needs}
 use Rattle.models.proofs.identities.identity.Statement.{statement}
 use Rattle.models.proofs.identities.identity.Tie as tie
@@ -41,7 +42,7 @@ blake2s256-requires : tie.Need-blake2s256-requires
 blake2s256-requires c κs = search needs
 
 returns : tie.Need-returns
-unfolding identityOf
+unfolding identityFrom ascii
 returns c =
     let third = c .before .before .before in
     let second = third .before .before .before in

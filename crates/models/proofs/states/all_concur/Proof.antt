@@ -7,14 +7,14 @@ use lib.ListN.{drop, length-take, length-drop}
 use borrow.Author.Tests.{not-true, not-false}
 use Rattle.places.specs.Places.{places, allPlaces}
 use Rattle.places.proofs.Walks.{room, step-at, all-next, all-end}
-use Rattle.models.specs.Summary.{summarySize, specOf, inputsOf}
-use Rattle.models.specs.Models.{concurs}
+use Rattle.models.specs.Summary.{summarySize, specOf, summaryInputs}
+use Rattle.models.specs.Answers.{concurs}
 use Rattle.models.proofs.states.all_concur.Statement.{statement}
 use Rattle.models.proofs.states.all_concur.Tie as tie
 
 abbrev Inv-loop : tie.InvT-loop
 Inv-loop table count model p i₀ at₀ i at =
-    (i ≤ count) × (at ≡ i * summarySize) × (allPlaces (concurs model (specOf p) (inputsOf p)) (places summarySize count table) ≡ allPlaces (concurs model (specOf p) (inputsOf p)) (places summarySize (count - i) (drop at table)))
+    (i ≤ count) × (at ≡ i * summarySize) × (allPlaces (concurs model (specOf p) (summaryInputs p)) (places summarySize count table) ≡ allPlaces (concurs model (specOf p) (summaryInputs p)) (places summarySize (count - i) (drop at table)))
 
 abbrev μ-loop : tie.MeasureT-loop
 μ-loop table count model p i₀ at₀ i at = count - i
@@ -41,7 +41,7 @@ returns : tie.Need-returns Inv-loop μ-loop
 returns c =
     let l = c .before .before .before .before in
     let a = l .before .before .before .args in
-    sym (l .loop .inv .2 ∙ all-next (concurs (a .model) (specOf (a .p .now)) (inputsOf (a .p .now))) summarySize (a .count) (l .loop .i) (l .loop .at) (a .table .now) (c .before .before .before .loop-test .taken) ∙ rw (sym (c .before .concur .ensures) ∙ not-true _ (c .if1 .taken)) refl)
+    sym (l .loop .inv .2 ∙ all-next (concurs (a .model) (specOf (a .p .now)) (summaryInputs (a .p .now))) summarySize (a .count) (l .loop .i) (l .loop .at) (a .table .now) (c .before .before .before .loop-test .taken) ∙ rw (sym (c .before .concur .ensures) ∙ not-true _ (c .if1 .taken)) refl)
 
 add-i : tie.Need-add-i Inv-loop μ-loop
 add-i c = omega arith
@@ -55,14 +55,14 @@ loop-again c =
     let a = l .before .before .before .args in (
       omega arith,
       step-at (l .loop .i) summarySize (l .loop .at) (l .loop .inv .1),
-      l .loop .inv .2 ∙ all-next (concurs (a .model) (specOf (a .p .now)) (inputsOf (a .p .now))) summarySize (a .count) (l .loop .i) (l .loop .at) (a .table .now) (c .before .before .before .loop-test .taken) ∙ rw (sym (c .before .concur .ensures) ∙ not-false _ (c .if1 .left)) refl,
+      l .loop .inv .2 ∙ all-next (concurs (a .model) (specOf (a .p .now)) (summaryInputs (a .p .now))) summarySize (a .count) (l .loop .i) (l .loop .at) (a .table .now) (c .before .before .before .loop-test .taken) ∙ rw (sym (c .before .concur .ensures) ∙ not-false _ (c .if1 .left)) refl,
     )
 
 returns-2 : tie.Need-returns-2 Inv-loop μ-loop
 returns-2 c =
     let l = c .before in
     let a = l .before .before .before .args in
-    sym (l .loop .inv .2 ∙ all-end (concurs (a .model) (specOf (a .p .now)) (inputsOf (a .p .now))) summarySize (a .count) (l .loop .i) (l .loop .at) (a .table .now) (c .loop-test .left))
+    sym (l .loop .inv .2 ∙ all-end (concurs (a .model) (specOf (a .p .now)) (summaryInputs (a .p .now))) summarySize (a .count) (l .loop .i) (l .loop .at) (a .table .now) (c .loop-test .left))
 
 pub all-concur-spec : {M : Type 1} → statement M
 all-concur-spec =

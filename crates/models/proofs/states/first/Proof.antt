@@ -8,7 +8,7 @@ use borrow.Author.Tests.{eq-eqb, ne-eqb}
 use Rattle.places.specs.Places.{places}
 use Rattle.places.proofs.Walks.{room, step-at}
 use Rattle.models.specs.Summary.{summarySize}
-use Rattle.models.specs.Models.{firstOf}
+use Rattle.models.specs.Answers.{firstOf}
 use Rattle.models.proofs.Walks.{first-here, first-next, first-end}
 use Rattle.models.proofs.states.first.Statement.{statement}
 use Rattle.models.proofs.states.first.Tie as tie
