@@ -5,7 +5,8 @@ use mathlib.Core.List.{List, [], _∷_, _++_, append-assoc}
 use native.Mathlib.Omega.{arith}
 use lib.ListN.{length, take, drop, length-append}
 use lib.Seq.{take-at, drop-at, take-add, drop-drop, take-append-add, drop-append-add}
-use Rattle.octets.specs.Words.{word, wordBytes, wordAt, putWord}
+use Rattle.octets.specs.Words.{word, wordBytes, wordAt}
+use Rattle.octets.specs.Writes.{putWord}
 use Rattle.octets.proofs.Numbers.{length-word-bytes, word-of-bytes}
 use Rattle.register.specs.Layout.{summaryCountAt, recordCountAt, summariesAt, summariesSize, recordsAt}
 

@@ -12,10 +12,10 @@ use borrow.Author.Tests.{eq-eqb, ne-eqb, eqb-true, eqb-false, not-true, lt-leb, 
 use Rattle.octets.specs.Masks.{bit, withBit, withoutBit}
 use Rattle.octets.specs.Order.{same}
 use Rattle.octets.specs.Words.{word, wordBytes}
-use Rattle.octets.proofs.Cases.{by, and-left, and-right, and-both}
+use Rattle.ranges.proofs.Bools.{by, and-left, and-right, and-both}
 use Rattle.octets.proofs.Comparison.{same-eq, same-refl}
 use Rattle.octets.proofs.Lookup.{bit-set, bit-clear, bit-zero}
-use Rattle.places.specs.Places.{ascending, allPlaces, holds, lookup, putPlace, keptPlaces}
+use Rattle.places.specs.Places.{ascending, allPlaces, holds, lookup, putPlace, keepPlaces}
 use Rattle.places.proofs.Keys.{holds-none, absent}
 use Rattle.places.proofs.Putting.{holds-put}
 use Rattle.places.proofs.Keeping.{holds-kept}
@@ -23,9 +23,9 @@ use Rattle.record.specs.Formed as R
 use Rattle.models.specs.Summary.{engineOf, modelOf, summaryOf, summarySize, inputsSize}
 use Rattle.record.specs.Layout.{recordSize, maxModel}
 use Rattle.register.specs.Layout.{maxEngine, maxSummaries, maxRecords}
-use Rattle.register.specs.Register.{Register, After, after, signedBy, nothing, ofAnother, struck}
+use Rattle.register.specs.Register.{Register, After, after, addSigner, noValue, isOfAnother, strikeEngine}
 use Rattle.register.specs.Memory.{summaryFormed}
-use Rattle.register.specs.Calls.{Call, report, summary, conviction, act, sound, convicts, reports, summariesOf, among}
+use Rattle.register.specs.Calls.{Call, report, summary, conviction, act, isSound, convicts, reports, summariesOf, elem}
 use Rattle.register.specs.Claims.{signersOf}
 use Rattle.register.proofs.Striking.{all-of, none-more}
 use Rattle.register.proofs.Valid.{Valid, placeHeld}
@@ -83,8 +83,8 @@ pub data Way (fit full free : Bool) (s done : Register) (a : After Register) : T
   settled : a .left ≡ done → eqb (a .answer) 5 ≡ false → fit ≡ true → free ≡ true → full ≡ false → Way fit full free s done a
 
 module _ (s : Register) where
-  pub report-way : (e : ℕ) (r : List ℕ) → Way (sound (report e r)) (not (holds recordSize r (s .records)) && leb maxRecords (length (s .records))) (not (bit (s .convicted) e)) s
-      (record { convicted = s .convicted; summaries = s .summaries; records = putPlace recordSize (signedBy e) r (s .records) }) (act (report e r) s)
+  pub report-way : (e : ℕ) (r : List ℕ) → Way (isSound (report e r)) (not (holds recordSize r (s .records)) && leb maxRecords (length (s .records))) (not (bit (s .convicted) e)) s
+      (record { convicted = s .convicted; summaries = s .summaries; records = putPlace recordSize (addSigner e) r (s .records) }) (act (report e r) s)
   report-way e r =
       by (ltb maxEngine e) (λ a. refused (rw a refl) (rw a refl) (inl (rw (lt-leb e maxEngine (ltb-true maxEngine e a)) refl)))
       (λ a. by (R.wellFormed r)
@@ -95,8 +95,8 @@ module _ (s : Register) where
       (λ b. refused (rw (a, b) refl) (rw (a, b) refl) (inl (rw (b, and-false) refl))))
 
   pub summary-way : (e model spec : ℕ) (inputs : List ℕ)
-      → Way (sound (summary e model spec inputs)) (not (holds summarySize (summaryOf e model spec inputs) (s .summaries)) && leb maxSummaries (length (s .summaries))) (not (bit (s .convicted) e)) s
-      (record { convicted = s .convicted; summaries = putPlace summarySize nothing (summaryOf e model spec inputs) (s .summaries); records = s .records }) (act (summary e model spec inputs) s)
+      → Way (isSound (summary e model spec inputs)) (not (holds summarySize (summaryOf e model spec inputs) (s .summaries)) && leb maxSummaries (length (s .summaries))) (not (bit (s .convicted) e)) s
+      (record { convicted = s .convicted; summaries = putPlace summarySize noValue (summaryOf e model spec inputs) (s .summaries); records = s .records }) (act (summary e model spec inputs) s)
   summary-way e model spec inputs =
       by (ltb maxEngine e) (λ a. refused (rw a refl) (rw a refl) (inl (rw (lt-leb e maxEngine (ltb-true maxEngine e a)) refl)))
       (λ a. by (ltb maxModel model)
@@ -113,36 +113,36 @@ module _ (s : Register) where
 pub record Sum (h : List Call) (s : Register) : Type 0 where
   pub valid : Valid s
   pub struck-off : (e : ℕ) → bit (s .convicted) e ≡ convicts h e
-  pub signed-by : (e : ℕ) (r : List ℕ) → bit (signersOf r s) e ≡ (reports h e r && (sound (report e r) && not (convicts h e)))
-  pub held : (p : List ℕ) → holds summarySize p (s .summaries) ≡ (among p (summariesOf h) && (soundSummary p && not (convicts h (engineOf p))))
+  pub signed-by : (e : ℕ) (r : List ℕ) → bit (signersOf r s) e ≡ (reports h e r && (isSound (report e r) && not (convicts h e)))
+  pub held : (p : List ℕ) → holds summarySize p (s .summaries) ≡ (elem p (summariesOf h) && (soundSummary p && not (convicts h (engineOf p))))
 
 -- ---- one report
 
 module _ (k : ℕ) (q : List ℕ) (h : List Call) (s : Register) (u : Sum h s) where
   -- one that is malformed, or of a convicted engine, does not remain
-  moot : (sound (report k q) ≡ false) ⊎ (not (bit (s .convicted) k) ≡ false) → (e : ℕ) (r : List ℕ) → (eqb k e && same q r) ≡ true → (sound (report e r) && not (convicts h e)) ≡ false
+  moot : (isSound (report k q) ≡ false) ⊎ (not (bit (s .convicted) k) ≡ false) → (e : ℕ) (r : List ℕ) → (eqb k e && same q r) ≡ true → (isSound (report e r) && not (convicts h e)) ≡ false
   moot w e r a =
       let i = eqb-true k e (and-left (eqb k e) (same q r) a) in
       let j = same-eq q r (and-right (eqb k e) (same q r) a) in
-      ⊎-elim (λ z. rw (sym i, sym j) (and-out (sound (report k q)) (not (convicts h k)) z))
-      (λ (z : not (bit (s .convicted) k) ≡ false). and-none (sound (report e r)) (not (convicts h e)) (rw (sym i, sym (u .struck-off k)) z)) w
+      ⊎-elim (λ z. rw (sym i, sym j) (and-out (isSound (report k q)) (not (convicts h k)) z))
+      (λ (z : not (bit (s .convicted) k) ≡ false). and-none (isSound (report e r)) (not (convicts h e)) (rw (sym i, sym (u .struck-off k)) z)) w
 
-  report-moot : (sound (report k q) ≡ false) ⊎ (not (bit (s .convicted) k) ≡ false) → Sum (report k q ∷ h) s
-  unfolding convicts reports summariesOf among
+  report-moot : (isSound (report k q) ≡ false) ⊎ (not (bit (s .convicted) k) ≡ false) → Sum (report k q ∷ h) s
+  unfolding convicts reports summariesOf elem
   report-moot w = record {
     valid = u .valid;
     struck-off = u .struck-off;
-    signed-by = λ e r. u .signed-by e r ∙ drop-or (eqb k e && same q r) (reports h e r) (sound (report e r) && not (convicts h e)) (moot w e r);
+    signed-by = λ e r. u .signed-by e r ∙ drop-or (eqb k e && same q r) (reports h e r) (isSound (report e r) && not (convicts h e)) (moot w e r);
     held = u .held;
   }
 
-  live : sound (report k q) ≡ true → bit (s .convicted) k ≡ false → (e : ℕ) (r : List ℕ) → (eqb k e && same q r) ≡ true → (sound (report e r) && not (convicts h e)) ≡ true
+  live : isSound (report k q) ≡ true → bit (s .convicted) k ≡ false → (e : ℕ) (r : List ℕ) → (eqb k e && same q r) ≡ true → (isSound (report e r) && not (convicts h e)) ≡ true
   live w c e r a =
       let i = eqb-true k e (and-left (eqb k e) (same q r) a) in
       let j = same-eq q r (and-right (eqb k e) (same q r) a) in
       rw (sym i, sym j, sym (u .struck-off k), w, c) refl
 
-  module _ (w : sound (report k q) ≡ true) (c : bit (s .convicted) k ≡ false) where
+  module _ (w : isSound (report k q) ≡ true) (c : bit (s .convicted) k ≡ false) where
     a : k ≤ maxEngine
     a = leb-true k maxEngine (and-left (leb k maxEngine) (R.wellFormed q) w)
 
@@ -157,18 +157,18 @@ module _ (k : ℕ) (q : List ℕ) (h : List Call) (s : Register) (u : Sum h s) w
         (λ x. rw (x, and-false) refl)
 
     report-done : (not (holds recordSize q (s .records)) && leb maxRecords (length (s .records))) ≡ false → Sum (report k q ∷ h) (with-report s (u .valid) k q a b)
-    unfolding convicts reports summariesOf among
+    unfolding convicts reports summariesOf elem
     report-done f = record {
       valid = report-valid s (u .valid) k q a b c f;
       struck-off = u .struck-off;
-      signed-by = λ e r. after-bit e r ∙ rw (u .signed-by e r) (keep-or (eqb k e && same q r) (reports h e r) (sound (report e r) && not (convicts h e)) (live w c e r));
+      signed-by = λ e r. after-bit e r ∙ rw (u .signed-by e r) (keep-or (eqb k e && same q r) (reports h e r) (isSound (report e r) && not (convicts h e)) (live w c e r));
       held = u .held;
     }
 
 -- ---- one summary
 
 -- its bytes say whether it is malformed
-pub by-bytes : (k model spec : ℕ) (inputs : List ℕ) → sound (summary k model spec inputs) ≡ soundSummary (summaryOf k model spec inputs)
+pub by-bytes : (k model spec : ℕ) (inputs : List ℕ) → isSound (summary k model spec inputs) ≡ soundSummary (summaryOf k model spec inputs)
 by-bytes k model spec inputs = ap (λ (b : Bool). leb k maxEngine && (leb model maxModel && b)) fit
   where
     q : List ℕ
@@ -187,22 +187,22 @@ module _ (k model spec : ℕ) (inputs : List ℕ) (h : List Call) (s : Register)
   abbrev q : List ℕ
   q = summaryOf k model spec inputs
 
-  summary-moot : (sound (summary k model spec inputs) ≡ false) ⊎ (not (bit (s .convicted) k) ≡ false) → Sum (summary k model spec inputs ∷ h) s
-  unfolding convicts reports summariesOf among
+  summary-moot : (isSound (summary k model spec inputs) ≡ false) ⊎ (not (bit (s .convicted) k) ≡ false) → Sum (summary k model spec inputs ∷ h) s
+  unfolding convicts reports summariesOf elem
   summary-moot w = record {
     valid = u .valid;
     struck-off = u .struck-off;
     signed-by = u .signed-by;
-    held = λ p. u .held p ∙ drop-or (same q p) (among p (summariesOf h)) (soundSummary p && not (convicts h (engineOf p))) (λ a. gone p (same-eq q p a) w);
+    held = λ p. u .held p ∙ drop-or (same q p) (elem p (summariesOf h)) (soundSummary p && not (convicts h (engineOf p))) (λ a. gone p (same-eq q p a) w);
   }
     where
-      gone : (p : List ℕ) → q ≡ p → (sound (summary k model spec inputs) ≡ false) ⊎ (not (bit (s .convicted) k) ≡ false) → (soundSummary p && not (convicts h (engineOf p))) ≡ false
+      gone : (p : List ℕ) → q ≡ p → (isSound (summary k model spec inputs) ≡ false) ⊎ (not (bit (s .convicted) k) ≡ false) → (soundSummary p && not (convicts h (engineOf p))) ≡ false
       gone p i w =
           rw (← i)
           (⊎-elim (λ z. and-out (soundSummary q) (not (convicts h k)) (sym (by-bytes k model spec inputs) ∙ z))
           (λ (z : not (bit (s .convicted) k) ≡ false). and-none (soundSummary q) (not (convicts h k)) (rw (sym (u .struck-off k)) z)) w)
 
-  module _ (w : sound (summary k model spec inputs) ≡ true) (c : bit (s .convicted) k ≡ false) where
+  module _ (w : isSound (summary k model spec inputs) ≡ true) (c : bit (s .convicted) k ≡ false) where
     long : length q ≡ summarySize
     long = summary-length k model spec inputs (eqb-true (length inputs) inputsSize (and-right (leb model maxModel) (eqb (length inputs) inputsSize) (and-right (leb k maxEngine) (leb model maxModel && eqb (length inputs) inputsSize) w)))
 
@@ -213,12 +213,12 @@ module _ (k model spec : ℕ) (inputs : List ℕ) (h : List Call) (s : Register)
         rw (x, y, c) refl
 
     summary-done : (not (holds summarySize q (s .summaries)) && leb maxSummaries (length (s .summaries))) ≡ false → Sum (summary k model spec inputs ∷ h) (with-summary s (u .valid) q long formed)
-    unfolding convicts reports summariesOf among
+    unfolding convicts reports summariesOf elem
     summary-done f = record {
       valid = summary-valid s (u .valid) q long formed f;
       struck-off = u .struck-off;
       signed-by = u .signed-by;
-      held = λ p. holds-put summarySize nothing q long p (s .summaries) ∙ rw (u .held p) (keep-or (same q p) (among p (summariesOf h)) (soundSummary p && not (convicts h (engineOf p))) (λ a. stays p (same-eq q p a)));
+      held = λ p. holds-put summarySize noValue q long p (s .summaries) ∙ rw (u .held p) (keep-or (same q p) (elem p (summariesOf h)) (soundSummary p && not (convicts h (engineOf p))) (λ a. stays p (same-eq q p a)));
     }
       where
         stays : (p : List ℕ) → q ≡ p → (soundSummary p && not (convicts h (engineOf p))) ≡ true
@@ -231,19 +231,19 @@ module _ (k : ℕ) (h : List Call) (s : Register) (u : Sum h s) where
   v = u .valid
 
   -- a summary stays where it is of another engine
-  pub struck-holds : (p : List ℕ) → holds summarySize p (struck k s .summaries) ≡ (not (eqb k (engineOf p)) && holds summarySize p (s .summaries))
+  pub struck-holds : (p : List ℕ) → holds summarySize p (strikeEngine k s .summaries) ≡ (not (eqb k (engineOf p)) && holds summarySize p (s .summaries))
   struck-holds p =
-      holds-kept summarySize (ofAnother k) nothing summarySize all-of none-more p (s .summaries) (v .summaries-wide) (v .summaries-ascend)
-      ∙ ap (λ (l : List ℕ). holds summarySize p (s .summaries) && ofAnother k (p ++ l)) empty
-      ∙ ap (λ (l : List ℕ). holds summarySize p (s .summaries) && ofAnother k l) (append-nil p)
-      ∙ and-swap (holds summarySize p (s .summaries)) (ofAnother k p)
+      holds-kept summarySize (isOfAnother k) noValue summarySize all-of none-more p (s .summaries) (v .summaries-wide) (v .summaries-ascend)
+      ∙ ap (λ (l : List ℕ). holds summarySize p (s .summaries) && isOfAnother k (p ++ l)) empty
+      ∙ ap (λ (l : List ℕ). holds summarySize p (s .summaries) && isOfAnother k l) (append-nil p)
+      ∙ and-swap (holds summarySize p (s .summaries)) (isOfAnother k p)
       ∙ ap (λ (b : Bool). not b && holds summarySize p (s .summaries)) (eqb-swap (engineOf p) k)
     where
       empty : lookup summarySize p (s .summaries) ≡ []
       empty = nothing-follows p (s .summaries) (v .summaries-wide)
 
   conviction-step : Sum (conviction k ∷ h) (act (conviction k) s .left)
-  unfolding convicts reports summariesOf among
+  unfolding convicts reports summariesOf elem
   conviction-step =
       by (ltb maxEngine k)
       (λ a. let b = lt-leb k maxEngine (ltb-true maxEngine k a) in rw a (record { valid = v; struck-off = λ e. rw b (u .struck-off e); signed-by = λ e r. rw b (u .signed-by e r); held = λ p. rw b (u .held p) }))
@@ -251,8 +251,8 @@ module _ (k : ℕ) (h : List Call) (s : Register) (u : Sum h s) where
         valid = struck-valid s v k (ltb-false maxEngine k a);
         struck-off = λ e. rw b (bit-set (s .convicted) k e ∙ rw (u .struck-off e) refl);
         signed-by = λ e r. rw b (ap (λ (n : ℕ). bit n e) (struck-signers s v k (ltb-false maxEngine k a) r) ∙ bit-clear (signersOf r s) k e
-            ∙ rw (u .signed-by e r) (struck-from (eqb k e) (reports h e r) (sound (report e r)) (convicts h e)));
-        held = λ p. rw b (struck-holds p ∙ rw (u .held p) (struck-from (eqb k (engineOf p)) (among p (summariesOf h)) (soundSummary p) (convicts h (engineOf p))));
+            ∙ rw (u .signed-by e r) (struck-from (eqb k e) (reports h e r) (isSound (report e r)) (convicts h e)));
+        held = λ p. rw b (struck-holds p ∙ rw (u .held p) (struck-from (eqb k (engineOf p)) (elem p (summariesOf h)) (soundSummary p) (convicts h (engineOf p))));
       }))
 
 -- ---- a history
@@ -279,7 +279,7 @@ start-valid = record {
 pub history : (h : List Call) → roomy h ≡ true → Sum h (run h)
 unfolding run roomy
 history [] g =
-    unfold convicts reports summariesOf among lookup word holds in record { valid = start-valid; struck-off = bit-zero; signed-by = λ e r. bit-zero e; held = λ p. refl }
+    unfold convicts reports summariesOf elem lookup word holds in record { valid = start-valid; struck-off = bit-zero; signed-by = λ e r. bit-zero e; held = λ p. refl }
 history (report k r ∷ h) g =
     let s = run h in
     let u = history h (and-right (not (eqb (act (report k r) s .answer) 5)) (roomy h) g) in

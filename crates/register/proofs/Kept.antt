@@ -11,16 +11,17 @@ use borrow.Author.Tests.{eqb-true, not-true, ltb-false, leb-true}
 use Rattle.octets.specs.Masks.{bit}
 use Rattle.octets.specs.Order.{same}
 use Rattle.octets.specs.Words.{word, wordBytes}
-use Rattle.octets.proofs.Cases.{by, and-left, and-right, and-both}
+use Rattle.ranges.proofs.Bools.{by, and-left, and-right, and-both}
 use Rattle.octets.proofs.Comparison.{same-refl}
-use Rattle.octets.proofs.Numbers.{Bytes, bytes-take, bytes-drop, bytes-of-word, word-lt}
+use Rattle.octets.specs.Bytes.{Bytes}
+use Rattle.octets.proofs.Numbers.{bytes-take, bytes-drop, bytes-of-word, word-lt}
 use Rattle.places.specs.Places.{places, allPlaces}
 use Rattle.record.specs.Formed as R
 use Rattle.models.specs.Summary.{summaryOf, summarySize, inputsSize}
 use Rattle.record.specs.Layout.{recordSize, maxModel}
 use Rattle.register.specs.Layout.{maxEngine, placeSize, recordsAt}
 use Rattle.register.specs.Register.{Register, After, after, signersIn}
-use Rattle.register.specs.Memory.{wellFormed, convictedIn, recordCount, recordBytes, placeFormed, summaryFormed, decode, encode, settled, onMemory}
+use Rattle.register.specs.Memory.{wellFormed, convictedIn, recordCount, recordTable, placeFormed, summaryFormed, decode, encode, commit, onMemory}
 use Rattle.register.specs.Calls.{Call, report, summary, conviction, act}
 use Rattle.register.proofs.Opened.{Opened, opened, record-bytes-length, summaries-length, records-length, summaries-wide, records-wide, summaries-ascend, records-ascend}
 use Rattle.register.proofs.Valid.{Valid, placeHeld, formed-encode}
@@ -66,7 +67,7 @@ module _ (m : List ℕ) (o : Opened m) (b : Bytes m) where
     summaries-ascend = summaries-ascend m o;
     records-ascend = records-ascend m o;
     summaries-formed = o .summaries-formed;
-    records-held = all-held (convictedIn m) (recordCount m) (recordBytes m) (bytes-drop recordsAt m b) (let f = o .few-records in rw (record-bytes-length m o) (omega arith)) (o .records-formed);
+    records-held = all-held (convictedIn m) (recordCount m) (recordTable m) (bytes-drop recordsAt m b) (let f = o .few-records in rw (record-bytes-length m o) (omega arith)) (o .records-formed);
   }
 
 -- ---- every call leaves a valid register

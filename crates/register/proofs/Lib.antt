@@ -11,3 +11,4 @@ pub mod Whole
 pub mod Room
 pub mod Kept
 pub mod Remaining
+pub mod Numbered

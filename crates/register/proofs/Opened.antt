@@ -10,24 +10,25 @@ use lib.Seq.{drop-drop, length-take-le, take-all}
 use borrow.Author.Tests.{eqb-true, leb-true}
 use Rattle.octets.specs.Words.{word, wordBytes, wordAt}
 use Rattle.octets.specs.Runs.{allZero}
-use Rattle.octets.proofs.Cases.{and-left, and-right}
-use Rattle.octets.proofs.Numbers.{Bytes, bytes-take, bytes-drop, bytes-of-word}
+use Rattle.ranges.proofs.Bools.{and-left, and-right}
+use Rattle.octets.specs.Bytes.{Bytes}
+use Rattle.octets.proofs.Numbers.{bytes-take, bytes-drop, bytes-of-word}
 use Rattle.places.specs.Places.{places, tableOf, isTable, ascending, allPlaces}
 use Rattle.places.proofs.Tables.{wide, places-wide, length-places, table-is}
 use Rattle.models.specs.Summary.{summarySize}
 use Rattle.record.specs.Layout.{recordSize}
 use Rattle.register.specs.Layout.{maxSummaries, maxRecords, placeSize, summariesAt, summariesSize, recordsSize, registerSize, summaryCountAt, recordCountAt}
 use Rattle.register.specs.Memory as M
-use Rattle.register.specs.Memory.{wellFormed, convictedIn, summaryCount, recordCount, summaryBytes, recordBytes, summariesIn, recordsIn, summaryFormed, placeFormed, decode, encode}
+use Rattle.register.specs.Memory.{wellFormed, convictedIn, summaryCount, recordCount, summaryTable, recordTable, summariesIn, recordsIn, summaryFormed, placeFormed, decode, encode}
 use Rattle.register.proofs.Frames.{frame}
 
 pub record Opened (m : List ℕ) : Type 0 where
   pub size : length m ≡ registerSize
   pub few-summaries : summaryCount m ≤ maxSummaries
   pub few-records : recordCount m ≤ maxRecords
-  pub summary-table : isTable summarySize summarySize (summaryCount m) (summaryBytes m) ≡ true
+  pub summary-table : isTable summarySize summarySize (summaryCount m) (summaryTable m) ≡ true
   pub summaries-formed : allPlaces (summaryFormed (convictedIn m)) (summariesIn m) ≡ true
-  pub record-table : isTable recordSize placeSize (recordCount m) (recordBytes m) ≡ true
+  pub record-table : isTable recordSize placeSize (recordCount m) (recordTable m) ≡ true
   pub records-formed : allPlaces (placeFormed (convictedIn m)) (recordsIn m) ≡ true
 
 pub opened : (m : List ℕ) → wellFormed m ≡ true → Opened m
@@ -35,9 +36,9 @@ unfolding wellFormed
 opened m h =
     let a₂ = leb (summaryCount m) maxSummaries in
     let a₃ = leb (recordCount m) maxRecords in
-    let a₄ = isTable summarySize summarySize (summaryCount m) (summaryBytes m) in
+    let a₄ = isTable summarySize summarySize (summaryCount m) (summaryTable m) in
     let a₅ = allPlaces (summaryFormed (convictedIn m)) (summariesIn m) in
-    let a₆ = isTable recordSize placeSize (recordCount m) (recordBytes m) in
+    let a₆ = isTable recordSize placeSize (recordCount m) (recordTable m) in
     let a₇ = allPlaces (placeFormed (convictedIn m)) (recordsIn m) in
     let h₂ = and-right (eqb (length m) registerSize) (a₂ && (a₃ && (a₄ && (a₅ && (a₆ && a₇))))) h in
     let h₃ = and-right a₂ (a₃ && (a₄ && (a₅ && (a₆ && a₇)))) h₂ in
@@ -55,35 +56,35 @@ opened m h =
     }
 
 module _ (m : List ℕ) (o : Opened m) where
-  pub summary-bytes-length : length (summaryBytes m) ≡ summariesSize
+  pub summary-bytes-length : length (summaryTable m) ≡ summariesSize
   summary-bytes-length = let s = o .size in simp (length-take, length-drop) (omega arith)
 
-  pub record-bytes-length : length (recordBytes m) ≡ recordsSize
+  pub record-bytes-length : length (recordTable m) ≡ recordsSize
   record-bytes-length = let s = o .size in rw length-drop (omega arith)
 
   pub summaries-length : length (summariesIn m) ≡ summaryCount m
-  summaries-length = length-places summarySize (summaryCount m) (summaryBytes m)
+  summaries-length = length-places summarySize (summaryCount m) (summaryTable m)
 
   pub records-length : length (recordsIn m) ≡ recordCount m
-  records-length = length-places placeSize (recordCount m) (recordBytes m)
+  records-length = length-places placeSize (recordCount m) (recordTable m)
 
   pub summaries-wide : wide summarySize (summariesIn m)
-  summaries-wide = let f = o .few-summaries in places-wide summarySize (summaryCount m) (summaryBytes m) (rw summary-bytes-length (omega arith))
+  summaries-wide = let f = o .few-summaries in places-wide summarySize (summaryCount m) (summaryTable m) (rw summary-bytes-length (omega arith))
 
   pub records-wide : wide placeSize (recordsIn m)
-  records-wide = let f = o .few-records in places-wide placeSize (recordCount m) (recordBytes m) (rw record-bytes-length (omega arith))
+  records-wide = let f = o .few-records in places-wide placeSize (recordCount m) (recordTable m) (rw record-bytes-length (omega arith))
 
   pub summaries-ascend : ascending summarySize (summariesIn m) ≡ true
-  summaries-ascend = and-left (ascending summarySize (summariesIn m)) (allZero (drop (summaryCount m * summarySize) (summaryBytes m))) (o .summary-table)
+  summaries-ascend = and-left (ascending summarySize (summariesIn m)) (allZero (drop (summaryCount m * summarySize) (summaryTable m))) (o .summary-table)
 
   pub records-ascend : ascending recordSize (recordsIn m) ≡ true
-  records-ascend = and-left (ascending recordSize (recordsIn m)) (allZero (drop (recordCount m * placeSize) (recordBytes m))) (o .record-table)
+  records-ascend = and-left (ascending recordSize (recordsIn m)) (allZero (drop (recordCount m * placeSize) (recordTable m))) (o .record-table)
 
-  pub summaries-are : summaryBytes m ≡ tableOf summarySize maxSummaries (summariesIn m)
-  summaries-are = table-is summarySize maxSummaries (summaryCount m) summarySize (summaryBytes m) summary-bytes-length (o .few-summaries) (o .summary-table)
+  pub summaries-are : summaryTable m ≡ tableOf summarySize maxSummaries (summariesIn m)
+  summaries-are = table-is summarySize maxSummaries (summaryCount m) summarySize (summaryTable m) summary-bytes-length (o .few-summaries) (o .summary-table)
 
-  pub records-are : recordBytes m ≡ tableOf placeSize maxRecords (recordsIn m)
-  records-are = table-is placeSize maxRecords (recordCount m) recordSize (recordBytes m) record-bytes-length (o .few-records) (o .record-table)
+  pub records-are : recordTable m ≡ tableOf placeSize maxRecords (recordsIn m)
+  records-are = table-is placeSize maxRecords (recordCount m) recordSize (recordTable m) record-bytes-length (o .few-records) (o .record-table)
 
   module _ (b : Bytes m) where
     word-part : (at n : ℕ) → at + n ≤ registerSize → take n (drop at m) ≡ wordBytes n (wordAt n at m)

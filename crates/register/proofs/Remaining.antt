@@ -10,7 +10,7 @@ use borrow.Author.Tests.{eqb-true, leb-true}
 use Rattle.octets.specs.Masks.{bit, withBit}
 use Rattle.octets.specs.Order.{same}
 use Rattle.octets.specs.Words.{word, wordBytes}
-use Rattle.octets.proofs.Cases.{by, and-left, and-right}
+use Rattle.ranges.proofs.Bools.{by, and-left, and-right}
 use Rattle.octets.proofs.Comparison.{same-eq}
 use Rattle.octets.proofs.Lookup.{bit-set, bit-zero, bit-ext}
 use Rattle.octets.proofs.Numbers.{word-of-bytes}
@@ -21,9 +21,9 @@ use Rattle.record.specs.Layout.{recordSize, maxModel}
 use Rattle.record.specs.Formed as R
 use Rattle.models.specs.Summary.{summarySize, inputsSize, summaryOf}
 use Rattle.register.specs.Layout.{maxEngine}
-use Rattle.register.specs.Register.{Register, signedBy, nothing}
+use Rattle.register.specs.Register.{Register, addSigner, noValue}
 use Rattle.register.specs.Memory.{decode, fresh}
-use Rattle.register.specs.Calls.{Call, report, summary, conviction, sound, runs, noneFull, convicts, keep, remaining, reports, summariesOf, among}
+use Rattle.register.specs.Calls.{Call, report, summary, conviction, isSound, runs, noneFull, convicts, keep, remaining, reports, summariesOf, elem}
 use Rattle.register.specs.Claims.{signersOf, HoldsInOrder}
 use Rattle.register.specs.Remains.{summariesHeld, recordsHeld}
 use Rattle.register.proofs.Valid.{Valid}
@@ -63,79 +63,79 @@ settle f false c cs a p q = q refl
 module _ (x : ℕ → Bool) where
   -- ---- summaries
 
-  module _ (e model spec : ℕ) (inputs : List ℕ) (d : (sound (summary e model spec inputs) && not (x e)) ≡ true) where
+  module _ (e model spec : ℕ) (inputs : List ℕ) (d : (isSound (summary e model spec inputs) && not (x e)) ≡ true) where
     key-long : length (summaryOf e model spec inputs) ≡ summarySize
     key-long =
-        let s = and-left (sound (summary e model spec inputs)) (not (x e)) d in
+        let s = and-left (isSound (summary e model spec inputs)) (not (x e)) d in
         summary-length e model spec inputs
         (eqb-true (length inputs) inputsSize (and-right (leb model maxModel) _ (and-right (leb e maxEngine) _ s)))
 
   sums-ascend : (cs : List Call) → ascending summarySize (summariesHeld (keep x cs)) ≡ true
   unfolding keep summariesHeld
   sums-ascend [] = unfold ascending in refl
-  sums-ascend (report k q ∷ cs) = either (λ (l : List Call). ascending summarySize (summariesHeld l)) (sound (report k q) && not (x k)) (report k q) (keep x cs) refl ∙ sums-ascend cs
+  sums-ascend (report k q ∷ cs) = either (λ (l : List Call). ascending summarySize (summariesHeld l)) (isSound (report k q) && not (x k)) (report k q) (keep x cs) refl ∙ sums-ascend cs
   sums-ascend (summary k model spec inputs ∷ cs) =
-      settle (λ (l : List Call). ascending summarySize (summariesHeld l)) (sound (summary k model spec inputs) && not (x k)) (summary k model spec inputs) (keep x cs) true
-      (λ d. put-ascending summarySize nothing (summaryOf k model spec inputs) (key-long k model spec inputs d) (summariesHeld (keep x cs)) (sums-ascend cs))
+      settle (λ (l : List Call). ascending summarySize (summariesHeld l)) (isSound (summary k model spec inputs) && not (x k)) (summary k model spec inputs) (keep x cs) true
+      (λ d. put-ascending summarySize noValue (summaryOf k model spec inputs) (key-long k model spec inputs d) (summariesHeld (keep x cs)) (sums-ascend cs))
       (λ d. sums-ascend cs)
-  sums-ascend (conviction k ∷ cs) = either (λ (l : List Call). ascending summarySize (summariesHeld l)) (sound (conviction k) && not (x k)) (conviction k) (keep x cs) refl ∙ sums-ascend cs
+  sums-ascend (conviction k ∷ cs) = either (λ (l : List Call). ascending summarySize (summariesHeld l)) (isSound (conviction k) && not (x k)) (conviction k) (keep x cs) refl ∙ sums-ascend cs
 
   -- held are exactly those of the list
-  sums-hold : (p : List ℕ) (cs : List Call) → holds summarySize p (summariesHeld (keep x cs)) ≡ among p (summariesOf (keep x cs))
-  unfolding keep summariesHeld summariesOf among
+  sums-hold : (p : List ℕ) (cs : List Call) → holds summarySize p (summariesHeld (keep x cs)) ≡ elem p (summariesOf (keep x cs))
+  unfolding keep summariesHeld summariesOf elem
   sums-hold p [] = holds-none summarySize p
-  sums-hold p (report k q ∷ cs) = by (sound (report k q) && not (x k)) (λ d. rw d (sums-hold p cs)) (λ d. rw d (sums-hold p cs))
+  sums-hold p (report k q ∷ cs) = by (isSound (report k q) && not (x k)) (λ d. rw d (sums-hold p cs)) (λ d. rw d (sums-hold p cs))
   sums-hold p (summary k model spec inputs ∷ cs) =
       let key = summaryOf k model spec inputs in
-      by (sound (summary k model spec inputs) && not (x k))
-      (λ d. rw d (holds-put summarySize nothing key (key-long k model spec inputs d) p (summariesHeld (keep x cs)) ∙ ap (λ (b : Bool). same key p || b) (sums-hold p cs)))
+      by (isSound (summary k model spec inputs) && not (x k))
+      (λ d. rw d (holds-put summarySize noValue key (key-long k model spec inputs d) p (summariesHeld (keep x cs)) ∙ ap (λ (b : Bool). same key p || b) (sums-hold p cs)))
       (λ d. rw d (sums-hold p cs))
-  sums-hold p (conviction k ∷ cs) = by (sound (conviction k) && not (x k)) (λ d. rw d (sums-hold p cs)) (λ d. rw d (sums-hold p cs))
+  sums-hold p (conviction k ∷ cs) = by (isSound (conviction k) && not (x k)) (λ d. rw d (sums-hold p cs)) (λ d. rw d (sums-hold p cs))
 
   sums-nothing : (p : List ℕ) (cs : List Call) → lookup summarySize p (summariesHeld (keep x cs)) ≡ []
   unfolding keep summariesHeld
   sums-nothing p [] = absent summarySize p [] (holds-none summarySize p)
-  sums-nothing p (report k q ∷ cs) = by (sound (report k q) && not (x k)) (λ d. rw d (sums-nothing p cs)) (λ d. rw d (sums-nothing p cs))
+  sums-nothing p (report k q ∷ cs) = by (isSound (report k q) && not (x k)) (λ d. rw d (sums-nothing p cs)) (λ d. rw d (sums-nothing p cs))
   sums-nothing p (summary k model spec inputs ∷ cs) =
       let key = summaryOf k model spec inputs in
       let held = summariesHeld (keep x cs) in
-      by (sound (summary k model spec inputs) && not (x k))
+      by (isSound (summary k model spec inputs) && not (x k))
       (λ d. rw d (by (same key p)
-      (λ s. ap (λ (q : List ℕ). lookup summarySize q (putPlace summarySize nothing key held)) (sym (same-eq key p s)) ∙ lookup-put summarySize nothing key (key-long k model spec inputs d) held (sums-ascend cs))
-      (λ s. lookup-put-other summarySize nothing key (key-long k model spec inputs d) p held s ∙ sums-nothing p cs)))
+      (λ s. ap (λ (q : List ℕ). lookup summarySize q (putPlace summarySize noValue key held)) (sym (same-eq key p s)) ∙ lookup-put summarySize noValue key (key-long k model spec inputs d) held (sums-ascend cs))
+      (λ s. lookup-put-other summarySize noValue key (key-long k model spec inputs d) p held s ∙ sums-nothing p cs)))
       (λ d. rw d (sums-nothing p cs))
-  sums-nothing p (conviction k ∷ cs) = by (sound (conviction k) && not (x k)) (λ d. rw d (sums-nothing p cs)) (λ d. rw d (sums-nothing p cs))
+  sums-nothing p (conviction k ∷ cs) = by (isSound (conviction k) && not (x k)) (λ d. rw d (sums-nothing p cs)) (λ d. rw d (sums-nothing p cs))
 
   -- ---- records
 
-  module _ (e : ℕ) (q : List ℕ) (d : (sound (report e q) && not (x e)) ≡ true) where
+  module _ (e : ℕ) (q : List ℕ) (d : (isSound (report e q) && not (x e)) ≡ true) where
     record-long : length q ≡ recordSize
-    record-long = record-length q (and-right (leb e maxEngine) (R.wellFormed q) (and-left (sound (report e q)) (not (x e)) d))
+    record-long = record-length q (and-right (leb e maxEngine) (R.wellFormed q) (and-left (isSound (report e q)) (not (x e)) d))
 
     engine-few : e ≤ maxEngine
-    engine-few = leb-true e maxEngine (and-left (leb e maxEngine) (R.wellFormed q) (and-left (sound (report e q)) (not (x e)) d))
+    engine-few = leb-true e maxEngine (and-left (leb e maxEngine) (R.wellFormed q) (and-left (isSound (report e q)) (not (x e)) d))
 
   recs-ascend : (cs : List Call) → ascending recordSize (recordsHeld (keep x cs)) ≡ true
   unfolding keep recordsHeld
   recs-ascend [] = unfold ascending in refl
   recs-ascend (report k q ∷ cs) =
-      settle (λ (l : List Call). ascending recordSize (recordsHeld l)) (sound (report k q) && not (x k)) (report k q) (keep x cs) true
-      (λ d. put-ascending recordSize (signedBy k) q (record-long k q d) (recordsHeld (keep x cs)) (recs-ascend cs))
+      settle (λ (l : List Call). ascending recordSize (recordsHeld l)) (isSound (report k q) && not (x k)) (report k q) (keep x cs) true
+      (λ d. put-ascending recordSize (addSigner k) q (record-long k q d) (recordsHeld (keep x cs)) (recs-ascend cs))
       (λ d. recs-ascend cs)
   recs-ascend (summary k model spec inputs ∷ cs) =
-      either (λ (l : List Call). ascending recordSize (recordsHeld l)) (sound (summary k model spec inputs) && not (x k)) (summary k model spec inputs) (keep x cs) refl ∙ recs-ascend cs
-  recs-ascend (conviction k ∷ cs) = either (λ (l : List Call). ascending recordSize (recordsHeld l)) (sound (conviction k) && not (x k)) (conviction k) (keep x cs) refl ∙ recs-ascend cs
+      either (λ (l : List Call). ascending recordSize (recordsHeld l)) (isSound (summary k model spec inputs) && not (x k)) (summary k model spec inputs) (keep x cs) refl ∙ recs-ascend cs
+  recs-ascend (conviction k ∷ cs) = either (λ (l : List Call). ascending recordSize (recordsHeld l)) (isSound (conviction k) && not (x k)) (conviction k) (keep x cs) refl ∙ recs-ascend cs
 
   masks-small : (r : List ℕ) (cs : List Call) → masks (keep x cs) r < 256 ^ 4
   unfolding keep masks
   masks-small r [] = omega arith
   masks-small r (report k q ∷ cs) =
       let i = masks-small r cs in
-      by (sound (report k q) && not (x k))
+      by (isSound (report k q) && not (x k))
       (λ d. rw d (by (same q r) (λ s. rw s (with-small (masks (keep x cs) r) k (engine-few k q d) i)) (λ s. rw s i)))
       (λ d. rw d i)
-  masks-small r (summary k model spec inputs ∷ cs) = by (sound (summary k model spec inputs) && not (x k)) (λ d. rw d (masks-small r cs)) (λ d. rw d (masks-small r cs))
-  masks-small r (conviction k ∷ cs) = by (sound (conviction k) && not (x k)) (λ d. rw d (masks-small r cs)) (λ d. rw d (masks-small r cs))
+  masks-small r (summary k model spec inputs ∷ cs) = by (isSound (summary k model spec inputs) && not (x k)) (λ d. rw d (masks-small r cs)) (λ d. rw d (masks-small r cs))
+  masks-small r (conviction k ∷ cs) = by (isSound (conviction k) && not (x k)) (λ d. rw d (masks-small r cs)) (λ d. rw d (masks-small r cs))
 
   -- each is followed by its signers
   recs-follow : (r : List ℕ) (cs : List Call) → lookup recordSize r (recordsHeld (keep x cs)) ≡ follows (masks (keep x cs) r)
@@ -144,19 +144,19 @@ module _ (x : ℕ → Bool) where
   recs-follow r (report k q ∷ cs) =
       let held = recordsHeld (keep x cs) in
       let i = recs-follow r cs in
-      by (sound (report k q) && not (x k))
+      by (isSound (report k q) && not (x k))
       (λ d. rw d (by (same q r)
       (λ s. rw s
-      (ap (λ (y : List ℕ). lookup recordSize y (putPlace recordSize (signedBy k) q held)) (sym (same-eq q r s))
-      ∙ lookup-put recordSize (signedBy k) q (record-long k q d) held (recs-ascend cs)
-      ∙ ap (λ (y : List ℕ). signedBy k (lookup recordSize y held)) (same-eq q r s)
+      (ap (λ (y : List ℕ). lookup recordSize y (putPlace recordSize (addSigner k) q held)) (sym (same-eq q r s))
+      ∙ lookup-put recordSize (addSigner k) q (record-long k q d) held (recs-ascend cs)
+      ∙ ap (λ (y : List ℕ). addSigner k (lookup recordSize y held)) (same-eq q r s)
       ∙ ap (λ (v : List ℕ). wordBytes 4 (withBit (word v) k)) i
       ∙ ap (λ (m : ℕ). wordBytes 4 (withBit m k)) (word-follows (masks (keep x cs) r) (masks-small r cs))
       ∙ sym (ap (λ (b : Bool). cond b [] (wordBytes 4 (withBit (masks (keep x cs) r) k))) (with-some (masks (keep x cs) r) k))))
-      (λ s. rw s (lookup-put-other recordSize (signedBy k) q (record-long k q d) r held s ∙ i))))
+      (λ s. rw s (lookup-put-other recordSize (addSigner k) q (record-long k q d) r held s ∙ i))))
       (λ d. rw d i)
-  recs-follow r (summary k model spec inputs ∷ cs) = by (sound (summary k model spec inputs) && not (x k)) (λ d. rw d (recs-follow r cs)) (λ d. rw d (recs-follow r cs))
-  recs-follow r (conviction k ∷ cs) = by (sound (conviction k) && not (x k)) (λ d. rw d (recs-follow r cs)) (λ d. rw d (recs-follow r cs))
+  recs-follow r (summary k model spec inputs ∷ cs) = by (isSound (summary k model spec inputs) && not (x k)) (λ d. rw d (recs-follow r cs)) (λ d. rw d (recs-follow r cs))
+  recs-follow r (conviction k ∷ cs) = by (isSound (conviction k) && not (x k)) (λ d. rw d (recs-follow r cs)) (λ d. rw d (recs-follow r cs))
 
   -- and held exactly where it has some
   recs-hold : (r : List ℕ) (cs : List Call) → holds recordSize r (recordsHeld (keep x cs)) ≡ not (eqb (masks (keep x cs) r) 0)
@@ -165,12 +165,12 @@ module _ (x : ℕ → Bool) where
   recs-hold r (report k q ∷ cs) =
       let held = recordsHeld (keep x cs) in
       let i = recs-hold r cs in
-      by (sound (report k q) && not (x k))
-      (λ d. rw d (holds-put recordSize (signedBy k) q (record-long k q d) r held
+      by (isSound (report k q) && not (x k))
+      (λ d. rw d (holds-put recordSize (addSigner k) q (record-long k q d) r held
       ∙ by (same q r) (λ s. rw s (sym (ap not (with-some (masks (keep x cs) r) k)))) (λ s. rw s i)))
       (λ d. rw d i)
-  recs-hold r (summary k model spec inputs ∷ cs) = by (sound (summary k model spec inputs) && not (x k)) (λ d. rw d (recs-hold r cs)) (λ d. rw d (recs-hold r cs))
-  recs-hold r (conviction k ∷ cs) = by (sound (conviction k) && not (x k)) (λ d. rw d (recs-hold r cs)) (λ d. rw d (recs-hold r cs))
+  recs-hold r (summary k model spec inputs ∷ cs) = by (isSound (summary k model spec inputs) && not (x k)) (λ d. rw d (recs-hold r cs)) (λ d. rw d (recs-hold r cs))
+  recs-hold r (conviction k ∷ cs) = by (isSound (conviction k) && not (x k)) (λ d. rw d (recs-hold r cs)) (λ d. rw d (recs-hold r cs))
 
 -- ---- the claim
 

@@ -10,13 +10,16 @@ use lib.Seq.{set-getD, drop-at, take-add, take-take, drop-drop, take-all, length
 use borrow.Author.Tests.{ltb-true}
 use Rattle.octets.specs.Masks.{withBit}
 use Rattle.octets.specs.Order.{same}
-use Rattle.octets.specs.Words.{word, wordBytes, wordAt, putWord}
-use Rattle.octets.proofs.Cases.{and-left, and-right}
+use Rattle.octets.specs.Words.{word, wordBytes, wordAt}
+use Rattle.octets.specs.Writes.{putWord}
+use Rattle.ranges.proofs.Bools.{and-left, and-right}
 use Rattle.octets.proofs.Comparison.{same-eq}
 use Rattle.octets.proofs.Moves.{tail-back, tail-lent}
-use Rattle.octets.proofs.Numbers.{Bytes, length-word-bytes}
-use Rattle.places.specs.Places.{tableOf, ascending, rank, holds, putPlace}
-use Rattle.places.specs.Put.{Putting, putting, tried}
+use Rattle.octets.specs.Bytes.{Bytes}
+use Rattle.octets.proofs.Numbers.{length-word-bytes}
+use Rattle.places.specs.Places.{tableOf, ascending, holds, putPlace}
+use Rattle.places.specs.Positions.{rank}
+use Rattle.places.specs.Put.{PutResult, putResult, tryPut}
 use Rattle.places.specs.declared.Put.{Put}
 use Rattle.places.specs.declared.Put.the-variants.{Held, Full, New}
 use Rattle.places.proofs.Tables.{wide, wide-at, table-length, place-at, replace-table}
@@ -27,8 +30,8 @@ use Rattle.places.proofs.Trying.{tried-table}
 use Rattle.models.specs.Summary.{summarySize}
 use Rattle.record.specs.Layout.{recordSize}
 use Rattle.register.specs.Layout.{maxSummaries, maxRecords, placeSize, summaryCountAt, recordCountAt, summariesAt, summariesSize, recordsAt}
-use Rattle.register.specs.Register.{Register, after, signedBy, signedInto, heldInto, nothing}
-use Rattle.register.specs.Memory.{convictedIn, summaryCount, recordCount, summariesIn, recordsIn, decode, encode, settled}
+use Rattle.register.specs.Register.{Register, after, addSigner, signRecord, holdSummary, noValue}
+use Rattle.register.specs.Memory.{convictedIn, summaryCount, recordCount, summariesIn, recordsIn, decode, encode, commit}
 use Rattle.register.proofs.Frames.{frame, put-summary-count, put-record-count, frame-records-back, frame-summaries-back, put-in-records}
 use Rattle.register.proofs.Opened.{Opened, summaries-length, records-length, summaries-wide, records-wide, summaries-ascend, records-ascend, summaries-are, records-are, framed}
 
@@ -87,7 +90,7 @@ module _ (m : List ℕ) (o : Opened m) (b : Bytes m) (e : ℕ) (r : List ℕ) (l
   ps = recordsIn m
 
   abbrev put : List (List ℕ)
-  put = putPlace recordSize (signedBy e) r ps
+  put = putPlace recordSize (addSigner e) r ps
 
   few : length ps ≤ maxRecords
   few = rw (records-length m o) (o .few-records)
@@ -96,19 +99,19 @@ module _ (m : List ℕ) (o : Opened m) (b : Bytes m) (e : ℕ) (r : List ℕ) (l
   abbrev pub RecordWay : Put → List ℕ → Type 0
   RecordWay a t′ = Way (holds recordSize r ps) (leb maxRecords (length ps)) (rank recordSize r ps) (tableOf placeSize maxRecords ps) (tableOf placeSize maxRecords put) a t′
 
-  pub place-length : length (r ++ signedBy e []) ≡ placeSize
+  pub place-length : length (r ++ addSigner e []) ≡ placeSize
   place-length = rw (length-append, lr, length-word-bytes 4 (withBit (word []) e)) refl
 
   lent : take (length m - recordsAt) (drop recordsAt m) ≡ tableOf placeSize maxRecords ps
   lent = tail-lent m recordsAt ∙ records-are m o
 
   -- what was tried, in terms of the records held
-  pub record-way : (n : ℕ) (p : List ℕ) (a : Put) (t′ : List ℕ) → n ≡ recordCount m → p ≡ r ++ signedBy e [] → putting a t′ ≡ tried n maxRecords placeSize recordSize p (take (length m - recordsAt) (drop recordsAt m)) → RecordWay a t′
+  pub record-way : (n : ℕ) (p : List ℕ) (a : Put) (t′ : List ℕ) → n ≡ recordCount m → p ≡ r ++ addSigner e [] → putResult a t′ ≡ tryPut n maxRecords placeSize recordSize p (take (length m - recordsAt) (drop recordsAt m)) → RecordWay a t′
   record-way n p a t′ en ep q =
       way (holds recordSize r ps) (leb maxRecords (length ps)) (rank recordSize r ps) (tableOf placeSize maxRecords ps) (tableOf placeSize maxRecords put) a t′
-      (q ∙ ap₂ (λ (x : ℕ) (y : List ℕ). tried x maxRecords placeSize recordSize y (take (length m - recordsAt) (drop recordsAt m))) (en ∙ sym (records-length m o)) ep
-      ∙ ap (tried (length ps) maxRecords placeSize recordSize (r ++ signedBy e [])) lent
-      ∙ tried-table maxRecords placeSize recordSize (signedBy e) r ps lr (omega arith) place-length (records-wide m o) (records-ascend m o) few)
+      (q ∙ ap₂ (λ (x : ℕ) (y : List ℕ). tryPut x maxRecords placeSize recordSize y (take (length m - recordsAt) (drop recordsAt m))) (en ∙ sym (records-length m o)) ep
+      ∙ ap (tryPut (length ps) maxRecords placeSize recordSize (r ++ addSigner e [])) lent
+      ∙ tried-table maxRecords placeSize recordSize (addSigner e) r ps lr (omega arith) place-length (records-wide m o) (records-ascend m o) few)
 
   s-length : length (tableOf summarySize maxSummaries (summariesIn m)) ≡ summariesSize
   s-length = table-length summarySize maxSummaries (summariesIn m) (summaries-wide m o) (rw (summaries-length m o) (o .few-summaries))
@@ -126,23 +129,23 @@ module _ (m : List ℕ) (o : Opened m) (b : Bytes m) (e : ℕ) (r : List ℕ) (l
   back-same t′ q = back t′ ∙ ap (frame (convictedIn m) (length (summariesIn m)) (length ps) (tableOf summarySize maxSummaries (summariesIn m))) q ∙ sym (framed m o b)
 
   pub record-new : {a : Put} (t′ x : List ℕ) (n : ℕ) → n ≡ recordCount m → RecordWay a t′ → a ≡ New → x ≡ putWord 2 recordCountAt (n + 1) (withRecords m t′)
-      → after 0 x ≡ settled m (signedInto e r (decode m))
+      → after 0 x ≡ commit m (signRecord e r (decode m))
   unfolding decode encode
   record-new t′ x n en w a z =
       let v = new-told w a in
-      let l : n + 1 ≡ length put = ap (λ (i : ℕ). i + 1) (en ∙ sym (records-length m o)) ∙ sym (new-length recordSize (signedBy e) r ps (v .0)) in
+      let l : n + 1 ≡ length put = ap (λ (i : ℕ). i + 1) (en ∙ sym (records-length m o)) ∙ sym (new-length recordSize (addSigner e) r ps (v .0)) in
       rw (v .0, v .1 .0) (ap (after 0)
       (z ∙ ap (putWord 2 recordCountAt (n + 1)) (back t′)
       ∙ put-record-count (convictedIn m) (length (summariesIn m)) (length ps) (tableOf summarySize maxSummaries (summariesIn m)) t′ (n + 1)
       ∙ ap₂ (λ (i : ℕ) (y : List ℕ). frame (convictedIn m) (length (summariesIn m)) i (tableOf summarySize maxSummaries (summariesIn m)) y) l (v .1 .1)))
 
-  pub record-full : {a : Put} (t′ : List ℕ) → RecordWay a t′ → a ≡ Full → after 5 (withRecords m t′) ≡ settled m (signedInto e r (decode m))
+  pub record-full : {a : Put} (t′ : List ℕ) → RecordWay a t′ → a ≡ Full → after 5 (withRecords m t′) ≡ commit m (signRecord e r (decode m))
   unfolding decode
   record-full t′ w a = let v = full-told w a in rw (v .0, v .1 .0) (ap (after 5) (back-same t′ (v .1 .1)))
 
   -- a signer of a record that is held
   signed-again : (x : List ℕ) (i : ℕ) → i ≡ rank recordSize r ps → holds recordSize r ps ≡ true → x ≡ withSigner i e m
-      → after 0 x ≡ settled m (signedInto e r (decode m))
+      → after 0 x ≡ commit m (signRecord e r (decode m))
   unfolding decode encode
   signed-again x i ei h z =
       let at = held-at recordSize r ps (records-ascend m o) h in
@@ -163,9 +166,9 @@ module _ (m : List ℕ) (o : Opened m) (b : Bytes m) (e : ℕ) (r : List ℕ) (l
       let w : putWord 4 (i * placeSize + recordSize) v t ≡ tableOf placeSize maxRecords put =
       word-in-place placeSize maxRecords ps recordSize i v (records-wide m o) refl il few
       ∙ ap (λ (y : ℕ). tableOf placeSize maxRecords (set ps i (take recordSize (getD ps i []) ++ wordBytes 4 (withBit y e)))) rd
-      ∙ ap (λ (k : ℕ). tableOf placeSize maxRecords (set ps k (take recordSize (getD ps k []) ++ signedBy e (drop recordSize (getD ps k []))))) ei
-      ∙ ap (tableOf placeSize maxRecords) (sym (put-held recordSize (signedBy e) r ps (at .0) (at .1))) in
-      let l : n₂ ≡ length put = sym (put-length-held recordSize (signedBy e) r lr ps (records-ascend m o) h) in
+      ∙ ap (λ (k : ℕ). tableOf placeSize maxRecords (set ps k (take recordSize (getD ps k []) ++ addSigner e (drop recordSize (getD ps k []))))) ei
+      ∙ ap (tableOf placeSize maxRecords) (sym (put-held recordSize (addSigner e) r ps (at .0) (at .1))) in
+      let l : n₂ ≡ length put = sym (put-length-held recordSize (addSigner e) r lr ps (records-ascend m o) h) in
       rw h (ap (after 0) (z ∙ g ∙ ap₂ (λ (k : ℕ) (y : List ℕ). frame c n₁ k s y) l w))
 
   -- record i is held: it lies in the table, of which nothing was written, and gains the signer
@@ -179,7 +182,7 @@ module _ (m : List ℕ) (o : Opened m) (b : Bytes m) (e : ℕ) (r : List ℕ) (l
     held-unwritten : withRecords m t′ ≡ m
     held-unwritten = back-same t′ (held-told way-gone i is-held .1 .1)
 
-    pub record-again : (x : List ℕ) → x ≡ withSigner i e (withRecords m t′) → after 0 x ≡ settled m (signedInto e r (decode m))
+    pub record-again : (x : List ℕ) → x ≡ withSigner i e (withRecords m t′) → after 0 x ≡ commit m (signRecord e r (decode m))
     record-again x z = let v = held-told way-gone i is-held in signed-again x i (v .0) (v .1 .0) (z ∙ ap (withSigner i e) held-unwritten)
 
 -- ---- a summary
@@ -193,7 +196,7 @@ module _ (m : List ℕ) (o : Opened m) (b : Bytes m) (p : List ℕ) (lp : length
   ss = summariesIn m
 
   abbrev put-summary : List (List ℕ)
-  put-summary = putPlace summarySize nothing p ss
+  put-summary = putPlace summarySize noValue p ss
 
   few-ss : length ss ≤ maxSummaries
   few-ss = rw (summaries-length m o) (o .few-summaries)
@@ -202,16 +205,16 @@ module _ (m : List ℕ) (o : Opened m) (b : Bytes m) (p : List ℕ) (lp : length
   abbrev pub SummaryWay : Put → List ℕ → Type 0
   SummaryWay a t′ = Way (holds summarySize p ss) (leb maxSummaries (length ss)) (rank summarySize p ss) (tableOf summarySize maxSummaries ss) (tableOf summarySize maxSummaries put-summary) a t′
 
-  whole-place : p ++ nothing [] ≡ p
+  whole-place : p ++ noValue [] ≡ p
   whole-place = append-nil p
 
   -- what was tried, in terms of the summaries held
-  pub summary-way : (n : ℕ) (a : Put) (t′ : List ℕ) → n ≡ summaryCount m → putting a t′ ≡ tried n maxSummaries summarySize summarySize p (take summariesSize (drop summariesAt m)) → SummaryWay a t′
+  pub summary-way : (n : ℕ) (a : Put) (t′ : List ℕ) → n ≡ summaryCount m → putResult a t′ ≡ tryPut n maxSummaries summarySize summarySize p (take summariesSize (drop summariesAt m)) → SummaryWay a t′
   summary-way n a t′ en q =
       way (holds summarySize p ss) (leb maxSummaries (length ss)) (rank summarySize p ss) (tableOf summarySize maxSummaries ss) (tableOf summarySize maxSummaries put-summary) a t′
-      (q ∙ ap₂ (λ (x : ℕ) (y : List ℕ). tried x maxSummaries summarySize summarySize y (take summariesSize (drop summariesAt m))) (en ∙ sym (summaries-length m o)) (sym whole-place)
-      ∙ ap (tried (length ss) maxSummaries summarySize summarySize (p ++ nothing [])) (summaries-are m o)
-      ∙ tried-table maxSummaries summarySize summarySize nothing p ss lp (omega arith) (ap length whole-place ∙ lp) (summaries-wide m o) (summaries-ascend m o) few-ss)
+      (q ∙ ap₂ (λ (x : ℕ) (y : List ℕ). tryPut x maxSummaries summarySize summarySize y (take summariesSize (drop summariesAt m))) (en ∙ sym (summaries-length m o)) (sym whole-place)
+      ∙ ap (tryPut (length ss) maxSummaries summarySize summarySize (p ++ noValue [])) (summaries-are m o)
+      ∙ tried-table maxSummaries summarySize summarySize noValue p ss lp (omega arith) (ap length whole-place ∙ lp) (summaries-wide m o) (summaries-ascend m o) few-ss)
 
   ss-length : length (tableOf summarySize maxSummaries ss) ≡ summariesSize
   ss-length = table-length summarySize maxSummaries ss (summaries-wide m o) few-ss
@@ -230,25 +233,25 @@ module _ (m : List ℕ) (o : Opened m) (b : Bytes m) (p : List ℕ) (lp : length
       let at = held-at summarySize p ss (summaries-ascend m o) h in
       let i = rank summarySize p ss in
       let l : length (getD ss i []) ≡ summarySize = wide-at summarySize i ss (summaries-wide m o) (at .0) in
-      put-held summarySize nothing p ss (at .0) (at .1) ∙ ap (set ss i) (append-nil (take summarySize (getD ss i [])) ∙ take-all summarySize (getD ss i []) (omega arith)) ∙ set-getD ss i []
+      put-held summarySize noValue p ss (at .0) (at .1) ∙ ap (set ss i) (append-nil (take summarySize (getD ss i [])) ∙ take-all summarySize (getD ss i []) (omega arith)) ∙ set-getD ss i []
 
-  pub summary-held : {a : Put} (t′ : List ℕ) → SummaryWay a t′ → (j : ℕ) → a ≡ Held j → after 0 (withSummaries m t′) ≡ settled m (heldInto p (decode m))
+  pub summary-held : {a : Put} (t′ : List ℕ) → SummaryWay a t′ → (j : ℕ) → a ≡ Held j → after 0 (withSummaries m t′) ≡ commit m (holdSummary p (decode m))
   unfolding decode encode
   summary-held t′ w j a =
       let v = held-told w j a in
       rw (v .1 .0) (ap (after 0) (summary-same t′ (v .1 .1) ∙ framed m o b
       ∙ ap (λ (x : List (List ℕ)). frame (convictedIn m) (length x) (length (recordsIn m)) (tableOf summarySize maxSummaries x) (tableOf placeSize maxRecords (recordsIn m))) (sym (same-put (v .1 .0)))))
 
-  pub summary-full : {a : Put} (t′ : List ℕ) → SummaryWay a t′ → a ≡ Full → after 5 (withSummaries m t′) ≡ settled m (heldInto p (decode m))
+  pub summary-full : {a : Put} (t′ : List ℕ) → SummaryWay a t′ → a ≡ Full → after 5 (withSummaries m t′) ≡ commit m (holdSummary p (decode m))
   unfolding decode
   summary-full t′ w a = let v = full-told w a in rw (v .0, v .1 .0) (ap (after 5) (summary-same t′ (v .1 .1)))
 
   pub summary-new : {a : Put} (t′ x : List ℕ) (n : ℕ) → n ≡ summaryCount m → SummaryWay a t′ → a ≡ New → x ≡ putWord 2 summaryCountAt (n + 1) (withSummaries m t′)
-      → after 0 x ≡ settled m (heldInto p (decode m))
+      → after 0 x ≡ commit m (holdSummary p (decode m))
   unfolding decode encode
   summary-new t′ x n en w a z =
       let v = new-told w a in
-      let l : n + 1 ≡ length put-summary = ap (λ (i : ℕ). i + 1) (en ∙ sym (summaries-length m o)) ∙ sym (new-length summarySize nothing p ss (v .0)) in
+      let l : n + 1 ≡ length put-summary = ap (λ (i : ℕ). i + 1) (en ∙ sym (summaries-length m o)) ∙ sym (new-length summarySize noValue p ss (v .0)) in
       rw (v .0, v .1 .0) (ap (after 0)
       (z ∙ ap (putWord 2 summaryCountAt (n + 1)) (summary-back t′)
       ∙ put-summary-count (convictedIn m) (length ss) (length (recordsIn m)) t′ (tableOf placeSize maxRecords (recordsIn m)) (n + 1)

@@ -13,11 +13,11 @@ use borrow.Author.Tests.{eq-eqb, ne-eqb, eqb-true, eqb-false, not-true, le-leb, 
 use Rattle.octets.specs.Masks.{bit, withBit, withoutBit}
 use Rattle.octets.specs.Order.{same}
 use Rattle.octets.specs.Words.{word, wordBytes}
-use Rattle.octets.proofs.Cases.{by, and-left, and-right, and-both}
+use Rattle.ranges.proofs.Bools.{by, and-left, and-right, and-both}
 use Rattle.octets.proofs.Comparison.{same-refl, same-eq}
 use Rattle.octets.proofs.Lookup.{bit-set, bit-clear, bit-zero, bit-and, bit-ext, with-lt, without-le}
 use Rattle.octets.proofs.Numbers.{length-word-bytes, word-of-bytes, bytes-word-bytes, word-lt}
-use Rattle.places.specs.Places.{ascending, allPlaces, holds, lookup, putPlace, keptPlaces}
+use Rattle.places.specs.Places.{ascending, allPlaces, holds, lookup, putPlace, keepPlaces}
 use Rattle.places.proofs.Tables.{wide}
 use Rattle.places.proofs.Keys.{holds-none, holds-here, holds-later, lookup-here, lookup-later, absent}
 use Rattle.places.proofs.Putting.{lookup-put, lookup-put-other, put-ascending, put-length, put-length-held, put-wide, put-all}
@@ -26,7 +26,7 @@ use Rattle.record.specs.Formed as R
 use Rattle.models.specs.Summary.{engineOf, modelOf, summaryOf, summarySize, inputsSize}
 use Rattle.record.specs.Layout.{recordSize}
 use Rattle.register.specs.Layout.{maxEngine, maxSummaries, maxRecords, placeSize}
-use Rattle.register.specs.Register.{Register, signersIn, signedBy, unsignedBy, nothing, ofAnother, signedByAnother, struck}
+use Rattle.register.specs.Register.{Register, signersIn, addSigner, dropSigner, noValue, isOfAnother, hasAnotherSigner, strikeEngine}
 use Rattle.register.specs.Memory.{summaryFormed, placeFormed}
 use Rattle.register.specs.Claims.{signersOf}
 use Rattle.register.proofs.Striking.{all-of, none-more, key-of, signers-wide}
@@ -186,7 +186,7 @@ without-small x e b = lt-of-le-of-lt (without-le x e) b
 
 module _ (s : Register) (v : Valid s) (e : ℕ) (q : List ℕ) (a : e ≤ maxEngine) (w : R.wellFormed q ≡ true) where
   abbrev pub reported-records : List (List ℕ)
-  reported-records = putPlace recordSize (signedBy e) q (s .records)
+  reported-records = putPlace recordSize (addSigner e) q (s .records)
 
   abbrev pub with-report : Register
   with-report = record { convicted = s .convicted; summaries = s .summaries; records = reported-records }
@@ -195,17 +195,17 @@ module _ (s : Register) (v : Valid s) (e : ℕ) (q : List ℕ) (a : e ≤ maxEng
   pub report-signers : (r : List ℕ) → signersOf r with-report ≡ cond (same q r) (withBit (signersOf r s) e) (signersOf r s)
   report-signers r =
       by (same q r)
-      (λ h. ap (λ (x : List ℕ). word (lookup recordSize x reported-records)) (sym (same-eq q r h)) ∙ ap word (lookup-put recordSize (signedBy e) q (record-length q w) (s .records) (v .records-ascend))
+      (λ h. ap (λ (x : List ℕ). word (lookup recordSize x reported-records)) (sym (same-eq q r h)) ∙ ap word (lookup-put recordSize (addSigner e) q (record-length q w) (s .records) (v .records-ascend))
       ∙ word-of-bytes 4 (withBit (signersOf q s) e) (with-small (signersOf q s) e a (signers-small s v q))
       ∙ ap (λ (x : List ℕ). withBit (signersOf x s) e) (same-eq q r h) ∙ sym (ap (λ (b : Bool). cond b (withBit (signersOf r s) e) (signersOf r s)) h))
-      (λ h. ap word (lookup-put-other recordSize (signedBy e) q (record-length q w) r (s .records) h) ∙ sym (ap (λ (b : Bool). cond b (withBit (signersOf r s) e) (signersOf r s)) h))
+      (λ h. ap word (lookup-put-other recordSize (addSigner e) q (record-length q w) r (s .records) h) ∙ sym (ap (λ (b : Bool). cond b (withBit (signersOf r s) e) (signersOf r s)) h))
 
-  new-held : bit (s .convicted) e ≡ false → placeHeld (s .convicted) (q ++ signedBy e []) ≡ true
+  new-held : bit (s .convicted) e ≡ false → placeHeld (s .convicted) (q ++ addSigner e []) ≡ true
   new-held z =
       held-place q (record-length q w) (withBit (word []) e) (with-small (word []) e a (rw no-word (omega arith))) (s .convicted) w (with-some (word []) e)
       (with-apart (word []) (s .convicted) e (rw no-word (nothing-apart (s .convicted))) z)
 
-  again-held : bit (s .convicted) e ≡ false → (p : List ℕ) → take recordSize p ≡ q → placeHeld (s .convicted) p ≡ true → placeHeld (s .convicted) (take recordSize p ++ signedBy e (drop recordSize p)) ≡ true
+  again-held : bit (s .convicted) e ≡ false → (p : List ℕ) → take recordSize p ≡ q → placeHeld (s .convicted) p ≡ true → placeHeld (s .convicted) (take recordSize p ++ addSigner e (drop recordSize p)) ≡ true
   again-held z p k h =
       let o = place (s .convicted) p h in
       rw k (held-place q (record-length q w) (withBit (signersIn p) e) (with-small (signersIn p) e a (place-small (s .convicted) p o)) (s .convicted) w (with-some (signersIn p) e)
@@ -217,21 +217,21 @@ module _ (s : Register) (v : Valid s) (e : ℕ) (q : List ℕ) (a : e ≤ maxEng
     few-summaries = v .few-summaries;
     few-records = few;
     summaries-wide = v .summaries-wide;
-    records-wide = put-wide recordSize (signedBy e) q (record-length q w) placeSize (λ x l. wide-signed x) (λ x l. wide-signed x) (s .records) key-of (v .records-wide);
+    records-wide = put-wide recordSize (addSigner e) q (record-length q w) placeSize (λ x l. wide-signed x) (λ x l. wide-signed x) (s .records) key-of (v .records-wide);
     summaries-ascend = v .summaries-ascend;
-    records-ascend = put-ascending recordSize (signedBy e) q (record-length q w) (s .records) (v .records-ascend);
+    records-ascend = put-ascending recordSize (addSigner e) q (record-length q w) (s .records) (v .records-ascend);
     summaries-formed = v .summaries-formed;
-    records-held = put-all recordSize (signedBy e) q (placeHeld (s .convicted)) (s .records) (new-held z) (again-held z) (v .records-held);
+    records-held = put-all recordSize (addSigner e) q (placeHeld (s .convicted)) (s .records) (new-held z) (again-held z) (v .records-held);
   }
     where
-      wide-signed : (x : List ℕ) → recordSize + length (signedBy e x) ≡ placeSize
+      wide-signed : (x : List ℕ) → recordSize + length (addSigner e x) ≡ placeSize
       wide-signed x = ap (λ (n : ℕ). recordSize + n) (length-word-bytes 4 (withBit (word x) e))
 
       few : length reported-records ≤ maxRecords
       few =
           by (holds recordSize q (s .records))
-          (λ h. rw (put-length-held recordSize (signedBy e) q (record-length q w) (s .records) (v .records-ascend) h) (v .few-records))
-          (λ h. let n = leb-false maxRecords (length (s .records)) (sym (rw h refl) ∙ f) in let m = put-length recordSize (signedBy e) q (record-length q w) (s .records) in omega arith)
+          (λ h. rw (put-length-held recordSize (addSigner e) q (record-length q w) (s .records) (v .records-ascend) h) (v .few-records))
+          (λ h. let n = leb-false maxRecords (length (s .records)) (sym (rw h refl) ∙ f) in let m = put-length recordSize (addSigner e) q (record-length q w) (s .records) in omega arith)
 
 -- ---- a summary
 
@@ -254,26 +254,26 @@ nothing-follows p (q ∷ ps) x =
 
 module _ (s : Register) (v : Valid s) (p : List ℕ) (l : length p ≡ summarySize) (g : summaryFormed (s .convicted) p ≡ true) where
   abbrev pub with-summary : Register
-  with-summary = record { convicted = s .convicted; summaries = putPlace summarySize nothing p (s .summaries); records = s .records }
+  with-summary = record { convicted = s .convicted; summaries = putPlace summarySize noValue p (s .summaries); records = s .records }
 
   pub summary-valid : (not (holds summarySize p (s .summaries)) && leb maxSummaries (length (s .summaries))) ≡ false → Valid with-summary
   summary-valid f = record {
     small = v .small;
     few-summaries = few;
     few-records = v .few-records;
-    summaries-wide = put-wide summarySize nothing p l summarySize (λ x h. refl) (λ x h. refl) (s .summaries) all-of (v .summaries-wide);
+    summaries-wide = put-wide summarySize noValue p l summarySize (λ x h. refl) (λ x h. refl) (s .summaries) all-of (v .summaries-wide);
     records-wide = v .records-wide;
-    summaries-ascend = put-ascending summarySize nothing p l (s .summaries) (v .summaries-ascend);
+    summaries-ascend = put-ascending summarySize noValue p l (s .summaries) (v .summaries-ascend);
     records-ascend = v .records-ascend;
-    summaries-formed = put-all summarySize nothing p (summaryFormed (s .convicted)) (s .summaries) (rw (append-nil p) g) (λ x h k. rw (h, append-nil p) g) (v .summaries-formed);
+    summaries-formed = put-all summarySize noValue p (summaryFormed (s .convicted)) (s .summaries) (rw (append-nil p) g) (λ x h k. rw (h, append-nil p) g) (v .summaries-formed);
     records-held = v .records-held;
   }
     where
-      few : length (putPlace summarySize nothing p (s .summaries)) ≤ maxSummaries
+      few : length (putPlace summarySize noValue p (s .summaries)) ≤ maxSummaries
       few =
           by (holds summarySize p (s .summaries))
-          (λ h. rw (put-length-held summarySize nothing p l (s .summaries) (v .summaries-ascend) h) (v .few-summaries))
-          (λ h. let n = leb-false maxSummaries (length (s .summaries)) (sym (rw h refl) ∙ f) in let m = put-length summarySize nothing p l (s .summaries) in omega arith)
+          (λ h. rw (put-length-held summarySize noValue p l (s .summaries) (v .summaries-ascend) h) (v .few-summaries))
+          (λ h. let n = leb-false maxSummaries (length (s .summaries)) (sym (rw h refl) ∙ f) in let m = put-length summarySize noValue p l (s .summaries) in omega arith)
 
 -- ---- a conviction
 
@@ -288,11 +288,11 @@ model-kept (x ∷ (y ∷ p)) = refl
 
 module _ (s : Register) (v : Valid s) (e : ℕ) (a : e ≤ maxEngine) where
   abbrev struck-records : List (List ℕ)
-  struck-records = keptPlaces recordSize (signedByAnother e) (unsignedBy e) (s .records)
+  struck-records = keepPlaces recordSize (hasAnotherSigner e) (dropSigner e) (s .records)
 
-  pub struck-signers : (r : List ℕ) → signersOf r (struck e s) ≡ withoutBit (signersOf r s) e
+  pub struck-signers : (r : List ℕ) → signersOf r (strikeEngine e s) ≡ withoutBit (signersOf r s) e
   struck-signers r =
-      ap word (lookup-kept recordSize (signedByAnother e) (unsignedBy e) placeSize key-of (signers-wide e) r (s .records) (v .records-wide) (v .records-ascend))
+      ap word (lookup-kept recordSize (hasAnotherSigner e) (dropSigner e) placeSize key-of (signers-wide e) r (s .records) (v .records-wide) (v .records-ascend))
       ∙ by (holds recordSize r (s .records))
       (λ h. by (eqb (withoutBit (signersOf r s) e) 0)
       (λ z. rw (h, ap word (rest s v r h), z, no-word) (sym (eqb-true (withoutBit (signersOf r s) e) 0 z)))
@@ -302,27 +302,27 @@ module _ (s : Register) (v : Valid s) (e : ℕ) (a : e ≤ maxEngine) where
       clear-zero : (e : ℕ) → withoutBit 0 e ≡ 0
       clear-zero e = let h = without-le 0 e in omega arith
 
-  kept-summary : (p : List ℕ) → summaryFormed (s .convicted) p ≡ true → ofAnother e p ≡ true → summaryFormed (withBit (s .convicted) e) (changed summarySize (ofAnother e) nothing p) ≡ true
+  kept-summary : (p : List ℕ) → summaryFormed (s .convicted) p ≡ true → isOfAnother e p ≡ true → summaryFormed (withBit (s .convicted) e) (changed summarySize (isOfAnother e) noValue p) ≡ true
   kept-summary p h o =
       let x = engineOf p in
       let n : eqb e x ≡ false = ne-eqb e x (λ z. eqb-false x e (not-true (eqb x e) o) (sym z)) in
       rw (engine-kept p, model-kept p, bit-set (s .convicted) e x, n) h
 
-  kept-record : (p : List ℕ) → placeHeld (s .convicted) p ≡ true → signedByAnother e p ≡ true → placeHeld (withBit (s .convicted) e) (changed recordSize (signedByAnother e) (unsignedBy e) p) ≡ true
+  kept-record : (p : List ℕ) → placeHeld (s .convicted) p ≡ true → hasAnotherSigner e p ≡ true → placeHeld (withBit (s .convicted) e) (changed recordSize (hasAnotherSigner e) (dropSigner e) p) ≡ true
   kept-record p h o =
       let u = place (s .convicted) p h in
       held-place (take recordSize p) (record-length (take recordSize p) (u .formed)) (withoutBit (signersIn p) e) (without-small (signersIn p) e (place-small (s .convicted) p u))
       (withBit (s .convicted) e) (u .formed) (not-true (eqb (withoutBit (signersIn p) e) 0) o) (without-apart (signersIn p) (s .convicted) e (u .free))
 
-  pub struck-valid : Valid (struck e s)
+  pub struck-valid : Valid (strikeEngine e s)
   struck-valid = record {
     small = with-small (s .convicted) e a (v .small);
-    few-summaries = le-trans (kept-length summarySize (ofAnother e) nothing (s .summaries)) (v .few-summaries);
-    few-records = le-trans (kept-length recordSize (signedByAnother e) (unsignedBy e) (s .records)) (v .few-records);
-    summaries-wide = kept-wide summarySize (ofAnother e) nothing summarySize all-of none-more (s .summaries) (v .summaries-wide);
-    records-wide = kept-wide recordSize (signedByAnother e) (unsignedBy e) placeSize key-of (signers-wide e) (s .records) (v .records-wide);
-    summaries-ascend = kept-ascending summarySize (ofAnother e) nothing summarySize all-of none-more (s .summaries) (v .summaries-wide) (v .summaries-ascend);
-    records-ascend = kept-ascending recordSize (signedByAnother e) (unsignedBy e) placeSize key-of (signers-wide e) (s .records) (v .records-wide) (v .records-ascend);
-    summaries-formed = kept-all summarySize (ofAnother e) nothing (summaryFormed (s .convicted)) (summaryFormed (withBit (s .convicted) e)) kept-summary (s .summaries) (v .summaries-formed);
-    records-held = kept-all recordSize (signedByAnother e) (unsignedBy e) (placeHeld (s .convicted)) (placeHeld (withBit (s .convicted) e)) kept-record (s .records) (v .records-held);
+    few-summaries = le-trans (kept-length summarySize (isOfAnother e) noValue (s .summaries)) (v .few-summaries);
+    few-records = le-trans (kept-length recordSize (hasAnotherSigner e) (dropSigner e) (s .records)) (v .few-records);
+    summaries-wide = kept-wide summarySize (isOfAnother e) noValue summarySize all-of none-more (s .summaries) (v .summaries-wide);
+    records-wide = kept-wide recordSize (hasAnotherSigner e) (dropSigner e) placeSize key-of (signers-wide e) (s .records) (v .records-wide);
+    summaries-ascend = kept-ascending summarySize (isOfAnother e) noValue summarySize all-of none-more (s .summaries) (v .summaries-wide) (v .summaries-ascend);
+    records-ascend = kept-ascending recordSize (hasAnotherSigner e) (dropSigner e) placeSize key-of (signers-wide e) (s .records) (v .records-wide) (v .records-ascend);
+    summaries-formed = kept-all summarySize (isOfAnother e) noValue (summaryFormed (s .convicted)) (summaryFormed (withBit (s .convicted) e)) kept-summary (s .summaries) (v .summaries-formed);
+    records-held = kept-all recordSize (hasAnotherSigner e) (dropSigner e) (placeHeld (s .convicted)) (placeHeld (withBit (s .convicted) e)) kept-record (s .records) (v .records-held);
   }

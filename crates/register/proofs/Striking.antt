@@ -10,17 +10,18 @@ use lib.ListN.{length, getD, take, drop, replicate, length-append, length-take, 
 use lib.Seq.{take-all, take-take, take-at, drop-at, drop-drop, take-add, length-take-le, getD-take, getD-drop}
 use borrow.Author.Tests.{eq-eqb, ne-eqb}
 use Rattle.octets.specs.Masks.{withoutBit}
-use Rattle.octets.specs.Words.{word, wordBytes, wordAt, putWord}
+use Rattle.octets.specs.Words.{word, wordBytes, wordAt}
+use Rattle.octets.specs.Writes.{putWord}
 use Rattle.octets.proofs.Moves.{tail-back}
 use Rattle.octets.proofs.Numbers.{length-word-bytes}
-use Rattle.places.specs.Places.{places, flat, keptPlaces}
+use Rattle.places.specs.Places.{places, flat, keepPlaces}
 use Rattle.places.proofs.Walks.{room, place-of}
 use Rattle.places.proofs.Tables.{length-places}
 use Rattle.places.proofs.Keeping.{changed, Compacted, kept-length}
 use Rattle.record.specs.Layout.{recordSize}
 use Rattle.models.specs.Summary.{summarySize}
 use Rattle.register.specs.Layout.{placeSize}
-use Rattle.register.specs.Register.{nothing, ofAnother, unsignedBy, signedByAnother, signersIn}
+use Rattle.register.specs.Register.{noValue, isOfAnother, dropSigner, hasAnotherSigner, signersIn}
 use Rattle.register.specs.Strikes.{Struck, keptAt}
 
 module _ (k : ℕ) (test : List ℕ → Bool) (f : List ℕ → List ℕ) (w : ℕ) (m : k ≤ w) (g : (v : List ℕ) → k + length v ≡ w → k + length (f v) ≡ w)
@@ -43,13 +44,13 @@ module _ (k : ℕ) (test : List ℕ → Bool) (f : List ℕ → List ℕ) (w : �
 
   -- the rest cleared
   pub struck-end : n ≤ i → (y : List ℕ) → y ≡ replicate (length (take (length t - j * w) (drop (j * w) t))) 0
-      → Struck w (keptPlaces k test f (places w n t₀)) t₀ j (take (j * w) t ++ (y ++ drop (length t - j * w) (drop (j * w) t)))
+      → Struck w (keepPlaces k test f (places w n t₀)) t₀ j (take (j * w) t ++ (y ++ drop (length t - j * w) (drop (j * w) t)))
   struck-end l y q =
       let all : take i (places w n t₀) ≡ places w n t₀ = take-all i (places w n t₀) (rw (length-places w n t₀) l) in
       let z : length (take (length t - j * w) (drop (j * w) t)) ≡ length t₀ - j * w = simp (length-take, length-drop) (let s = c .size in omega arith) in
       record {
-        count = c .count ∙ ap (λ (x : List (List ℕ)). length (keptPlaces k test f x)) all;
-        bytes = tail-back t y (j * w) ∙ ap₂ (λ (a b : List ℕ). a ++ b) (c .done ∙ ap (λ (x : List (List ℕ)). flat (keptPlaces k test f x)) all) (q ∙ ap (λ (x : ℕ). replicate x 0) z);
+        count = c .count ∙ ap (λ (x : List (List ℕ)). length (keepPlaces k test f x)) all;
+        bytes = tail-back t y (j * w) ∙ ap₂ (λ (a b : List ℕ). a ++ b) (c .done ∙ ap (λ (x : List (List ℕ)). flat (keepPlaces k test f x)) all) (q ∙ ap (λ (x : ℕ). replicate x 0) z);
       }
 
 -- ---- summaries
@@ -57,7 +58,7 @@ module _ (k : ℕ) (test : List ℕ → Bool) (f : List ℕ → List ℕ) (w : �
 pub all-of : summarySize ≤ summarySize
 all-of = omega arith
 
-pub none-more : (v : List ℕ) → summarySize + length v ≡ summarySize → summarySize + length (nothing v) ≡ summarySize
+pub none-more : (v : List ℕ) → summarySize + length v ≡ summarySize → summarySize + length (noValue v) ≡ summarySize
 none-more v h = refl
 
 -- the engine of a summary is its first byte
@@ -65,13 +66,13 @@ pub first-byte : (t : List ℕ) (at : ℕ) → getD (take summarySize (drop at t
 first-byte t at = getD-take summarySize (drop at t) 0 0 (omega arith) ∙ getD-drop at t 0 0 ∙ ap (λ (x : ℕ). getD t x 0) (add-zero at)
 
 module _ (e : ℕ) (p t : List ℕ) (at : ℕ) (q : take summarySize (drop at t) ≡ p) where
-  pub of-engine : getD t at 0 ≡ e → ofAnother e p ≡ false
+  pub of-engine : getD t at 0 ≡ e → isOfAnother e p ≡ false
   of-engine z = rw (eq-eqb (getD p 0 0) e (ap (λ (x : List ℕ). getD x 0 0) (sym q) ∙ first-byte t at ∙ z)) refl
 
-  pub of-another : (getD t at 0 ≡ e → ⊥) → ofAnother e p ≡ true
+  pub of-another : (getD t at 0 ≡ e → ⊥) → isOfAnother e p ≡ true
   of-another z = rw (ne-eqb (getD p 0 0) e (λ y. z (sym (ap (λ (x : List ℕ). getD x 0 0) (sym q) ∙ first-byte t at) ∙ y))) refl
 
-pub whole-summary : (p : List ℕ) → length p ≡ summarySize → changed summarySize (ofAnother 0) nothing p ≡ p
+pub whole-summary : (p : List ℕ) → length p ≡ summarySize → changed summarySize (isOfAnother 0) noValue p ≡ p
 whole-summary p l = append-nil (take summarySize p) ∙ take-all summarySize p (omega arith)
 
 -- ---- records
@@ -79,7 +80,7 @@ whole-summary p l = append-nil (take summarySize p) ∙ take-all summarySize p (
 pub key-of : recordSize ≤ placeSize
 key-of = omega arith
 
-pub signers-wide : (e : ℕ) (v : List ℕ) → recordSize + length v ≡ placeSize → recordSize + length (unsignedBy e v) ≡ placeSize
+pub signers-wide : (e : ℕ) (v : List ℕ) → recordSize + length v ≡ placeSize → recordSize + length (dropSigner e v) ≡ placeSize
 signers-wide e v h = ap (λ (x : ℕ). recordSize + x) (length-word-bytes 4 (withoutBit (word v) e))
 
 -- the signers of a place are its last 4 bytes
@@ -90,11 +91,11 @@ last-word t p at h q =
     ap word (ap (take 4) (sym (drop-drop recordSize at t)) ∙ sym d ∙ ap (drop recordSize) q)
 
 module _ (e : ℕ) (p : List ℕ) (v : ℕ) (q : v ≡ withoutBit (signersIn p) e) where
-  pub unsigned : v ≡ 0 → signedByAnother e p ≡ false
+  pub unsigned : v ≡ 0 → hasAnotherSigner e p ≡ false
   unsigned z = rw (eq-eqb (withoutBit (signersIn p) e) 0 (sym q ∙ z)) refl
 
-  pub still-signed : (v ≡ 0 → ⊥) → signedByAnother e p ≡ true
+  pub still-signed : (v ≡ 0 → ⊥) → hasAnotherSigner e p ≡ true
   still-signed z = rw (ne-eqb (withoutBit (signersIn p) e) 0 (λ y. z (q ∙ y))) refl
 
-  pub changed-record : (t : List ℕ) (from : ℕ) → take placeSize (drop from t) ≡ p → take recordSize (drop from t) ++ wordBytes 4 v ≡ changed recordSize (signedByAnother e) (unsignedBy e) p
+  pub changed-record : (t : List ℕ) (from : ℕ) → take placeSize (drop from t) ≡ p → take recordSize (drop from t) ++ wordBytes 4 v ≡ changed recordSize (hasAnotherSigner e) (dropSigner e) p
   changed-record t from r = ap₂ (λ (x : List ℕ) (y : ℕ). x ++ wordBytes 4 y) (sym (take-take recordSize placeSize (drop from t) (omega arith)) ∙ ap (take recordSize) r) q

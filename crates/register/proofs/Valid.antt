@@ -9,7 +9,7 @@ use lib.ListN.{length, take, drop, length-append}
 use borrow.Author.Tests.{eq-eqb, le-leb}
 use Rattle.octets.specs.Order.{same}
 use Rattle.octets.specs.Words.{word, wordBytes}
-use Rattle.octets.proofs.Cases.{and-left, and-right, and-both}
+use Rattle.ranges.proofs.Bools.{and-left, and-right, and-both}
 use Rattle.octets.proofs.Numbers.{length-word-bytes}
 use Rattle.places.specs.Places.{places, tableOf, isTable, ascending, allPlaces}
 use Rattle.places.proofs.Tables.{wide, table-length, is-table-of, places-of-table}
@@ -17,7 +17,7 @@ use Rattle.models.specs.Summary.{summarySize}
 use Rattle.record.specs.Layout.{recordSize}
 use Rattle.register.specs.Layout.{maxSummaries, maxRecords, placeSize, summariesSize, recordsSize, registerSize}
 use Rattle.register.specs.Register.{Register, After, after, signersIn}
-use Rattle.register.specs.Memory.{wellFormed, convictedIn, summaryCount, recordCount, summaryBytes, recordBytes, summariesIn, recordsIn, summaryFormed, placeFormed, decode, encode, settled, onMemory}
+use Rattle.register.specs.Memory.{wellFormed, convictedIn, summaryCount, recordCount, summaryTable, recordTable, summariesIn, recordsIn, summaryFormed, placeFormed, decode, encode, commit, onMemory}
 use Rattle.register.proofs.Frames.{frame, read-convicted, read-summary-count, read-record-count, frame-summaries, frame-records}
 
 -- a record's place that is formed, with signers that are 4 bytes
@@ -65,11 +65,11 @@ module _ (s : Register) (v : Valid s) where
   unfolding encode
   record-count-back = read-record-count (s .convicted) (length (s .summaries)) (length (s .records)) t₁ t₂ (let f = v .few-records in omega arith)
 
-  summary-bytes-back : summaryBytes (encode s) ≡ t₁
+  summary-bytes-back : summaryTable (encode s) ≡ t₁
   unfolding encode
   summary-bytes-back = frame-summaries (s .convicted) (length (s .summaries)) (length (s .records)) t₁ t₂ l₁
 
-  record-bytes-back : recordBytes (encode s) ≡ t₂
+  record-bytes-back : recordTable (encode s) ≡ t₂
   unfolding encode
   record-bytes-back = frame-records (s .convicted) (length (s .summaries)) (length (s .records)) t₁ t₂ l₁
 
@@ -87,10 +87,10 @@ module _ (s : Register) (v : Valid s) where
   unfolding encode
   size = rw (length-append, length-append, length-append, length-append, length-word-bytes 4 (s .convicted), length-word-bytes 2 (length (s .summaries)), length-word-bytes 2 (length (s .records)), l₁, l₂) refl
 
-  summary-table : isTable summarySize summarySize (summaryCount (encode s)) (summaryBytes (encode s)) ≡ true
+  summary-table : isTable summarySize summarySize (summaryCount (encode s)) (summaryTable (encode s)) ≡ true
   summary-table = rw (summary-count-back, summary-bytes-back) (is-table-of summarySize maxSummaries summarySize (s .summaries) (v .summaries-wide) (v .summaries-ascend))
 
-  record-table : isTable recordSize placeSize (recordCount (encode s)) (recordBytes (encode s)) ≡ true
+  record-table : isTable recordSize placeSize (recordCount (encode s)) (recordTable (encode s)) ≡ true
   record-table = rw (record-count-back, record-bytes-back) (is-table-of placeSize maxRecords recordSize (s .records) (v .records-wide) (v .records-ascend))
 
   formed-summaries : allPlaces (summaryFormed (convictedIn (encode s))) (summariesIn (encode s)) ≡ true
@@ -107,9 +107,9 @@ module _ (s : Register) (v : Valid s) where
   formed-encode =
       let a₂ = leb (summaryCount (encode s)) maxSummaries in
       let a₃ = leb (recordCount (encode s)) maxRecords in
-      let a₄ = isTable summarySize summarySize (summaryCount (encode s)) (summaryBytes (encode s)) in
+      let a₄ = isTable summarySize summarySize (summaryCount (encode s)) (summaryTable (encode s)) in
       let a₅ = allPlaces (summaryFormed (convictedIn (encode s))) (summariesIn (encode s)) in
-      let a₆ = isTable recordSize placeSize (recordCount (encode s)) (recordBytes (encode s)) in
+      let a₆ = isTable recordSize placeSize (recordCount (encode s)) (recordTable (encode s)) in
       let a₇ = allPlaces (placeFormed (convictedIn (encode s))) (recordsIn (encode s)) in
       let h₂ : a₂ ≡ true = le-leb (summaryCount (encode s)) maxSummaries (rw summary-count-back (v .few-summaries)) in
       let h₃ : a₃ ≡ true = le-leb (recordCount (encode s)) maxRecords (rw record-count-back (v .few-records)) in
@@ -119,6 +119,6 @@ module _ (s : Register) (v : Valid s) where
       (and-both a₄ (a₅ && (a₆ && a₇)) summary-table (and-both a₅ (a₆ && a₇) formed-summaries (and-both a₆ a₇ record-table formed-records)))))
 
   -- an operation on its bytes is the operation on it
-  pub on-encode : (f : Register → After Register) → onMemory f (encode s) ≡ settled (encode s) (f s)
+  pub on-encode : (f : Register → After Register) → onMemory f (encode s) ≡ commit (encode s) (f s)
   unfolding onMemory
   on-encode f = rw (formed-encode, decode-encode) refl

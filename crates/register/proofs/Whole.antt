@@ -12,7 +12,7 @@ use borrow.Author.Tests.{eq-eqb, eqb-true, eqb-false}
 use Rattle.octets.specs.Masks.{bit}
 use Rattle.octets.specs.Order.{same}
 use Rattle.octets.specs.Words.{wordBytes}
-use Rattle.octets.proofs.Cases.{by, and-left, and-right, and-both}
+use Rattle.ranges.proofs.Bools.{by, and-left, and-right, and-both}
 use Rattle.octets.proofs.Comparison.{same-eq, same-refl}
 use Rattle.octets.proofs.Lookup.{bit-ext, bit-zero}
 use Rattle.octets.proofs.Numbers.{length-word-bytes}
@@ -23,9 +23,9 @@ use Rattle.models.specs.Summary.{engineOf, summaryOf, summarySize, inputsSize}
 use Rattle.record.specs.Layout.{recordSize, maxModel}
 use Rattle.register.specs.Layout.{maxEngine, maxSummaries, maxRecords, placeSize, summariesAt, summariesSize, recordsSize}
 use Rattle.register.specs.Register.{Register, After, after}
-use Rattle.register.specs.Memory.{decode, encode, fresh, settled, onMemory, wellFormed}
-use Rattle.register.specs.Calls.{Call, report, summary, conviction, act, sound, callEngine, runs, noneFull, convicts, keep, remaining, reports, recordsOf, summariesOf, among}
-use Rattle.register.specs.Claims.{signersOf, Whole, SameRemains, HoldsWhatRemains, SameBytes}
+use Rattle.register.specs.Memory.{decode, encode, fresh, commit, onMemory, wellFormed}
+use Rattle.register.specs.Calls.{Call, report, summary, conviction, act, isSound, callEngine, runs, noneFull, convicts, keep, remaining, reports, recordsOf, summariesOf, elem}
+use Rattle.register.specs.Claims.{signersOf, HoldsExactly, SameRemains, HoldsWhatRemains, SameBytes}
 use Rattle.register.proofs.Valid.{Valid, decode-encode, formed-encode, on-encode}
 use Rattle.register.proofs.Steps.{held-signed, lookup-signed, nothing-follows}
 use Rattle.register.proofs.History.{run, roomy, start, Sum, history, soundSummary, by-bytes}
@@ -33,7 +33,7 @@ use Rattle.register.proofs.History.{run, roomy, start, Sum, history, so
 -- ---- bytes and registers go together
 
 -- a refusal leaves the register
-pub written : (c : Call) (s : Register) → settled (encode s) (act c s) ≡ after (act c s .answer) (encode (act c s .left))
+pub written : (c : Call) (s : Register) → commit (encode s) (act c s) ≡ after (act c s .answer) (encode (act c s .left))
 written (conviction e) s = by (ltb maxEngine e) (λ a. rw a refl) (λ a. rw a refl)
 written (report e r) s =
     by (ltb maxEngine e) (λ a. rw a refl)
@@ -91,12 +91,12 @@ reports-back (report k q ∷ cs) h e r = reports-back cs (report k q ∷ h) e r 
 reports-back (summary k model spec inputs ∷ cs) h e r = reports-back cs (summary k model spec inputs ∷ h) e r
 reports-back (conviction k ∷ cs) h e r = reports-back cs (conviction k ∷ h) e r
 
-summaries-back : (cs h : List Call) (p : List ℕ) → among p (summariesOf (reverseAux cs h)) ≡ (among p (summariesOf cs) || among p (summariesOf h))
-unfolding among summariesOf
+summaries-back : (cs h : List Call) (p : List ℕ) → elem p (summariesOf (reverseAux cs h)) ≡ (elem p (summariesOf cs) || elem p (summariesOf h))
+unfolding elem summariesOf
 summaries-back [] h p = refl
 summaries-back (report k q ∷ cs) h p = summaries-back cs (report k q ∷ h) p
 summaries-back (summary k model spec inputs ∷ cs) h p =
-    summaries-back cs (summary k model spec inputs ∷ h) p ∙ swap (same (summaryOf k model spec inputs) p) (among p (summariesOf cs)) (among p (summariesOf h))
+    summaries-back cs (summary k model spec inputs ∷ h) p ∙ swap (same (summaryOf k model spec inputs) p) (elem p (summariesOf cs)) (elem p (summariesOf h))
 summaries-back (conviction k ∷ cs) h p = summaries-back cs (conviction k ∷ h) p
 
 convicts-back : (cs h : List Call) (e : ℕ) → convicts (reverseAux cs h) e ≡ (convicts cs e || convicts h e)
@@ -124,32 +124,32 @@ pulled f true a b = refl
 pulled f false a b = refl
 
 module _ (x : ℕ → Bool) where
-  pub kept-reports : (e : ℕ) (r : List ℕ) (cs : List Call) → reports (keep x cs) e r ≡ (reports cs e r && (sound (report e r) && not (x e)))
+  pub kept-reports : (e : ℕ) (r : List ℕ) (cs : List Call) → reports (keep x cs) e r ≡ (reports cs e r && (isSound (report e r) && not (x e)))
   unfolding keep reports
   kept-reports e r [] = refl
   kept-reports e r (report k q ∷ cs) =
-      pulled (λ (l : List Call). reports l e r) (sound (report k q) && not (x k)) (report k q ∷ keep x cs) (keep x cs)
-      ∙ rw (kept-reports e r cs) (gone (eqb k e && same q r) (reports cs e r) (sound (report e r) && not (x e)) (sound (report k q) && not (x k))
+      pulled (λ (l : List Call). reports l e r) (isSound (report k q) && not (x k)) (report k q ∷ keep x cs) (keep x cs)
+      ∙ rw (kept-reports e r cs) (gone (eqb k e && same q r) (reports cs e r) (isSound (report e r) && not (x e)) (isSound (report k q) && not (x k))
       (λ a. rw (sym (eqb-true k e (and-left (eqb k e) (same q r) a)), sym (same-eq q r (and-right (eqb k e) (same q r) a))) refl))
   kept-reports e r (summary k model spec inputs ∷ cs) =
-      either (λ (l : List Call). reports l e r) (sound (summary k model spec inputs) && not (x k)) (summary k model spec inputs) (keep x cs) refl ∙ kept-reports e r cs
-  kept-reports e r (conviction k ∷ cs) = either (λ (l : List Call). reports l e r) (sound (conviction k) && not (x k)) (conviction k) (keep x cs) refl ∙ kept-reports e r cs
+      either (λ (l : List Call). reports l e r) (isSound (summary k model spec inputs) && not (x k)) (summary k model spec inputs) (keep x cs) refl ∙ kept-reports e r cs
+  kept-reports e r (conviction k ∷ cs) = either (λ (l : List Call). reports l e r) (isSound (conviction k) && not (x k)) (conviction k) (keep x cs) refl ∙ kept-reports e r cs
 
-  pub kept-summaries : (p : List ℕ) (cs : List Call) → among p (summariesOf (keep x cs)) ≡ (among p (summariesOf cs) && (soundSummary p && not (x (engineOf p))))
-  unfolding keep among summariesOf
+  pub kept-summaries : (p : List ℕ) (cs : List Call) → elem p (summariesOf (keep x cs)) ≡ (elem p (summariesOf cs) && (soundSummary p && not (x (engineOf p))))
+  unfolding keep elem summariesOf
   kept-summaries p [] = refl
-  kept-summaries p (report k q ∷ cs) = either (λ (l : List Call). among p (summariesOf l)) (sound (report k q) && not (x k)) (report k q) (keep x cs) refl ∙ kept-summaries p cs
+  kept-summaries p (report k q ∷ cs) = either (λ (l : List Call). elem p (summariesOf l)) (isSound (report k q) && not (x k)) (report k q) (keep x cs) refl ∙ kept-summaries p cs
   kept-summaries p (summary k model spec inputs ∷ cs) =
       let q = summaryOf k model spec inputs in
-      pulled (λ (l : List Call). among p (summariesOf l)) (sound (summary k model spec inputs) && not (x k)) (summary k model spec inputs ∷ keep x cs) (keep x cs)
-      ∙ rw (kept-summaries p cs) (gone (same q p) (among p (summariesOf cs)) (soundSummary p && not (x (engineOf p))) (sound (summary k model spec inputs) && not (x k))
+      pulled (λ (l : List Call). elem p (summariesOf l)) (isSound (summary k model spec inputs) && not (x k)) (summary k model spec inputs ∷ keep x cs) (keep x cs)
+      ∙ rw (kept-summaries p cs) (gone (same q p) (elem p (summariesOf cs)) (soundSummary p && not (x (engineOf p))) (isSound (summary k model spec inputs) && not (x k))
       (λ a. ap (λ (y : List ℕ). soundSummary y && not (x (engineOf y))) (sym (same-eq q p a)) ∙ ap (λ (b : Bool). b && not (x k)) (sym (by-bytes k model spec inputs))))
-  kept-summaries p (conviction k ∷ cs) = either (λ (l : List Call). among p (summariesOf l)) (sound (conviction k) && not (x k)) (conviction k) (keep x cs) refl ∙ kept-summaries p cs
+  kept-summaries p (conviction k ∷ cs) = either (λ (l : List Call). elem p (summariesOf l)) (isSound (conviction k) && not (x k)) (conviction k) (keep x cs) refl ∙ kept-summaries p cs
 
 -- ---- the records of a list are those of its reports
 
-pub reports-among : (cs : List Call) (e : ℕ) (r : List ℕ) → reports cs e r ≡ true → among r (recordsOf cs) ≡ true
-unfolding reports among recordsOf
+pub reports-among : (cs : List Call) (e : ℕ) (r : List ℕ) → reports cs e r ≡ true → elem r (recordsOf cs) ≡ true
+unfolding reports elem recordsOf
 reports-among [] e r h = h
 reports-among (report k q ∷ cs) e r h =
     let ih = reports-among cs e r in
@@ -157,8 +157,8 @@ reports-among (report k q ∷ cs) e r h =
 reports-among (summary k model spec inputs ∷ cs) e r h = reports-among cs e r h
 reports-among (conviction k ∷ cs) e r h = reports-among cs e r h
 
-pub among-reports : (cs : List Call) (r : List ℕ) → among r (recordsOf cs) ≡ true → (e : ℕ) × (reports cs e r ≡ true)
-unfolding reports among recordsOf
+pub among-reports : (cs : List Call) (r : List ℕ) → elem r (recordsOf cs) ≡ true → (e : ℕ) × (reports cs e r ≡ true)
+unfolding reports elem recordsOf
 among-reports [] r h = absurd (false≢true h)
 among-reports (report k q ∷ cs) r h =
     let ih = among-reports cs r in
@@ -176,11 +176,11 @@ some-bit = bin-ind (λ (n : ℕ). (n ≡ 0 → ⊥) → (e : ℕ) × (bit n e �
 
 -- a record that some engine signs is held
 pub record-held : (s : Register) → Valid s → (cs : List Call) → ((e : ℕ) (r : List ℕ) → bit (signersOf r s) e ≡ reports cs e r)
-    → (r : List ℕ) → holds recordSize r (s .records) ≡ among r (recordsOf cs)
+    → (r : List ℕ) → holds recordSize r (s .records) ≡ elem r (recordsOf cs)
 record-held s v cs b r =
     held-signed s v r
     ∙ by (eqb (signersOf r s) 0)
-    (λ z. rw z (by (among r (recordsOf cs))
+    (λ z. rw z (by (elem r (recordsOf cs))
     (λ a. let w = among-reports cs r a in absurd (false≢true (sym (bit-zero (w .0)) ∙ ap (λ (n : ℕ). bit n (w .0)) (sym (eqb-true (signersOf r s) 0 z)) ∙ b (w .0) r ∙ w .1)))
     (λ a. sym a)))
     (λ z. rw z (let w = some-bit (signersOf r s) (eqb-false (signersOf r s) 0 z) in sym (reports-among cs (w .0) r (sym (b (w .0) r) ∙ w .1))))
@@ -208,15 +208,15 @@ module _ (cs : List Call) (f : noneFull fresh cs ≡ true) where
       let a : reports (reverse cs) e r ≡ reports cs e r = reports-back cs [] e r ∙ (unfold reports in or-false (reports cs e r)) in
       sum .signed-by e r ∙ rw (a, struck e) (sym (kept-reports (convicts cs) e r cs))
 
-  pub summarized : (p : List ℕ) → holds summarySize p (last .summaries) ≡ among p (summariesOf (remaining cs))
+  pub summarized : (p : List ℕ) → holds summarySize p (last .summaries) ≡ elem p (summariesOf (remaining cs))
   summarized p =
-      let a : among p (summariesOf (reverse cs)) ≡ among p (summariesOf cs) = summaries-back cs [] p ∙ (unfold among summariesOf in or-false (among p (summariesOf cs))) in
+      let a : elem p (summariesOf (reverse cs)) ≡ elem p (summariesOf cs) = summaries-back cs [] p ∙ (unfold elem summariesOf in or-false (elem p (summariesOf cs))) in
       sum .held p ∙ rw (a, struck (engineOf p)) (sym (kept-summaries (convicts cs) p cs))
 
   pub decoded : decode (runs fresh cs) ≡ last
   decoded = rw (both .0) (decode-encode last (sum .valid))
 
-  whole-of : Whole cs (runs fresh cs)
+  whole-of : HoldsExactly cs (runs fresh cs)
   whole-of = record {
     formed = rw (both .0) (formed-encode last (sum .valid));
     convicted = λ e. ap (λ (s : Register). bit (s .convicted) e) decoded ∙ sum .struck-off e ∙ struck e;

@@ -10,7 +10,7 @@ use Rattle.record.specs.Layout.{maxModel}
 use Rattle.record.specs.Formed.{wellFormed}
 use Rattle.models.specs.Summary.{inputsSize, summaryOf}
 use Rattle.register.specs.Layout.{maxEngine, maxSummaries, maxRecords}
-use Rattle.register.specs.Register.{Register, After, reported, summarized, convictedOf}
+use Rattle.register.specs.Register.{Register, After, takeReport, takeSummary, takeConviction}
 use Rattle.register.specs.Memory.{onMemory}
 
 -- report(engine, record), summary(engine, model, spec, inputs), conviction(engine)
@@ -20,9 +20,9 @@ pub data Call : Type 0 where
   conviction : ℕ → Call
 
 abbrev pub act : Call → Register → After Register
-act (report e r) = reported e r
-act (summary e model spec inputs) = summarized e model spec inputs
-act (conviction e) = convictedOf e
+act (report e r) = takeReport e r
+act (summary e model spec inputs) = takeSummary e model spec inputs
+act (conviction e) = takeConviction e
 
 -- the bytes after the calls of a list, first to last
 unfoldable pub runs : List ℕ → List Call → List ℕ
@@ -42,10 +42,10 @@ callEngine (summary e model spec inputs) = e
 callEngine (conviction e) = e
 
 -- not malformed
-abbrev pub sound : Call → Bool
-sound (report e r) = leb e maxEngine && wellFormed r
-sound (summary e model spec inputs) = leb e maxEngine && (leb model maxModel && eqb (length inputs) inputsSize)
-sound (conviction e) = leb e maxEngine
+abbrev pub isSound : Call → Bool
+isSound (report e r) = leb e maxEngine && wellFormed r
+isSound (summary e model spec inputs) = leb e maxEngine && (leb model maxModel && eqb (length inputs) inputsSize)
+isSound (conviction e) = leb e maxEngine
 
 -- an engine is convicted somewhere in the list
 unfoldable pub convicts : List Call → ℕ → Bool
@@ -57,7 +57,7 @@ convicts (conviction k ∷ cs) e = leb k maxEngine && eqb k e || convicts cs e
 -- the calls that are not malformed, of engines that are not struck
 unfoldable pub keep : (ℕ → Bool) → List Call → List Call
 keep struck [] = []
-keep struck (c ∷ cs) = cond (sound c && not (struck (callEngine c))) (c ∷ keep struck cs) (keep struck cs)
+keep struck (c ∷ cs) = cond (isSound c && not (struck (callEngine c))) (c ∷ keep struck cs) (keep struck cs)
 
 -- "what remains once malformed calls and calls of engines convicted anywhere in the list are struck"
 abbrev pub remaining : List Call → List Call
@@ -86,17 +86,17 @@ summariesOf (report e r ∷ cs) = summariesOf cs
 summariesOf (summary e model spec inputs ∷ cs) = summaryOf e model spec inputs ∷ summariesOf cs
 summariesOf (conviction e ∷ cs) = summariesOf cs
 
-unfoldable pub among : List ℕ → List (List ℕ) → Bool
-among x [] = false
-among x (y ∷ ys) = same y x || among x ys
+unfoldable pub elem : List ℕ → List (List ℕ) → Bool
+elem x [] = false
+elem x (y ∷ ys) = same y x || elem x ys
 
-unfoldable pub different : List (List ℕ) → List (List ℕ)
-different [] = []
-different (x ∷ xs) = cond (among x xs) (different xs) (x ∷ different xs)
+unfoldable pub nub : List (List ℕ) → List (List ℕ)
+nub [] = []
+nub (x ∷ xs) = cond (elem x xs) (nub xs) (x ∷ nub xs)
 
 -- at most 96 different records and 256 different summaries remain
 abbrev pub fits : List Call → Bool
-fits cs = leb (length (different (recordsOf (remaining cs)))) maxRecords && leb (length (different (summariesOf (remaining cs)))) maxSummaries
+fits cs = leb (length (nub (recordsOf (remaining cs)))) maxRecords && leb (length (nub (summariesOf (remaining cs)))) maxSummaries
 
 -- so it is of each beginning of a list, which is given from its end
 unfoldable pub alwaysFits : List Call → Bool

@@ -25,17 +25,17 @@ summaryCount m = wordAt 2 L.summaryCountAt m
 abbrev pub recordCount : List ℕ → ℕ
 recordCount m = wordAt 2 L.recordCountAt m
 
-abbrev pub summaryBytes : List ℕ → List ℕ
-summaryBytes m = take L.summariesSize (drop L.summariesAt m)
+abbrev pub summaryTable : List ℕ → List ℕ
+summaryTable m = take L.summariesSize (drop L.summariesAt m)
 
-abbrev pub recordBytes : List ℕ → List ℕ
-recordBytes m = drop L.recordsAt m
+abbrev pub recordTable : List ℕ → List ℕ
+recordTable m = drop L.recordsAt m
 
 abbrev pub summariesIn : List ℕ → List (List ℕ)
-summariesIn m = places summarySize (summaryCount m) (summaryBytes m)
+summariesIn m = places summarySize (summaryCount m) (summaryTable m)
 
 abbrev pub recordsIn : List ℕ → List (List ℕ)
-recordsIn m = places L.placeSize (recordCount m) (recordBytes m)
+recordsIn m = places L.placeSize (recordCount m) (recordTable m)
 
 -- ---- which bytes are a register
 
@@ -52,9 +52,9 @@ wellFormed m =
     eqb (length m) L.registerSize
     && (leb (summaryCount m) L.maxSummaries
     && (leb (recordCount m) L.maxRecords
-    && (isTable summarySize summarySize (summaryCount m) (summaryBytes m)
+    && (isTable summarySize summarySize (summaryCount m) (summaryTable m)
     && (allPlaces (summaryFormed (convictedIn m)) (summariesIn m)
-    && (isTable recordSize L.placeSize (recordCount m) (recordBytes m)
+    && (isTable recordSize L.placeSize (recordCount m) (recordTable m)
     && allPlaces (placeFormed (convictedIn m)) (recordsIn m))))))
 
 -- ---- bytes and registers
@@ -76,9 +76,9 @@ fresh = replicate L.registerSize 0
 -- ---- an operation on bytes
 
 -- "A refusal returns its number and changes no lent byte."
-abbrev pub settled : List ℕ → After Register → After (List ℕ)
-settled m a = cond (eqb (a .answer) 0) (after 0 (encode (a .left))) (after (a .answer) m)
+abbrev pub commit : List ℕ → After Register → After (List ℕ)
+commit m a = cond (eqb (a .answer) 0) (after 0 (encode (a .left))) (after (a .answer) m)
 
 -- "1: memory not a well-formed register."
 unfoldable pub onMemory : (Register → After Register) → List ℕ → After (List ℕ)
-onMemory f m = cond (wellFormed m) (settled m (f (decode m))) (after 1 m)
+onMemory f m = cond (wellFormed m) (commit m (f (decode m))) (after 1 m)

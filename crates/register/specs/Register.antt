@@ -6,7 +6,7 @@ use lib.Dec.{ltb, leb, eqb}
 use lib.ListN.{length, drop}
 use Rattle.octets.specs.Masks.{bit, withBit, withoutBit}
 use Rattle.octets.specs.Words.{word, wordBytes}
-use Rattle.places.specs.Places.{holds, putPlace, keptPlaces}
+use Rattle.places.specs.Places.{holds, putPlace, keepPlaces}
 use Rattle.record.specs.Layout.{recordSize, maxModel}
 use Rattle.record.specs.Formed.{wellFormed}
 use Rattle.models.specs.Summary.{summarySize, inputsSize, engineOf, summaryOf}
@@ -31,58 +31,58 @@ abbrev pub signersIn : List ℕ → ℕ
 signersIn p = word (drop recordSize p)
 
 -- signers with an engine, and without
-abbrev pub signedBy : ℕ → List ℕ → List ℕ
-signedBy e v = wordBytes 4 (withBit (word v) e)
+abbrev pub addSigner : ℕ → List ℕ → List ℕ
+addSigner e v = wordBytes 4 (withBit (word v) e)
 
-abbrev pub unsignedBy : ℕ → List ℕ → List ℕ
-unsignedBy e v = wordBytes 4 (withoutBit (word v) e)
+abbrev pub dropSigner : ℕ → List ℕ → List ℕ
+dropSigner e v = wordBytes 4 (withoutBit (word v) e)
 
 -- nothing follows a summary's key, which is all of it
-abbrev pub nothing : List ℕ → List ℕ
-nothing v = []
+abbrev pub noValue : List ℕ → List ℕ
+noValue v = []
 
 -- a record that is one, of an engine that may report: "5: record not yet held and 96 are held. Else 0." "A repeated record only gains a signer."
-abbrev pub signedInto : ℕ → List ℕ → Register → After Register
-signedInto e r s =
+abbrev pub signRecord : ℕ → List ℕ → Register → After Register
+signRecord e r s =
     cond (not (holds recordSize r (s .records)) && leb maxRecords (length (s .records))) (after 5 s)
-    (after 0 (record { convicted = s .convicted; summaries = s .summaries; records = putPlace recordSize (signedBy e) r (s .records) }))
+    (after 0 (record { convicted = s .convicted; summaries = s .summaries; records = putPlace recordSize (addSigner e) r (s .records) }))
 
 -- "2: engine over 31. 3: record malformed. 4: engine convicted."
-abbrev pub reported : ℕ → List ℕ → Register → After Register
-reported e r s =
+abbrev pub takeReport : ℕ → List ℕ → Register → After Register
+takeReport e r s =
     cond (ltb maxEngine e) (after 2 s)
     (cond (not (wellFormed r)) (after 3 s)
-    (cond (bit (s .convicted) e) (after 4 s) (signedInto e r s)))
+    (cond (bit (s .convicted) e) (after 4 s) (signRecord e r s)))
 
 -- a summary of an engine that may give one: "5: this summary not yet held and 256 are. Else 0."
-abbrev pub heldInto : List ℕ → Register → After Register
-heldInto p s =
+abbrev pub holdSummary : List ℕ → Register → After Register
+holdSummary p s =
     cond (not (holds summarySize p (s .summaries)) && leb maxSummaries (length (s .summaries))) (after 5 s)
-    (after 0 (record { convicted = s .convicted; summaries = putPlace summarySize nothing p (s .summaries); records = s .records }))
+    (after 0 (record { convicted = s .convicted; summaries = putPlace summarySize noValue p (s .summaries); records = s .records }))
 
 -- "2; 9: model over 63, or inputs not of 32 bytes; 4"
-abbrev pub summarized : ℕ → ℕ → ℕ → List ℕ → Register → After Register
-summarized e model spec inputs s =
+abbrev pub takeSummary : ℕ → ℕ → ℕ → List ℕ → Register → After Register
+takeSummary e model spec inputs s =
     cond (ltb maxEngine e) (after 2 s)
     (cond (ltb maxModel model || not (eqb (length inputs) inputsSize)) (after 9 s)
-    (cond (bit (s .convicted) e) (after 4 s) (heldInto (summaryOf e model spec inputs) s)))
+    (cond (bit (s .convicted) e) (after 4 s) (holdSummary (summaryOf e model spec inputs) s)))
 
 -- a summary of another engine, and a record with another signer
-abbrev pub ofAnother : ℕ → List ℕ → Bool
-ofAnother e p = not (eqb (engineOf p) e)
+abbrev pub isOfAnother : ℕ → List ℕ → Bool
+isOfAnother e p = not (eqb (engineOf p) e)
 
-abbrev pub signedByAnother : ℕ → List ℕ → Bool
-signedByAnother e p = not (eqb (withoutBit (signersIn p) e) 0)
+abbrev pub hasAnotherSigner : ℕ → List ℕ → Bool
+hasAnotherSigner e p = not (eqb (withoutBit (signersIn p) e) 0)
 
 -- "A conviction removes the engine's summaries, its signer bit, and records left without signers."
-abbrev pub struck : ℕ → Register → Register
-struck e s =
+abbrev pub strikeEngine : ℕ → Register → Register
+strikeEngine e s =
     record {
       convicted = withBit (s .convicted) e;
-      summaries = keptPlaces summarySize (ofAnother e) nothing (s .summaries);
-      records = keptPlaces recordSize (signedByAnother e) (unsignedBy e) (s .records);
+      summaries = keepPlaces summarySize (isOfAnother e) noValue (s .summaries);
+      records = keepPlaces recordSize (hasAnotherSigner e) (dropSigner e) (s .records);
     }
 
 -- "2. Else 0, also when repeated."
-abbrev pub convictedOf : ℕ → Register → After Register
-convictedOf e s = cond (ltb maxEngine e) (after 2 s) (after 0 (struck e s))
+abbrev pub takeConviction : ℕ → Register → After Register
+takeConviction e s = cond (ltb maxEngine e) (after 2 s) (after 0 (strikeEngine e s))

@@ -5,17 +5,17 @@ use mathlib.Core.List.{List, [], _∷_}
 use Rattle.places.specs.Places.{putPlace}
 use Rattle.record.specs.Layout.{recordSize}
 use Rattle.models.specs.Summary.{summarySize, summaryOf}
-use Rattle.register.specs.Register.{signedBy, nothing}
+use Rattle.register.specs.Register.{addSigner, noValue}
 use Rattle.register.specs.Calls.{Call, report, summary, conviction}
 
 unfoldable pub summariesHeld : List Call → List (List ℕ)
 summariesHeld [] = []
 summariesHeld (report e r ∷ cs) = summariesHeld cs
-summariesHeld (summary e model spec inputs ∷ cs) = putPlace summarySize nothing (summaryOf e model spec inputs) (summariesHeld cs)
+summariesHeld (summary e model spec inputs ∷ cs) = putPlace summarySize noValue (summaryOf e model spec inputs) (summariesHeld cs)
 summariesHeld (conviction e ∷ cs) = summariesHeld cs
 
 unfoldable pub recordsHeld : List Call → List (List ℕ)
 recordsHeld [] = []
-recordsHeld (report e r ∷ cs) = putPlace recordSize (signedBy e) r (recordsHeld cs)
+recordsHeld (report e r ∷ cs) = putPlace recordSize (addSigner e) r (recordsHeld cs)
 recordsHeld (summary e model spec inputs ∷ cs) = recordsHeld cs
 recordsHeld (conviction e ∷ cs) = recordsHeld cs

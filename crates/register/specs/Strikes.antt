@@ -1,4 +1,4 @@
--- What a conviction's loops leave of a table's bytes.
+-- No claim rests on these definitions: they say what a conviction's loops leave of a table's bytes.
 use Prim.Native.Nat.{ℕ, _+_, _*_, _-_}
 use mathlib.Core.Path.{_≡_}
 use mathlib.Core.List.{List, _++_}

@@ -9,18 +9,18 @@ ghost use mathlib.Core.List.{_++_};
 ghost use Prim.Native.Nat.{_+_, _*_, _-_, _<_, _≤_};
 ghost use lib.ListN.{length, replicate};
 ghost use Rattle.models.specs.Summary.{summarySize};
-ghost use Rattle.places.specs.Places.{places, flat, keptPlaces};
+ghost use Rattle.places.specs.Places.{places, flat, keepPlaces};
 ghost use Rattle.record.specs.Layout.{recordSize};
-ghost use Rattle.octets.specs.Words.{putWord};
+ghost use Rattle.octets.specs.Writes.{putWord};
 ghost use Rattle.register.specs.Layout.{placeSize, convictedAt, summaryCountAt, recordCountAt, summariesAt as layoutEnd};
-ghost use Rattle.register.specs.Register.{after, nothing, ofAnother, unsignedBy, signedByAnother, struck, convictedOf};
+ghost use Rattle.register.specs.Register.{after, noValue, isOfAnother, dropSigner, hasAnotherSigner, strikeEngine, takeConviction};
 ghost use Rattle.register.specs.Memory.{wellFormed, decode, encode, onMemory};
 ghost use Rattle.register.specs.Strikes.{Struck};
 
 // Takes an engine's summaries out of the first n of a table, and returns how many are left.
 fn strike_summaries(t: &mut [u8], n: usize, engine: u8) -> usize
     requires { ⌜ n * summarySize ≤ length (now t) ⌝ }
-    ensures { λ r. ⌜ Struck summarySize (keptPlaces summarySize (ofAnother engine) nothing (places summarySize n (now (t .entry)))) (now (t .entry)) r (now (t .exit)) ⌝ }
+    ensures { λ r. ⌜ Struck summarySize (keepPlaces summarySize (isOfAnother engine) noValue (places summarySize n (now (t .entry)))) (now (t .entry)) r (now (t .exit)) ⌝ }
 {
     let mut i = 0;
     let mut j = 0;
@@ -54,7 +54,7 @@ fn keep_place(t: &mut [u8], from: usize, to: usize, signers: u32)
 fn strike_records(t: &mut [u8], n: usize, engine: u32) -> usize
     requires { ⌜ n * placeSize ≤ length (now t) ⌝ }
     requires { ⌜ engine < 32 ⌝ }
-    ensures { λ r. ⌜ Struck placeSize (keptPlaces recordSize (signedByAnother engine) (unsignedBy engine) (places placeSize n (now (t .entry)))) (now (t .entry)) r (now (t .exit)) ⌝ }
+    ensures { λ r. ⌜ Struck placeSize (keepPlaces recordSize (hasAnotherSigner engine) (dropSigner engine) (places placeSize n (now (t .entry)))) (now (t .entry)) r (now (t .exit)) ⌝ }
 {
     let mut i = 0;
     let mut j = 0;
@@ -91,7 +91,7 @@ fn put_header(memory: &mut [u8], convicted: u32, summaries: u16, records: u16)
 fn strike(memory: &mut [u8], engine: u32)
     requires { ⌜ wellFormed (now memory) ≡ true ⌝ }
     requires { ⌜ engine < 32 ⌝ }
-    ensures { λ _. ⌜ now (memory .exit) ≡ encode (struck engine (decode (now (memory .entry)))) ⌝ }
+    ensures { λ _. ⌜ now (memory .exit) ≡ encode (strikeEngine engine (decode (now (memory .entry)))) ⌝ }
 {
     let convicted = octets::words::u32_at(memory, layout::CONVICTED_AT);
     let n = octets::words::u16_at(memory, layout::SUMMARY_COUNT_AT) as usize;
@@ -112,7 +112,7 @@ fn strike(memory: &mut [u8], engine: u32)
 
 // Convicts an engine.
 pub fn conviction(memory: &mut [u8], engine: u32) -> u32
-    ensures { λ a. ⌜ after a (now (memory .exit)) ≡ onMemory (convictedOf engine) (now (memory .entry)) ⌝ }
+    ensures { λ a. ⌜ after a (now (memory .exit)) ≡ onMemory (takeConviction engine) (now (memory .entry)) ⌝ }
 {
     if !formed::well_formed(memory) {
         return 1;

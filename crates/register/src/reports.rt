@@ -9,18 +9,19 @@ ghost use mathlib.Core.List.{[], _++_};
 ghost use Prim.Native.Nat.{_+_, _*_, _<_, _≤_};
 ghost use lib.ListN.{length};
 ghost use Rattle.octets.specs.Masks.{withBit};
-ghost use Rattle.octets.specs.Words.{wordAt, putWord};
+ghost use Rattle.octets.specs.Words.{wordAt};
+ghost use Rattle.octets.specs.Writes.{putWord};
 ghost use Rattle.record.specs.Formed as R;
 ghost use Rattle.record.specs.Layout.{recordSize};
 ghost use Rattle.register.specs.Layout.{maxRecords, placeSize, recordsAt, registerSize};
-ghost use Rattle.register.specs.Register.{after, signedBy, signedInto, reported};
-ghost use Rattle.register.specs.Memory.{wellFormed, decode, settled, onMemory};
+ghost use Rattle.register.specs.Register.{after, addSigner, signRecord, takeReport};
+ghost use Rattle.register.specs.Memory.{wellFormed, decode, commit, onMemory};
 
 // The place of a record with its first signer.
 fn new_place(r: &[u8], engine: u32) -> [u8; layout::PLACE_SIZE]
     requires { ⌜ length (now r) ≡ recordSize ⌝ }
     requires { ⌜ engine < 32 ⌝ }
-    ensures { λ p. ⌜ p ≡ now (r .entry) ++ signedBy engine [] ⌝ }
+    ensures { λ p. ⌜ p ≡ now (r .entry) ++ addSigner engine [] ⌝ }
 {
     let mut p = [0u8; layout::PLACE_SIZE];
     bytes::copy(r, &mut p);
@@ -45,7 +46,7 @@ fn sign(memory: &mut [u8], engine: u32, r: &[u8]) -> u32
     requires { ⌜ wellFormed (now memory) ≡ true ⌝ }
     requires { ⌜ engine < 32 ⌝ }
     requires { ⌜ R.wellFormed (now r) ≡ true ⌝ }
-    ensures { λ a. ⌜ after a (now (memory .exit)) ≡ settled (now (memory .entry)) (signedInto engine (now (r .entry)) (decode (now (memory .entry)))) ⌝ }
+    ensures { λ a. ⌜ after a (now (memory .exit)) ≡ commit (now (memory .entry)) (signRecord engine (now (r .entry)) (decode (now (memory .entry)))) ⌝ }
 {
     let n = octets::words::u16_at(memory, layout::RECORD_COUNT_AT);
     let p = new_place(r, engine);
@@ -72,7 +73,7 @@ fn sign(memory: &mut [u8], engine: u32, r: &[u8]) -> u32
 
 // Reports a record for an engine.
 pub fn report(memory: &mut [u8], engine: u32, r: &[u8]) -> u32
-    ensures { λ a. ⌜ after a (now (memory .exit)) ≡ onMemory (reported engine (now (r .entry))) (now (memory .entry)) ⌝ }
+    ensures { λ a. ⌜ after a (now (memory .exit)) ≡ onMemory (takeReport engine (now (r .entry))) (now (memory .entry)) ⌝ }
 {
     if !formed::well_formed(memory) {
         return 1;

@@ -8,8 +8,8 @@ ghost use mathlib.Core.Bool.{true};
 ghost use Prim.Native.Nat.{_<_, _≤_};
 ghost use lib.ListN.{length};
 ghost use Rattle.models.specs.Summary.{inputsSize, summarySize, summaryOf};
-ghost use Rattle.register.specs.Register.{after, heldInto, summarized};
-ghost use Rattle.register.specs.Memory.{wellFormed, decode, settled, onMemory};
+ghost use Rattle.register.specs.Register.{after, holdSummary, takeSummary};
+ghost use Rattle.register.specs.Memory.{wellFormed, decode, commit, onMemory};
 
 // The bytes of a summary.
 fn new_summary(engine: u8, model: u8, spec: u16, inputs: &[u8]) -> [u8; SUMMARY_SIZE]
@@ -28,7 +28,7 @@ fn new_summary(engine: u8, model: u8, spec: u16, inputs: &[u8]) -> [u8; SUMMARY_
 fn hold(memory: &mut [u8], p: &[u8]) -> u32
     requires { ⌜ wellFormed (now memory) ≡ true ⌝ }
     requires { ⌜ length (now p) ≡ summarySize ⌝ }
-    ensures { λ a. ⌜ after a (now (memory .exit)) ≡ settled (now (memory .entry)) (heldInto (now (p .entry)) (decode (now (memory .entry)))) ⌝ }
+    ensures { λ a. ⌜ after a (now (memory .exit)) ≡ commit (now (memory .entry)) (holdSummary (now (p .entry)) (decode (now (memory .entry)))) ⌝ }
 {
     let n = octets::words::u16_at(memory, layout::SUMMARY_COUNT_AT);
     let tried = places::put_by_key(
@@ -51,7 +51,7 @@ fn hold(memory: &mut [u8], p: &[u8]) -> u32
 
 // Takes a summary of a model from an engine.
 pub fn summary(memory: &mut [u8], engine: u32, model: u32, spec: u16, inputs: &[u8]) -> u32
-    ensures { λ a. ⌜ after a (now (memory .exit)) ≡ onMemory (summarized engine model spec (now (inputs .entry))) (now (memory .entry)) ⌝ }
+    ensures { λ a. ⌜ after a (now (memory .exit)) ≡ onMemory (takeSummary engine model spec (now (inputs .entry))) (now (memory .entry)) ⌝ }
 {
     if !formed::well_formed(memory) {
         return 1;

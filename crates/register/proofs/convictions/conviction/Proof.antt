@@ -5,7 +5,7 @@ use mathlib.Core.Bool.{true}
 use mathlib.Core.List.{List}
 use native.Mathlib.Omega.{arith}
 use borrow.Author.Tests.{not-true, not-false}
-use Rattle.register.specs.Register.{after, convictedOf}
+use Rattle.register.specs.Register.{after, takeConviction}
 use Rattle.register.specs.Memory.{wellFormed, decode}
 use Rattle.register.proofs.Answers.{no-register, on-register, refused, conviction-2, conviction-0}
 use borrow.Author.Needs.{needs}
@@ -33,13 +33,13 @@ same-length : tie.Need-same-length
 same-length c = search needs
 
 returns : tie.Need-returns
-returns c = let s = c .before .before .before .before in no-register (convictedOf (s .args .engine)) (s .args .memory .now) (sym (c .before .well-formed .ensures) ∙ not-true _ (c .if1 .taken))
+returns c = let s = c .before .before .before .before in no-register (takeConviction (s .args .engine)) (s .args .memory .now) (sym (c .before .well-formed .ensures) ∙ not-true _ (c .if1 .taken))
 
 same-length-2 : tie.Need-same-length-2
 same-length-2 c = search needs
 
 returns-2 : tie.Need-returns-2
-returns-2 c = let a = c .before in refused (convictedOf (e a)) (m a) (is-register a) 2 refl (conviction-2 (e a) (decode (m a)) (c .if2 .taken))
+returns-2 c = let a = c .before in refused (takeConviction (e a)) (m a) (is-register a) 2 refl (conviction-2 (e a) (decode (m a)) (c .if2 .taken))
 
 strike-requires : tie.Need-strike-requires
 strike-requires c κs = (is-register (c .before .before), omega (arith, c .before .if2 .left))
@@ -51,7 +51,7 @@ returns-3 : tie.Need-returns-3
 returns-3 c =
     let d = c .before .before .before .before in
     let a = d .before in
-    on-register (convictedOf (e a)) (m a) (is-register a) _ (rw (conviction-0 (e a) (decode (m a)) (d .if2 .left)) (ap (after 0) (c .before .before .strike .ensures)))
+    on-register (takeConviction (e a)) (m a) (is-register a) _ (rw (conviction-0 (e a) (decode (m a)) (d .if2 .left)) (ap (after 0) (c .before .before .strike .ensures)))
 
 pub conviction-spec : {M : Type 1} → statement M
 conviction-spec =

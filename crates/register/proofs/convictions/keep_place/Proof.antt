@@ -5,7 +5,8 @@ use mathlib.Core.List.{List, _++_, append-assoc}
 use native.Mathlib.Omega.{arith}
 use lib.ListN.{length, take, drop, length-append, length-drop}
 use lib.Seq.{take-add, length-take-le}
-use Rattle.octets.specs.Words.{wordBytes, putWord}
+use Rattle.octets.specs.Words.{wordBytes}
+use Rattle.octets.specs.Writes.{putWord}
 use Rattle.record.specs.Layout.{recordSize}
 use Rattle.register.specs.Layout.{placeSize}
 use Rattle.register.specs.Strikes.{keptAt}

@@ -6,10 +6,11 @@ use native.Mathlib.Omega.{arith}
 use lib.ListN.{length, take, drop}
 use borrow.Rule.Slice.PartMut.{same-len-mid}
 use Rattle.octets.specs.Masks.{withBit}
-use Rattle.octets.specs.Words.{putWord}
-use Rattle.octets.proofs.Numbers.{Bytes, all-bytes}
+use Rattle.octets.specs.Writes.{putWord}
+use Rattle.octets.specs.Bytes.{Bytes}
+use Rattle.octets.proofs.Numbers.{all-bytes}
 use Rattle.register.specs.Layout.{maxSummaries, maxRecords, convictedAt, summaryCountAt, recordCountAt, summariesAt, summariesSize, recordsAt, recordsSize, registerSize}
-use Rattle.register.specs.Register.{struck}
+use Rattle.register.specs.Register.{strikeEngine}
 use Rattle.register.specs.Memory.{convictedIn, summaryCount, recordCount, decode, encode}
 use Rattle.register.proofs.Opened.{Opened, opened, summary-bytes-length, record-bytes-length}
 use Rattle.register.proofs.Struck.{summaries-left, lent-records, records-left, third}
@@ -137,7 +138,7 @@ module _ (r : tie.After-strike-records) where
 
   -- with the header put anew it is the register without the engine
   struck-is : (y : ℕ) (x : List ℕ) → y ≡ withBit (convictedIn (m head)) (e head)
-      → x ≡ putWord 2 recordCountAt (r .strike-records .result) (putWord 2 summaryCountAt (a .strike-summaries .result) (putWord 4 convictedAt y m₂)) → x ≡ encode (struck (e head) (decode (m head)))
+      → x ≡ putWord 2 recordCountAt (r .strike-records .result) (putWord 2 summaryCountAt (a .strike-summaries .result) (putWord 4 convictedAt y m₂)) → x ≡ encode (strikeEngine (e head) (decode (m head)))
   struck-is =
       third (m head) (o head) (b head) (e head) (n head) (n-is head) (a .strike-summaries .result) (a .strike-summaries .last .0) (a .strike-summaries .ensures) (m₁ a) refl (k head) (k-is head)
       (r .strike-records .result) (r .strike-records .last .0) (r .strike-records .ensures) m₂ refl

@@ -13,7 +13,7 @@ use Rattle.places.proofs.Walks.{next-room}
 use Rattle.places.proofs.Keeping.{Compacted, compact-none, compact-gone, compact-stays, changed-length}
 use Rattle.record.specs.Layout.{recordSize}
 use Rattle.register.specs.Layout.{placeSize}
-use Rattle.register.specs.Register.{signersIn, unsignedBy, signedByAnother}
+use Rattle.register.specs.Register.{signersIn, dropSigner, hasAnotherSigner}
 use Rattle.register.specs.Strikes.{keptAt}
 use Rattle.register.proofs.Striking.{here, lower, inside, among, ends, struck-end, key-of, signers-wide, last-word, unsigned, still-signed, changed-record}
 use borrow.Author.Needs.{needs}
@@ -22,7 +22,7 @@ use Rattle.register.proofs.convictions.strike_records.Tie as tie
 
 -- i of n records of t₀ are looked at, and the j that stay are in the front of t
 abbrev Left : ℕ → ℕ → List ℕ → List ℕ → ℕ → ℕ → Type 0
-Left e n t₀ t i j = Compacted recordSize (signedByAnother e) (unsignedBy e) placeSize key-of (signers-wide e) (places placeSize n t₀) t₀ t i j
+Left e n t₀ t i j = Compacted recordSize (hasAnotherSigner e) (dropSigner e) placeSize key-of (signers-wide e) (places placeSize n t₀) t₀ t i j
 
 abbrev Inv-loop : tie.InvT-loop
 Inv-loop t₀ n engine i₀ j₀ t i j = (i ≤ n) × Left engine n t₀ t i j
@@ -59,10 +59,10 @@ module _ (l : tie.At-loop Inv-loop μ-loop) where
 
   -- what stays ends where the loop is, or below
   is-lower : j * placeSize ≤ i * placeSize
-  is-lower = lower recordSize (signedByAnother e) (unsignedBy e) placeSize key-of (signers-wide e) n t₀ t i j (s .pre .0) left
+  is-lower = lower recordSize (hasAnotherSigner e) (dropSigner e) placeSize key-of (signers-wide e) n t₀ t i j (s .pre .0) left
 
   end-within : j * placeSize ≤ length t
-  end-within = ends recordSize (signedByAnother e) (unsignedBy e) placeSize key-of (signers-wide e) n t₀ t i j (s .pre .0) left (l .loop .inv .0)
+  end-within = ends recordSize (hasAnotherSigner e) (dropSigner e) placeSize key-of (signers-wide e) n t₀ t i j (s .pre .0) left (l .loop .inv .0)
 
   -- a turn, on record i
   module _ (more : i < n) where
@@ -70,13 +70,13 @@ module _ (l : tie.At-loop Inv-loop μ-loop) where
     p = getD (places placeSize n t₀) i []
 
     p-within : i * placeSize + placeSize ≤ length t
-    p-within = inside recordSize (signedByAnother e) (unsignedBy e) placeSize key-of (signers-wide e) n t₀ t i j (s .pre .0) left more
+    p-within = inside recordSize (hasAnotherSigner e) (dropSigner e) placeSize key-of (signers-wide e) n t₀ t i j (s .pre .0) left more
 
     p-here : take placeSize (drop (i * placeSize) t) ≡ p
-    p-here = here recordSize (signedByAnother e) (unsignedBy e) placeSize key-of (signers-wide e) n t₀ t i j (s .pre .0) left more
+    p-here = here recordSize (hasAnotherSigner e) (dropSigner e) placeSize key-of (signers-wide e) n t₀ t i j (s .pre .0) left more
 
     p-among : i < length (places placeSize n t₀)
-    p-among = among recordSize (signedByAnother e) (unsignedBy e) placeSize key-of (signers-wide e) n t₀ t i j (s .pre .0) left more
+    p-among = among recordSize (hasAnotherSigner e) (dropSigner e) placeSize key-of (signers-wide e) n t₀ t i j (s .pre .0) left more
 
     p-size : length p ≡ placeSize
     p-size = ap length (sym p-here) ∙ length-take-le placeSize (drop (i * placeSize) t) (rw length-drop (omega (arith, p-within)))
@@ -87,16 +87,16 @@ module _ (l : tie.At-loop Inv-loop μ-loop) where
       v-are = v-is ∙ ap (λ (y : ℕ). withoutBit y e) (x-is ∙ last-word t p (i * placeSize) p-within p-here)
 
       gone : v ≡ 0 → Left e n t₀ t (i + 1) j
-      gone z = compact-gone recordSize (signedByAnother e) (unsignedBy e) placeSize key-of (signers-wide e) (places placeSize n t₀) t₀ t i j p-among left (unsigned e p v v-are z)
+      gone z = compact-gone recordSize (hasAnotherSigner e) (dropSigner e) placeSize key-of (signers-wide e) (places placeSize n t₀) t₀ t i j p-among left (unsigned e p v v-are z)
 
       stays : (v ≡ 0 → ⊥) → (t′ : List ℕ) → t′ ≡ keptAt (i * placeSize) (j * placeSize) v t → Left e n t₀ t′ (i + 1) (j + 1)
       stays z t′ q =
-          compact-stays recordSize (signedByAnother e) (unsignedBy e) placeSize key-of (signers-wide e) (places placeSize n t₀) t₀ t i j p-among left t′ (still-signed e p v v-are z)
-          (changed-length recordSize (signedByAnother e) (unsignedBy e) placeSize key-of (signers-wide e) p p-size) (next-room i placeSize (length t) p-within)
+          compact-stays recordSize (hasAnotherSigner e) (dropSigner e) placeSize key-of (signers-wide e) (places placeSize n t₀) t₀ t i j p-among left t′ (still-signed e p v v-are z)
+          (changed-length recordSize (hasAnotherSigner e) (dropSigner e) placeSize key-of (signers-wide e) p p-size) (next-room i placeSize (length t) p-within)
           (q ∙ ap (λ (y : List ℕ). take (j * placeSize) t ++ (y ++ drop (j * placeSize + placeSize) t)) (changed-record e p v v-are t (i * placeSize) p-here))
 
 loop-holds : tie.Need-loop-holds Inv-loop μ-loop
-loop-holds c = let a = c .before .args in (omega arith, compact-none recordSize (signedByAnother (a .engine)) (unsignedBy (a .engine)) placeSize key-of (signers-wide (a .engine)) (places placeSize (a .n) (a .t .now)) (a .t .now))
+loop-holds c = let a = c .before .args in (omega arith, compact-none recordSize (hasAnotherSigner (a .engine)) (dropSigner (a .engine)) placeSize key-of (signers-wide (a .engine)) (places placeSize (a .n) (a .t .now)) (a .t .now))
 
 mul-at : tie.Need-mul-at Inv-loop μ-loop
 mul-at c = let l = c .before in omega (arith, p-within l (c .loop-test .taken), left l .size, s l .good)
@@ -177,7 +177,7 @@ returns : tie.Need-returns Inv-loop μ-loop
 returns c =
     let o = c .before .before .before .before in
     let l = o .before in
-    struck-end recordSize (signedByAnother (e l)) (unsignedBy (e l)) placeSize key-of (signers-wide (e l)) (n l) (t₀ l) (t l) (i l) (j l) (s l .pre .0) (left l)
+    struck-end recordSize (hasAnotherSigner (e l)) (dropSigner (e l)) placeSize key-of (signers-wide (e l)) (n l) (t₀ l) (t l) (i l) (j l) (s l .pre .0) (left l)
     (o .loop-test .left) (c .before .before .clear .last .0) (c .before .before .clear .ensures)
 
 pub strike-records-spec : {M : Type 1} → statement M

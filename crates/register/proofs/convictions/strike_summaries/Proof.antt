@@ -10,7 +10,7 @@ use Rattle.places.specs.Places.{places}
 use Rattle.places.proofs.Walks.{next-room}
 use Rattle.places.proofs.Keeping.{Compacted, compact-none, compact-gone, compact-stays}
 use Rattle.models.specs.Summary.{summarySize}
-use Rattle.register.specs.Register.{nothing, ofAnother}
+use Rattle.register.specs.Register.{noValue, isOfAnother}
 use Rattle.register.proofs.Striking.{here, lower, inside, among, ends, struck-end, all-of, none-more, of-engine, of-another, whole-summary}
 use borrow.Author.Needs.{needs}
 use Rattle.register.proofs.convictions.strike_summaries.Statement.{statement}
@@ -18,7 +18,7 @@ use Rattle.register.proofs.convictions.strike_summaries.Tie as tie
 
 -- i of n summaries of t₀ are looked at, and the j that stay are in the front of t
 abbrev Left : ℕ → ℕ → List ℕ → List ℕ → ℕ → ℕ → Type 0
-Left e n t₀ t i j = Compacted summarySize (ofAnother e) nothing summarySize all-of none-more (places summarySize n t₀) t₀ t i j
+Left e n t₀ t i j = Compacted summarySize (isOfAnother e) noValue summarySize all-of none-more (places summarySize n t₀) t₀ t i j
 
 abbrev Inv-loop : tie.InvT-loop
 Inv-loop t₀ n engine i₀ j₀ t i j = (i ≤ n) × Left engine n t₀ t i j
@@ -55,10 +55,10 @@ module _ (l : tie.At-loop Inv-loop μ-loop) where
 
   -- what stays ends where the loop is, or below
   is-lower : j * summarySize ≤ i * summarySize
-  is-lower = lower summarySize (ofAnother e) nothing summarySize all-of none-more n t₀ t i j (s .pre) left
+  is-lower = lower summarySize (isOfAnother e) noValue summarySize all-of none-more n t₀ t i j (s .pre) left
 
   end-within : j * summarySize ≤ length t
-  end-within = ends summarySize (ofAnother e) nothing summarySize all-of none-more n t₀ t i j (s .pre) left (l .loop .inv .0)
+  end-within = ends summarySize (isOfAnother e) noValue summarySize all-of none-more n t₀ t i j (s .pre) left (l .loop .inv .0)
 
   -- a turn, on summary i
   module _ (more : i < n) where
@@ -66,30 +66,30 @@ module _ (l : tie.At-loop Inv-loop μ-loop) where
     p = getD (places summarySize n t₀) i []
 
     p-within : i * summarySize + summarySize ≤ length t
-    p-within = inside summarySize (ofAnother e) nothing summarySize all-of none-more n t₀ t i j (s .pre) left more
+    p-within = inside summarySize (isOfAnother e) noValue summarySize all-of none-more n t₀ t i j (s .pre) left more
 
     p-here : take summarySize (drop (i * summarySize) t) ≡ p
-    p-here = here summarySize (ofAnother e) nothing summarySize all-of none-more n t₀ t i j (s .pre) left more
+    p-here = here summarySize (isOfAnother e) noValue summarySize all-of none-more n t₀ t i j (s .pre) left more
 
     p-among : i < length (places summarySize n t₀)
-    p-among = among summarySize (ofAnother e) nothing summarySize all-of none-more n t₀ t i j (s .pre) left more
+    p-among = among summarySize (isOfAnother e) noValue summarySize all-of none-more n t₀ t i j (s .pre) left more
 
     p-size : length p ≡ summarySize
     p-size = ap length (sym p-here) ∙ length-take-le summarySize (drop (i * summarySize) t) (rw length-drop (omega (arith, p-within)))
 
     gone : getD t (i * summarySize) 0 ≡ e → Left e n t₀ t (i + 1) j
-    gone z = compact-gone summarySize (ofAnother e) nothing summarySize all-of none-more (places summarySize n t₀) t₀ t i j p-among left (of-engine e p t (i * summarySize) p-here z)
+    gone z = compact-gone summarySize (isOfAnother e) noValue summarySize all-of none-more (places summarySize n t₀) t₀ t i j p-among left (of-engine e p t (i * summarySize) p-here z)
 
     stays : (getD t (i * summarySize) 0 ≡ e → ⊥) → (t′ : List ℕ)
         → t′ ≡ take (j * summarySize) t ++ (take summarySize (drop (i * summarySize) t) ++ drop (j * summarySize + summarySize) t) → Left e n t₀ t′ (i + 1) (j + 1)
     stays z t′ q =
         let w = whole-summary p p-size in
-        compact-stays summarySize (ofAnother e) nothing summarySize all-of none-more (places summarySize n t₀) t₀ t i j p-among left t′ (of-another e p t (i * summarySize) p-here z)
+        compact-stays summarySize (isOfAnother e) noValue summarySize all-of none-more (places summarySize n t₀) t₀ t i j p-among left t′ (of-another e p t (i * summarySize) p-here z)
         (ap length w ∙ p-size) (next-room i summarySize (length t) p-within)
         (q ∙ ap (λ (y : List ℕ). take (j * summarySize) t ++ (y ++ drop (j * summarySize + summarySize) t)) (p-here ∙ sym w))
 
 loop-holds : tie.Need-loop-holds Inv-loop μ-loop
-loop-holds c = let a = c .before .args in (omega arith, compact-none summarySize (ofAnother (a .engine)) nothing summarySize all-of none-more (places summarySize (a .n) (a .t .now)) (a .t .now))
+loop-holds c = let a = c .before .args in (omega arith, compact-none summarySize (isOfAnother (a .engine)) noValue summarySize all-of none-more (places summarySize (a .n) (a .t .now)) (a .t .now))
 
 mul-at : tie.Need-mul-at Inv-loop μ-loop
 mul-at c = let l = c .before in omega (arith, p-within l (c .loop-test .taken), left l .size, s l .good)
@@ -157,7 +157,7 @@ returns : tie.Need-returns Inv-loop μ-loop
 returns c =
     let o = c .before .before .before .before in
     let l = o .before in
-    struck-end summarySize (ofAnother (e l)) nothing summarySize all-of none-more (n l) (t₀ l) (t l) (i l) (j l) (s l .pre) (left l)
+    struck-end summarySize (isOfAnother (e l)) noValue summarySize all-of none-more (n l) (t₀ l) (t l) (i l) (j l) (s l .pre) (left l)
     (o .loop-test .left) (c .before .before .clear .last .0) (c .before .before .clear .ensures)
 
 pub strike-summaries-spec : {M : Type 1} → statement M

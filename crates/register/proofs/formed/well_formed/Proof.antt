@@ -5,13 +5,13 @@ use mathlib.Core.Bool.{Bool, false, _&&_}
 use mathlib.Core.List.{List}
 use lib.ListN.{length, take, drop}
 use borrow.Author.Tests.{le-leb, lt-leb, eq-eqb, ne-eqb, not-true, not-false}
-use Rattle.octets.proofs.Cases.{and-assoc}
+use Rattle.ranges.proofs.Bools.{and-assoc}
 use Rattle.octets.proofs.Moves.{tail-lent}
 use Rattle.places.specs.Places.{places, isTable, allPlaces}
 use Rattle.models.specs.Summary.{summarySize}
 use Rattle.record.specs.Layout.{recordSize}
 use Rattle.register.specs.Layout.{maxSummaries, maxRecords, placeSize, recordsAt, registerSize}
-use Rattle.register.specs.Memory.{convictedIn, summaryCount, recordCount, summaryBytes, recordBytes, summariesIn, summaryFormed, placeFormed, wellFormed}
+use Rattle.register.specs.Memory.{convictedIn, summaryCount, recordCount, summaryTable, recordTable, summariesIn, summaryFormed, placeFormed, wellFormed}
 use borrow.Author.Needs.{needs}
 use Rattle.register.proofs.formed.well_formed.Statement.{statement}
 use Rattle.register.proofs.formed.well_formed.Tie as tie
@@ -40,12 +40,12 @@ module _ (m : List ℕ) where
       many-records h = rw (eq-eqb (length m) registerSize size, le-leb (summaryCount m) maxSummaries few-summaries, lt-leb (recordCount m) maxRecords h) refl
 
       -- with what was read of the header
-      by-tables : (c n k : ℕ) (t : List ℕ) → c ≡ convictedIn m → n ≡ summaryCount m → k ≡ recordCount m → t ≡ recordBytes m → k ≤ maxRecords
-          → wellFormed m ≡ (summariesFormed c n (summaryBytes m) && recordsFormed c k t)
+      by-tables : (c n k : ℕ) (t : List ℕ) → c ≡ convictedIn m → n ≡ summaryCount m → k ≡ recordCount m → t ≡ recordTable m → k ≤ maxRecords
+          → wellFormed m ≡ (summariesFormed c n (summaryTable m) && recordsFormed c k t)
       unfolding wellFormed
       by-tables c n k t c-is n-is k-is t-is h =
           rw (eq-eqb (length m) registerSize size, le-leb (summaryCount m) maxSummaries few-summaries, le-leb (recordCount m) maxRecords (rw k-is at h), c-is, n-is, k-is, t-is)
-          (sym (and-assoc (isTable summarySize summarySize (summaryCount m) (summaryBytes m)) (allPlaces (summaryFormed (convictedIn m)) (summariesIn m)) (recordsFormed (convictedIn m) (recordCount m) (recordBytes m))))
+          (sym (and-assoc (isTable summarySize summarySize (summaryCount m) (summaryTable m)) (allPlaces (summaryFormed (convictedIn m)) (summariesIn m)) (recordsFormed (convictedIn m) (recordCount m) (recordTable m))))
 
 -- ---- the places of the function
 
@@ -77,7 +77,7 @@ module _ (a : tie.Else3) where
   abbrev rest : List ℕ
   rest = take (length (m sized) - recordsAt) (drop recordsAt (m sized))
 
-  is-formed : wellFormed (m sized) ≡ (summariesFormed c n (summaryBytes (m sized)) && recordsFormed c k rest)
+  is-formed : wellFormed (m sized) ≡ (summariesFormed c n (summaryTable (m sized)) && recordsFormed c k rest)
   is-formed =
       by-tables (m sized) (size sized) (rw n-is at (a .before .before .if2 .left)) c n k rest
       (a .before .before .before .before .u32-at .ensures) n-is (a .before .u16-at2 .ensures) (tail-lent (m sized) recordsAt) (a .if3 .left)

@@ -2,7 +2,7 @@
 use Prim.Native.Nat.{ℕ, _+_, _*_}
 use mathlib.Core.Path.{ap, _∙_}
 use Rattle.octets.specs.Masks.{withBit}
-use Rattle.octets.specs.Words.{putWord}
+use Rattle.octets.specs.Writes.{putWord}
 use Rattle.record.specs.Layout.{recordSize}
 use Rattle.register.specs.Layout.{placeSize, recordsAt}
 use borrow.Author.Needs.{needs}

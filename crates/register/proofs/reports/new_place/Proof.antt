@@ -5,16 +5,17 @@ use mathlib.Core.List.{List, [], _++_, append-nil}
 use native.Mathlib.Omega.{arith}
 use lib.ListN.{length, take, drop, replicate, length-append, length-drop, length-replicate, drop-of-length-le}
 use lib.Seq.{take-at, take-length}
-use Rattle.octets.specs.Words.{word, putWord}
+use Rattle.octets.specs.Words.{word}
+use Rattle.octets.specs.Writes.{putWord}
 use Rattle.octets.specs.Masks.{withBit}
 use Rattle.record.specs.Layout.{recordSize}
 use Rattle.register.specs.Layout.{placeSize}
-use Rattle.register.specs.Register.{signedBy}
+use Rattle.register.specs.Register.{addSigner}
 use borrow.Author.Needs.{needs}
 use Rattle.register.proofs.reports.new_place.Statement.{statement}
 use Rattle.register.proofs.reports.new_place.Tie as tie
 
-made : (r : List ℕ) (e : ℕ) → length r ≡ recordSize → putWord 4 recordSize (withBit 0 e) (take (length r) r ++ drop (length r) (replicate placeSize 0)) ≡ r ++ signedBy e []
+made : (r : List ℕ) (e : ℕ) → length r ≡ recordSize → putWord 4 recordSize (withBit 0 e) (take (length r) r ++ drop (length r) (replicate placeSize 0)) ≡ r ++ addSigner e []
 unfolding word
 made r e l =
     let d : List ℕ = drop (length r) (replicate placeSize 0) in

@@ -9,8 +9,8 @@ use borrow.Author.Tests.{not-true, not-false}
 use Rattle.octets.specs.Masks.{bit}
 use Rattle.record.specs.Formed as R
 use Rattle.register.specs.Layout.{maxEngine}
-use Rattle.register.specs.Register.{Register, After, after, reported}
-use Rattle.register.specs.Memory.{wellFormed, decode, settled, onMemory}
+use Rattle.register.specs.Register.{Register, After, after, takeReport}
+use Rattle.register.specs.Memory.{wellFormed, decode, commit, onMemory}
 use Rattle.register.proofs.Opened.{opened}
 use Rattle.register.proofs.Answers.{no-register, on-register, refused, report-2, report-3, report-4, report-rest, decoded-convicted}
 use borrow.Author.Needs.{needs}
@@ -30,7 +30,7 @@ module _ (s : tie.Start) where
   r = s .args .r .now
 
   abbrev reporting : Register → After Register
-  reporting = reported e r
+  reporting = takeReport e r
 
 -- the memory is a register
 module _ (a : tie.Else1) where
@@ -119,7 +119,7 @@ returns-5 c =
     let b = admitted (d .before) in
     let s = start (opening b) in
     on-register (reporting s) (m s) (is-register (opening b)) _
-    (c .before .before .sign .ensures ∙ ap (settled (m s)) (sym (report-rest (e s) (r s) (decode (m s)) (an-engine b) (is-record b) (convicted-is (d .before) ∙ d .if4 .left))))
+    (c .before .before .sign .ensures ∙ ap (commit (m s)) (sym (report-rest (e s) (r s) (decode (m s)) (an-engine b) (is-record b) (convicted-is (d .before) ∙ d .if4 .left))))
 
 pub report-spec : {M : Type 1} → statement M
 report-spec =

@@ -7,7 +7,8 @@ use native.Mathlib.Omega.{arith}
 use lib.ListN.{length, take, drop}
 use borrow.Rule.Slice.PartMut.{same-len-mid}
 use Rattle.octets.proofs.Moves.{tail-lent}
-use Rattle.octets.proofs.Numbers.{Bytes, all-bytes}
+use Rattle.octets.specs.Bytes.{Bytes}
+use Rattle.octets.proofs.Numbers.{all-bytes}
 use Rattle.places.specs.Places.{places, ascending}
 use Rattle.record.proofs.Parts.{formed}
 use Rattle.record.specs.Layout.{recordSize}

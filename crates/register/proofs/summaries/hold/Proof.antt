@@ -6,11 +6,12 @@ use mathlib.Core.List.{List}
 use native.Mathlib.Omega.{arith}
 use lib.ListN.{length}
 use borrow.Rule.Slice.PartMut.{same-len-mid}
-use Rattle.octets.proofs.Numbers.{Bytes, all-bytes}
+use Rattle.octets.specs.Bytes.{Bytes}
+use Rattle.octets.proofs.Numbers.{all-bytes}
 use Rattle.places.specs.Places.{places, ascending}
 use Rattle.models.specs.Summary.{summarySize}
 use Rattle.register.specs.Layout.{summariesAt, summariesSize}
-use Rattle.register.specs.Memory.{summaryBytes, summaryCount}
+use Rattle.register.specs.Memory.{summaryTable, summaryCount}
 use Rattle.register.proofs.Opened.{Opened, opened, summary-bytes-length, summaries-ascend}
 use Rattle.register.proofs.Signing.{SummaryWay, withSummaries, summary-way, summary-held, summary-full, summary-new}
 use borrow.Author.Needs.{needs}
@@ -42,8 +43,8 @@ module _ (a : tie.After-u16-at) where
   n-is : n ≡ summaryCount m
   n-is = a .u16-at .ensures
 
-  ascends : ascending summarySize (places summarySize n (summaryBytes m)) ≡ true
-  ascends = ap (λ (x : ℕ). ascending summarySize (places summarySize x (summaryBytes m))) n-is ∙ summaries-ascend m o
+  ascends : ascending summarySize (places summarySize n (summaryTable m)) ≡ true
+  ascends = ap (λ (x : ℕ). ascending summarySize (places summarySize x (summaryTable m))) n-is ∙ summaries-ascend m o
 
 -- the table was tried
 module _ (a : tie.After-put-by-key) where

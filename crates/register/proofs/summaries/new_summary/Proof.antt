@@ -4,14 +4,15 @@ use mathlib.Core.Path.{_≡_, ap, _∙_}
 use mathlib.Core.List.{List, _∷_, _++_, append-nil}
 use lib.ListN.{length, take, drop, set, replicate}
 use lib.Seq.{take-length}
-use Rattle.octets.specs.Words.{wordBytes, putWord}
-use Rattle.models.specs.Summary.{summaryOf, inputsSize, summarySize, inputsAt}
+use Rattle.octets.specs.Words.{wordBytes}
+use Rattle.octets.specs.Writes.{putWord}
+use Rattle.models.specs.Summary.{summaryOf, inputsSize, summarySize, summaryInputsAt}
 use borrow.Author.Needs.{needs}
 use Rattle.register.proofs.summaries.new_summary.Statement.{statement}
 use Rattle.register.proofs.summaries.new_summary.Tie as tie
 
 made : (e model spec : ℕ) (inputs p y : List ℕ) → p ≡ putWord 2 2 spec (set (set (replicate summarySize 0) 0 e) 1 model)
-    → y ≡ take (length inputs) inputs ++ drop (length inputs) (take inputsSize (drop inputsAt p)) → length inputs ≡ inputsSize → take inputsAt p ++ (y ++ drop inputsSize (drop inputsAt p)) ≡ summaryOf e model spec inputs
+    → y ≡ take (length inputs) inputs ++ drop (length inputs) (take inputsSize (drop summaryInputsAt p)) → length inputs ≡ inputsSize → take summaryInputsAt p ++ (y ++ drop inputsSize (drop summaryInputsAt p)) ≡ summaryOf e model spec inputs
 unfolding wordBytes
 made e model spec inputs p y u v l =
     let u′ : p ≡ e ∷ model ∷ (spec % 256 ∷ (spec / 256 % 256 ∷ replicate inputsSize 0)) = u in

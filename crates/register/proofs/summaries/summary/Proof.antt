@@ -13,8 +13,8 @@ use Rattle.octets.proofs.Numbers.{length-word-bytes}
 use Rattle.models.specs.Summary.{summaryOf, summarySize, inputsSize}
 use Rattle.record.specs.Layout.{maxModel}
 use Rattle.register.specs.Layout.{maxEngine}
-use Rattle.register.specs.Register.{Register, After, after, summarized, heldInto}
-use Rattle.register.specs.Memory.{wellFormed, decode, settled, onMemory}
+use Rattle.register.specs.Register.{Register, After, after, takeSummary, holdSummary}
+use Rattle.register.specs.Memory.{wellFormed, decode, commit, onMemory}
 use Rattle.register.proofs.Opened.{opened}
 use Rattle.register.proofs.Answers.{no-register, on-register, refused, summary-2, summary-9-model, summary-9-inputs, summary-4, summary-rest, decoded-convicted}
 use borrow.Author.Needs.{needs}
@@ -43,7 +43,7 @@ module _ (s : tie.Start) where
   inputs = s .args .inputs .now
 
   abbrev summarizing : Register → After Register
-  summarizing = summarized e model spec inputs
+  summarizing = takeSummary e model spec inputs
 
 -- the memory is a register
 module _ (a : tie.Else1) where
@@ -161,8 +161,8 @@ returns-6 c =
     let s = start (opening b) in
     on-register (summarizing s) (m s) (is-register (opening b)) _
     (c .before .before .hold .ensures
-    ∙ ap (λ (p : List ℕ). settled (m s) (heldInto p (decode (m s)))) (n .new-summary .ensures)
-    ∙ ap (settled (m s)) (sym (summary-rest (e s) (model s) (spec s) (inputs s) (decode (m s)) (an-engine b) (a-model b) (whole-inputs b) (convicted-is h ∙ n .before .if5 .left))))
+    ∙ ap (λ (p : List ℕ). commit (m s) (holdSummary p (decode (m s)))) (n .new-summary .ensures)
+    ∙ ap (commit (m s)) (sym (summary-rest (e s) (model s) (spec s) (inputs s) (decode (m s)) (an-engine b) (a-model b) (whole-inputs b) (convicted-is h ∙ n .before .if5 .left))))
 
 pub summary-spec : {M : Type 1} → statement M
 summary-spec =
