@@ -1,5 +1,5 @@
--- The layout of a fix on a board: its identity, by which fixes are ordered, the record that represents it, its model inputs, and the signers of all
--- records of that identity (document 01, 'Models and identity' and 'The board').
+-- No claim rests on these definitions: they say how a table of fixes lies in bytes. A fix is its identity, by which the table is ordered, the record that
+-- represents it, its model inputs, and its signers.
 use Prim.Native.Nat.{ℕ, _+_, _*_}
 use mathlib.Core.List.{List}
 use lib.ListN.{take, drop}
@@ -11,31 +11,31 @@ use Rattle.items.specs.Layout.{hashSize, maxItems}
 abbrev pub maxFixes : ℕ
 maxFixes = maxItems
 
-abbrev pub identityAt : ℕ
-identityAt = 0
+abbrev pub fixIdentityAt : ℕ
+fixIdentityAt = 0
 
-abbrev pub recordAt : ℕ
-recordAt = identityAt + hashSize
+abbrev pub fixRecordAt : ℕ
+fixRecordAt = fixIdentityAt + hashSize
 
-abbrev pub inputsAt : ℕ
-inputsAt = recordAt + recordSize
+abbrev pub fixInputsAt : ℕ
+fixInputsAt = fixRecordAt + recordSize
 
-abbrev pub signersAt : ℕ
-signersAt = inputsAt + hashSize
+abbrev pub fixSignersAt : ℕ
+fixSignersAt = fixInputsAt + hashSize
 
 abbrev pub fixSize : ℕ
-fixSize = signersAt + 4
+fixSize = fixSignersAt + 4
 
 -- ---- the fields of fix i in a table of fixes
 
-abbrev pub identityOf : List ℕ → ℕ → List ℕ
-identityOf t i = take hashSize (drop (i * fixSize) t)
+abbrev pub fixIdentity : List ℕ → ℕ → List ℕ
+fixIdentity t i = take hashSize (drop (i * fixSize) t)
 
-abbrev pub recordOf : List ℕ → ℕ → List ℕ
-recordOf t i = take recordSize (drop (i * fixSize + recordAt) t)
+abbrev pub fixRecord : List ℕ → ℕ → List ℕ
+fixRecord t i = take recordSize (drop (i * fixSize + fixRecordAt) t)
 
-abbrev pub inputsOf : List ℕ → ℕ → List ℕ
-inputsOf t i = take hashSize (drop (i * fixSize + inputsAt) t)
+abbrev pub fixInputs : List ℕ → ℕ → List ℕ
+fixInputs t i = take hashSize (drop (i * fixSize + fixInputsAt) t)
 
-abbrev pub signersOf : List ℕ → ℕ → ℕ
-signersOf t i = wordAt 4 (i * fixSize + signersAt) t
+abbrev pub fixSigners : List ℕ → ℕ → ℕ
+fixSigners t i = wordAt 4 (i * fixSize + fixSignersAt) t

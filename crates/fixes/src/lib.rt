@@ -9,11 +9,12 @@ ghost use Rattle.items.specs.Layout.{hashSize};
 ghost use Rattle.fixes.specs.Layout as L;
 
 pub mod layout;
+pub mod representatives;
 
 // The identity of fix i.
 pub fn identity(t: &[u8], i: u8) -> &[u8]
     requires { ⌜ i * L.fixSize + L.fixSize ≤ length (now t) ⌝ }
-    ensures { λ r. ⌜ (now r ≡ L.identityOf (now (t .entry)) i) × (length (now r) ≡ hashSize) ⌝ }
+    ensures { λ r. ⌜ (now r ≡ L.fixIdentity (now (t .entry)) i) × (length (now r) ≡ hashSize) ⌝ }
 {
     let a = i as usize * layout::FIX_SIZE;
     let e = a + HASH_SIZE;
@@ -23,7 +24,7 @@ pub fn identity(t: &[u8], i: u8) -> &[u8]
 // The record of fix i.
 pub fn record_of(t: &[u8], i: u8) -> &[u8]
     requires { ⌜ i * L.fixSize + L.fixSize ≤ length (now t) ⌝ }
-    ensures { λ r. ⌜ (now r ≡ L.recordOf (now (t .entry)) i) × (length (now r) ≡ recordSize) ⌝ }
+    ensures { λ r. ⌜ (now r ≡ L.fixRecord (now (t .entry)) i) × (length (now r) ≡ recordSize) ⌝ }
 {
     let a = i as usize * layout::FIX_SIZE + layout::RECORD_AT;
     let e = a + RECORD_SIZE;
@@ -33,7 +34,7 @@ pub fn record_of(t: &[u8], i: u8) -> &[u8]
 // The model inputs of fix i.
 pub fn inputs(t: &[u8], i: u8) -> &[u8]
     requires { ⌜ i * L.fixSize + L.fixSize ≤ length (now t) ⌝ }
-    ensures { λ r. ⌜ (now r ≡ L.inputsOf (now (t .entry)) i) × (length (now r) ≡ hashSize) ⌝ }
+    ensures { λ r. ⌜ (now r ≡ L.fixInputs (now (t .entry)) i) × (length (now r) ≡ hashSize) ⌝ }
 {
     let a = i as usize * layout::FIX_SIZE + layout::INPUTS_AT;
     let e = a + HASH_SIZE;
@@ -43,7 +44,7 @@ pub fn inputs(t: &[u8], i: u8) -> &[u8]
 // The signers of fix i.
 pub fn signers(t: &[u8], i: u8) -> u32
     requires { ⌜ i * L.fixSize + L.fixSize ≤ length (now t) ⌝ }
-    ensures { λ r. ⌜ r ≡ L.signersOf (now (t .entry)) i ⌝ }
+    ensures { λ r. ⌜ r ≡ L.fixSigners (now (t .entry)) i ⌝ }
 {
     octets::words::u32_at(t, i as usize * layout::FIX_SIZE + layout::SIGNERS_AT)
 }

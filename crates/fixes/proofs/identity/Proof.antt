@@ -6,7 +6,7 @@ use Rattle.items.specs.Layout.{hashSize}
 use native.Mathlib.Omega.{arith}
 use Rattle.items.proofs.Pairing.{width}
 use Rattle.fixes.proofs.Parts.{taken}
-use Rattle.fixes.specs.Layout.{fixSize, recordAt, inputsAt}
+use Rattle.fixes.specs.Layout.{fixSize, fixRecordAt, fixInputsAt}
 use borrow.Author.Needs.{needs}
 use Rattle.fixes.proofs.identity.Statement.{statement}
 use Rattle.fixes.proofs.identity.Tie as tie

@@ -6,7 +6,7 @@ use Rattle.items.specs.Layout.{hashSize}
 use native.Mathlib.Omega.{arith}
 use Rattle.items.proofs.Pairing.{width}
 use Rattle.fixes.proofs.Parts.{taken}
-use Rattle.fixes.specs.Layout.{fixSize, recordAt, inputsAt}
+use Rattle.fixes.specs.Layout.{fixSize, fixRecordAt, fixInputsAt}
 use borrow.Author.Needs.{needs}
 use Rattle.fixes.proofs.record_of.Statement.{statement}
 use Rattle.fixes.proofs.record_of.Tie as tie
@@ -32,7 +32,7 @@ part-result-end : tie.Need-part-result-end
 part-result-end c = search needs
 
 returns : tie.Need-returns
-returns c = let e = width recordSize (c .before .args .i * fixSize + recordAt) in rw e (refl, taken recordSize (c .before .args .i * fixSize + recordAt) (c .before .args .t .now) (omega arith))
+returns c = let e = width recordSize (c .before .args .i * fixSize + fixRecordAt) in rw e (refl, taken recordSize (c .before .args .i * fixSize + fixRecordAt) (c .before .args .t .now) (omega arith))
 
 pub record-of-spec : {M : Type 1} → statement M
 record-of-spec =

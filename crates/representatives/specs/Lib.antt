@@ -1,2 +1,0 @@
-pub mod Representatives
-pub mod Gathered
