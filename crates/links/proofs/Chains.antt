@@ -1,141 +1,118 @@
 -- A mark is set exactly where a chain of links leads; and chains can be joined, and turned round where links can.
-use mathlib.Core.Path.{_≡_, refl, sym, ap, _∙_, subst}
-use mathlib.Core.Bool.{Bool, true, false, not}
-use mathlib.Core.Logic.{_↔_}
+use mathlib.Core.Path.{_≡_, sym, ap, _∙_, subst}
+use mathlib.Core.Bool.{Bool, true, false}
+use mathlib.Core.Logic.{_⊎_, _↔_, inl, inr}
 use mathlib.Core.List.{List}
-use Prim.Native.Nat.{ℕ, zero, suc, _≤_, _<_}
+use Prim.Native.Nat.{ℕ, zero, suc, _+_, _≤_, _<_}
 use native.Mathlib.Omega.{arith}
-use lib.Dec.{ltb}
+use lib.Dec.{eqb}
 use lib.ListN.{length, set, length-set}
 use lib.Seq.{getD-set-same}
-use borrow.Author.Tests.{ltb-true, ltb-false, lt-ltb, le-ltb}
-use Rattle.ranges.proofs.Bools.{by, or, clash, and-true, and-l, and-r, not-t, not-f}
-use Rattle.ranges.specs.Range.{first}
-use Rattle.ranges.proofs.Range.{first-le, first-is, first-no}
+use borrow.Author.Tests.{eqb-true, eqb-false}
+use Rattle.ranges.proofs.Bools.{by, or, clash}
 use Rattle.ranges.specs.Tables.{marked}
 use Rattle.fixes.specs.Layout.{maxFixes}
-use Rattle.links.specs.Walk.{Chain, here, more, Symmetric, noMarks, unmarked, waits, spread, walked, reached}
-use Rattle.links.proofs.Marks.{unmarked-set, set-marks, no-marks, spread-length, spread-keeps, spread-marks, spread-all}
+use Rattle.links.specs.Chains.{ChainAt, here, more, Symmetric}
+use Rattle.links.specs.Walk.{noMarks, unmarked, each, visit, reached}
+use Rattle.links.proofs.Marks.{unmarked-set, set-marks, no-marks, Grown, next, next-old, next-apart, next-new, next-grown, visit-grown}
 
 module _ {link : ℕ → ℕ → Bool} {n : ℕ} where
-  pub chain-from : {s j : ℕ} → Chain link n s j → s < n
+  pub chain-from : {s j : ℕ} → ChainAt link n s j → s < n
   chain-from (here h) = h
   chain-from (more c h e) = chain-from c
 
-  pub chain-to : {s j : ℕ} → Chain link n s j → j < n
+  pub chain-to : {s j : ℕ} → ChainAt link n s j → j < n
   chain-to (here h) = h
   chain-to (more c h e) = h
 
-  pub chain-joined : {a b c : ℕ} → Chain link n a b → Chain link n b c → Chain link n a c
+  pub chain-joined : {a b c : ℕ} → ChainAt link n a b → ChainAt link n b c → ChainAt link n a c
   chain-joined p (here h) = p
   chain-joined p (more q h e) = more (chain-joined p q) h e
 
-  pub chain-turned : {a b : ℕ} → Symmetric link → Chain link n a b → Chain link n b a
+  pub chain-turned : {a b : ℕ} → Symmetric link → ChainAt link n a b → ChainAt link n b a
   chain-turned w (here h) = here h
   chain-turned w (more {i} {j} q h e) = chain-joined (more (here h) (chain-to q) (w .turned j i ∙ e)) (chain-turned w q)
 
--- what holds between two turns of the walk from s
-record Walking (link : ℕ → ℕ → Bool) (n s : ℕ) (m d : List Bool) : Type 0 where
-  wide : n ≤ length m
-  room : n ≤ length d
-  start : marked m s ≡ true
-  sound : (i : ℕ) → marked m i ≡ true → Chain link n s i
-  followed : (i j : ℕ) → marked d i ≡ true → j < n → link i j ≡ true → marked m j ≡ true
+-- what a visit of i makes of the marks m
+pub record Visited (link : ℕ → ℕ → Bool) (n i : ℕ) (m r : List Bool) : Type 0 where
+  pub start : marked r i ≡ true
+  pub sound : (k : ℕ) → marked r k ≡ true → (marked m k ≡ true) ⊎ ChainAt link n i k
+  pub closed : (k l : ℕ) → marked m k ≡ false → marked r k ≡ true → l < n → link k l ≡ true → marked r l ≡ true
 
--- and what holds at its end
-record Ended (link : ℕ → ℕ → Bool) (n s : ℕ) (m : List Bool) : Type 0 where
-  start : marked m s ≡ true
-  sound : (i : ℕ) → marked m i ≡ true → Chain link n s i
-  closed : (i j : ℕ) → i < n → marked m i ≡ true → j < n → link i j ≡ true → marked m j ≡ true
-
-module _ (n : ℕ) where
-  -- the first that waits is reached and not done
-  next-waits : (m d : List Bool) → first (waits m d) 0 n < n → let i = first (waits m d) 0 n in (marked m i ≡ true) × (marked d i ≡ false)
-  next-waits m d h =
-      let e = first-is (waits m d) 0 n (omega arith) in
-      let i = first (waits m d) 0 n in
-      (and-l (marked m i) (not (marked d i)) e, not-t _ (and-r (marked m i) (not (marked d i)) e))
-
-  -- where none waits, who is reached is done
-  none-waits : (m d : List Bool) → n ≤ first (waits m d) 0 n → (i : ℕ) → i < n → marked m i ≡ true → marked d i ≡ true
-  none-waits m d h i l e =
-      by (marked d i) (λ p. p)
-      (λ p. clash (and-true (marked m i) (not (marked d i)) e (not-f _ p)) (first-no (waits m d) 0 n i (let r = first-le (waits m d) 0 n in omega arith) (omega arith) (omega arith)))
+-- and what it has made of them before index j
+record Visiting (link : ℕ → ℕ → Bool) (n i : ℕ) (m r : List Bool) (j : ℕ) : Type 0 where
+  start : marked r i ≡ true
+  sound : (k : ℕ) → marked r k ≡ true → (marked m k ≡ true) ⊎ ChainAt link n i k
+  closed : (k l : ℕ) → marked m k ≡ false → marked r k ≡ true → l < n → link k l ≡ true → (k ≡ i → l < j) → marked r l ≡ true
 
 module _ (link : ℕ → ℕ → Bool) (n : ℕ) where
-  module _ (s : ℕ) where
-    turn : (m d : List Bool) (i : ℕ) → i < n → marked m i ≡ true → Walking link n s m d → Walking link n s (spread (link i) m 0 n) (set d i true)
-    turn m d i h e w =
-        let wd = w .wide in
-        record {
-          wide = rw spread-length (w .wide);
-          room = rw length-set (w .room);
-          start = spread-keeps (link i) n m 0 s (w .start);
-          sound = λ k p. or (spread-marks (link i) n m 0 k p) (λ q. w .sound k q) (λ q. let z = q .0 in more (w .sound i e) (omega arith) (q .1));
-          followed = λ k j p l q. or (set-marks d k i true p)
-              (λ z. spread-all (link i) n m 0 j (omega arith) (omega arith) (omega arith) (ap (λ (x : ℕ). link x j) (sym (z .0)) ∙ q))
-              (λ z. spread-keeps (link i) n m 0 j (w .followed k j z l q));
-        }
-
-    ended : (m d : List Bool) → n ≤ first (waits m d) 0 n → Walking link n s m d → Ended link n s m
-    ended m d h w = record {
+  module _ (i : ℕ) (h : i < n) (m : List Bool) where
+    -- nothing to visit at j
+    old : (r : List Bool) (j : ℕ) → Visiting link n i m r j → (link i j ≡ true → marked r j ≡ true) → Visiting link n i m r (suc j)
+    old r j w f = record {
       start = w .start;
       sound = w .sound;
-      closed = λ i j l e k q. w .followed i j (none-waits n m d h i l e) k q;
+      closed = λ k l a b c e d. by (marked r l) (λ p. p)
+          (λ p. w .closed k l a b c e
+          (λ q. by (eqb l j)
+          (λ z. clash (f (ap (λ (x : ℕ). link x j) (sym q) ∙ ap (link k) (sym (eqb-true l j z)) ∙ e)) (ap (marked r) (sym (eqb-true l j z)) ∙ p))
+          (λ z. let y = d q in let x = eqb-false l j z in omega arith)));
     }
 
-    walked-ended : (f : ℕ) (m d : List Bool) → unmarked d ≤ f → Walking link n s m d → Ended link n s (walked link n f m d)
-    unfolding walked
-    walked-ended zero m d u w =
-        ended m d
-        (by (ltb (first (waits m d) 0 n) n)
-        (λ p. let l = ltb-true _ _ p in let r = w .room in let e = unmarked-set d (first (waits m d) 0 n) (omega arith) (next-waits n m d l .1) in omega arith)
-        (λ p. ltb-false _ _ p))
-        w
-    walked-ended (suc f) m d u w =
-        by (ltb (first (waits m d) 0 n) n)
-        (λ p. rw p
-        (let i = first (waits m d) 0 n in
-        let l = ltb-true i n p in
-        let r = w .room in
-        let z = next-waits n m d l in
-        let e = unmarked-set d i (omega arith) (z .1) in
-        walked-ended f (spread (link i) m 0 n) (set d i true) (omega arith) (turn m d i l (z .0) w)))
-        (λ p. rw p (ended m d (ltb-false _ _ p) w))
+    -- j is visited
+    new : (r q : List Bool) (j : ℕ) → j < n → link i j ≡ true → Grown r q → Visited link n j r q → Visiting link n i m r j → Visiting link n i m q (suc j)
+    new r q j b e g v w = record {
+      start = g .kept i (w .start);
+      sound = λ k p. or (v .sound k p) (λ z. w .sound k z) (λ c. inr (chain-joined (more (here h) b e) c));
+      closed = λ k l a p c t d. by (marked r k)
+          (λ z. by (eqb l j)
+          (λ y. ap (marked q) (eqb-true l j y) ∙ v .start)
+          (λ y. g .kept l (w .closed k l a z c t (λ x. let o = d x in let u = eqb-false l j y in omega arith))))
+          (λ z. v .closed k l z p c t);
+    }
 
-    complete : (m : List Bool) → Ended link n s m → {j : ℕ} → Chain link n s j → marked m j ≡ true
-    complete m w (here h) = w .start
-    complete m w (more c h e) = w .closed _ _ (chain-to c) (complete m w c) h e
+    module _ (v : ℕ → List Bool → List Bool) (grows : (j : ℕ) (r : List Bool) → Grown r (v j r)) (s u : ℕ)
+        (visits : (j : ℕ) (r : List Bool) → length r ≡ s → j < n → marked r j ≡ false → unmarked r ≤ u → Visited link n j r (v j r)) where
+      turn : (r : List Bool) (j : ℕ) → length r ≡ s → j < n → unmarked r ≤ u → Visiting link n i m r j → Visiting link n i m (next v (link i) r j) (suc j)
+      turn r j a b c w =
+          by (marked r j)
+          (λ p. rw (next-old v (link i) r j p) (old r j w (λ _. p)))
+          (λ p. by (link i j)
+          (λ q. rw (next-new v (link i) r j p q) (new r (v j r) j b q (grows j r) (visits j r a b p c) w))
+          (λ q. rw (next-apart v (link i) r j p q) (old r j w (λ z. clash z q))))
+
+      turns : (k : ℕ) (r : List Bool) (j : ℕ) → length r ≡ s → j + k ≡ n → unmarked r ≤ u → Visiting link n i m r j → Visiting link n i m (each v (link i) r j k) n
+      unfolding each
+      turns zero r j a b c w = let z : j ≡ n = omega arith in subst (Visiting link n i m r) z w
+      turns (suc k) r j a b c w =
+          let g = next-grown v (link i) grows r j in
+          let f = g .fewer in
+          turns k (next v (link i) r j) (suc j) (g .same ∙ a) (omega arith) (omega arith) (turn r j a (omega arith) c w)
+
+  pub visit-visited : (f i : ℕ) (m : List Bool) → n ≤ length m → i < n → marked m i ≡ false → unmarked m ≤ f → Visited link n i m (visit link n f i m)
+  unfolding visit
+  visit-visited zero i m w h e u = let z = unmarked-set m i (omega arith) e in absurd (omega arith)
+  visit-visited (suc f) i m w h e u =
+      let z = unmarked-set m i (omega arith) e in
+      let b : Visiting link n i m (set m i true) 0 = record {
+        start = getD-set-same m i true false (omega arith);
+        sound = λ k p. or (set-marks m k i true p) (λ q. inr (subst (ChainAt link n i) (sym (q .0)) (here h))) (λ q. inl q);
+        closed = λ k l a p c t d. or (set-marks m k i true p) (λ q. let y = d (q .0) in absurd (omega arith)) (λ q. clash q a);
+      } in
+      let r = turns i h m (visit link n f) (visit-grown link n f) (length m) f
+      (λ j q a c p d. visit-visited f j q (omega arith) c p d)
+      n (set m i true) 0 (length-set m i true) (omega arith) (omega arith) b in
+      record { start = r .start; sound = r .sound; closed = λ k l a p c t. r .closed k l a p c t (λ _. c) }
+
+  module _ (s : ℕ) where
+    -- where all that a chain leads to had no mark, it has one now
+    pub complete : (m r : List Bool) → ((j : ℕ) → ChainAt link n s j → marked m j ≡ false) → Visited link n s m r → {j : ℕ} → ChainAt link n s j → marked r j ≡ true
+    complete m r f w (here h) = w .start
+    complete m r f w (more {i} {j} c h e) = w .closed i j (f i c) (complete m r f w c) h e
 
     -- a mark is set exactly where a chain leads
-    pub reached-is : n ≤ maxFixes → s < n → (j : ℕ) → (marked (reached link n s) j ≡ true) ↔ Chain link n s j
+    pub reached-is : n ≤ maxFixes → s < n → (j : ℕ) → (marked (reached link n s) j ≡ true) ↔ ChainAt link n s j
     unfolding reached
     reached-is few h j =
-        let w : Walking link n s (set noMarks s true) noMarks = record {
-          wide = rw length-set few;
-          room = few;
-          start = getD-set-same noMarks s true false (omega arith);
-          sound = λ i e. or (set-marks noMarks i s true e) (λ q. subst (Chain link n s) (sym (q .0)) (here h)) (λ q. clash q (no-marks maxFixes i));
-          followed = λ i k e l q. clash e (no-marks maxFixes i);
-        } in
-        let r = walked-ended (unmarked noMarks) (set noMarks s true) noMarks (omega arith) w in
-        (r .sound j, complete _ r)
-
--- ---- a turn of the walk, and its end
-module _ (n : ℕ) (m d : List Bool) (i : ℕ) (e : i ≡ first (waits m d) 0 n) where
-  module _ (room : n ≤ length d) (h : i < n) where
-    one-fewer : unmarked d ≡ suc (unmarked (set d i true))
-    one-fewer = unmarked-set d i (omega arith) (let k : first (waits m d) 0 n < n = rw e at h in rw e (next-waits n m d k .1))
-
-    pub walk-less : unmarked (set d i true) < unmarked d
-    walk-less = let u = one-fewer in omega arith
-
-    -- r is what is walked, m′ the marks after the turn
-    pub walk-again : (link : ℕ → ℕ → Bool) (r m′ : List Bool) → r ≡ walked link n (unmarked d) m d → m′ ≡ spread (link i) m 0 n → r ≡ walked link n (unmarked (set d i true)) m′ (set d i true)
-    unfolding walked
-    walk-again link r m′ q p = q ∙ rw (one-fewer, ← e, lt-ltb i n h, p) refl
-
-  pub walk-end : (link : ℕ → ℕ → Bool) (r : List Bool) (f : ℕ) → n ≤ i → r ≡ walked link n f m d → m ≡ r
-  unfolding walked
-  walk-end link r zero h q = sym q
-  walk-end link r (suc f) h q = sym (q ∙ rw (le-ltb (first (waits m d) 0 n) n (rw e at h)) refl)
+        let r = visit-visited (unmarked noMarks) s noMarks few h (no-marks maxFixes s) (omega arith) in
+        (λ e. or (r .sound j e) (λ q. clash q (no-marks maxFixes j)) (λ c. c), complete noMarks _ (λ i c. no-marks maxFixes i) r)

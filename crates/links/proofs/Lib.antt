@@ -1,7 +1,11 @@
 pub mod Marks
 pub mod Chains
 pub mod Transmissions
-pub mod Counted
 pub mod Symmetry
 pub mod Positions
 pub mod Labelling
+pub mod Listing
+pub mod Reaching
+pub mod Indexed
+pub mod Partition
+pub mod Fitness

@@ -4,11 +4,12 @@ use mathlib.Core.Bool.{_&&_}
 use mathlib.Core.List.{List}
 use Prim.Native.Nat.{ℕ}
 use Rattle.octets.specs.Order.{isBefore, same}
-use Rattle.octets.proofs.Cases.{by}
+use Rattle.ranges.proofs.Bools.{by}
 use Rattle.record.specs.Fields.{message}
 use Rattle.record.proofs.Laws.{shares-sym}
-use Rattle.links.specs.Links.{linked, linkAt}
-use Rattle.links.specs.Walk.{Symmetric}
+use Rattle.links.specs.Transmissions.{recordsLink}
+use Rattle.links.specs.Links.{linkAt}
+use Rattle.links.specs.Chains.{Symmetric}
 
 same-turned : (a b : List ℕ) → same a b ≡ same b a
 unfolding same
@@ -17,8 +18,8 @@ same-turned a b =
     (λ p. by (isBefore b a) (λ q. rw (p, q) refl) (λ q. rw (p, q) refl))
     (λ p. by (isBefore b a) (λ q. rw (p, q) refl) (λ q. rw (p, q) refl))
 
-pub linked-turned : (a b : List ℕ) → linked a b ≡ linked b a
-unfolding linked
+pub linked-turned : (a b : List ℕ) → recordsLink a b ≡ recordsLink b a
+unfolding recordsLink
 linked-turned a b = ap₂ _&&_ (same-turned (message a) (message b)) (shares-sym a b)
 
 pub links-turned : (t : List ℕ) → Symmetric (linkAt t)

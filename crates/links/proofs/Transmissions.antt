@@ -9,12 +9,13 @@ use borrow.Author.Tests.{eqb-true, eq-eqb}
 use Rattle.ranges.proofs.Range.{first-is, first-not-past, filt-mem, filt-at}
 use Rattle.ranges.specs.Tables.{marked}
 use Rattle.fixes.specs.Layout.{maxFixes}
-use Rattle.links.specs.Walk.{Chain, here, Symmetric, reached, label, isHead, isMember, heads, members}
+use Rattle.links.specs.Chains.{ChainAt, here, Symmetric}
+use Rattle.links.specs.Walk.{reached, label, isHead, isMember, heads, members}
 use Rattle.links.proofs.Chains.{chain-from, chain-to, chain-joined, chain-turned, reached-is}
 
 module _ (link : ℕ → ℕ → Bool) (n : ℕ) (few : n ≤ maxFixes) where
   -- no chain leads to j from one before its label
-  pub label-first : (s j : ℕ) → Chain link n s j → label link n j ≤ s
+  pub label-first : (s j : ℕ) → ChainAt link n s j → label link n j ≤ s
   unfolding label
   label-first s j c =
       let h = chain-from c in
@@ -27,7 +28,7 @@ module _ (link : ℕ → ℕ → Bool) (n : ℕ) (few : n ≤ maxFixes) where
     pub label-below : label link n j < n
     label-below = let r = label-le in omega arith
 
-    pub label-chain : Chain link n (label link n j) j
+    pub label-chain : ChainAt link n (label link n j) j
     unfolding label
     label-chain =
         let l = label-below in
@@ -41,9 +42,9 @@ module _ (link : ℕ → ℕ → Bool) (n : ℕ) (few : n ≤ maxFixes) where
       omega arith
 
   -- two have one label exactly when a chain leads from the one to the other
-  pub label-same : Symmetric link → (i j : ℕ) → i < n → j < n → (label link n i ≡ label link n j) ↔ Chain link n i j
+  pub label-same : Symmetric link → (i j : ℕ) → i < n → j < n → (label link n i ≡ label link n j) ↔ ChainAt link n i j
   label-same w i j h k = (
-    λ e. chain-joined (chain-turned w (label-chain i h)) (subst (λ (s : ℕ). Chain link n s j) (sym e) (label-chain j k)),
+    λ e. chain-joined (chain-turned w (label-chain i h)) (subst (λ (s : ℕ). ChainAt link n s j) (sym e) (label-chain j k)),
     λ c.
         let a = label-first _ j (chain-joined (label-chain i h) c) in
         let b = label-first _ i (chain-joined (label-chain j k) (chain-turned w c)) in
@@ -85,7 +86,7 @@ module _ (link : ℕ → ℕ → Bool) (n : ℕ) (few : n ≤ maxFixes) where
   head-member s m = member-is s s .1 (head-is s .0 m)
 
   -- a transmission is everything that a chain leads to from its first
-  pub members-linked : Symmetric link → (s j : ℕ) → List·Memᴰ s (heads link n) → List·Memᴰ j (members link n s) ↔ Chain link n s j
+  pub members-linked : Symmetric link → (s j : ℕ) → List·Memᴰ s (heads link n) → List·Memᴰ j (members link n s) ↔ ChainAt link n s j
   members-linked w s j m =
       let z = head-is s .0 m in
       let e = z .1 in (

@@ -1,15 +1,11 @@
--- The table of labels that the walks of a board fill. Document 01 says nothing of it: it comes to hold what `Walk` calls the label of each fix.
+-- No claim rests on these definitions: they say what the visits of a walk have written into the table of labels so far.
 use mathlib.Core.Bool.{Bool, cond}
-use mathlib.Core.List.{List}
-use Prim.Native.Nat.{ℕ, zero, suc}
-use lib.ListN.{set}
-use Rattle.ranges.specs.Tables.{marked}
+use mathlib.Core.List.{List, [], _∷_}
+use Prim.Native.Nat.{ℕ}
 
--- no label yet
-abbrev pub none : ℕ
-none = 255
-
--- s for each of the f indices from j on that m marks, in the place of what the table holds there
-unfoldable pub labelled : List Bool → ℕ → List ℕ → ℕ → ℕ → List ℕ
-labelled m s l j zero = l
-labelled m s l j (suc f) = labelled m s (cond (marked m j) (set l j s) l) (suc j) f
+-- the labels l, with s in each place that has a mark in r and none in m
+unfoldable pub relabel : ℕ → List Bool → List Bool → List ℕ → List ℕ
+relabel s m r [] = []
+relabel s [] r (x ∷ l) = x ∷ l
+relabel s (a ∷ m) [] (x ∷ l) = x ∷ l
+relabel s (a ∷ m) (b ∷ r) (x ∷ l) = cond a x (cond b s x) ∷ relabel s m r l

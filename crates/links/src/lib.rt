@@ -1,32 +1,29 @@
 // Which fixes of a board are one transmission: all that are linked through any chain.
 //
-// A walk keeps two tables of marks, who is reached and who is done. A turn takes the first that is reached and not done,
-// and looks for links to those that are not reached: each fix is taken once in all walks of a board, so that n fixes cost
-// at most n * n tests of a link.
+// One table of marks serves all walks of a board. A visit marks a fix and visits what is linked to it and has no mark, so
+// that the number without a mark falls at each visit: each fix is visited once, and n fixes cost at most n * n tests of a
+// link. A fix that an earlier walk marked has a label, and no link leads to it from one without a mark.
 use fixes::layout::FIX_SIZE;
 use fixes::layout::MAX_FIXES;
 use fixes::layout::RECORD_AT;
 use record::layout::RECORD_SIZE;
 ghost use mathlib.Core.Path.{_≡_};
-ghost use mathlib.Core.Bool.{true};
+ghost use mathlib.Core.Bool.{true, false};
 ghost use Prim.Native.Nat.{_+_, _*_, _≤_, _<_};
 ghost use lib.ListN.{length};
 ghost use Rattle.record.specs.Formed.{wellFormed};
-ghost use Rattle.ranges.specs.Range.{first};
-ghost use Rattle.ranges.specs.Tables.{Cached};
-ghost use Rattle.fixes.specs.Layout.{maxFixes, fixSize, recordOf};
+ghost use Rattle.ranges.specs.Tables.{Cached, marked};
+ghost use Rattle.fixes.specs.Layout.{maxFixes, fixSize, fixRecord};
+ghost use Rattle.links.specs.Transmissions.{recordsLink};
 ghost use Rattle.links.specs.Links as L;
 ghost use Rattle.links.specs.Walk as W;
-ghost use Rattle.links.specs.Labels.{labelled};
-
-// No label yet.
-const NONE: u8 = 255;
+ghost use Rattle.links.specs.Labels.{relabel};
 
 // Whether two records link: message and at least one tag are common.
 fn records_link(a: &[u8], b: &[u8]) -> bool
     requires { ⌜ wellFormed (now a) ≡ true ⌝ }
     requires { ⌜ wellFormed (now b) ≡ true ⌝ }
-    ensures { λ r. ⌜ r ≡ L.linked (now (a .entry)) (now (b .entry)) ⌝ }
+    ensures { λ r. ⌜ r ≡ recordsLink (now (a .entry)) (now (b .entry)) ⌝ }
 {
     if !record::relations::same_message(a, b) {
         return false;
@@ -37,7 +34,7 @@ fn records_link(a: &[u8], b: &[u8]) -> bool
 // Whether fixes i and j link.
 pub fn linked(t: &[u8], i: u8, j: u8) -> bool
     requires { ⌜ (i * fixSize + fixSize ≤ length (now t)) × (j * fixSize + fixSize ≤ length (now t)) ⌝ }
-    requires { ⌜ (wellFormed (recordOf (now t) i) ≡ true) × (wellFormed (recordOf (now t) j) ≡ true) ⌝ }
+    requires { ⌜ (wellFormed (fixRecord (now t) i) ≡ true) × (wellFormed (fixRecord (now t) j) ≡ true) ⌝ }
     ensures { λ r. ⌜ r ≡ L.linkAt (now (t .entry)) i j ⌝ }
 {
     let a = i as usize * FIX_SIZE + RECORD_AT;
@@ -47,80 +44,23 @@ pub fn linked(t: &[u8], i: u8, j: u8) -> bool
     records_link(&t[a..a_end], &t[b..b_end])
 }
 
-// Whether i is reached and not done.
-fn waits(reached: &[bool; MAX_FIXES], done: &[bool; MAX_FIXES], i: u8) -> bool
-    requires { ⌜ i < maxFixes ⌝ }
-    ensures { λ r. ⌜ r ≡ W.waits (now (reached .entry)) (now (done .entry)) i ⌝ }
+// Marks i, and all of n that links lead to from it through those without a mark, and gives each of them the label s.
+fn visit(t: &[u8], n: u8, i: u8, s: u8, marks: &mut [bool], labels: &mut [u8])
+    requires { ⌜ L.Sound (now t) n × (i < n) × (length (now marks) ≡ maxFixes) × (length (now labels) ≡ maxFixes) × (marked (now marks) i ≡ false) ⌝ }
+    ensures { λ _. ⌜ now (marks .exit) ≡ W.visit (L.linkAt (now (t .entry))) n (W.unmarked (now (marks .entry))) i (now (marks .entry)) ⌝ }
+    ensures { λ _. ⌜ now (labels .exit) ≡ relabel s (now (marks .entry)) (now (marks .exit)) (now (labels .entry)) ⌝ }
 {
-    if !reached[i as usize] {
-        return false;
-    }
-    !done[i as usize]
-}
-
-// The first of n that waits, or n.
-fn next(n: u8, reached: &[bool; MAX_FIXES], done: &[bool; MAX_FIXES]) -> u8
-    requires { ⌜ n ≤ maxFixes ⌝ }
-    ensures { λ r. ⌜ r ≡ first (W.waits (now (reached .entry)) (now (done .entry))) 0 n ⌝ }
-{
-    let mut i: u8 = 0;
-    while i < n {
-        if waits(reached, done, i) {
-            return i;
-        }
-        i += 1;
-    }
-    i
-}
-
-// Marks those of n that are linked to i; a link is tested only to those without a mark.
-fn spread(t: &[u8], n: u8, i: u8, reached: &mut [bool])
-    requires { ⌜ L.Sound (now t) n × (i < n) × (length (now reached) ≡ maxFixes) ⌝ }
-    ensures { λ _. ⌜ now (reached .exit) ≡ W.spread (L.linkAt (now (t .entry)) i) (now (reached .entry)) 0 n ⌝ }
-{
+    marks[i as usize] = true;
+    labels[i as usize] = s;
     let mut j: u8 = 0;
     while j < n {
-        let at = j as usize;
-        if reached[at] {
+        if marks[j as usize] {
             j += 1;
             continue;
         }
-        reached[at] = linked(t, i, j);
-        j += 1;
-    }
-}
-
-// Who of n is reached from s.
-pub fn walk(t: &[u8], n: u8, s: u8) -> [bool; MAX_FIXES]
-    requires { ⌜ L.Sound (now t) n × (s < n) ⌝ }
-    ensures { λ r. ⌜ r ≡ W.reached (L.linkAt (now (t .entry))) n s ⌝ }
-{
-    let mut reached = [false; MAX_FIXES];
-    let mut done = [false; MAX_FIXES];
-    reached[s as usize] = true;
-    loop {
-        let i = next(n, &reached, &done);
-        if n <= i {
-            break;
+        if linked(t, i, j) {
+            visit(t, n, j, s, marks, labels);
         }
-        done[i as usize] = true;
-        spread(t, n, i, &mut reached);
-    }
-    reached
-}
-
-// Gives those of n that are marked the label s.
-fn label_marked(marks: &[bool; MAX_FIXES], n: u8, s: u8, labels: &mut [u8])
-    requires { ⌜ (n ≤ maxFixes) × (length (now labels) ≡ maxFixes) ⌝ }
-    ensures { λ _. ⌜ now (labels .exit) ≡ labelled (now (marks .entry)) s (now (labels .entry)) 0 n ⌝ }
-{
-    let mut j: u8 = 0;
-    while j < n {
-        if !marks[j as usize] {
-            j += 1;
-            continue;
-        }
-        labels[j as usize] = s;
         j += 1;
     }
 }
@@ -130,15 +70,15 @@ pub fn labels(t: &[u8], n: u8) -> [u8; MAX_FIXES]
     requires { ⌜ L.Sound (now t) n ⌝ }
     ensures { λ r. ⌜ Cached 0 r (W.label (L.linkAt (now (t .entry))) n) n ⌝ }
 {
-    let mut labels = [NONE; MAX_FIXES];
+    let mut marks = [false; MAX_FIXES];
+    let mut labels = [0u8; MAX_FIXES];
     let mut s: u8 = 0;
     while s < n {
-        if labels[s as usize] != NONE {
+        if marks[s as usize] {
             s += 1;
             continue;
         }
-        let marks = walk(t, n, s);
-        label_marked(&marks, n, s, &mut labels);
+        visit(t, n, s, s, &mut marks, &mut labels);
         s += 1;
     }
     labels

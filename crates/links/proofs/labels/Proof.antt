@@ -1,24 +1,20 @@
 -- `labels` meets its contract.
 use Prim.Native.Nat.{_-_, _≤_}
-use mathlib.Core.Path.{_≡_, refl, ap, _∙_}
 use native.Mathlib.Omega.{arith}
-use lib.ListN.{length}
-use Rattle.ranges.specs.Tables.{Cached}
-use Rattle.fixes.specs.Layout.{maxFixes}
 use Rattle.links.specs.Links.{linkAt}
 use Rattle.links.proofs.Symmetry.{links-turned}
-use Rattle.links.proofs.Labelling.{labelBelow, labelled-length, labels-none, labels-old, labels-new, labels-end}
+use Rattle.links.proofs.Labelling.{LabelledBelow, labels-start, labels-old, labels-new, labels-end}
 use borrow.Author.Needs.{needs}
 use Rattle.links.proofs.labels.Statement.{statement}
 use Rattle.links.proofs.labels.Tie as tie
 
 abbrev Inv-loop : tie.InvT-loop
-Inv-loop t n labels₀ s₀ labels s = (s ≤ n) × (length labels ≡ maxFixes) × Cached 0 labels (labelBelow (linkAt t) n s) n
+Inv-loop t n marks₀ labels₀ s₀ marks labels s = (s ≤ n) × LabelledBelow (linkAt t) n s marks labels
 
 abbrev μ-loop : tie.MeasureT-loop
-μ-loop t n labels₀ s₀ labels s = n - s
+μ-loop t n marks₀ labels₀ s₀ marks labels s = n - s
 
--- ---- a turn: the fix has no label yet
+-- ---- a turn: the fix has no mark
 module _ (a : tie.Else1 Inv-loop μ-loop) where
   abbrev turn : tie.At-loop Inv-loop μ-loop
   turn = a .before .before
@@ -27,7 +23,7 @@ module _ (a : tie.Else1 Inv-loop μ-loop) where
   start = turn .before .before
 
 loop-holds : tie.Need-loop-holds Inv-loop μ-loop
-loop-holds c = (omega arith, refl, labels-none _ _ (c .before .pre .few))
+loop-holds c = (omega arith, labels-start _ _ (c .before .pre .few))
 
 cast-if1 : tie.Need-cast-if1 Inv-loop μ-loop
 cast-if1 c = search needs
@@ -42,16 +38,21 @@ loop-less : tie.Need-loop-less Inv-loop μ-loop
 loop-less c = search needs
 
 loop-again : tie.Need-loop-again Inv-loop μ-loop
-loop-again c = let l = c .before .before .loop .inv in let f = c .before .before .before .before .pre .few in (omega arith, l .1, labels-old _ _ f _ _ (c .before .loop-test .taken) (l .2) (λ e. omega arith))
+loop-again c =
+    let a = c .before .before in
+    (omega arith, labels-old _ _ (a .before .before .pre .few) _ (c .before .loop-test .taken) _ _ (a .loop .inv .1) (c .if1 .taken))
 
-walk-requires : tie.Need-walk-requires Inv-loop μ-loop
-walk-requires c κs = search needs
+slice-aggregate-visit : tie.Need-slice-aggregate-visit Inv-loop μ-loop
+slice-aggregate-visit c = search needs
 
-slice-aggregate-label-marked : tie.Need-slice-aggregate-label-marked Inv-loop μ-loop
-slice-aggregate-label-marked c = search needs
+slice-aggregate-visit-2 : tie.Need-slice-aggregate-visit-2 Inv-loop μ-loop
+slice-aggregate-visit-2 c = search needs
 
-label-marked-requires : tie.Need-label-marked-requires Inv-loop μ-loop
-label-marked-requires c κs = let a = c .before .before .before in (start a .pre .few, turn a .loop .inv .1)
+visit-requires : tie.Need-visit-requires Inv-loop μ-loop
+visit-requires c κs =
+    let a = c .before .before in
+    let w = turn a .loop .inv .1 in
+    (start a .pre, a .before .loop-test .taken, w .wide, w .long, a .if1 .left)
 
 add-s-2 : tie.Need-add-s-2 Inv-loop μ-loop
 add-s-2 c = search needs
@@ -62,15 +63,11 @@ loop-less-2 c = search needs
 loop-again-2 : tie.Need-loop-again-2 Inv-loop μ-loop
 loop-again-2 c =
     let a = c .before .before .before .before .before in
-    let inv = turn a .loop .inv in
-    let e = c .before .label-marked .ensures in (
-      omega arith,
-      ap length e ∙ labelled-length _ _ _ _ _ ∙ inv .1,
-      labels-new _ _ (start a .pre .few) _ _ (a .before .loop-test .taken) (inv .2) (links-turned (start a .args .t .now)) (omega arith) (a .if1 .left) _ (c .before .before .before .before .walk .ensures) _ e,
-    )
+    let v = c .before .before .visit .ensures in
+    (omega arith, labels-new _ _ (start a .pre .few) _ (a .before .loop-test .taken) _ _ (turn a .loop .inv .1) (links-turned (start a .args .t .now)) (a .if1 .left) _ _ (v .0) (v .1))
 
 returns : tie.Need-returns Inv-loop μ-loop
-returns c = labels-end _ _ (c .before .before .before .pre .few) _ _ (c .loop-test .left) (c .before .loop .inv .2)
+returns c = labels-end _ _ (c .before .before .before .pre .few) _ _ _ (c .loop-test .left) (c .before .loop .inv .1)
 
 pub labels-spec : {M : Type 1} → statement M
 labels-spec =
@@ -84,9 +81,9 @@ labels-spec =
     add-s
     loop-less
     loop-again
-    walk-requires
-    slice-aggregate-label-marked
-    label-marked-requires
+    slice-aggregate-visit
+    slice-aggregate-visit-2
+    visit-requires
     add-s-2
     loop-less-2
     loop-again-2

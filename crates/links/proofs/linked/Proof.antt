@@ -2,7 +2,7 @@
 use Prim.Native.Nat.{_+_, _*_}
 use Rattle.record.specs.Layout.{recordSize}
 use Rattle.items.proofs.Pairing.{width}
-use Rattle.fixes.specs.Layout.{fixSize, recordAt}
+use Rattle.fixes.specs.Layout.{fixSize, fixRecordAt}
 use borrow.Author.Needs.{needs}
 use Rattle.links.proofs.linked.Statement.{statement}
 use Rattle.links.proofs.linked.Tie as tie
@@ -44,10 +44,10 @@ part-records-link-end-2 : tie.Need-part-records-link-end-2
 part-records-link-end-2 c = search needs
 
 records-link-requires : tie.Need-records-link-requires
-records-link-requires c κs = let a = c .before .before .before in (rw (width recordSize (a .args .i * fixSize + recordAt)) (a .pre .1 .0), rw (width recordSize (a .args .j * fixSize + recordAt)) (a .pre .1 .1))
+records-link-requires c κs = let a = c .before .before .before in (rw (width recordSize (a .args .i * fixSize + fixRecordAt)) (a .pre .1 .0), rw (width recordSize (a .args .j * fixSize + fixRecordAt)) (a .pre .1 .1))
 
 returns : tie.Need-returns
-returns c = let a = c .before .before .before .before .args in rw (c .records-link .ensures, width recordSize (a .i * fixSize + recordAt), width recordSize (a .j * fixSize + recordAt))
+returns c = let a = c .before .before .before .before .args in rw (c .records-link .ensures, width recordSize (a .i * fixSize + fixRecordAt), width recordSize (a .j * fixSize + fixRecordAt))
 
 pub linked-spec : {M : Type 1} → statement M
 linked-spec =

@@ -2,7 +2,7 @@
 use borrow.Author.Needs.{needs}
 use borrow.Author.Tests.{not-true, not-false}
 use Rattle.ranges.proofs.Bools.{ret-f, ret-t}
-use Rattle.links.specs.Links.{linked}
+use Rattle.links.specs.Transmissions.{recordsLink}
 use Rattle.links.proofs.records_link.Statement.{statement}
 use Rattle.links.proofs.records_link.Tie as tie
 
@@ -10,14 +10,14 @@ same-message-requires : tie.Need-same-message-requires
 same-message-requires c κs = search needs
 
 returns : tie.Need-returns
-unfolding linked
+unfolding recordsLink
 returns c = ret-f _ _ _ (c .before .same-message .ensures) (not-true _ (c .if1 .taken))
 
 shares-tag-requires : tie.Need-shares-tag-requires
 shares-tag-requires c κs = search needs
 
 returns-2 : tie.Need-returns-2
-unfolding linked
+unfolding recordsLink
 returns-2 c = ret-t _ _ _ _ (c .before .before .same-message .ensures) (not-false _ (c .before .if1 .left)) (c .shares-tag .ensures)
 
 pub records-link-spec : {M : Type 1} → statement M
