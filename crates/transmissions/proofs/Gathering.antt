@@ -4,15 +4,16 @@ use mathlib.Core.List.{List, [], _∷_, _++_, append-assoc, append-nil}
 use Prim.Native.Nat.{ℕ, _+_, _-_, _≤_, _<_}
 use native.Mathlib.Omega.{arith}
 use native.Mathlib.Numerals.{add-one}
-use lib.ListN.{length, getD, take, drop, replicate, length-append}
+use lib.ListN.{length, getD, take, drop, replicate, length-append, List·getD-append}
 use lib.Seq.{take-suc, take-append-seam}
 use Rattle.text.specs.Buffer.{Put}
 use Rattle.text.proofs.Writing.{put-whole}
 use Rattle.ranges.proofs.Range.{collect-few, collect-below}
 use Rattle.ranges.specs.Tables.{itself}
+use Rattle.items.specs.Layout.{maxItems}
 use Rattle.fixes.specs.Layout.{maxFixes}
 use Rattle.decision.specs.Answer.{indices}
-use Rattle.transmissions.specs.Transmission.{itemOf, itemsOf, belongs, membersOf}
+use Rattle.transmissions.specs.Members.{nth, itemOf, itemsOf, belongs, membersOf}
 
 items-append : (t js ks : List ℕ) → itemsOf t (js ++ ks) ≡ itemsOf t js ++ itemsOf t ks
 unfolding itemsOf
@@ -55,3 +56,7 @@ members-listed l n s h =
       fixes = λ i. collect-below (belongs l s) itself maxFixes (omega arith) 0 n (maxFixes - length ms) i (λ j u v. omega arith);
       all = take-append-seam ms (replicate (maxFixes - length ms) 0);
     }
+
+pub nth-is : (js : List ℕ) (i : ℕ) → i < length js → nth (indices js) i ≡ getD js i 0
+unfolding indices
+nth-is js i h = List·getD-append js (replicate (maxItems - length js) 0) 0 i h

@@ -10,13 +10,15 @@ use borrow.Author.Tests.{le-ltb}
 use Rattle.octets.specs.Order.{same}
 use Rattle.record.specs.Layout.{recordSize}
 use Rattle.record.specs.Formed.{wellFormed}
-use Rattle.ranges.proofs.Range.{any-none, collect-in, collect-ascends}
-use Rattle.items.specs.Layout.{maxItems, itemSize, hashSize, identityAt}
+use Rattle.ranges.specs.Lists.{upTo}
+use Rattle.ranges.proofs.Lists.{any-none, up-in}
+use Rattle.ranges.proofs.Range.{collect-in, collect-ascends}
+use Rattle.items.specs.Layout.{maxItems, itemSize, hashSize, itemIdentityAt}
 use Rattle.items.specs.Items as I
-use Rattle.fixes.specs.Layout.{maxFixes, fixSize, recordAt, inputsAt, recordOf, inputsOf, identityOf}
+use Rattle.fixes.specs.Layout.{maxFixes, fixSize, fixRecordAt, fixInputsAt, fixRecord, fixInputs, fixIdentity}
 use Rattle.fixes.proofs.Parts.{taken}
 use Rattle.decision.specs.Answer.{badAt, bad}
-use Rattle.transmissions.specs.Transmission.{unjudged, itemOf, itemsOf, belongs, membersOf}
+use Rattle.transmissions.specs.Members.{unjudged, itemOf, itemsOf, belongs, membersOf}
 use Rattle.transmissions.proofs.Gathering.{members-listed}
 
 -- ---- items one after another
@@ -28,31 +30,31 @@ Within js = (i : ℕ) → i < length js → getD js i 0 < maxFixes
 module _ (t : List ℕ) (wide : length t ≡ maxFixes * fixSize) where
   -- the parts of an item
   module _ (j : ℕ) (h : j < maxFixes) where
-    record-length : length (recordOf t j) ≡ recordSize
-    record-length = taken recordSize (j * fixSize + recordAt) t (omega arith)
+    record-length : length (fixRecord t j) ≡ recordSize
+    record-length = taken recordSize (j * fixSize + fixRecordAt) t (omega arith)
 
-    inputs-length : length (inputsOf t j) ≡ hashSize
-    inputs-length = taken hashSize (j * fixSize + inputsAt) t (omega arith)
+    inputs-length : length (fixInputs t j) ≡ hashSize
+    inputs-length = taken hashSize (j * fixSize + fixInputsAt) t (omega arith)
 
-    identity-length : length (identityOf t j) ≡ hashSize
+    identity-length : length (fixIdentity t j) ≡ hashSize
     identity-length = taken hashSize (j * fixSize) t (omega arith)
 
     item-length : length (itemOf t j) ≡ itemSize
     item-length = simp length-append (omega (arith, record-length, inputs-length, identity-length))
 
     -- an item at the front of a text
-    front-record : (r : List ℕ) → take recordSize (itemOf t j ++ r) ≡ recordOf t j
+    front-record : (r : List ℕ) → take recordSize (itemOf t j ++ r) ≡ fixRecord t j
     front-record r =
-        let x = inputsOf t j ++ (identityOf t j ++ unjudged) in
-        ap (take recordSize) (append-assoc (recordOf t j) x r) ∙ take-at (recordOf t j) (x ++ r) recordSize record-length
+        let x = fixInputs t j ++ (fixIdentity t j ++ unjudged) in
+        ap (take recordSize) (append-assoc (fixRecord t j) x r) ∙ take-at (fixRecord t j) (x ++ r) recordSize record-length
 
-    front-identity : (r : List ℕ) → take hashSize (drop identityAt (itemOf t j ++ r)) ≡ identityOf t j
+    front-identity : (r : List ℕ) → take hashSize (drop itemIdentityAt (itemOf t j ++ r)) ≡ fixIdentity t j
     front-identity r =
-        let e : itemOf t j ++ r ≡ (recordOf t j ++ inputsOf t j) ++ (identityOf t j ++ (unjudged ++ r)) = simp append-assoc in
-        let l : length (recordOf t j ++ inputsOf t j) ≡ identityAt = length-append (recordOf t j) (inputsOf t j) ∙ omega (arith, record-length, inputs-length) in
-        ap (λ (x : List ℕ). take hashSize (drop identityAt x)) e
-        ∙ ap (take hashSize) (drop-at (recordOf t j ++ inputsOf t j) (identityOf t j ++ (unjudged ++ r)) identityAt l)
-        ∙ take-at (identityOf t j) (unjudged ++ r) hashSize identity-length
+        let e : itemOf t j ++ r ≡ (fixRecord t j ++ fixInputs t j) ++ (fixIdentity t j ++ (unjudged ++ r)) = simp append-assoc in
+        let l : length (fixRecord t j ++ fixInputs t j) ≡ itemIdentityAt = length-append (fixRecord t j) (fixInputs t j) ∙ omega (arith, record-length, inputs-length) in
+        ap (λ (x : List ℕ). take hashSize (drop itemIdentityAt x)) e
+        ∙ ap (take hashSize) (drop-at (fixRecord t j ++ fixInputs t j) (fixIdentity t j ++ (unjudged ++ r)) itemIdentityAt l)
+        ∙ take-at (fixIdentity t j) (unjudged ++ r) hashSize identity-length
 
   items-length : (js : List ℕ) → Within js → length (itemsOf t js) ≡ length js * itemSize
   unfolding itemsOf
@@ -75,12 +77,12 @@ module _ (t : List ℕ) (wide : length t ≡ maxFixes * fixSize) where
 
   module _ (js : List ℕ) (w : Within js) where
     -- item i is fix i of the list
-    pub record-at : (i : ℕ) → i < length js → I.recordOf (itemsOf t js) i ≡ recordOf t (getD js i 0)
+    pub record-at : (i : ℕ) → i < length js → I.itemRecord (itemsOf t js) i ≡ fixRecord t (getD js i 0)
     record-at i h = ap (take recordSize) (items-from js i w h) ∙ front-record (getD js i 0) (w i h) (itemsOf t (drop (suc i) js))
 
-    pub identity-at : (i : ℕ) → i < length js → I.identityOf (itemsOf t js) i ≡ identityOf t (getD js i 0)
+    pub identity-at : (i : ℕ) → i < length js → I.itemIdentity (itemsOf t js) i ≡ fixIdentity t (getD js i 0)
     identity-at i h =
-        ap (take hashSize) (sym (drop-drop identityAt (i * itemSize) (itemsOf t js)) ∙ ap (drop identityAt) (items-from js i w h))
+        ap (take hashSize) (sym (drop-drop itemIdentityAt (i * itemSize) (itemsOf t js)) ∙ ap (drop itemIdentityAt) (items-from js i w h))
         ∙ front-identity (getD js i 0) (w i h) (itemsOf t (drop (suc i) js))
 
 -- ---- the fixes of a transmission
@@ -98,13 +100,13 @@ members-length t l n s wide f = items-length t wide (membersOf l n s) (members-w
 -- ---- none is refused
 
 module _ (t : List ℕ) (wide : length t ≡ maxFixes * fixSize) (js : List ℕ) (w : Within js) (few : length js ≤ maxItems)
-    (formed : (i : ℕ) → i < length js → wellFormed (recordOf t (getD js i 0)) ≡ true)
-    (apart : (i j : ℕ) → i < j → j < length js → same (identityOf t (getD js j 0)) (identityOf t (getD js i 0)) ≡ false) where
+    (formed : (i : ℕ) → i < length js → wellFormed (fixRecord t (getD js i 0)) ≡ true)
+    (apart : (i j : ℕ) → i < j → j < length js → same (fixIdentity t (getD js j 0)) (fixIdentity t (getD js i 0)) ≡ false) where
   good-at : (i : ℕ) → i < length js → badAt (itemsOf t js) i ≡ false
   unfolding badAt
   good-at i h =
       rw (record-at t wide js w i h, formed i h)
-      (any-none (I.sameIdentity (itemsOf t js) i) 0 i (λ j u l. rw (identity-at t wide js w i h, identity-at t wide js w j (omega arith)) (apart j i (omega arith) h)))
+      (any-none (I.sameIdentity (itemsOf t js) i) (upTo i) (λ j m. let l = up-in i j m in rw (identity-at t wide js w i h, identity-at t wide js w j (omega arith)) (apart j i (omega arith) h)))
 
   pub items-good : bad (itemsOf t js) ≡ false
   unfolding bad
@@ -112,12 +114,12 @@ module _ (t : List ℕ) (wide : length t ≡ maxFixes * fixSize) (js : List ℕ)
       let l = items-length t wide js w in
       let c : length (itemsOf t js) / itemSize ≡ length js = omega arith in
       let m : length (itemsOf t js) % itemSize ≡ 0 = omega arith in
-      rw (le-ltb (maxItems * itemSize) (length (itemsOf t js)) (omega arith), m, c) (any-none (badAt (itemsOf t js)) 0 (length js) (λ i u l. good-at i (omega arith)))
+      rw (le-ltb (maxItems * itemSize) (length (itemsOf t js)) (omega arith), m, c) (any-none (badAt (itemsOf t js)) (upTo (length js)) (λ i m. good-at i (up-in (length js) i m)))
 
 -- the fixes of a transmission, of n in the table that are well-formed and no two of which have one identity
 module _ (t l : List ℕ) (n s : ℕ) (wide : length t ≡ maxFixes * fixSize) (h : n ≤ maxFixes)
-    (formed : (i : ℕ) → i < n → wellFormed (recordOf t i) ≡ true)
-    (apart : (i j : ℕ) → i < j → j < n → same (identityOf t j) (identityOf t i) ≡ false) where
+    (formed : (i : ℕ) → i < n → wellFormed (fixRecord t i) ≡ true)
+    (apart : (i j : ℕ) → i < j → j < n → same (fixIdentity t j) (fixIdentity t i) ≡ false) where
   abbrev ms : List ℕ
   ms = membersOf l n s
 

@@ -1,18 +1,20 @@
 // Which transmissions are written: the latest, the oldest of them first.
+use decision::Choice;
 use fixes::layout::MAX_FIXES;
 ghost use mathlib.Core.Path.{_≡_};
 ghost use mathlib.Core.List.{[]};
 ghost use Prim.Native.Nat.{ℕ, _+_, _*_, _<_, _≤_};
 ghost use lib.ListN.{length, getD, drop};
 ghost use Rattle.fixes.specs.Layout.{fixSize, maxFixes};
-ghost use Rattle.ranges.specs.Range.{better, Valid};
-ghost use Rattle.transmissions.specs.Transmission.{none, headsOf};
+ghost use Rattle.ranges.specs.Lists.{filter, upTo};
+ghost use Rattle.ranges.specs.Tables.{marked};
+ghost use Rattle.decision.specs.Choosing.{better, choose, Below};
+ghost use Rattle.transmissions.specs.Members.{headsOf};
+ghost use Rattle.transmissions.specs.Picture.{maxShown};
 ghost use Rattle.transmissions.specs.Latest as L;
 
 // The most transmissions on a board.
 pub const MAX_SHOWN: usize = 8;
-
-const NONE: u8 = 255;
 
 // The transmissions that are written: those from `start` on.
 pub struct Shown {
@@ -51,29 +53,29 @@ fn later_fix(t: &[u8], i: u8, j: u8) -> bool
 }
 
 // The later of best, if there is one, and k.
-fn later_of(t: &[u8], leads: &[u8], n: u8, best: u8, k: u8) -> u8
+fn later_of(t: &[u8], leads: &[u8], n: u8, best: Choice, k: u8) -> Choice
     requires { ⌜ length (now t) ≡ maxFixes * fixSize ⌝ }
     requires { ⌜ (n ≤ length (now leads)) × ((i : ℕ) → getD (now leads) i 0 < maxFixes) ⌝ }
-    requires { ⌜ (k < n) × Valid none n best ⌝ }
-    ensures { λ r. ⌜ r ≡ better (L.later (now (t .entry)) (now (leads .entry))) none best k ⌝ }
+    requires { ⌜ (k < n) × Below n best ⌝ }
+    ensures { λ r. ⌜ r ≡ better (L.later (now (t .entry)) (now (leads .entry))) best k ⌝ }
 {
-    if best == NONE {
-        return k;
-    }
-    if later_fix(t, leads[k as usize], leads[best as usize]) {
-        return k;
+    let Choice::Item(b) = best else {
+        return Choice::Item(k);
+    };
+    if later_fix(t, leads[k as usize], leads[b as usize]) {
+        return Choice::Item(k);
     }
     best
 }
 
-// The latest of those left.
-fn latest_left(t: &[u8], leads: &[u8], n: u8, left: &[bool; MAX_FIXES]) -> u8
+// The latest of those left, if there is one.
+fn latest_left(t: &[u8], leads: &[u8], n: u8, left: &[bool; MAX_FIXES]) -> Choice
     requires { ⌜ length (now t) ≡ maxFixes * fixSize ⌝ }
     requires { ⌜ (n ≤ length (now leads)) × ((i : ℕ) → getD (now leads) i 0 < maxFixes) ⌝ }
     requires { ⌜ n ≤ maxFixes ⌝ }
-    ensures { λ r. ⌜ r ≡ L.latestLeft (now (t .entry)) (now (leads .entry)) n (now (left .entry)) ⌝ }
+    ensures { λ r. ⌜ r ≡ choose (L.later (now (t .entry)) (now (leads .entry))) Choice.Nobody (filter (marked (now (left .entry))) (upTo n)) ⌝ }
 {
-    let mut best: u8 = NONE;
+    let mut best = Choice::Nobody;
     let mut i: u8 = 0;
     while i < n {
         if !left[i as usize] {
@@ -91,16 +93,16 @@ pub fn latest(t: &[u8], leads: &[u8], n: u8, heads: [bool; MAX_FIXES]) -> Shown
     requires { ⌜ length (now t) ≡ maxFixes * fixSize ⌝ }
     requires { ⌜ (n ≤ length (now leads)) × ((i : ℕ) → getD (now leads) i 0 < maxFixes) ⌝ }
     requires { ⌜ (n ≤ maxFixes) × (length heads ≡ maxFixes) ⌝ }
-    ensures { λ r. ⌜ (r .start ≤ L.maxShown) × (length (r .list) ≡ L.maxShown) × (drop (r .start) (r .list) ≡ L.latest (now (t .entry)) (now (leads .entry)) n L.maxShown heads []) ⌝ }
+    ensures { λ r. ⌜ (r .start ≤ maxShown) × (length (r .list) ≡ maxShown) × (drop (r .start) (r .list) ≡ L.latest (now (t .entry)) (now (leads .entry)) n maxShown heads []) ⌝ }
 {
     let mut left = heads;
     let mut list = [0u8; MAX_SHOWN];
     let mut k: u8 = 8;
     while 0 < k {
-        let b = latest_left(t, leads, n, &left);
-        if b == NONE {
+        let last = latest_left(t, leads, n, &left);
+        let Choice::Item(b) = last else {
             return Shown { list, start: k };
-        }
+        };
         k -= 1;
         list[k as usize] = b;
         left[b as usize] = false;

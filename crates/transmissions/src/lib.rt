@@ -9,8 +9,8 @@ ghost use Rattle.text.specs.Buffer.{Put};
 ghost use Rattle.items.specs.Layout.{itemSize};
 ghost use Rattle.fixes.specs.Layout.{fixSize, maxFixes};
 ghost use Rattle.decision.specs.Answer.{indices, decided};
-ghost use Rattle.transmissions.specs.Transmission as T;
-ghost use Rattle.transmissions.specs.Transmission.{membersOf, itemOf, itemsOf, outcomeOf, leaderOf};
+ghost use Rattle.transmissions.specs.Members as T;
+ghost use Rattle.transmissions.specs.Members.{membersOf, itemOf, itemsOf, outcomeOf, leaderOf};
 
 pub mod latest;
 

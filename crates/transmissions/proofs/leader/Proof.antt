@@ -1,6 +1,6 @@
 -- `leader` meets its contract.
 use mathlib.Core.Path.{refl, _∙_}
-use Rattle.transmissions.specs.Transmission.{leaderOf, outcomeOf}
+use Rattle.transmissions.specs.Members.{leaderOf, outcomeOf}
 use Rattle.decision.specs.Answer.{indices}
 use Rattle.transmissions.proofs.Gathering.{Listed, members-listed}
 use borrow.Author.Needs.{needs}

@@ -6,7 +6,7 @@ use lib.ListN.{length, length-set}
 use Rattle.ranges.specs.Range.{Collected, Filled}
 use Rattle.ranges.proofs.Range.{collected-none, collected-hit, collected-done}
 use Rattle.fixes.specs.Layout.{maxFixes}
-use Rattle.transmissions.specs.Transmission.{every, leading}
+use Rattle.transmissions.specs.Members.{every, leading}
 use borrow.Author.Needs.{needs}
 use Rattle.transmissions.proofs.leaders.Statement.{statement}
 use Rattle.transmissions.proofs.leaders.Tie as tie

@@ -9,8 +9,8 @@ use Rattle.ranges.specs.Range.{Collected}
 use Rattle.ranges.proofs.Range.{collected-none, collected-hit, collected-miss, collected-done}
 use Rattle.ranges.specs.Tables.{itself}
 use Rattle.fixes.specs.Layout.{maxFixes}
-use Rattle.decision.proofs.Arrays.{collected-indices}
-use Rattle.transmissions.specs.Transmission.{belongs}
+use Rattle.decision.proofs.Arrays.{held-indices}
+use Rattle.transmissions.specs.Members.{belongs}
 use Rattle.transmissions.proofs.members.Statement.{statement}
 use Rattle.transmissions.proofs.members.Tie as tie
 
@@ -57,7 +57,10 @@ loop-again-2 : tie.Need-loop-again-2 Inv-loop μ-loop
 loop-again-2 c = let l = c .before .before .before .loop in (omega arith, simp length-set (l .inv .1), collected-hit _ _ _ _ _ _ _ _ (omega arith) (eq-eqb _ _ (c .if1 .left)) refl (l .inv .2))
 
 returns : tie.Need-returns Inv-loop μ-loop
-returns c = let l = c .before .loop in collected-indices _ _ _ (collected-done _ _ _ _ _ _ _ _ (c .loop-test .left) (l .inv .0) (l .inv .2))
+returns c =
+    let l = c .before .loop in
+    let e = collected-done _ _ _ _ _ _ _ _ (c .loop-test .left) (l .inv .0) (l .inv .2) in
+    held-indices _ _ (record { count = e .count; filled = e .filled })
 
 pub members-spec : {M : Type 1} → statement M
 members-spec =

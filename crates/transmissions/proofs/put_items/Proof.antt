@@ -6,7 +6,7 @@ use lib.ListN.{take}
 use Rattle.text.specs.Buffer.{Put}
 use Rattle.text.proofs.Writing.{put-put, put-as, put-none, put-length}
 use Rattle.items.specs.Layout.{itemSize}
-use Rattle.transmissions.specs.Transmission.{itemsOf}
+use Rattle.transmissions.specs.Members.{itemsOf}
 use Rattle.transmissions.proofs.Gathering.{items-more}
 use borrow.Author.Needs.{needs}
 use Rattle.transmissions.proofs.put_items.Statement.{statement}

@@ -7,7 +7,7 @@ use lib.ListN.{length, length-set}
 use Rattle.ranges.specs.Range.{Collected, Filled}
 use Rattle.ranges.proofs.Range.{collected-none, collected-hit, collected-done}
 use Rattle.fixes.specs.Layout.{maxFixes}
-use Rattle.transmissions.specs.Transmission.{every, belongs}
+use Rattle.transmissions.specs.Members.{every, belongs}
 use borrow.Author.Needs.{needs}
 use Rattle.transmissions.proofs.latest.heads.Statement.{statement}
 use Rattle.transmissions.proofs.latest.heads.Tie as tie

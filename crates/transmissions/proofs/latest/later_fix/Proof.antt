@@ -4,7 +4,7 @@ use mathlib.Core.Path.{_≡_, refl, ap, _∙_}
 use mathlib.Core.List.{List}
 use borrow.Author.Tests.{lt-ltb, le-ltb}
 use Rattle.record.specs.Fields.{time}
-use Rattle.fixes.specs.Layout.{recordOf}
+use Rattle.fixes.specs.Layout.{fixRecord}
 use Rattle.transmissions.specs.Latest.{laterFix}
 use borrow.Author.Needs.{needs}
 use Rattle.transmissions.proofs.latest.later_fix.Statement.{statement}
@@ -24,10 +24,10 @@ module _ (a : tie.After-time2) where
   abbrev t : List ℕ
   t = start .args .t .now
 
-  time-i : a .before .before .time .result ≡ time (recordOf t (start .args .i))
+  time-i : a .before .before .time .result ≡ time (fixRecord t (start .args .i))
   time-i = a .before .before .time .ensures ∙ ap time (a .before .before .before .record-of .ensures .0)
 
-  time-j : a .time2 .result ≡ time (recordOf t (start .args .j))
+  time-j : a .time2 .result ≡ time (fixRecord t (start .args .j))
   time-j = a .time2 .ensures ∙ ap time (a .before .record-of2 .ensures .0)
 
 record-of-requires : tie.Need-record-of-requires

@@ -1,7 +1,7 @@
 -- `latest` meets its contract.
 use native.Mathlib.Omega.{arith}
-use Rattle.ranges.proofs.Range.{least-below}
-use Rattle.transmissions.specs.Transmission.{none}
+use mathlib.Core.Path.{sym, _∙_}
+use Rattle.decision.proofs.Choosing.{chose-among}
 use Rattle.transmissions.proofs.Showing.{Showing, showing-none, showing-more, showing-end, showing-full}
 use borrow.Author.Needs.{needs}
 use Rattle.transmissions.proofs.latest.latest.Statement.{statement}
@@ -22,8 +22,17 @@ loop-holds c = showing-none _ _ _ _ (c .before .before .pre .1 .1 .1)
 latest-left-requires : tie.Need-latest-left-requires Inv-loop μ-loop
 latest-left-requires c κs = search needs
 
+enum-known-last : tie.Need-enum-known-last Inv-loop μ-loop
+enum-known-last c = search needs
+
+enum-told : tie.Need-enum-told Inv-loop μ-loop
+enum-told c = search needs
+
 returns : tie.Need-returns Inv-loop μ-loop
-returns c = let s = c .before .before .before .before .loop .inv in (s .few, s .long, showing-end _ _ _ _ _ _ _ _ (c .before .before .before .loop-test .taken) (c .before .latest-left .ensures) (c .if1 .taken) s)
+returns c =
+    let f = c .before .before in
+    let s = f .before .before .before .loop .inv in
+    (s .few, s .long, showing-end _ _ _ _ _ _ _ (f .before .before .loop-test .taken) (sym (f .latest-left .ensures) ∙ c .enum-told .given .1) s)
 
 sub-k : tie.Need-sub-k Inv-loop μ-loop
 sub-k c = search needs
@@ -32,19 +41,24 @@ cast-list : tie.Need-cast-list Inv-loop μ-loop
 cast-list c = search needs
 
 array-write-list : tie.Need-array-write-list Inv-loop μ-loop
-array-write-list c = let s = c .before .before .before .before .loop .inv in omega (arith, s .few)
+array-write-list c = let s = c .before .before .before .before .before .before .loop .inv in omega (arith, s .few)
 
 cast-left : tie.Need-cast-left Inv-loop μ-loop
 cast-left c = search needs
 
 array-write-left : tie.Need-array-write-left Inv-loop μ-loop
-array-write-left c = let l = least-below _ none _ _ _ (c .before .latest-left .ensures) (c .if1 .left) in omega (arith, l)
+array-write-left c =
+    let f = c .before .before .before in
+    let l = chose-among _ _ _ _ (sym (f .latest-left .ensures) ∙ c .before .last .given .1) .0 in
+    omega arith
 
 loop-less : tie.Need-loop-less Inv-loop μ-loop
 loop-less c = search needs
 
 loop-again : tie.Need-loop-again Inv-loop μ-loop
-loop-again c = showing-more _ _ _ _ _ _ _ _ (c .before .before .before .loop-test .taken) (c .before .latest-left .ensures) (c .if1 .left) (c .before .before .before .before .loop .inv)
+loop-again c =
+    let f = c .before .before .before in
+    showing-more _ _ _ _ _ _ _ _ (f .before .before .loop-test .taken) (sym (f .latest-left .ensures) ∙ c .before .last .given .1) (f .before .before .before .loop .inv)
 
 returns-2 : tie.Need-returns-2 Inv-loop μ-loop
 returns-2 c = let s = c .before .loop .inv in (s .few, s .long, showing-full _ _ _ _ _ _ _ (c .loop-test .left) s)
@@ -57,6 +71,8 @@ latest-spec =
     μ-loop
     loop-holds
     latest-left-requires
+    enum-known-last
+    enum-told
     returns
     sub-k
     cast-list

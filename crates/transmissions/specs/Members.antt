@@ -1,5 +1,5 @@
--- One transmission of a board (document 01, 'The board'), of a table of fixes t of which there are n, and their labels l: fixes with one label are one
--- transmission, and the label is its first fix.
+-- No claim rests on these definitions: they say what the code has of a transmission, in a table of fixes t of which there are n, with their labels l. Fixes with
+-- one label are one transmission, and the label is its first fix.
 use Prim.Native.Nat.{ℕ, _-_}
 use mathlib.Core.Bool.{Bool, true, false, cond}
 use mathlib.Core.List.{List, [], _∷_, _++_}
@@ -7,14 +7,10 @@ use lib.Dec.{eqb}
 use lib.ListN.{length, getD, replicate}
 use Rattle.ranges.specs.Range.{collect}
 use Rattle.ranges.specs.Tables.{itself}
-use Rattle.fixes.specs.Layout.{maxFixes, recordOf, inputsOf, identityOf}
+use Rattle.fixes.specs.Layout.{maxFixes, fixRecord, fixInputs, fixIdentity}
 use Rattle.decision.specs.declared.Indices.{Indices}
 use Rattle.decision.specs.declared.Decision.{Decision}
 use Rattle.decision.specs.Answer.{indices, decided}
-
--- no fix
-abbrev pub none : ℕ
-none = 255
 
 abbrev pub belongs : List ℕ → ℕ → ℕ → Bool
 belongs l s j = eqb (getD l j 0) s
@@ -31,7 +27,7 @@ abbrev pub unjudged : List ℕ
 unjudged = replicate 8 0 ++ (1 ∷ 0 ∷ 0 ∷ [])
 
 abbrev pub itemOf : List ℕ → ℕ → List ℕ
-itemOf t j = recordOf t j ++ (inputsOf t j ++ (identityOf t j ++ unjudged))
+itemOf t j = fixRecord t j ++ (fixInputs t j ++ (fixIdentity t j ++ unjudged))
 
 unfoldable pub itemsOf : List ℕ → List ℕ → List ℕ
 itemsOf t [] = []
@@ -53,13 +49,13 @@ abbrev pub every : ℕ → Bool
 every i = true
 
 -- what f gives of each of n fixes, in an array, with d past them
-abbrev pub tabled : {A : Type 0} → A → (ℕ → A) → ℕ → List A
-tabled d f n = collect every f 0 n ++ replicate (maxFixes - length (collect every f 0 n)) d
+abbrev pub tabulate : {A : Type 0} → A → (ℕ → A) → ℕ → List A
+tabulate d f n = collect every f 0 n ++ replicate (maxFixes - length (collect every f 0 n)) d
 
 -- the first ranked of each transmission, at its head
 abbrev pub leadersOf : List ℕ → List ℕ → ℕ → List ℕ
-leadersOf t l n = tabled 0 (leading t l n) n
+leadersOf t l n = tabulate 0 (leading t l n) n
 
 -- which fixes head a transmission
 abbrev pub headsOf : List ℕ → ℕ → List Bool
-headsOf l n = tabled false (λ s. belongs l s s) n
+headsOf l n = tabulate false (λ s. belongs l s s) n
