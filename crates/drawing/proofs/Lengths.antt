@@ -8,15 +8,17 @@ use native.Mathlib.Nat.{le-trans}
 use lib.Ieee.{binary64, toBits}
 use lib.ListN.{length, getD, take, length-append}
 use lib.Seq.{length-take-le}
-use Rattle.fixes.specs.Layout.{maxFixes, fixSize, recordOf, signersOf}
-use Rattle.lines.specs.Ascii.{ascii}
-use Rattle.lines.specs.Lines.{header, line, refusedLine, roleWidth, headerWidth, lineWidth, refusedWidth}
-use Rattle.lines.proofs.Widths.{header-width, line-width, refused-width}
+use Rattle.fixes.specs.Layout.{maxFixes, fixSize, fixRecord, fixSigners}
+use Rattle.octets.specs.Ascii.{ascii}
+use Rattle.drawing.specs.Lines.{header, line, refusedLine}
+use Rattle.drawing.specs.Widths.{roleWidth, headerWidth, lineWidth, refusedWidth}
+use Rattle.drawing.proofs.Widths.{header-width, line-width, refused-width}
 use Rattle.decision.specs.declared.Refusal.{Refusal}
 use Rattle.decision.specs.declared.Decision.{Decision}
 use Rattle.decision.specs.Answer.{indices}
-use Rattle.transmissions.specs.Transmission.{membersOf, outcomeOf, itemsOf}
-use Rattle.drawing.specs.Drawing.{Arrayed, linesIn, linesOf, refusedLines, decidedText, transmissionText, roomOf, rooms, drawnFrom, shownOf, drawn, boardSize}
+use Rattle.transmissions.specs.Members.{membersOf, outcomeOf, itemsOf}
+use Rattle.drawing.specs.Drawing.{Arrayed, linesIn, linesOf, refusedLines, decidedText, transmissionText, roomOf, rooms, drawFrom, shownOf, drawTable}
+use Rattle.drawing.specs.Text.{boardSize}
 use Rattle.drawing.proofs.Bounds.{arrayed, lists-members}
 use Rattle.drawing.proofs.Shown.{rooms-fit}
 
@@ -24,16 +26,16 @@ lines-length : (role t m is : List ℕ) → length role ≤ roleWidth → length
 unfolding linesOf
 lines-length role t m [] h = omega arith
 lines-length role t m (i ∷ is) h =
-    let a = line-width role (recordOf t (getD m i 0)) (signersOf t (getD m i 0)) h in
+    let a = line-width role (fixRecord t (getD m i 0)) (fixSigners t (getD m i 0)) h in
     let r = lines-length role t m is h in
-    rw (length-append (line role (recordOf t (getD m i 0)) (signersOf t (getD m i 0))) (linesOf role t m is)) (omega (arith, a, r))
+    rw (length-append (line role (fixRecord t (getD m i 0)) (fixSigners t (getD m i 0))) (linesOf role t m is)) (omega (arith, a, r))
 
 refused-length : (t m : List ℕ) (rs : List Refusal) → length (refusedLines t m rs) ≤ length rs * refusedWidth
 unfolding refusedLines
 refused-length t m [] = omega arith
 refused-length t m (x ∷ rs) =
-    let r = recordOf t (getD m (x .refused) 0) in
-    let s = signersOf t (getD m (x .refused) 0) in
+    let r = fixRecord t (getD m (x .refused) 0) in
+    let s = fixSigners t (getD m (x .refused) 0) in
     let a = refused-width r s (toBits binary64 (x .chi2)) in
     let b = refused-length t m rs in
     rw (length-append (refusedLine r s (toBits binary64 (x .chi2))) (refusedLines t m rs)) (omega (arith, a, b))
@@ -61,25 +63,25 @@ transmission-length t l n k s h f =
     let b = lists-members t l n s h f in
     (a .0, omega (arith, a .1, b))
 
-drawn-length : (t l : List ℕ) (n k : ℕ) (ss : List ℕ) → length t ≡ maxFixes * fixSize → n ≤ maxFixes → length (drawnFrom t l n k ss) ≤ rooms l n ss
-unfolding drawnFrom rooms
+drawn-length : (t l : List ℕ) (n k : ℕ) (ss : List ℕ) → length t ≡ maxFixes * fixSize → n ≤ maxFixes → length (drawFrom t l n k ss) ≤ rooms l n ss
+unfolding drawFrom rooms
 drawn-length t l n k [] h f = omega arith
 drawn-length t l n k (s ∷ ss) h f =
     let a = transmission-length t l n k s h f in
     let r = drawn-length t l n (k + 1) ss h f in
-    rw (length-append (transmissionText t l n k s) (drawnFrom t l n (k + 1) ss)) (omega (arith, a .1, r))
+    rw (length-append (transmissionText t l n k s) (drawFrom t l n (k + 1) ss)) (omega (arith, a .1, r))
 
 -- every board fits what a caller lends
-pub board-fits : (t l : List ℕ) (n : ℕ) → length t ≡ maxFixes * fixSize → n ≤ maxFixes → length (drawn t l n) ≤ boardSize
+pub board-fits : (t l : List ℕ) (n : ℕ) → length t ≡ maxFixes * fixSize → n ≤ maxFixes → length (drawTable t l n) ≤ boardSize
 board-fits t l n h f = le-trans (drawn-length t l n 1 (shownOf t l n) h f) (rooms-fit t l n f)
 
-drawn-long : (t l : List ℕ) (n k : ℕ) (ss : List ℕ) → length t ≡ maxFixes * fixSize → n ≤ maxFixes → (length (drawnFrom t l n k ss) ≡ 0) ⊎ (46 ≤ length (drawnFrom t l n k ss))
-unfolding drawnFrom
+drawn-long : (t l : List ℕ) (n k : ℕ) (ss : List ℕ) → length t ≡ maxFixes * fixSize → n ≤ maxFixes → (length (drawFrom t l n k ss) ≡ 0) ⊎ (46 ≤ length (drawFrom t l n k ss))
+unfolding drawFrom
 drawn-long t l n k [] h f = inl refl
 drawn-long t l n k (s ∷ ss) h f =
     let a = transmission-length t l n k s h f in
-    inr (rw (length-append (transmissionText t l n k s) (drawnFrom t l n (k + 1) ss)) (omega (arith, a .0)))
+    inr (rw (length-append (transmissionText t l n k s) (drawFrom t l n (k + 1) ss)) (omega (arith, a .0)))
 
 -- and a length is 0 or greater than every refusal's number
-pub board-long : (t l : List ℕ) (n : ℕ) → length t ≡ maxFixes * fixSize → n ≤ maxFixes → (length (drawn t l n) ≡ 0) ⊎ (46 ≤ length (drawn t l n))
+pub board-long : (t l : List ℕ) (n : ℕ) → length t ≡ maxFixes * fixSize → n ≤ maxFixes → (length (drawTable t l n) ≡ 0) ⊎ (46 ≤ length (drawTable t l n))
 board-long t l n h f = drawn-long t l n 1 (shownOf t l n) h f

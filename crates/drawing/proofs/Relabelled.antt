@@ -11,11 +11,12 @@ use Rattle.ranges.specs.Tables.{itself}
 use Rattle.fixes.specs.Layout.{maxFixes}
 use Rattle.decision.specs.Answer.{indices, decided}
 use Rattle.decision.specs.declared.Decision.{Decision}
-use Rattle.transmissions.specs.Transmission.{belongs, membersOf, itemsOf, nth, outcomeOf, leaderOf, leading, every, tabled}
-use Rattle.transmissions.specs.Latest.{maxShown, latest}
-use Rattle.drawing.specs.Drawing.{decidedText, transmissionText, drawnFrom, shownOf, drawn}
+use Rattle.transmissions.specs.Members.{belongs, membersOf, itemsOf, nth, outcomeOf, leaderOf, leading, every, tabulate}
+use Rattle.transmissions.specs.Latest.{latest}
+use Rattle.transmissions.specs.Picture.{maxShown}
+use Rattle.drawing.specs.Drawing.{decidedText, transmissionText, drawFrom, shownOf, drawTable}
 
-tabled-ext : {A : Type 0} (d : A) (u v : ℕ → A) (n : ℕ) → ((i : ℕ) → i < n → u i ≡ v i) → tabled d u n ≡ tabled d v n
+tabled-ext : {A : Type 0} (d : A) (u v : ℕ → A) (n : ℕ) → ((i : ℕ) → i < n → u i ≡ v i) → tabulate d u n ≡ tabulate d v n
 tabled-ext {A} d u v n q =
     ap (λ (l : List A). l ++ replicate (maxFixes - length l) d) (collect-ext every every u v 0 n (λ i a b. refl) (λ i a b. q i (omega arith)))
 
@@ -47,10 +48,10 @@ module _ (t l m : List ℕ) (n : ℕ) (same : (j : ℕ) → j < n → getD l j 0
   unfolding transmissionText
   text-same k s = ap₂ (λ (x : List ℕ) (d : Decision). decidedText k t (indices x .list) d) (members-same s) (outcome-same s)
 
-  from-same : (k : ℕ) (ss : List ℕ) → drawnFrom t l n k ss ≡ drawnFrom t m n k ss
-  unfolding drawnFrom
+  from-same : (k : ℕ) (ss : List ℕ) → drawFrom t l n k ss ≡ drawFrom t m n k ss
+  unfolding drawFrom
   from-same k [] = refl
   from-same k (s ∷ ss) = ap₂ _++_ (text-same k s) (from-same (k + 1) ss)
 
-  pub drawn-same : drawn t l n ≡ drawn t m n
-  drawn-same = from-same 1 (shownOf t l n) ∙ ap (drawnFrom t m n 1) shown-same
+  pub drawn-same : drawTable t l n ≡ drawTable t m n
+  drawn-same = from-same 1 (shownOf t l n) ∙ ap (drawFrom t m n 1) shown-same

@@ -1,28 +1,31 @@
 -- What is written fits: no more transmissions than are shown, and each fix in one of them.
-use mathlib.Core.Path.{_≡_, ap, _∙_}
+use mathlib.Core.Path.{_≡_, refl, ap, _∙_}
 use mathlib.Core.Bool.{Bool, true, false}
 use mathlib.Core.List.{List, [], _∷_}
 use Prim.Native.Nat.{ℕ, zero, suc, _+_, _-_, _*_, _≤_, _<_}
 use native.Mathlib.Omega.{arith}
-use lib.Dec.{eqb}
 use lib.ListN.{length, getD, set, length-set}
 use lib.Seq.{getD-set-same, getD-set-other}
 use borrow.Author.Tests.{eqb-true, eqb-false}
-use Rattle.octets.proofs.Cases.{by}
-use Rattle.ranges.proofs.Bools.{or}
+use Rattle.ranges.proofs.Bools.{by}
 use Rattle.ranges.specs.Range.{collect}
-use Rattle.ranges.proofs.Range.{least-in, collect-few, collect-below, padded-length}
+use Rattle.ranges.proofs.Range.{collect-few, collect-below, padded-length}
 use Rattle.ranges.specs.Tables.{marked, itself}
 use Rattle.fixes.specs.Layout.{maxFixes}
-use Rattle.lines.specs.Lines.{headerWidth, refusedWidth}
-use Rattle.transmissions.specs.Transmission.{none, belongs, leaderOf, leading, every, tabled, leadersOf, headsOf}
-use Rattle.transmissions.specs.Latest.{maxShown, later, latestLeft, latest}
+use Rattle.drawing.specs.Widths.{headerWidth, refusedWidth}
+use Rattle.transmissions.specs.Members.{belongs, leaderOf, leading, every, tabulate, leadersOf, headsOf}
+use Rattle.decision.specs.declared.Choice.{Choice}
+use Rattle.decision.specs.declared.Choice.the-variants.{Nobody, Item}
+use Rattle.decision.proofs.Choosing.{chose-among}
+use Rattle.transmissions.specs.Latest.{later, latestLeft, withChosen, latest}
+use Rattle.transmissions.specs.Picture.{maxShown}
 use Rattle.transmissions.proofs.Gathering.{members-listed}
-use Rattle.drawing.specs.Drawing.{OfFixes, rooms, shownOf, boardSize}
+use Rattle.drawing.specs.Drawing.{OfFixes, rooms, shownOf}
+use Rattle.drawing.specs.Text.{boardSize}
 
 -- ---- arrays of what is known of each fix
 
-pub tabled-length : {A : Type 0} (d : A) (f : ℕ → A) (n : ℕ) → n ≤ maxFixes → length (tabled d f n) ≡ maxFixes
+pub tabled-length : {A : Type 0} (d : A) (f : ℕ → A) (n : ℕ) → n ≤ maxFixes → length (tabulate d f n) ≡ maxFixes
 tabled-length d f n h = padded-length maxFixes d (collect every f 0 n) (let e = collect-few every f 0 n in omega arith)
 
 leading-fix : (t l : List ℕ) (n s : ℕ) → n ≤ maxFixes → leading t l n s < maxFixes
@@ -54,20 +57,25 @@ fewer l left b k (suc f) h e =
     rw (p, q) (by (marked left (getD l k 0)) (λ u. rw u (omega arith)) (λ u. rw u (omega arith))))
 
 module _ (t d l : List ℕ) (n : ℕ) (few : n ≤ maxFixes) where
+  -- one more, or none left
+  one-more : (k : ℕ) (left : List Bool) (shown : List ℕ) → length left ≡ maxFixes → (c : Choice) → latestLeft t d n left ≡ c
+      → ((b : ℕ) → rooms l n (latest t d n k (set left b false) (b ∷ shown)) ≤ rooms l n (b ∷ shown) + k * headerWidth + unshown l n (set left b false) * refusedWidth)
+      → rooms l n (withChosen shown (λ b. latest t d n k (set left b false) (b ∷ shown)) c) ≤ rooms l n shown + suc k * headerWidth + unshown l n left * refusedWidth
+  unfolding rooms unshown
+  one-more k left shown w Nobody e go = omega arith
+  one-more k left shown w (Item b) e go =
+      let x = chose-among (later t d) (marked left) n b e in
+      let u = x .0 in
+      let f = fewer l left b 0 n (omega arith) (x .1) in
+      let r = go b in
+      omega (arith, f, r)
+
   rooms-latest : (k : ℕ) (left : List Bool) (shown : List ℕ) → length left ≡ maxFixes
       → rooms l n (latest t d n k left shown) ≤ rooms l n shown + k * headerWidth + unshown l n left * refusedWidth
-  unfolding latest rooms unshown
+  unfolding latest
   rooms-latest zero left shown w = omega arith
   rooms-latest (suc k) left shown w =
-      let b = latestLeft t d n left in
-      by (eqb b none)
-      (λ p. rw p (omega arith))
-      (λ p. or (least-in (later t d) none (marked left) none 0 n) (λ z. absurd (eqb-false b none p z))
-      (λ x.
-      let u = x .1 in
-      let f = fewer l left b 0 n (omega arith) (x .2) in
-      let r = rooms-latest k (set left b false) (b ∷ shown) (length-set left b false ∙ w) in
-      rw p (omega (arith, f, r))))
+      one-more k left shown w (latestLeft t d n left) refl (λ b. rooms-latest k (set left b false) (b ∷ shown) (length-set left b false ∙ w))
 
 -- every board fits
 pub rooms-fit : (t l : List ℕ) (n : ℕ) → n ≤ maxFixes → rooms l n (shownOf t l n) ≤ boardSize

@@ -1,20 +1,22 @@
--- The text of a board (document 01, 'The board'), of a table of fixes t of which there are n, and their labels l: "a header numbered from 1, then ranked
--- lines in rank, dominated and refused by identity, a refused one with its refusal's chi-square bits".
+-- No claim rests on these definitions: they are the text that the code writes, of a table of fixes t of which there are n, and their labels l, by indices into
+-- the arrays of a decision; and the room that it takes. `Text` has the text of what is shown.
 use Prim.Native.Nat.{ℕ, _+_, _*_, _≤_, _<_}
 use mathlib.Core.Path.{_≡_}
 use mathlib.Core.List.{List, [], _∷_, _++_}
 use lib.Ieee.{binary64, toBits}
 use lib.ListN.{length, getD, take}
-use Rattle.fixes.specs.Layout.{maxFixes, recordOf, signersOf}
-use Rattle.lines.specs.Ascii.{ascii}
-use Rattle.lines.specs.Lines.{header, line, refusedLine, headerWidth, refusedWidth}
+use Rattle.fixes.specs.Layout.{maxFixes, fixRecord, fixSigners}
+use Rattle.octets.specs.Ascii.{ascii}
+use Rattle.drawing.specs.Lines.{header, line, refusedLine}
+use Rattle.drawing.specs.Widths.{headerWidth, refusedWidth}
 use Rattle.decision.specs.declared.Refusal.{Refusal}
 use Rattle.decision.specs.declared.Refusals.{Refusals}
 use Rattle.decision.specs.declared.Indices.{Indices}
 use Rattle.decision.specs.declared.Decision.{Decision}
 use Rattle.decision.specs.Answer.{indices}
-use Rattle.transmissions.specs.Transmission.{membersOf, outcomeOf, leadersOf, headsOf}
-use Rattle.transmissions.specs.Latest.{maxShown, latest}
+use Rattle.transmissions.specs.Members.{membersOf, outcomeOf, leadersOf, headsOf}
+use Rattle.transmissions.specs.Latest.{latest}
+use Rattle.transmissions.specs.Picture.{maxShown}
 
 -- an array of fixes
 abbrev pub OfFixes : List ℕ → Type 0
@@ -33,12 +35,12 @@ linesIn d = d .ranked .count + d .dominated .count + d .refusals .count
 -- the lines of the fixes that stand in m at these indices
 unfoldable pub linesOf : List ℕ → List ℕ → List ℕ → List ℕ → List ℕ
 linesOf role t m [] = []
-linesOf role t m (i ∷ is) = line role (recordOf t (getD m i 0)) (signersOf t (getD m i 0)) ++ linesOf role t m is
+linesOf role t m (i ∷ is) = line role (fixRecord t (getD m i 0)) (fixSigners t (getD m i 0)) ++ linesOf role t m is
 
 unfoldable pub refusedLines : List ℕ → List ℕ → List Refusal → List ℕ
 refusedLines t m [] = []
 refusedLines t m (r ∷ rs) =
-    refusedLine (recordOf t (getD m (r .refused) 0)) (signersOf t (getD m (r .refused) 0)) (toBits binary64 (r .chi2)) ++ refusedLines t m rs
+    refusedLine (fixRecord t (getD m (r .refused) 0)) (fixSigners t (getD m (r .refused) 0)) (toBits binary64 (r .chi2)) ++ refusedLines t m rs
 
 -- what is written of the fixes m of a transmission, of which d was decided
 unfoldable pub decidedText : ℕ → List ℕ → List ℕ → Decision → List ℕ
@@ -60,18 +62,14 @@ unfoldable pub rooms : List ℕ → ℕ → List ℕ → ℕ
 rooms l n [] = 0
 rooms l n (s ∷ ss) = roomOf l n s + rooms l n ss
 
--- what a caller lends: "10: output under 16,384 bytes"
-abbrev pub boardSize : ℕ
-boardSize = 16384
-
 -- transmissions, the first of them with this number
-unfoldable pub drawnFrom : List ℕ → List ℕ → ℕ → ℕ → List ℕ → List ℕ
-drawnFrom t l n number [] = []
-drawnFrom t l n number (s ∷ ss) = transmissionText t l n number s ++ drawnFrom t l n (number + 1) ss
+unfoldable pub drawFrom : List ℕ → List ℕ → ℕ → ℕ → List ℕ → List ℕ
+drawFrom t l n number [] = []
+drawFrom t l n number (s ∷ ss) = transmissionText t l n number s ++ drawFrom t l n (number + 1) ss
 
 -- "The 8 latest are written, oldest first"
 abbrev pub shownOf : List ℕ → List ℕ → ℕ → List ℕ
 shownOf t l n = latest t (leadersOf t l n) n maxShown (headsOf l n) []
 
-abbrev pub drawn : List ℕ → List ℕ → ℕ → List ℕ
-drawn t l n = drawnFrom t l n 1 (shownOf t l n)
+abbrev pub drawTable : List ℕ → List ℕ → ℕ → List ℕ
+drawTable t l n = drawFrom t l n 1 (shownOf t l n)

@@ -10,10 +10,14 @@ ghost use lib.Ieee.{binary64, toBits};
 ghost use lib.ListN.{length, getD, take};
 ghost use Rattle.text.specs.Buffer.{Put};
 ghost use Rattle.items.specs.Layout.{itemSize};
-ghost use Rattle.fixes.specs.Layout.{fixSize, maxFixes, recordOf, signersOf};
-ghost use Rattle.lines.specs.Lines.{line, refusedLine, roleWidth, headerWidth, lineWidth, refusedWidth};
-ghost use Rattle.transmissions.specs.Latest.{maxShown};
+ghost use Rattle.fixes.specs.Layout.{fixSize, maxFixes, fixRecord, fixSigners};
+ghost use Rattle.drawing.specs.Lines.{line, refusedLine};
+ghost use Rattle.drawing.specs.Widths.{roleWidth, headerWidth, lineWidth, refusedWidth};
+ghost use Rattle.transmissions.specs.Picture.{maxShown};
+ghost use Rattle.drawing.specs.Text.{boardSize};
 ghost use Rattle.drawing.specs.Drawing as D;
+
+pub mod lines;
 
 // The lines of ranked or dominated fixes: the first `count` of a list of indices into m.
 fn put_lines(
@@ -46,7 +50,7 @@ fn put_refusal(out: &mut [u8], at: usize, t: &[u8], m: &[u8], r: Refusal) -> usi
     requires { ⌜ length (now t) ≡ maxFixes * fixSize ⌝ }
     requires { ⌜ D.OfFixes (now m) ⌝ }
     requires { ⌜ at + refusedWidth ≤ length (now out) ⌝ }
-    ensures { λ x. ⌜ (x ≤ at + refusedWidth) × Put (now (out .entry)) at (refusedLine (recordOf (now (t .entry)) (getD (now (m .entry)) (r .refused) 0)) (signersOf (now (t .entry)) (getD (now (m .entry)) (r .refused) 0)) (toBits binary64 (r .chi2))) x (now (out .exit)) ⌝ }
+    ensures { λ x. ⌜ (x ≤ at + refusedWidth) × Put (now (out .entry)) at (refusedLine (fixRecord (now (t .entry)) (getD (now (m .entry)) (r .refused) 0)) (fixSigners (now (t .entry)) (getD (now (m .entry)) (r .refused) 0)) (toBits binary64 (r .chi2))) x (now (out .exit)) ⌝ }
 {
     let j = transmissions::nth(m, r.refused);
     lines::put_refused(
@@ -137,7 +141,7 @@ fn put_shown(
     requires { ⌜ length (now t) ≡ maxFixes * fixSize ⌝ }
     requires { ⌜ (n ≤ maxFixes) × (length (now shown) ≤ maxShown) ⌝ }
     requires { ⌜ D.rooms (now labels) n (now shown) ≤ length (now out) ⌝ }
-    ensures { λ x. ⌜ Put (now (out .entry)) 0 (D.drawnFrom (now (t .entry)) (now (labels .entry)) n 1 (now (shown .entry))) x (now (out .exit)) ⌝ }
+    ensures { λ x. ⌜ Put (now (out .entry)) 0 (D.drawFrom (now (t .entry)) (now (labels .entry)) n 1 (now (shown .entry))) x (now (out .exit)) ⌝ }
 {
     let mut at = 0;
     let mut i: u8 = 0;
@@ -152,8 +156,8 @@ fn put_shown(
 pub fn draw(out: &mut [u8], t: &[u8], labels: &[u8; MAX_FIXES], n: u8) -> usize
     requires { ⌜ length (now t) ≡ maxFixes * fixSize ⌝ }
     requires { ⌜ n ≤ maxFixes ⌝ }
-    requires { ⌜ D.boardSize ≤ length (now out) ⌝ }
-    ensures { λ x. ⌜ Put (now (out .entry)) 0 (D.drawn (now (t .entry)) (now (labels .entry)) n) x (now (out .exit)) ⌝ }
+    requires { ⌜ boardSize ≤ length (now out) ⌝ }
+    ensures { λ x. ⌜ Put (now (out .entry)) 0 (D.drawTable (now (t .entry)) (now (labels .entry)) n) x (now (out .exit)) ⌝ }
 {
     let mut items = [0u8; MAX_FIXES * ITEM_SIZE];
     let leads = transmissions::leaders(&mut items, t, labels, n);

@@ -9,9 +9,10 @@ use lib.ListN.{length, take, drop}
 use Rattle.octets.proofs.Moves.{tail-lent}
 use Rattle.fixes.specs.Layout.{maxFixes}
 use Rattle.text.proofs.Writing.{put-as}
-use Rattle.transmissions.specs.Transmission.{belongs, leading, leadersOf, headsOf}
-use Rattle.transmissions.specs.Latest.{maxShown, latest}
-use Rattle.drawing.specs.Drawing.{shownOf, drawnFrom}
+use Rattle.transmissions.specs.Members.{belongs, leading, leadersOf, headsOf}
+use Rattle.transmissions.specs.Latest.{latest}
+use Rattle.transmissions.specs.Picture.{maxShown}
+use Rattle.drawing.specs.Drawing.{shownOf, drawFrom}
 use Rattle.drawing.proofs.Shown.{tabled-length, leaders-fixes, rooms-fit}
 use borrow.Author.Needs.{needs}
 use Rattle.drawing.proofs.draw.Statement.{statement}
@@ -120,7 +121,7 @@ returns : tie.Need-returns
 returns c =
     let put = c .before .before .before in
     let a = put .before .before .before .before .before .before .before in
-    put-as (ap (drawnFrom (t (h a)) (l (h a)) (n (h a)) 1) (shown-are a)) (put .put-shown .ensures)
+    put-as (ap (drawFrom (t (h a)) (l (h a)) (n (h a)) 1) (shown-are a)) (put .put-shown .ensures)
 
 pub draw-spec : {M : Type 1} → statement M
 draw-spec =

@@ -4,8 +4,8 @@ use Prim.Native.Nat.{_+_, _*_, _≤_}
 use native.Mathlib.Omega.{arith}
 use lib.ListN.{length}
 use Rattle.text.proofs.Writing.{put-put, put-length}
-use Rattle.lines.specs.Ascii.{ascii}
-use Rattle.lines.specs.Lines.{headerWidth, refusedWidth}
+use Rattle.octets.specs.Ascii.{ascii}
+use Rattle.drawing.specs.Widths.{headerWidth, refusedWidth}
 use Rattle.decision.specs.declared.Decision.{Decision}
 use Rattle.drawing.specs.Drawing.{Arrayed, linesIn, decidedText}
 use borrow.Author.Needs.{needs}
@@ -15,7 +15,7 @@ use Rattle.drawing.proofs.put_decided.Reads as reads
 use Rattle.drawing.proofs.put_decided.Lts as lts
 use Rattle.drawing.proofs.put_lines.Reads as put-lines-reads
 use Rattle.drawing.proofs.put_refusals.Reads as put-refusals-reads
-use Rattle.lines.proofs.put_header.Reads as put-header-reads
+use Rattle.drawing.proofs.lines.put_header.Reads as put-header-reads
 
 -- ---- the places of the function: what is written, and that the rest has room
 

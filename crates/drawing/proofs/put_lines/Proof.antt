@@ -6,7 +6,7 @@ use lib.ListN.{take, getD}
 use Rattle.text.specs.Buffer.{Put}
 use Rattle.text.proofs.Writing.{put-put, put-as, put-none, put-length}
 use Rattle.fixes.specs.Layout.{maxFixes}
-use Rattle.lines.specs.Lines.{refusedWidth}
+use Rattle.drawing.specs.Widths.{refusedWidth}
 use Rattle.drawing.specs.Drawing.{linesOf}
 use Rattle.drawing.proofs.Texts.{lines-more}
 use borrow.Author.Needs.{needs}
@@ -16,7 +16,7 @@ use Rattle.drawing.proofs.put_lines.Reads as reads
 use Rattle.drawing.proofs.put_lines.Lts as lts
 use Rattle.fixes.proofs.record_of.Reads as record-of-reads
 use Rattle.fixes.proofs.signers.Reads as signers-reads
-use Rattle.lines.proofs.put_line.Reads as put-line-reads
+use Rattle.drawing.proofs.lines.put_line.Reads as put-line-reads
 use Rattle.transmissions.proofs.nth.Reads as nth-reads
 
 abbrev Inv-loop : tie.InvT-loop

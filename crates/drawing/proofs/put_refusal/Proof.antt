@@ -10,7 +10,7 @@ use Rattle.drawing.proofs.put_refusal.Lts as lts
 use Rattle.fixes.proofs.record_of.Reads as record-of-reads
 use Rattle.fixes.proofs.signers.Reads as signers-reads
 use Rattle.floats.proofs.to_bits.Reads as to-bits-reads
-use Rattle.lines.proofs.put_refused.Reads as put-refused-reads
+use Rattle.drawing.proofs.lines.put_refused.Reads as put-refused-reads
 use Rattle.transmissions.proofs.nth.Reads as nth-reads
 
 nth-requires : tie.Need-nth-requires

@@ -5,7 +5,7 @@ use native.Mathlib.Omega.{arith}
 use lib.ListN.{take, getD}
 use Rattle.text.specs.Buffer.{Put}
 use Rattle.text.proofs.Writing.{put-put, put-as, put-none, put-length}
-use Rattle.lines.specs.Lines.{refusedWidth}
+use Rattle.drawing.specs.Widths.{refusedWidth}
 use Rattle.drawing.specs.Drawing.{refusedLines}
 use Rattle.drawing.proofs.Texts.{refused-more}
 use borrow.Author.Needs.{needs}

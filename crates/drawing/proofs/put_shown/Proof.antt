@@ -7,7 +7,7 @@ use lib.ListN.{length, getD, take, drop}
 use lib.Seq.{take-all}
 use Rattle.text.specs.Buffer.{Put}
 use Rattle.text.proofs.Writing.{put-put, put-as, put-none, put-length}
-use Rattle.drawing.specs.Drawing.{drawnFrom, roomOf, rooms}
+use Rattle.drawing.specs.Drawing.{drawFrom, roomOf, rooms}
 use Rattle.drawing.proofs.Texts.{drawn-more, rooms-at}
 use borrow.Author.Needs.{needs}
 use Rattle.drawing.proofs.put_shown.Statement.{statement}
@@ -18,7 +18,7 @@ use Rattle.drawing.proofs.put_transmission.Reads as put-transmission-re
 
 abbrev Inv-loop : tie.InvT-loop
 Inv-loop out₀ items₀ t labels n shown at₀ i₀ out items at i =
-    (i ≤ length shown) × (length items ≡ length items₀) × (at + rooms labels n (drop i shown) ≤ length out₀) × Put out₀ 0 (drawnFrom t labels n 1 (take i shown)) at out
+    (i ≤ length shown) × (length items ≡ length items₀) × (at + rooms labels n (drop i shown) ≤ length out₀) × Put out₀ 0 (drawFrom t labels n 1 (take i shown)) at out
 
 abbrev μ-loop : tie.MeasureT-loop
 μ-loop out₀ items₀ t labels n shown at₀ i₀ out items at i = length shown - i
@@ -50,7 +50,7 @@ module _ (a : tie.In-loop Inv-loop μ-loop) where
   room = rooms-at (labels turn) (n turn) (shown turn) i (a .loop-test .taken)
 
 loop-holds : tie.Need-loop-holds Inv-loop μ-loop
-unfolding drawnFrom
+unfolding drawFrom
 loop-holds c = (omega arith, refl, omega (arith, c .before .before .before .before .pre .1 .1 .1), put-none _ _)
 
 cast-loop : tie.Need-cast-loop Inv-loop μ-loop
@@ -98,7 +98,7 @@ returns : tie.Need-returns Inv-loop μ-loop
 returns c =
     let l = c .before in
     let e : take (l .loop .i) (shown l) ≡ shown l = take-all (l .loop .i) (shown l) (c .loop-test .left) in
-    put-as (ap (drawnFrom (start l .args .t .now) (labels l) (n l) 1) e) (l .loop .inv .3)
+    put-as (ap (drawFrom (start l .args .t .now) (labels l) (n l) 1) e) (l .loop .inv .3)
 
 pub put-shown-spec : {M : Type 1} → statement M
 put-shown-spec =

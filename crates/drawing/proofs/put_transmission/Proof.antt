@@ -8,7 +8,7 @@ use Rattle.text.proofs.Writing.{put-as}
 use Rattle.decision.specs.declared.Indices.{Indices}
 use Rattle.decision.specs.declared.Decision.{Decision}
 use Rattle.decision.specs.Answer.{indices, decided}
-use Rattle.transmissions.specs.Transmission.{outcomeOf, membersOf, itemsOf}
+use Rattle.transmissions.specs.Members.{outcomeOf, membersOf, itemsOf}
 use Rattle.transmissions.proofs.Gathering.{Listed, members-listed}
 use Rattle.drawing.specs.Drawing.{OfFixes, Arrayed, decidedText, transmissionText, linesIn}
 use Rattle.drawing.proofs.Bounds.{arrayed, lists-members}

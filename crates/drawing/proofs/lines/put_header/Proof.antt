@@ -1,15 +1,15 @@
-use Rattle.lines.specs.Ascii.{ascii}
-use Rattle.lines.specs.Lines.{header}
+use Rattle.octets.specs.Ascii.{ascii}
+use Rattle.drawing.specs.Lines.{header}
 use mathlib.Core.Path.{_≡_, refl, sym, ap, _∙_}
 use mathlib.Core.List.{append-assoc}
 use native.Mathlib.Omega.{arith}
 use Rattle.text.proofs.Writing.{put-put, put-as}
 use borrow.Author.Needs.{needs}
-use Rattle.lines.proofs.put_header.Statement.{statement}
-use Rattle.lines.proofs.put_header.Tie as tie
-use Rattle.lines.proofs.put_header.Reads as reads
-use Rattle.lines.proofs.put_header.Lts as lts
-use Rattle.lines.proofs.put_number.Reads as put-number-reads
+use Rattle.drawing.proofs.lines.put_header.Statement.{statement}
+use Rattle.drawing.proofs.lines.put_header.Tie as tie
+use Rattle.drawing.proofs.lines.put_header.Reads as reads
+use Rattle.drawing.proofs.lines.put_header.Lts as lts
+use Rattle.drawing.proofs.lines.put_number.Reads as put-number-reads
 use Rattle.text.proofs.put_bytes.Reads as put-bytes-reads
 
 slice-aggregate-put-number : tie.Need-slice-aggregate-put-number

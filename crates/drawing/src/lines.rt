@@ -7,7 +7,8 @@ ghost use lib.ListN.{length};
 ghost use Rattle.text.specs.Buffer.{Put};
 ghost use Rattle.text.specs.Numbers.{decimal, signed, hex};
 ghost use Rattle.record.specs.Layout.{recordSize};
-ghost use Rattle.lines.specs.Lines as L;
+ghost use Rattle.drawing.specs.Lines as L;
+ghost use Rattle.drawing.specs.Widths as W;
 
 // A key and a number.
 fn put_number(out: &mut [u8], at: usize, key: &[u8], n: u64) -> usize
@@ -60,7 +61,7 @@ fn put_height(out: &mut [u8], at: usize, r: &[u8]) -> usize
 }
 
 fn put_fix(out: &mut [u8], at: usize, role: &[u8], r: &[u8], signers: u32) -> usize
-    requires { ⌜ length (now role) ≤ L.roleWidth ⌝ }
+    requires { ⌜ length (now role) ≤ W.roleWidth ⌝ }
     requires { ⌜ length (now r) ≡ recordSize ⌝ }
     requires { ⌜ at + 136 ≤ length (now out) ⌝ }
     ensures { λ x. ⌜ (x ≤ at + 136) × Put (now (out .entry)) at (L.fixText (now (role .entry)) (now (r .entry)) signers) x (now (out .exit)) ⌝ }
@@ -75,10 +76,10 @@ fn put_fix(out: &mut [u8], at: usize, role: &[u8], r: &[u8], signers: u32) -> us
 
 // The line of a ranked or dominated fix.
 pub fn put_line(out: &mut [u8], at: usize, role: &[u8], r: &[u8], signers: u32) -> usize
-    requires { ⌜ length (now role) ≤ L.roleWidth ⌝ }
+    requires { ⌜ length (now role) ≤ W.roleWidth ⌝ }
     requires { ⌜ length (now r) ≡ recordSize ⌝ }
-    requires { ⌜ at + L.lineWidth ≤ length (now out) ⌝ }
-    ensures { λ x. ⌜ (x ≤ at + L.lineWidth) × Put (now (out .entry)) at (L.line (now (role .entry)) (now (r .entry)) signers) x (now (out .exit)) ⌝ }
+    requires { ⌜ at + W.lineWidth ≤ length (now out) ⌝ }
+    ensures { λ x. ⌜ (x ≤ at + W.lineWidth) × Put (now (out .entry)) at (L.line (now (role .entry)) (now (r .entry)) signers) x (now (out .exit)) ⌝ }
 {
     let a = put_fix(out, at, role, r, signers);
     text::put_bytes(out, a, b"\n")
@@ -87,8 +88,8 @@ pub fn put_line(out: &mut [u8], at: usize, role: &[u8], r: &[u8], signers: u32) 
 // The line of a refused fix, with the bits of its refusal's chi-square.
 pub fn put_refused(out: &mut [u8], at: usize, r: &[u8], signers: u32, bits: u64) -> usize
     requires { ⌜ length (now r) ≡ recordSize ⌝ }
-    requires { ⌜ at + L.refusedWidth ≤ length (now out) ⌝ }
-    ensures { λ x. ⌜ (x ≤ at + L.refusedWidth) × Put (now (out .entry)) at (L.refusedLine (now (r .entry)) signers bits) x (now (out .exit)) ⌝ }
+    requires { ⌜ at + W.refusedWidth ≤ length (now out) ⌝ }
+    ensures { λ x. ⌜ (x ≤ at + W.refusedWidth) × Put (now (out .entry)) at (L.refusedLine (now (r .entry)) signers bits) x (now (out .exit)) ⌝ }
 {
     let a = put_fix(out, at, b"refused", r, signers);
     let b = put_digits(out, a, b" chi2=", 16, bits);
@@ -104,8 +105,8 @@ pub fn put_header(
     dominated: u64,
     refused: u64,
 ) -> usize
-    requires { ⌜ at + L.headerWidth ≤ length (now out) ⌝ }
-    ensures { λ x. ⌜ (x ≤ at + L.headerWidth) × Put (now (out .entry)) at (L.header number ranked dominated refused) x (now (out .exit)) ⌝ }
+    requires { ⌜ at + W.headerWidth ≤ length (now out) ⌝ }
+    ensures { λ x. ⌜ (x ≤ at + W.headerWidth) × Put (now (out .entry)) at (L.header number ranked dominated refused) x (now (out .exit)) ⌝ }
 {
     let a = put_number(out, at, b"transmission=", number);
     let b = put_number(out, a, b" ranked=", ranked);

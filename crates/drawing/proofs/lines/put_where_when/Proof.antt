@@ -1,17 +1,17 @@
 use mathlib.Core.Path.{_≡_, refl, sym, ap, _∙_}
 use mir.Facts.{toZ-ofZ}
 use mir.Syntax.{w32}
-use Rattle.lines.specs.Ascii.{ascii}
-use Rattle.lines.specs.Lines.{whereWhen}
+use Rattle.octets.specs.Ascii.{ascii}
+use Rattle.drawing.specs.Lines.{whereWhen}
 use native.Mathlib.Omega.{arith}
 use Rattle.text.proofs.Writing.{put-put, put-as}
 use borrow.Author.Needs.{needs, sfits-of}
-use Rattle.lines.proofs.put_where_when.Statement.{statement}
-use Rattle.lines.proofs.put_where_when.Tie as tie
-use Rattle.lines.proofs.put_where_when.Reads as reads
-use Rattle.lines.proofs.put_where_when.Lts as lts
-use Rattle.lines.proofs.put_number.Reads as put-number-reads
-use Rattle.lines.proofs.put_signed.Reads as put-signed-reads
+use Rattle.drawing.proofs.lines.put_where_when.Statement.{statement}
+use Rattle.drawing.proofs.lines.put_where_when.Tie as tie
+use Rattle.drawing.proofs.lines.put_where_when.Reads as reads
+use Rattle.drawing.proofs.lines.put_where_when.Lts as lts
+use Rattle.drawing.proofs.lines.put_number.Reads as put-number-reads
+use Rattle.drawing.proofs.lines.put_signed.Reads as put-signed-reads
 use Rattle.record.proofs.fields.latitude.Reads as latitude-reads
 use Rattle.record.proofs.fields.longitude.Reads as longitude-reads
 use Rattle.record.proofs.fields.time.Reads as time-reads

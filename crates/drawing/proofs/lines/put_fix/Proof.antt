@@ -1,18 +1,18 @@
 use mathlib.Core.List.{append-assoc}
-use Rattle.lines.specs.Ascii.{ascii}
-use Rattle.lines.specs.Lines.{fixText}
+use Rattle.octets.specs.Ascii.{ascii}
+use Rattle.drawing.specs.Lines.{fixText}
 use mathlib.Core.Path.{_≡_, refl, sym, ap, _∙_}
 use native.Mathlib.Omega.{arith}
 use Rattle.text.proofs.Writing.{put-put, put-as}
 use borrow.Author.Needs.{needs}
-use Rattle.lines.proofs.put_fix.Statement.{statement}
-use Rattle.lines.proofs.put_fix.Tie as tie
-use Rattle.lines.proofs.put_fix.Reads as reads
-use Rattle.lines.proofs.put_fix.Lts as lts
-use Rattle.lines.proofs.put_digits.Reads as put-digits-reads
-use Rattle.lines.proofs.put_height.Reads as put-height-reads
-use Rattle.lines.proofs.put_number.Reads as put-number-reads
-use Rattle.lines.proofs.put_where_when.Reads as put-where-when-reads
+use Rattle.drawing.proofs.lines.put_fix.Statement.{statement}
+use Rattle.drawing.proofs.lines.put_fix.Tie as tie
+use Rattle.drawing.proofs.lines.put_fix.Reads as reads
+use Rattle.drawing.proofs.lines.put_fix.Lts as lts
+use Rattle.drawing.proofs.lines.put_digits.Reads as put-digits-reads
+use Rattle.drawing.proofs.lines.put_height.Reads as put-height-reads
+use Rattle.drawing.proofs.lines.put_number.Reads as put-number-reads
+use Rattle.drawing.proofs.lines.put_where_when.Reads as put-where-when-reads
 use Rattle.record.proofs.fields.weight.Reads as weight-reads
 use Rattle.text.proofs.put_bytes.Reads as put-bytes-reads
 

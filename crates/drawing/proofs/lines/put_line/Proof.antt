@@ -1,13 +1,13 @@
-use Rattle.lines.specs.Ascii.{ascii}
-use Rattle.lines.specs.Lines.{line}
+use Rattle.octets.specs.Ascii.{ascii}
+use Rattle.drawing.specs.Lines.{line}
 use native.Mathlib.Omega.{arith}
 use Rattle.text.proofs.Writing.{put-put, put-as}
 use borrow.Author.Needs.{needs}
-use Rattle.lines.proofs.put_line.Statement.{statement}
-use Rattle.lines.proofs.put_line.Tie as tie
-use Rattle.lines.proofs.put_line.Reads as reads
-use Rattle.lines.proofs.put_line.Lts as lts
-use Rattle.lines.proofs.put_fix.Reads as put-fix-reads
+use Rattle.drawing.proofs.lines.put_line.Statement.{statement}
+use Rattle.drawing.proofs.lines.put_line.Tie as tie
+use Rattle.drawing.proofs.lines.put_line.Reads as reads
+use Rattle.drawing.proofs.lines.put_line.Lts as lts
+use Rattle.drawing.proofs.lines.put_fix.Reads as put-fix-reads
 use Rattle.text.proofs.put_bytes.Reads as put-bytes-reads
 
 put-fix-requires : tie.Need-put-fix-requires

@@ -5,10 +5,10 @@ use mir.Syntax.{w32}
 use native.Mathlib.Omega.{arith}
 use Rattle.text.proofs.Writing.{put-put, put-as}
 use borrow.Author.Needs.{needs}
-use Rattle.lines.proofs.put_signed.Statement.{statement}
-use Rattle.lines.proofs.put_signed.Tie as tie
-use Rattle.lines.proofs.put_signed.Reads as reads
-use Rattle.lines.proofs.put_signed.Lts as lts
+use Rattle.drawing.proofs.lines.put_signed.Statement.{statement}
+use Rattle.drawing.proofs.lines.put_signed.Tie as tie
+use Rattle.drawing.proofs.lines.put_signed.Reads as reads
+use Rattle.drawing.proofs.lines.put_signed.Lts as lts
 use Rattle.text.proofs.put_bytes.Reads as put-bytes-reads
 use Rattle.text.proofs.put_i32.Reads as put-i32-reads
 

@@ -6,13 +6,14 @@ use Prim.Native.Nat.{ℕ, suc, _+_, _≤_, _<_}
 use native.Mathlib.Omega.{arith}
 use lib.IntN.{ℤ, pos, negsuc}
 use lib.ListN.{length, length-append}
-use Rattle.octets.proofs.Cases.{by}
+use Rattle.ranges.proofs.Bools.{by}
 use Rattle.text.specs.Numbers.{decimal, signed, hex}
 use Rattle.text.specs.Heights.{metres}
 use Rattle.text.proofs.Readback.{digits-width, hex-width}
 use Rattle.record.specs.Fields.{time, latitude, longitude, hasHeight, height, weight}
-use Rattle.lines.specs.Ascii.{ascii}
-use Rattle.lines.specs.Lines.{header, whereWhen, heightText, fixText, line, refusedLine, roleWidth, headerWidth, lineWidth, refusedWidth}
+use Rattle.octets.specs.Ascii.{ascii}
+use Rattle.drawing.specs.Lines.{header, whereWhen, heightText, fixText, line, refusedLine}
+use Rattle.drawing.specs.Widths.{roleWidth, headerWidth, lineWidth, refusedWidth}
 
 signed-width : (v : ℤ) → length (signed v) ≤ 11
 unfolding signed

@@ -1,14 +1,14 @@
-use Rattle.lines.specs.Ascii.{ascii}
-use Rattle.lines.specs.Lines.{refusedLine}
+use Rattle.octets.specs.Ascii.{ascii}
+use Rattle.drawing.specs.Lines.{refusedLine}
 use native.Mathlib.Omega.{arith}
 use Rattle.text.proofs.Writing.{put-put, put-as}
 use borrow.Author.Needs.{needs}
-use Rattle.lines.proofs.put_refused.Statement.{statement}
-use Rattle.lines.proofs.put_refused.Tie as tie
-use Rattle.lines.proofs.put_refused.Reads as reads
-use Rattle.lines.proofs.put_refused.Lts as lts
-use Rattle.lines.proofs.put_digits.Reads as put-digits-reads
-use Rattle.lines.proofs.put_fix.Reads as put-fix-reads
+use Rattle.drawing.proofs.lines.put_refused.Statement.{statement}
+use Rattle.drawing.proofs.lines.put_refused.Tie as tie
+use Rattle.drawing.proofs.lines.put_refused.Reads as reads
+use Rattle.drawing.proofs.lines.put_refused.Lts as lts
+use Rattle.drawing.proofs.lines.put_digits.Reads as put-digits-reads
+use Rattle.drawing.proofs.lines.put_fix.Reads as put-fix-reads
 use Rattle.text.proofs.put_bytes.Reads as put-bytes-reads
 
 slice-aggregate-put-fix : tie.Need-slice-aggregate-put-fix

@@ -6,7 +6,7 @@ use mathlib.Core.List.{List, _++_}
 use Rattle.text.specs.Numbers.{decimal, signed, hex}
 use Rattle.text.specs.Heights.{metres}
 use Rattle.record.specs.Fields.{time, latitude, longitude, hasHeight, height, weight}
-use Rattle.lines.specs.Ascii.{ascii}
+use Rattle.octets.specs.Ascii.{ascii}
 
 -- "transmission=1 ranked=1 dominated=0 refused=1"
 unfoldable pub header : ℕ → ℕ → ℕ → ℕ → List ℕ
@@ -47,18 +47,3 @@ dominatedLine r signers = line (ascii "dominated") r signers
 -- "a refused one with its refusal's chi-square bits"
 unfoldable pub refusedLine : List ℕ → ℕ → ℕ → List ℕ
 refusedLine r signers bits = fixText (ascii "refused") r signers ++ ((ascii " chi2=" ++ hex 16 bits) ++ ascii "\n")
-
--- ---- what a buffer must have room for: the widest header, ranked or dominated line, and refused line
-
--- "dominated" is the longest of the roles
-abbrev pub roleWidth : ℕ
-roleWidth = 9
-
-abbrev pub headerWidth : ℕ
-headerWidth = 122
-
-abbrev pub lineWidth : ℕ
-lineWidth = 137
-
-abbrev pub refusedWidth : ℕ
-refusedWidth = 159

@@ -6,8 +6,8 @@ use lib.ListN.{length, replicate}
 use Rattle.octets.specs.Words.{wordBytes, word}
 use Rattle.octets.specs.Masks.{bits}
 use Rattle.text.specs.Numbers.{digits, signed, hex}
-use Rattle.lines.specs.Ascii.{ascii}
-use Rattle.lines.specs.Lines.{header, whereWhen, heightText, fixText, line, rankedLine, refusedLine}
+use Rattle.octets.specs.Ascii.{ascii}
+use Rattle.drawing.specs.Lines.{header, whereWhen, heightText, fixText, line, rankedLine, refusedLine}
 
 -- the record of the worked session as far as a line reads it: time 1000, latitude 500000000, longitude 100000000, a height, and the used tags
 abbrev start : List ℕ → ℕ → List ℕ

@@ -1,15 +1,15 @@
 use mir.Facts.{toZ-ofZ}
 use mir.Syntax.{w32}
-use Rattle.lines.specs.Ascii.{ascii}
-use Rattle.lines.specs.Lines.{heightText}
+use Rattle.octets.specs.Ascii.{ascii}
+use Rattle.drawing.specs.Lines.{heightText}
 use mathlib.Core.Path.{_≡_, refl, sym, ap, _∙_}
 use native.Mathlib.Omega.{arith}
 use Rattle.text.proofs.Writing.{put-put, put-as}
 use borrow.Author.Needs.{needs, sfits-of}
-use Rattle.lines.proofs.put_height.Statement.{statement}
-use Rattle.lines.proofs.put_height.Tie as tie
-use Rattle.lines.proofs.put_height.Reads as reads
-use Rattle.lines.proofs.put_height.Lts as lts
+use Rattle.drawing.proofs.lines.put_height.Statement.{statement}
+use Rattle.drawing.proofs.lines.put_height.Tie as tie
+use Rattle.drawing.proofs.lines.put_height.Reads as reads
+use Rattle.drawing.proofs.lines.put_height.Lts as lts
 use Rattle.record.proofs.fields.has_height.Reads as has-height-reads
 use Rattle.record.proofs.fields.height.Reads as height-reads
 use Rattle.text.proofs.put_bytes.Reads as put-bytes-reads
