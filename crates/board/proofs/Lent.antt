@@ -5,19 +5,19 @@ use mathlib.Core.Bool.{Bool, true, _&&_}
 use mathlib.Core.List.{List}
 use native.Mathlib.Omega.{arith}
 use lib.ListN.{length, take, drop, length-drop}
-use Rattle.octets.proofs.Cases.{and-left}
+use Rattle.ranges.proofs.Bools.{and-left}
 use Rattle.octets.proofs.Moves.{tail-lent}
 use Rattle.places.specs.Places.{places, allPlaces, tableOf}
 use Rattle.record.specs.Layout.{recordSize}
 use Rattle.record.specs.Formed as R
 use Rattle.models.specs.Summary.{summarySize}
 use Rattle.fixes.specs.Layout.{maxFixes, fixSize}
-use Rattle.representatives.specs.Gathered.{placeFormed, Gathered}
-use Rattle.representatives.specs.Representatives.{representatives}
-use Rattle.representatives.proofs.Soundness.{representatives-gathered}
+use Rattle.fixes.specs.Gathered.{slotFormed, Gathered}
+use Rattle.fixes.specs.Representatives.{representatives}
+use Rattle.fixes.proofs.Soundness.{representatives-gathered}
 use Rattle.register.specs.Layout.{summariesAt, recordsAt, placeSize}
 use Rattle.register.specs.Memory as M
-use Rattle.register.specs.Memory.{wellFormed, decode, summaryCount, recordCount, summaryBytes, recordBytes, recordsIn}
+use Rattle.register.specs.Memory.{wellFormed, decode, summaryCount, recordCount, summaryTable, recordTable, recordsIn}
 use Rattle.register.proofs.Opened.{Opened, opened, summary-bytes-length, record-bytes-length, records-length}
 use Rattle.register.proofs.Valid.{all-weaken}
 
@@ -33,18 +33,18 @@ module _ (m : List ℕ) (w : wellFormed m ≡ true) where
   abbrev tail : List ℕ
   tail = take (length m - recordsAt) (drop recordsAt m)
 
-  tail-is : tail ≡ recordBytes m
+  tail-is : tail ≡ recordTable m
   tail-is = tail-lent m recordsAt
 
-  pub formed-places : allPlaces placeFormed (recordsIn m) ≡ true
-  formed-places = all-weaken (M.placeFormed (M.convictedIn m)) placeFormed (λ p h. and-left (R.wellFormed (take recordSize p)) _ h) (recordsIn m) (o .records-formed)
+  pub formed-places : allPlaces slotFormed (recordsIn m) ≡ true
+  formed-places = all-weaken (M.placeFormed (M.convictedIn m)) slotFormed (λ p h. and-left (R.wellFormed (take recordSize p)) _ h) (recordsIn m) (o .records-formed)
 
   pub record Lends (a b : ℕ) : Type 0 where
-    pub summaries-lie : a * summarySize ≤ length (summaryBytes m)
+    pub summaries-lie : a * summarySize ≤ length (summaryTable m)
     pub records-lie : b * placeSize ≤ length tail
     pub few : b ≤ maxFixes
-    pub formed : allPlaces placeFormed (places placeSize b tail) ≡ true
-    pub summaries-are : places summarySize a (summaryBytes m) ≡ decode m .summaries
+    pub formed : allPlaces slotFormed (places placeSize b tail) ≡ true
+    pub summaries-are : places summarySize a (summaryTable m) ≡ decode m .summaries
     pub records-are : places placeSize b tail ≡ decode m .records
 
   pub lends : (a b : ℕ) → a ≡ summaryCount m → b ≡ recordCount m → Lends a b
@@ -67,7 +67,7 @@ module _ (m : List ℕ) (w : wellFormed m ≡ true) where
   unfolding decode
   few-held = rw (records-length m o) (o .few-records)
 
-  pub formed-held : allPlaces placeFormed (decode m .records) ≡ true
+  pub formed-held : allPlaces slotFormed (decode m .records) ≡ true
   unfolding decode
   formed-held = formed-places
 

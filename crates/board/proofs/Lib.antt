@@ -1,8 +1,9 @@
 pub mod Lent
 pub mod Labelled
 pub mod Members
+pub mod Drawn
+pub mod Pictured
 pub mod Fitting
 pub mod WholeLists
+pub mod Shows
 pub mod Positions
-pub mod Decided
-pub mod Newest

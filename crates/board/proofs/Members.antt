@@ -7,8 +7,8 @@ use lib.Dec.{eqb}
 use Rattle.ranges.proofs.Range.{collect-filt, filt-ext}
 use Rattle.links.specs.Links.{linkAt}
 use Rattle.links.specs.Walk.{members, isMember}
-use Rattle.transmissions.specs.Transmission.{belongs, membersOf}
-use Rattle.board.specs.Board.{labelsOf}
+use Rattle.transmissions.specs.Members.{belongs, membersOf}
+use Rattle.board.specs.Tables.{labelsOf}
 use Rattle.board.proofs.Labelled.{label-at}
 
 -- the fixes of a transmission on the board are the members of the walk's

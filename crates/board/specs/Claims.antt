@@ -11,13 +11,13 @@ use mathlib.Core.Logic.{_⊎_}
 use mathlib.Core.Bool.{Bool, true}
 use mathlib.Core.List.{List}
 use lib.ListN.{length, drop}
-use Rattle.drawing.specs.Drawing.{boardSize}
+use Rattle.drawing.specs.Text.{boardSize}
 use Rattle.register.specs.Layout.{summaryCountAt}
 use Rattle.register.specs.Memory.{fresh}
 use Rattle.register.specs.Calls.{Call, runs, noneFull, remaining}
 use Rattle.register.specs.Remains.{summariesHeld, recordsHeld}
 use Rattle.register.specs.Claims.{SameRemains, HoldsWhatRemains, FullExactlyWhen}
-use Rattle.board.specs.Board.{boardOf, boarded, written}
+use Rattle.board.specs.Board.{boardOf, drawBoard, writeText}
 
 -- "The board over what remains takes the remaining records and summaries, with the engines of a record's remaining reports as its signers."
 abbrev pub boardOver : List Call → List ℕ
@@ -32,8 +32,8 @@ pub record SameInBothRooms (north south : List Call) : Type 0 where
   -- the registers are equal in every byte but the convicted set, which comes first
   pub registers : drop summaryCountAt (runs fresh north) ≡ drop summaryCountAt (runs fresh south)
   -- whatever each room lends, if it is enough, it gets the board over what remains: neither call is refused, and both give this length and these bytes
-  pub drawn-north : (out : List ℕ) → boardSize ≤ length out → boarded (runs fresh north) out ≡ written (boardOver north) out
-  pub drawn-south : (out : List ℕ) → boardSize ≤ length out → boarded (runs fresh south) out ≡ written (boardOver north) out
+  pub drawn-north : (out : List ℕ) → boardSize ≤ length out → drawBoard (runs fresh north) out ≡ writeText (boardOver north) out
+  pub drawn-south : (out : List ℕ) → boardSize ≤ length out → drawBoard (runs fresh south) out ≡ writeText (boardOver north) out
   -- and the length can be no refusal's number
   pub no-refusal : (length (boardOver north) ≡ 0) ⊎ (greatestRefusal < length (boardOver north))
 

@@ -7,10 +7,10 @@ ghost use mathlib.Core.Bool.{true};
 ghost use Prim.Native.Nat.{_≤_};
 ghost use lib.ListN.{length};
 ghost use Rattle.text.specs.Buffer.{Put};
-ghost use Rattle.drawing.specs.Drawing.{boardSize};
+ghost use Rattle.drawing.specs.Text.{boardSize};
 ghost use Rattle.register.specs.Register.{after};
 ghost use Rattle.register.specs.Memory.{wellFormed, decode};
-ghost use Rattle.board.specs.Board.{boardIn, boarded};
+ghost use Rattle.board.specs.Board.{boardIn, drawBoard};
 
 // The least output that a board is written to: every board fits.
 pub const BOARD_SIZE: usize = 16384;
@@ -24,7 +24,7 @@ fn draw(memory: &[u8], out: &mut [u8]) -> usize
     let summaries = octets::words::u16_at(memory, layout::SUMMARY_COUNT_AT);
     let records = octets::words::u16_at(memory, layout::RECORD_COUNT_AT);
     let mut t = [0u8; MAX_FIXES * FIX_SIZE];
-    let n = representatives::represent(
+    let n = fixes::representatives::represent(
         &memory[layout::SUMMARIES_AT..layout::RECORDS_AT],
         summaries as usize,
         &memory[layout::RECORDS_AT..],
@@ -37,7 +37,7 @@ fn draw(memory: &[u8], out: &mut [u8]) -> usize
 
 // The board of a register: 1 or 10, or its length.
 pub fn board(memory: &[u8], out: &mut [u8]) -> u32
-    ensures { λ a. ⌜ after a (now (out .exit)) ≡ boarded (now (memory .entry)) (now (out .entry)) ⌝ }
+    ensures { λ a. ⌜ after a (now (out .exit)) ≡ drawBoard (now (memory .entry)) (now (out .entry)) ⌝ }
 {
     if !register::formed::well_formed(memory) {
         return 1;

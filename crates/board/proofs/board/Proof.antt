@@ -7,8 +7,10 @@ use native.Mathlib.Omega.{arith}
 use native.Mathlib.Nat.{le-trans}
 use borrow.Author.Tests.{lt-ltb, le-ltb}
 use Rattle.ranges.proofs.Bools.{not-t, not-false-t}
+use Rattle.octets.specs.Bytes.{Bytes}
+use Rattle.octets.proofs.Numbers.{all-bytes}
 use Rattle.register.specs.Memory.{wellFormed}
-use Rattle.board.specs.Board.{boarded}
+use Rattle.board.specs.Board.{drawBoard}
 use Rattle.board.proofs.Fitting.{fits-board, put-written}
 use borrow.Author.Needs.{needs}
 use Rattle.board.proofs.board.Statement.{statement}
@@ -23,6 +25,9 @@ module _ (a : tie.Else1) where
   abbrev m : List ℕ
   m = a .before .before .before .before .args .memory .now
 
+  bytes : Bytes m
+  bytes = all-bytes m (λ i. a .before .before .before .shared-slice-known .given i .fits)
+
   formed : wellFormed m ≡ true
   formed = sym (a .before .well-formed .ensures) ∙ not-false-t _ (a .if1 .left)
 
@@ -30,11 +35,11 @@ well-formed-requires : tie.Need-well-formed-requires
 well-formed-requires c κs = search needs
 
 returns : tie.Need-returns
-unfolding boarded
+unfolding drawBoard
 returns c = rw (sym (c .before .well-formed .ensures) ∙ not-t _ (c .if1 .taken)) refl
 
 returns-2 : tie.Need-returns-2
-unfolding boarded
+unfolding drawBoard
 returns-2 c = rw (formed (c .before), lt-ltb _ _ (c .if2 .taken)) refl
 
 draw-requires : tie.Need-draw-requires
@@ -44,19 +49,19 @@ cast-result : tie.Need-cast-result
 cast-result c =
     let a = c .before .before .before .before .before in
     let p = c .before .before .draw .ensures in
-    let f = fits-board (m a) (formed a) in
+    let f = fits-board (m a) (bytes a) (formed a) in
     record { fits = omega (arith, p .next, f) }
 
 same-length : tie.Need-same-length
 same-length c = search needs
 
 returns-3 : tie.Need-returns-3
-unfolding boarded
+unfolding drawBoard
 returns-3 c =
     let sized = c .before .before .before .before in
     let a = sized .before in
     let s = sized .if2 .left in
-    rw (formed a, le-ltb _ _ s) (put-written _ _ _ _ (c .before .before .draw .ensures) (le-trans (fits-board (m a) (formed a)) s))
+    rw (formed a, le-ltb _ _ s) (put-written _ _ _ _ (c .before .before .draw .ensures) (le-trans (fits-board (m a) (bytes a) (formed a)) s))
 
 pub board-spec : {M : Type 1} → statement M
 board-spec =

@@ -5,21 +5,24 @@ use mathlib.Core.Bool.{true}
 use mathlib.Core.List.{List}
 use native.Mathlib.Omega.{arith}
 use lib.ListN.{length}
+use Rattle.octets.specs.Bytes.{Bytes}
+use Rattle.octets.proofs.Numbers.{all-bytes}
 use Rattle.places.specs.Places.{tableOf}
 use Rattle.text.proofs.Writing.{put-as}
 use Rattle.ranges.specs.Tables.{Cached}
 use Rattle.fixes.specs.Layout.{maxFixes, fixSize}
 use Rattle.links.specs.Links.{linkAt}
 use Rattle.links.specs.Walk.{label}
-use Rattle.representatives.specs.Gathered.{Gathered}
-use Rattle.representatives.proofs.Soundness.{gathered-sound}
-use Rattle.drawing.specs.Drawing.{drawn}
+use Rattle.fixes.specs.Gathered.{Gathered}
+use Rattle.links.proofs.Fitness.{gathered-sound}
+use Rattle.drawing.specs.Drawing.{drawTable}
 use Rattle.register.specs.Layout.{registerSize}
 use Rattle.register.specs.Memory.{wellFormed, decode}
 use Rattle.register.proofs.Opened.{opened}
-use Rattle.board.specs.Board.{boardOf, boardIn}
+use Rattle.board.specs.Board.{boardIn}
 use Rattle.board.proofs.Lent.{Lends, lends, fixesIn, fixes-gathered}
 use Rattle.board.proofs.Labelled.{labels-same}
+use Rattle.board.proofs.Pictured.{register-board}
 use borrow.Author.Needs.{needs}
 use Rattle.board.proofs.draw.Statement.{statement}
 use Rattle.board.proofs.draw.Tie as tie
@@ -28,13 +31,12 @@ use Rattle.board.proofs.draw.Lts as lts
 use Rattle.drawing.proofs.draw.Reads as draw-reads
 use Rattle.links.proofs.labels.Reads as labels-reads
 use Rattle.octets.proofs.words.u16_at.Reads as u16-at-reads
-use Rattle.representatives.proofs.represent.Reads as represent-reads
+use Rattle.fixes.proofs.representatives.represent.Reads as represent-reads
 
 -- what is drawn of the fixes with the labels that the walk gave is the board
-board-is : (m : List ℕ) (n : ℕ) (t l : List ℕ) → n ≡ length (fixesIn m) → t ≡ tableOf fixSize maxFixes (fixesIn m) → Cached 0 l (label (linkAt t) n) n
-    → drawn t l n ≡ boardIn (decode m)
-unfolding boardOf
-board-is m n t l e f c = labels-same t l n c ∙ rw (e, f) refl
+board-is : (m : List ℕ) (n : ℕ) (t l : List ℕ) → Bytes m → wellFormed m ≡ true → n ≡ length (fixesIn m) → t ≡ tableOf fixSize maxFixes (fixesIn m) → Cached 0 l (label (linkAt t) n) n
+    → drawTable t l n ≡ boardIn (decode m)
+board-is m n t l b w e f c = labels-same t l n c ∙ rw (e, f) (register-board m b w)
 
 -- ---- the places of the function
 
@@ -52,6 +54,9 @@ module _ (s : tie.Start) where
 module _ (a : tie.After-u16-at2) where
   abbrev start : tie.Start
   start = a .before .before .before .before
+
+  bytes : Bytes (m start)
+  bytes = all-bytes (m start) (λ i. a .before .before .before .shared-slice-known .given i .fits)
 
   lent : Lends (m start) (formed start) (a .before .u16-at .result) (a .u16-at2 .result)
   lent = lends (m start) (formed start) (a .before .u16-at .result) (a .u16-at2 .result) (a .before .u16-at .ensures) (a .u16-at2 .ensures)
@@ -140,7 +145,7 @@ returns c =
     let put = c .before .before in
     let labelled = put .before .before .before .before in
     let r = labelled .before .before .before in
-    put-as (board-is (memory r) (n r) (t r) _ (n-is r) (t-is r) (labelled .labels .ensures)) (put .draw .ensures)
+    put-as (board-is (memory r) (n r) (t r) _ (bytes (counted r)) (formed (start (counted r))) (n-is r) (t-is r) (labelled .labels .ensures)) (put .draw .ensures)
 
 pub draw-spec : {M : Type 1} → statement M
 draw-spec =
