@@ -1,5 +1,5 @@
 -- Numbers put into a record one after another.
-use Prim.Native.Nat.{ℕ, _+_, _-_, _*_, _%_, _^_, _≤_, _<_}
+use Prim.Native.Nat.{ℕ, _+_, _*_, _%_, _^_, _≤_, _<_}
 use mathlib.Core.Path.{_≡_, refl, sym, ap, _∙_}
 use mathlib.Core.List.{List, [], _∷_, _++_, append-assoc, append-nil}
 use native.Mathlib.Omega.{arith}
@@ -7,11 +7,12 @@ use native.Mathlib.Numerals.{add-one}
 use native.Mathlib.Nat.{mul-suc, add-comm}
 use lib.ListN.{length, getD, take, drop, set, length-append, drop-of-length-le}
 use lib.Seq.{take-suc, take-all, sets-eq}
-use Rattle.octets.specs.Words.{wordBytes, putWord}
+use Rattle.octets.specs.Words.{wordBytes}
+use Rattle.octets.specs.Writes.{putWord}
 use Rattle.octets.proofs.Numbers.{length-word-bytes, bytes-low}
 use Rattle.text.specs.Buffer.{Put}
 use Rattle.text.proofs.Writing.{put-as, put-one, put-whole}
-use Rattle.grammar.specs.Values.{words}
+use Rattle.values.specs.Values.{words}
 
 -- a number put is its bytes written
 pub word-put : (n at x r : ℕ) (l l′ : List ℕ) → at + n ≤ length l → r ≡ at + n → l′ ≡ putWord n at x l → Put l at (wordBytes n x) r l′
@@ -22,7 +23,7 @@ word-put n at x r l l′ h e f =
       bytes = f ∙ sym (sets-eq (wordBytes n x) l at (omega arith) ∙ append-assoc (take at l) (wordBytes n x) (drop (at + length (wordBytes n x)) l) ∙ ap (λ (k : ℕ). take at l ++ (wordBytes n x ++ drop (at + k) l)) w);
     }
 
--- the same of a number cut to its width first
+-- a number put whose bits above its width were cut off first
 pub word-low : (n at x r : ℕ) (l l′ : List ℕ) → at + n ≤ length l → r ≡ at + n → l′ ≡ putWord n at (x % 256 ^ n) l → Put l at (wordBytes n x) r l′
 word-low n at x r l l′ h e f = put-as (bytes-low n x) (word-put n at (x % 256 ^ n) r l l′ h e f)
 

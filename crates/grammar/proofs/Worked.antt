@@ -1,34 +1,33 @@
 -- The operations of the worked session (document 01, 'The track and the session'), and lines that are bad.
 use mathlib.Core.Path.{_≡_, refl}
 use mathlib.Core.List.{List, [], _∷_, _++_}
-use mathlib.Core.Option.{none, some}
-use Prim.Native.Nat.{ℕ, _+_, _-_}
+use Prim.Native.Nat.{ℕ}
 use lib.ListN.{replicate}
 use Rattle.octets.specs.Words.{wordBytes}
 use Rattle.octets.specs.Order.{isBefore, same}
 use Rattle.text.specs.Numbers.{decimalValue}
 use Rattle.register.specs.Calls.{report, summary, conviction}
-use Rattle.lines.specs.Ascii.{ascii}
-use Rattle.grammar.specs.Values.{indexOf, allDigits, digitsAfter, number, signedBits, numbers, models, hexBytes, hex, height, message, turned, covariance, words}
-use Rattle.grammar.specs.Grammar.{keyed, convictionOf, summaryOf, placeOf, sightingOf, citedOf, reportOf, kind, operationOf, badAt, calls, operations, sessionOf}
+use Rattle.octets.specs.Ascii.{ascii}
+use Rattle.values.specs.Values.{indexOf, allDigits, digitsAfter, readNumber, readSigned, readNumbers, readModels, hexBytes, readHex, readHeight, readMessage, swapBytes, readCovariance, words}
+use Rattle.grammar.specs.Grammar.{dueText, readConviction, readSummary, readPlace, readSighting, readCited, readReport, readKind, readOperation, badAt, calls, readOperations, sessionOf}
 
 abbrev zeros : ℕ → List ℕ
 zeros n = replicate n 48
 
 convicted : sessionOf (ascii "op=convict\nengine=7\n") ≡ calls (conviction 7 ∷ [])
-unfolding sessionOf operations operationOf kind convictionOf keyed same isBefore indexOf number digitsAfter allDigits decimalValue ascii
+unfolding sessionOf readOperations readOperation readKind readConviction dueText same isBefore indexOf readNumber digitsAfter allDigits decimalValue ascii
 convicted = refl
 
 summarized :
     sessionOf (ascii "op=summary\nengine=1\nmodel=5\nspec=3\ninputs=" ++ (zeros 64 ++ ascii "\n"))
     ≡ calls (summary 1 5 3 (replicate 32 0) ∷ [])
-unfolding sessionOf operations operationOf kind summaryOf keyed same isBefore indexOf number digitsAfter allDigits decimalValue hex hexBytes ascii
+unfolding sessionOf readOperations readOperation readKind readSummary dueText same isBefore indexOf readNumber digitsAfter allDigits decimalValue readHex hexBytes ascii
 summarized = refl
 
 -- the records of the worked session: a height, how many tags, the used mask, and the tags
 worked : List ℕ → ℕ → ℕ → List ℕ → List ℕ
-worked height count used tags =
-    (wordBytes 8 1000 ++ (wordBytes 4 500000000 ++ (wordBytes 4 100000000 ++ height)))
+worked readHeight count used tags =
+    (wordBytes 8 1000 ++ (wordBytes 4 500000000 ++ (wordBytes 4 100000000 ++ readHeight)))
     ++ ((7 ∷ 0x8d ∷ replicate 13 0)
     ++ ((count ∷ used ∷ 0 ∷ [])
     ++ (tags ++ ((1 ∷ 5 ∷ 0 ∷ 0 ∷ 0 ∷ []) ++ (3 ∷ 0 ∷ []) ++ replicate 48 0))))
@@ -50,7 +49,7 @@ whole :
     ++ (ascii "\nop=report\nengine=2\ntime=1000\nlat=500000000\nlon=100000000\nheight=none\nmessage=8d000000000000\n"
     ++ (ascii "tags=11,12,13\nused=7\nmodels=5\nspec=3\ncov=" ++ (zeros 96 ++ ascii "\n"))))))))
     ≡ calls (summary 1 5 3 (replicate 32 0) ∷ report 1 first ∷ report 2 second ∷ [])
-unfolding worked first second sessionOf operations operationOf kind summaryOf reportOf placeOf sightingOf citedOf keyed same isBefore indexOf number digitsAfter allDigits decimalValue signedBits height message numbers models words wordBytes hex hexBytes covariance turned ascii
+unfolding worked first second sessionOf readOperations readOperation readKind readSummary readReport readPlace readSighting readCited dueText same isBefore indexOf readNumber digitsAfter allDigits decimalValue readSigned readHeight readMessage readNumbers readModels words wordBytes readHex hexBytes readCovariance swapBytes ascii
 whole = refl
 
 bad-lines :
@@ -62,23 +61,5 @@ bad-lines :
     × (sessionOf (ascii "op=convict\nengine=256\n") ≡ badAt 2)
     × (sessionOf (ascii "op=convict\nengine=7\n\n") ≡ badAt 3)
     × (sessionOf (ascii "op=convict\nengine=7\nop=convicted\n") ≡ badAt 3)
-unfolding sessionOf operations operationOf kind convictionOf keyed same isBefore indexOf number digitsAfter allDigits decimalValue ascii
+unfolding sessionOf readOperations readOperation readKind readConviction dueText same isBefore indexOf readNumber digitsAfter allDigits decimalValue ascii
 bad-lines = (refl, refl, refl, refl, refl, refl, refl, refl)
-
-values :
-    (number 255 (ascii "255") ≡ some 255)
-    × (number 0xffff_ffff_ffff_ffff (ascii "18446744073709551616") ≡ none)
-    × (number 0xffff_ffff_ffff_ffff (ascii "99999999999999999999") ≡ none)
-    × (signedBits (ascii "-1") ≡ some 0xffff_ffff)
-    × (signedBits (ascii "-2147483648") ≡ some 0x8000_0000)
-    × (signedBits (ascii "2147483648") ≡ none)
-    × (signedBits (ascii "-0") ≡ none)
-    × (numbers 255 4 (ascii "1,2,3,4") ≡ some (1 ∷ 2 ∷ 3 ∷ 4 ∷ []))
-    × (numbers 255 4 (ascii "1,2,3,4,5") ≡ none)
-    × (numbers 255 4 (ascii "1,") ≡ none)
-    × (numbers 255 4 [] ≡ none)
-    × (hex 2 (ascii "0aff") ≡ some (10 ∷ 255 ∷ []))
-    × (hex 2 (ascii "0AFF") ≡ none)
-    × (hex 2 (ascii "0af") ≡ none)
-unfolding indexOf number digitsAfter allDigits decimalValue signedBits numbers hex hexBytes ascii
-values = (refl, refl, refl, refl, refl, refl, refl, refl, refl, refl, refl, refl, refl, refl)

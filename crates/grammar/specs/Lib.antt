@@ -1,3 +1,3 @@
 pub mod Reading
-pub mod Values
 pub mod Grammar
+pub mod Cursors

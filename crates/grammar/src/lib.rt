@@ -3,4 +3,3 @@ pub mod keyed;
 pub mod operations;
 pub mod records;
 pub mod sessions;
-pub mod values;

@@ -1,22 +1,21 @@
 // The lines of a report as the bytes of a record.
 use crate::keyed;
+use crate::keyed::Cursor;
 use record::layout;
 ghost use mathlib.Core.Path.{_≡_};
 ghost use mathlib.Core.List.{_++_, _∷_};
 ghost use Prim.Native.Nat.{_+_, _*_, _≤_};
-ghost use lib.ListN.{length, take, drop};
+ghost use lib.ListN.{length, take};
 ghost use Rattle.octets.specs.Words.{wordBytes};
 ghost use Rattle.text.specs.Buffer.{Put};
 ghost use Rattle.record.specs.Layout as L;
-ghost use Rattle.grammar.specs.Values as Val;
-ghost use Rattle.grammar.specs.Reading.{told};
+ghost use Rattle.values.specs.Values as Val;
 ghost use Rattle.grammar.specs.Grammar as G;
+ghost use Rattle.grammar.specs.Cursors as C;
 
 // When and where. Signed numbers are held as their bits.
 pub struct Place {
-    pub good: bool,
-    pub lines: usize,
-    pub next: usize,
+    pub next: Cursor,
     pub time: u64,
     pub lat: u64,
     pub lon: u64,
@@ -25,31 +24,31 @@ pub struct Place {
 }
 
 // Time, latitude, longitude and height. Here and below, what is read after a bad line is not used.
-pub fn read_place(input: &[u8], at: usize) -> Place
-    ensures { λ r. ⌜ (told (r .good) (r .lines) (G.placeBytes (r .time) (r .lat) (r .lon) (r .flag ∷ wordBytes 4 (r .height))) (drop (r .next) (now (input .entry))) ≡ G.placeOf (drop at (now (input .entry)))) × (r .lines ≤ 4) ⌝ }
+pub fn read_place(input: &[u8], c: Cursor) -> Place
+    requires { ⌜ C.linesBefore c ≤ 2 ⌝ }
+    ensures { λ r. ⌜ (C.readingAt (r .next) (G.placeBytes (r .time) (r .lat) (r .lon) (r .flag ∷ wordBytes 4 (r .height))) (now (input .entry)) ≡ C.readFrom c (now (input .entry)) G.readPlace) × (C.linesBefore (r .next) ≤ C.linesBefore c + 4) ⌝ }
 {
-    let t = keyed::number(input, at, b"time=", 0xffff_ffff_ffff_ffff);
-    let a = keyed::signed(input, t.next, b"lat=");
-    let o = keyed::signed(input, a.next, b"lon=");
-    let h = keyed::height(input, o.next);
-    let lines = keyed::good_lines(t.good, a.good, o.good, h.good);
+    let t = keyed::number(input, c, b"time=", 0xffff_ffff_ffff_ffff);
+    let c1 = t.next;
+    let a = keyed::signed(input, c1, b"lat=");
+    let c2 = a.next;
+    let o = keyed::signed(input, c2, b"lon=");
+    let c3 = o.next;
+    let h = keyed::height(input, c3);
+    let next = h.next;
     Place {
-        good: lines == 4,
-        lines,
-        next: h.next,
+        next,
         time: t.value,
         lat: a.value,
         lon: o.value,
         flag: h.flag,
-        height: h.value,
+        height: h.bits,
     }
 }
 
 // The message and the tags.
 pub struct Sighting {
-    pub good: bool,
-    pub lines: usize,
-    pub next: usize,
+    pub next: Cursor,
     pub size: usize,
     pub message: [u8; 14],
     pub count: usize,
@@ -58,19 +57,20 @@ pub struct Sighting {
 }
 
 // Message, tags and which of them were used.
-pub fn read_sighting(input: &[u8], at: usize) -> Sighting
-    ensures { λ r. ⌜ (told (r .good) (r .lines) (G.sightingBytes (r .size ∷ r .message) (r .count) (r .used) (r .tags)) (drop (r .next) (now (input .entry))) ≡ G.sightingOf (drop at (now (input .entry)))) × (r .lines ≤ 3) × (r .size ≤ L.longMessage) × (r .count ≤ L.maxTags) ⌝ }
+pub fn read_sighting(input: &[u8], c: Cursor) -> Sighting
+    requires { ⌜ C.linesBefore c ≤ 6 ⌝ }
+    ensures { λ r. ⌜ (C.readingAt (r .next) (G.sightingBytes (r .size ∷ r .message) (r .count) (r .used) (r .tags)) (now (input .entry)) ≡ C.readFrom c (now (input .entry)) G.readSighting) × (C.linesBefore (r .next) ≤ C.linesBefore c + 3) × (r .size ≤ L.longMessage) × (r .count ≤ L.maxTags) ⌝ }
 {
-    let m = keyed::message(input, at);
-    let t = keyed::tags(input, m.next);
-    let u = keyed::number(input, t.next, b"used=", 0xffff);
+    let m = keyed::message(input, c);
+    let c1 = m.next;
+    let t = keyed::tags(input, c1);
+    let c2 = t.next;
+    let u = keyed::number(input, c2, b"used=", 0xffff);
+    let next = u.next;
     let message = m.bytes;
     let tags = t.values;
-    let lines = keyed::good_lines(m.good, t.good, u.good, false);
     Sighting {
-        good: lines == 3,
-        lines,
-        next: u.next,
+        next,
         size: m.size,
         message,
         count: t.count,
@@ -81,9 +81,7 @@ pub fn read_sighting(input: &[u8], at: usize) -> Sighting
 
 // The models, spec and covariance.
 pub struct Cited {
-    pub good: bool,
-    pub lines: usize,
-    pub next: usize,
+    pub next: Cursor,
     pub count: usize,
     pub models: [u64; layout::MAX_TAGS],
     pub spec: u64,
@@ -91,19 +89,20 @@ pub struct Cited {
 }
 
 // Models, spec and covariance.
-pub fn read_cited(input: &[u8], at: usize) -> Cited
-    ensures { λ r. ⌜ (told (r .good) (r .lines) (G.citedBytes (r .count) (take L.maxModels (r .models)) (r .spec) (r .covariance)) (drop (r .next) (now (input .entry))) ≡ G.citedOf (drop at (now (input .entry)))) × (r .lines ≤ 3) × (r .count ≤ L.maxModels) ⌝ }
+pub fn read_cited(input: &[u8], c: Cursor) -> Cited
+    requires { ⌜ C.linesBefore c ≤ 9 ⌝ }
+    ensures { λ r. ⌜ (C.readingAt (r .next) (G.citedBytes (r .count) (take L.maxModels (r .models)) (r .spec) (r .covariance)) (now (input .entry)) ≡ C.readFrom c (now (input .entry)) G.readCited) × (C.linesBefore (r .next) ≤ C.linesBefore c + 3) × (r .count ≤ L.maxModels) ⌝ }
 {
-    let m = keyed::models(input, at);
-    let s = keyed::number(input, m.next, b"spec=", 0xffff);
-    let c = keyed::covariance(input, s.next);
+    let m = keyed::models(input, c);
+    let c1 = m.next;
+    let s = keyed::number(input, c1, b"spec=", 0xffff);
+    let c2 = s.next;
+    let v = keyed::covariance(input, c2);
+    let next = v.next;
     let models = m.values;
-    let covariance = c.bytes;
-    let lines = keyed::good_lines(m.good, s.good, c.good, false);
+    let covariance = v.bytes;
     Cited {
-        good: lines == 3,
-        lines,
-        next: c.next,
+        next,
         count: m.count,
         models,
         spec: s.value,

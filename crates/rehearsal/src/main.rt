@@ -8,7 +8,7 @@ ghost use mathlib.Core.Path.{_≡_};
 ghost use Prim.Native.Nat.{_≤_};
 ghost use lib.ListN.{length};
 
-// The length of the next session; 0 where there is none, and no more than one byte over what is read.
+// The length of the next session, and no more than one byte over what is read; so much too where no session is left.
 fn next_length() -> usize
     ensures { λ r. ⌜ r ≤ 65537 ⌝ }
 {

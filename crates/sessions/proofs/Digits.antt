@@ -7,19 +7,20 @@ use native.Mathlib.Omega.{arith}
 use lib.Dec.{ltb, eqb}
 use lib.ListN.{length}
 use Rattle.octets.specs.Masks.{bit}
-use Rattle.octets.proofs.Cases.{by}
+use Rattle.ranges.proofs.Bools.{by}
 use Rattle.text.specs.Numbers.{digits, decimal}
 use Rattle.text.proofs.Shapes.{digits-one}
 use Rattle.record.specs.Layout.{maxModel}
 use Rattle.record.specs.Formed as R
 use Rattle.models.specs.Summary.{inputsSize}
-use Rattle.lines.specs.Ascii.{ascii}
+use Rattle.octets.specs.Ascii.{ascii}
 use Rattle.register.specs.Layout.{maxEngine}
 use Rattle.register.specs.Register.{Register, After}
 use Rattle.register.specs.Memory.{wellFormed, decode, onMemory}
 use Rattle.register.specs.Calls.{Call, report, summary, conviction, act}
 use Rattle.register.proofs.History.{Way, report-way, summary-way}
-use Rattle.sessions.specs.Output.{answerLine, maxAnswer, answerWidth}
+use Rattle.sessions.specs.Output.{answerLine}
+use Rattle.sessions.specs.Widths.{maxAnswer, answerWidth}
 
 -- ---- an answer is at most 9
 

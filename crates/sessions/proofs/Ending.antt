@@ -1,43 +1,44 @@
 -- The board after the answers, and the cases of a session's output.
-use Prim.Native.Nat.{ℕ, _+_, _-_, _*_, _≤_, _<_}
+use Prim.Native.Nat.{ℕ, _+_, _-_, _≤_, _<_}
 use mathlib.Core.Path.{_≡_, refl, sym, ap, _∙_}
-use mathlib.Core.Bool.{Bool, true, false, cond}
-use mathlib.Core.List.{List, [], _∷_, _++_, append-assoc}
+use mathlib.Core.Bool.{true}
+use mathlib.Core.List.{List, [], _++_, append-assoc}
+use mathlib.Core.Option.{Option, none, some}
 use native.Mathlib.Omega.{arith}
-use native.Mathlib.Nat.{le-trans}
-use lib.Dec.{ltb, eqb}
 use lib.ListN.{length, take, drop, length-drop}
-use lib.Seq.{sets, sets-eq, drop-drop}
+use lib.Seq.{sets-eq, drop-drop}
 use borrow.Author.Tests.{le-ltb, lt-ltb, ne-eqb}
+use Rattle.octets.specs.Bytes.{Bytes}
 use Rattle.octets.proofs.Moves.{tail-back, tail-lent}
 use Rattle.text.specs.Buffer.{Put}
-use Rattle.drawing.specs.Drawing.{boardSize}
+use Rattle.drawing.specs.Text.{boardSize}
 use Rattle.register.specs.Register.{After, after}
 use Rattle.register.specs.Memory.{wellFormed, decode, fresh}
-use Rattle.register.specs.Calls.{Call, runs, noneFull}
+use Rattle.register.specs.Calls.{runs, noneFull}
 use Rattle.register.proofs.Whole.{whole}
-use Rattle.board.specs.Board.{boardOf, boardIn, boarded, written}
+use Rattle.board.specs.Board.{boardIn, drawBoard, writeText}
 use Rattle.board.proofs.Fitting.{fits-board}
-use Rattle.lines.specs.Ascii.{ascii}
-use Rattle.grammar.specs.Reading.{Reading, bad, good}
-use Rattle.grammar.specs.Grammar.{Session, badAt, calls, sessionOf, operations, asSession, firstBad, badLine}
-use Rattle.sessions.specs.Output.{maxInput, performed, refusedAt, printed, outputOf, callsIn, callsFrom}
+use Rattle.octets.specs.Ascii.{ascii}
+use Rattle.grammar.specs.Grammar.{Session, badAt, calls, sessionOf}
+use Rattle.grammar.specs.Cursors.{badLineOf, firstBad, callsOf, callsFrom}
+use Rattle.grammar.proofs.Whole.{bad-empty}
+use Rattle.sessions.specs.Output.{maxInput, answersThenBoard, badLineText, sessionText, outputOf}
 
 pub fresh-formed : wellFormed fresh ≡ true
 unfolding runs noneFull
 fresh-formed = whole [] refl .formed
 
 -- a board that was drawn into the rest of a buffer
-pub board-put : (m l y : List ℕ) (at n : ℕ) → wellFormed m ≡ true → at + boardSize ≤ length l → after n y ≡ boarded m (take (length l - at) (drop at l))
+pub board-put : (m l y : List ℕ) (at n : ℕ) → Bytes m → wellFormed m ≡ true → at + boardSize ≤ length l → after n y ≡ drawBoard m (take (length l - at) (drop at l))
     → Put l at (boardIn (decode m)) (at + n) (take at l ++ (y ++ drop (length l - at) (drop at l)))
-unfolding boarded
-board-put m l y at n w h e =
+unfolding drawBoard
+board-put m l y at n b₀ w h e =
     let t = boardIn (decode m) in
     let r = drop at l in
     let d = length-drop at l in
     let b : boardSize ≤ length r = omega (arith, d, h) in
-    let f = fits-board m w in
-    let u : after n y ≡ written t r = e ∙ ap (boarded m) (tail-lent l at) ∙ rw (w, le-ltb (length r) boardSize b) refl in
+    let f = fits-board m b₀ w in
+    let u : after n y ≡ writeText t r = e ∙ ap (drawBoard m) (tail-lent l at) ∙ rw (w, le-ltb (length r) boardSize b) refl in
     let un : n ≡ length t = ap (λ (a : After (List ℕ)). a .answer) u in
     let uy : y ≡ t ++ drop (length t) r = ap (λ (a : After (List ℕ)). a .left) u in
     record {
@@ -47,23 +48,27 @@ board-put m l y at n w h e =
           ∙ sym (sets-eq t l at (omega (arith, h, f)) ∙ append-assoc (take at l) t (drop (at + length t) l));
     }
 
--- what is printed, by the number of the first bad line
-printed-bad : (m : Reading (List Call)) → (badLine (asSession m) ≡ 0 → ⊥) → printed (asSession m) ≡ refusedAt (badLine (asSession m))
-printed-bad (bad n) h = refl
-printed-bad (good n cs rest) h = absurd (h refl)
+-- what is printed, by the first bad line
+text-bad : (m : Session) (n : ℕ) → badLineOf m ≡ some n → sessionText m ≡ badLineText n
+text-bad (badAt k) n h = let z : k ≡ n = cc in ap badLineText z
+text-bad (calls cs) n h = absurd (let z : _≡_ {A = ℕ} 0 1 = cc in omega arith)
 
-printed-good : (m : Reading (List Call)) → badLine (asSession m) ≡ 0 → printed (asSession m) ≡ performed fresh (callsIn (asSession m))
-printed-good (bad n) h = absurd (omega arith)
-printed-good (good n cs rest) h = refl
+text-good : (m : Session) → badLineOf m ≡ none → sessionText m ≡ answersThenBoard fresh (callsOf m)
+text-good (badAt n) h = absurd (let z : _≡_ {A = ℕ} 0 1 = cc in omega arith)
+text-good (calls cs) h = refl
 
 pub output-long : (s : List ℕ) → maxInput < length s → outputOf s ≡ ascii "refused=12\n"
 unfolding outputOf
 output-long s h = rw (lt-ltb maxInput (length s) h) refl
 
-pub output-bad : (s : List ℕ) → length s ≤ maxInput → (firstBad s ≡ 0 → ⊥) → outputOf s ≡ refusedAt (firstBad s)
-unfolding outputOf sessionOf
-output-bad s h f = rw (le-ltb maxInput (length s) h) (printed-bad (operations (length s) s) f)
+pub output-bad : (s : List ℕ) (n : ℕ) → length s ≤ maxInput → firstBad s ≡ some n → outputOf s ≡ badLineText n
+unfolding outputOf
+output-bad s n h f = rw (le-ltb maxInput (length s) h) (text-bad (sessionOf s) n f)
 
-pub output-good : (s : List ℕ) → length s ≤ maxInput → (length s ≡ 0 → ⊥) → firstBad s ≡ 0 → outputOf s ≡ performed fresh (callsFrom s)
-unfolding outputOf sessionOf
-output-good s h e f = rw (le-ltb maxInput (length s) h, ne-eqb (length s) 0 e) (printed-good (operations (length s) s) f)
+-- where no line is bad there is one
+not-empty : (s : List ℕ) → firstBad s ≡ none → length s ≡ 0 → ⊥
+not-empty s e z = let b : _≡_ {A = Option ℕ} (some 1) none = sym (bad-empty s z) ∙ e in let q : _≡_ {A = ℕ} 0 1 = cc in omega arith
+
+pub output-good : (s : List ℕ) → length s ≤ maxInput → firstBad s ≡ none → outputOf s ≡ answersThenBoard fresh (callsFrom s)
+unfolding outputOf
+output-good s h f = rw (le-ltb maxInput (length s) h, ne-eqb (length s) 0 (not-empty s f)) (text-good (sessionOf s) f)

@@ -7,15 +7,11 @@ use Rattle.text.proofs.Writing.{put-put, put-as, put-length}
 use Rattle.register.specs.Memory.{decode}
 use Rattle.board.specs.Board.{boardIn}
 use Rattle.board.proofs.Fitting.{fits-board}
-use Rattle.sessions.specs.Output.{performed}
+use Rattle.sessions.specs.Output.{answersThenBoard}
 use Rattle.sessions.proofs.Ending.{fresh-formed, board-put}
 use borrow.Author.Needs.{needs}
 use Rattle.sessions.proofs.perform_all.Statement.{statement}
 use Rattle.sessions.proofs.perform_all.Tie as tie
-use Rattle.sessions.proofs.perform_all.Reads as reads
-use Rattle.sessions.proofs.perform_all.Lts as lts
-use Rattle.board.proofs.board.Reads as board-reads
-use Rattle.sessions.proofs.answer_all.Reads as answer-all-reads
 
 slice-aggregate-answer-all : tie.Need-slice-aggregate-answer-all
 slice-aggregate-answer-all c = search needs
@@ -48,13 +44,13 @@ same-length : tie.Need-same-length
 same-length c = search needs
 
 returns : tie.Need-returns
-unfolding performed
+unfolding answersThenBoard
 returns c =
     let st = c .before .before .before .before .before .before .before .before .before .before .before .before .before in
     let a = c .before .before .before .before .before .before .before .before .answer-all .ensures in
     let w = put-length (a .0 .1) in
-    let b = board-put (c .before .before .before .before .before .before .before .before .answer-all .last .1 .0) (c .before .before .before .before .before .before .before .before .answer-all .last .1 .1 .0) (c .before .before .board .last .1 .0) (c .before .before .before .before .before .before .before .before .answer-all .result) (c .before .before .board .result) (a .1 .1) (omega (arith, a .0 .0, w, st .pre .1)) (c .before .before .board .ensures) in
-    let f = fits-board _ (a .1 .1) in
+    let b = board-put (c .before .before .before .before .before .before .before .before .answer-all .last .1 .0) (c .before .before .before .before .before .before .before .before .answer-all .last .1 .1 .0) (c .before .before .board .last .1 .0) (c .before .before .before .before .before .before .before .before .answer-all .result) (c .before .before .board .result) (a .1 .2) (a .1 .1) (omega (arith, a .0 .0, w, st .pre .1)) (c .before .before .board .ensures) in
+    let f = fits-board _ (a .1 .2) (a .1 .1) in
     (omega (arith, a .0 .0, b .next, f), put-put (a .0 .1) (put-as (ap (λ (m : List ℕ). boardIn (decode m)) (a .1 .0)) b))
 
 pub perform-all-spec : {M : Type 1} → statement M

@@ -1,15 +1,11 @@
 -- `put_answer` meets its contract.
 use Rattle.text.proofs.Writing.{put-put, put-as}
-use Rattle.lines.specs.Ascii.{ascii}
+use Rattle.octets.specs.Ascii.{ascii}
 use Rattle.sessions.specs.Output.{answerLine}
 use Rattle.sessions.proofs.Digits.{one-digit}
 use borrow.Author.Needs.{needs}
 use Rattle.sessions.proofs.put_answer.Statement.{statement}
 use Rattle.sessions.proofs.put_answer.Tie as tie
-use Rattle.sessions.proofs.put_answer.Reads as reads
-use Rattle.sessions.proofs.put_answer.Lts as lts
-use Rattle.text.proofs.put_bytes.Reads as put-bytes-reads
-use Rattle.text.proofs.put_digits.Reads as put-digits-reads
 
 slice-aggregate-put-bytes : tie.Need-slice-aggregate-put-bytes
 slice-aggregate-put-bytes c = search needs

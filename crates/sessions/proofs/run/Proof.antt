@@ -1,20 +1,13 @@
 -- `run` meets its contract.
-use mathlib.Core.Path.{_≡_, refl, sym, ap, _∙_}
+use mathlib.Core.Path.{sym, ap, _∙_}
 use native.Mathlib.Omega.{arith}
 use Rattle.text.proofs.Writing.{put-as}
-use Rattle.lines.specs.Ascii.{ascii}
-use Rattle.grammar.proofs.Whole.{bad-empty}
-use Rattle.sessions.specs.Output.{refusedAt}
+use Rattle.octets.specs.Ascii.{ascii}
+use Rattle.grammar.specs.Cursors.{badLineIn}
 use Rattle.sessions.proofs.Ending.{output-long, output-bad, output-good}
 use borrow.Author.Needs.{needs}
 use Rattle.sessions.proofs.run.Statement.{statement}
 use Rattle.sessions.proofs.run.Tie as tie
-use Rattle.sessions.proofs.run.Reads as reads
-use Rattle.sessions.proofs.run.Lts as lts
-use Rattle.grammar.proofs.sessions.first_bad.Reads as first-bad-reads
-use Rattle.sessions.proofs.perform_all.Reads as perform-all-reads
-use Rattle.sessions.proofs.put_refused.Reads as put-refused-reads
-use Rattle.text.proofs.put_bytes.Reads as put-bytes-reads
 
 slice-aggregate-put-bytes : tie.Need-slice-aggregate-put-bytes
 slice-aggregate-put-bytes c = search needs
@@ -29,21 +22,31 @@ returns c = (omega (arith, c .put-bytes .ensures .next), put-as (sym (output-lon
 first-bad-requires : tie.Need-first-bad-requires
 first-bad-requires c κs = search needs
 
-put-refused-requires : tie.Need-put-refused-requires
-put-refused-requires c κs = search needs
+enum-known-line : tie.Need-enum-known-line
+enum-known-line c = search needs
+
+put-bad-line-requires : tie.Need-put-bad-line-requires
+put-bad-line-requires c κs = search needs
+
+enum-told : tie.Need-enum-told
+enum-told c = search needs
+
+perform-all-requires : tie.Need-perform-all-requires
+perform-all-requires c κs =
+    let f = c .before .before .before in
+    (sym (f .first-bad .ensures) ∙ ap badLineIn (c .before .enum-told .given .1), search needs)
 
 returns-2 : tie.Need-returns-2
 returns-2 c =
-    let e = c .before .before .before .first-bad .ensures in
-    (omega (arith, c .put-refused .ensures .0), put-as (ap refusedAt e ∙ sym (output-bad _ (c .before .before .before .before .if1 .left) (λ z. c .before .before .if2 .taken (e ∙ z)))) (c .put-refused .ensures .1))
-
-perform-all-requires : tie.Need-perform-all-requires
-perform-all-requires c κs = search needs
+    let l = c .before .before .before in
+    let f = l .before .before in
+    (omega (arith, c .put-bad-line .ensures .0), put-as (sym (output-bad _ (l .line .given .0 .0) (f .before .if1 .left) (sym (f .first-bad .ensures) ∙ ap badLineIn (l .line .given .1)))) (c .put-bad-line .ensures .1))
 
 returns-3 : tie.Need-returns-3
 returns-3 c =
-    let e = sym (c .before .before .before .first-bad .ensures) ∙ c .before .before .if2 .left in
-    (omega (arith, c .perform-all .ensures .0, c .before .before .before .before .if1 .left), put-as (sym (output-good _ (c .before .before .before .before .if1 .left) (λ z. let b = bad-empty _ z in let k = sym b ∙ e in omega (arith, k)) e)) (c .perform-all .ensures .1))
+    let f = c .before .before .before .before in
+    let e = sym (f .first-bad .ensures) ∙ ap badLineIn (c .before .before .enum-told .given .1) in
+    (omega (arith, c .perform-all .ensures .0, f .before .if1 .left), put-as (sym (output-good _ (f .before .if1 .left) e)) (c .perform-all .ensures .1))
 
 pub run-spec : {M : Type 1} → statement M
 run-spec =
@@ -53,7 +56,9 @@ run-spec =
     put-bytes-requires
     returns
     first-bad-requires
-    put-refused-requires
-    returns-2
+    enum-known-line
+    put-bad-line-requires
+    enum-told
     perform-all-requires
+    returns-2
     returns-3)

@@ -1,9 +1,9 @@
 use borrow.Author.Needs.{needs}
+use Rattle.values.specs.Values as Val
+use Rattle.octets.specs.Ascii.{ascii}
 use Prim.Native.Nat.{_-_}
 use lib.ListN.{take, drop}
-use Rattle.lines.specs.Ascii.{ascii}
-use Rattle.grammar.specs.Values as Val
-use Rattle.grammar.proofs.Texts.{covariance-empty, covariance-told}
+use Rattle.values.proofs.Texts.{covariance-if}
 use Rattle.grammar.proofs.Steps.{line-read}
 use Rattle.grammar.proofs.keyed.covariance.Statement.{statement}
 use Rattle.grammar.proofs.keyed.covariance.Tie as tie
@@ -29,22 +29,25 @@ slice-aggregate-hex c = search needs
 hex-requires : tie.Need-hex-requires
 hex-requires c κs = search needs
 
-slice-aggregate-turn : tie.Need-slice-aggregate-turn
-slice-aggregate-turn c = search needs
+slice-aggregate-swap-bytes : tie.Need-slice-aggregate-swap-bytes
+slice-aggregate-swap-bytes c = search needs
 
-turn-requires : tie.Need-turn-requires
-turn-requires c κs = search needs
+swap-bytes-requires : tie.Need-swap-bytes-requires
+swap-bytes-requires c κs = search needs
+
+pass-requires : tie.Need-pass-requires
+pass-requires c κs = search needs
 
 returns : tie.Need-returns
 unfolding ascii
 returns c =
-    let d = c .before .before .before .before .before .before in
-    let s = d .before .before .before in
-    let r = d .due .result in
+    let d = c .before .before .before .before .before .before .before .due in
+    let s = c .before .before .before .before .before .before .before .before .before .before in
     let i = s .args .input .now in
-    let v = c .before .before .before .hex in
-    line-read Val.covariance (ascii "cov=") (drop (s .args .at) i) i (r .from) (r .to) (r .next) (d .due .ensures .0) (d .due .ensures .3) covariance-empty
-    (v .result) (c .turn .result) (covariance-told (take (r .to - r .from) (drop (r .from) i)) (v .last .1 .0) (v .result) (c .turn .result) (c .turn .ensures) (v .ensures))
+    let w = c .before .swap-bytes in
+    let v = c .before .before .before .before .hex in
+    let p = line-read Val.readCovariance (ascii "cov=") i (d .result .lines) (d .result .from) (d .result .to) (s .args .c) (d .result .rest) (d .ensures .0) (d .ensures .1) (v .result) (w .result) (covariance-if (take (d .result .to - d .result .from) (drop (d .result .from) i)) (v .last .1 .0) (v .result) (w .result) (w .ensures) (v .ensures)) (c .pass .result) (c .pass .ensures) in
+    p
 
 pub covariance-spec : {M : Type 1} → statement M
 covariance-spec =
@@ -57,6 +60,7 @@ covariance-spec =
     part-hex-end
     slice-aggregate-hex
     hex-requires
-    slice-aggregate-turn
-    turn-requires
+    slice-aggregate-swap-bytes
+    swap-bytes-requires
+    pass-requires
     returns)

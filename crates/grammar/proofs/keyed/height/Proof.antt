@@ -1,11 +1,12 @@
 use borrow.Author.Needs.{needs}
+use mathlib.Core.Path.{ap, _∙_}
+use Rattle.values.specs.Values as Val
+use Rattle.values.specs.Enums as Enum
+use Rattle.grammar.specs.Cursors as C
+use Rattle.octets.specs.Ascii.{ascii}
 use mathlib.Core.List.{_∷_}
-use lib.ListN.{drop}
 use Rattle.octets.specs.Words.{wordBytes}
-use Rattle.lines.specs.Ascii.{ascii}
-use Rattle.grammar.specs.Values as Val
-use Rattle.grammar.proofs.Texts.{height-empty}
-use Rattle.grammar.proofs.Steps.{line-read}
+use Rattle.grammar.proofs.Steps.{line-read, height-if}
 use Rattle.grammar.proofs.keyed.height.Statement.{statement}
 use Rattle.grammar.proofs.keyed.height.Tie as tie
 
@@ -27,15 +28,19 @@ part-height-end c = search needs
 height-requires : tie.Need-height-requires
 height-requires c κs = search needs
 
+height-line-requires : tie.Need-height-line-requires
+height-line-requires c κs = search needs
+
 returns : tie.Need-returns
 unfolding ascii
 returns c =
-    let d = c .before .before in
-    let s = d .before .before .before in
-    let r = d .due .result in
+    let d = c .before .before .before .due in
+    let s = c .before .before .before .before .before .before in
     let i = s .args .input .now in
-    let v = c .height in
-    line-read Val.height (ascii "height=") (drop (s .args .at) i) i (r .from) (r .to) (r .next) (d .due .ensures .0) (d .due .ensures .3) height-empty (v .result .good) (v .result .flag ∷ wordBytes 4 (v .result .value)) (v .ensures)
+    let q = c .height-line in
+    let v = c .before .height in
+    let p = line-read Val.readHeight (ascii "height=") i (d .result .lines) (d .result .from) (d .result .to) (s .args .c) (d .result .rest) (d .ensures .0) (d .ensures .1) (C.isHeight (v .result)) (q .result .flag ∷ wordBytes 4 (q .result .bits)) (ap (Enum.valueIf (C.isHeight (v .result))) (q .ensures .1) ∙ height-if (v .result) ∙ v .ensures) (q .result .next) (q .ensures .0) in
+    p
 
 pub height-spec : {M : Type 1} → statement M
 height-spec =
@@ -47,4 +52,5 @@ height-spec =
     part-height-start
     part-height-end
     height-requires
+    height-line-requires
     returns)

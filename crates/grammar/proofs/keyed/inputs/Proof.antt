@@ -1,9 +1,7 @@
 use borrow.Author.Needs.{needs}
-use lib.ListN.{drop}
+use Rattle.values.specs.Values as Val
+use Rattle.octets.specs.Ascii.{ascii}
 use Rattle.models.specs.Summary.{inputsSize}
-use Rattle.lines.specs.Ascii.{ascii}
-use Rattle.grammar.specs.Values as Val
-use Rattle.grammar.proofs.Texts.{inputs-empty}
 use Rattle.grammar.proofs.Steps.{line-read}
 use Rattle.grammar.proofs.keyed.inputs.Statement.{statement}
 use Rattle.grammar.proofs.keyed.inputs.Tie as tie
@@ -29,15 +27,18 @@ slice-aggregate-hex c = search needs
 hex-requires : tie.Need-hex-requires
 hex-requires c κs = search needs
 
+pass-requires : tie.Need-pass-requires
+pass-requires c κs = search needs
+
 returns : tie.Need-returns
 unfolding ascii
 returns c =
-    let d = c .before .before .before .before in
-    let s = d .before .before .before in
-    let r = d .due .result in
+    let d = c .before .before .before .before .before .due in
+    let s = c .before .before .before .before .before .before .before .before in
     let i = s .args .input .now in
-    let v = c .before .hex in
-    line-read (Val.hex inputsSize) (ascii "inputs=") (drop (s .args .at) i) i (r .from) (r .to) (r .next) (d .due .ensures .0) (d .due .ensures .3) inputs-empty (v .result) (v .last .1 .0) (v .ensures)
+    let v = c .before .before .hex in
+    let p = line-read (Val.readHex inputsSize) (ascii "inputs=") i (d .result .lines) (d .result .from) (d .result .to) (s .args .c) (d .result .rest) (d .ensures .0) (d .ensures .1) (v .result) (v .last .1 .0) (v .ensures) (c .pass .result) (c .pass .ensures) in
+    p
 
 pub inputs-spec : {M : Type 1} → statement M
 inputs-spec =
@@ -50,4 +51,5 @@ inputs-spec =
     part-hex-end
     slice-aggregate-hex
     hex-requires
+    pass-requires
     returns)

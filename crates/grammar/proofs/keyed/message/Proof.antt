@@ -1,13 +1,13 @@
 use borrow.Author.Needs.{needs}
-use Prim.Native.Nat.{ℕ, _-_}
 use mathlib.Core.Path.{sym, ap, _∙_}
+use Rattle.values.specs.Values as Val
+use Rattle.octets.specs.Ascii.{ascii}
+use Prim.Native.Nat.{ℕ, _-_}
 use mathlib.Core.List.{List, _∷_, _++_}
 use lib.ListN.{replicate, take, drop}
 use lib.Seq.{length-take-le}
 use Rattle.record.specs.Layout.{longMessage}
-use Rattle.lines.specs.Ascii.{ascii}
-use Rattle.grammar.specs.Values as Val
-use Rattle.grammar.proofs.Texts.{message-empty, message-told, text-size}
+use Rattle.values.proofs.Texts.{message-if, text-size}
 use Rattle.grammar.proofs.Steps.{line-read}
 use Rattle.grammar.proofs.keyed.message.Statement.{statement}
 use Rattle.grammar.proofs.keyed.message.Tie as tie
@@ -37,29 +37,26 @@ array-borrow-prefix-bytes : tie.Need-array-borrow-prefix-bytes
 array-borrow-prefix-bytes c = search needs
 
 slice-aggregate-hex : tie.Need-slice-aggregate-hex
-slice-aggregate-hex c =
-    let z : List ℕ = replicate longMessage 0 in
-    sym (length-take-le (c .before .before .message-size .result) z (c .before .before .message-size .ensures .1))
+slice-aggregate-hex c = let z : List ℕ = replicate longMessage 0 in sym (length-take-le (c .before .before .message-size .result) z (c .before .before .message-size .ensures .1))
 
 hex-requires : tie.Need-hex-requires
 hex-requires c κs = search needs
 
+pass-requires : tie.Need-pass-requires
+pass-requires c κs = search needs
+
 returns : tie.Need-returns
 unfolding ascii
 returns c =
-    let m = c .before .before .before .before .message-size in
-    let d = c .before .before .before .before .before in
-    let s = d .before .before .before in
-    let r = d .due .result in
+    let d = c .before .before .before .before .before .before .due in
+    let s = c .before .before .before .before .before .before .before .before .before in
     let i = s .args .input .now in
-    let v = c .before .hex in
+    let v = c .before .before .hex in
+    let m = c .before .before .before .before .before .message-size in
     let z : List ℕ = replicate longMessage 0 in
-    let t = take (r .to - r .from) (drop (r .from) i) in (
-      line-read Val.message (ascii "message=") (drop (s .args .at) i) i (r .from) (r .to) (r .next) (d .due .ensures .0) (d .due .ensures .3) message-empty (v .result) (m .result ∷ (v .last .1 .0 ++ drop (m .result) z))
-          (message-told t (v .last .1 .0) (m .result) (v .result) (m .ensures .0 ∙ ap Val.messageSize (sym (text-size i (r .from) (r .to) (d .due .ensures .1) (d .due .ensures .2)))) (m .ensures .1)
-          (v .ensures ∙ ap (λ (k : ℕ). Val.hex k t) (length-take-le (m .result) z (m .ensures .1)))),
-      m .ensures .1,
-    )
+    let t = take (d .result .to - d .result .from) (drop (d .result .from) i) in
+    let p = line-read Val.readMessage (ascii "message=") i (d .result .lines) (d .result .from) (d .result .to) (s .args .c) (d .result .rest) (d .ensures .0) (d .ensures .1) (v .result) (m .result ∷ (v .last .1 .0 ++ drop (m .result) z)) (message-if t (v .last .1 .0) (m .result) (v .result) (m .ensures .0 ∙ ap Val.messageSize (sym (text-size i (d .result .from) (d .result .to) (d .ensures .2) (d .ensures .3)))) (m .ensures .1) (v .ensures ∙ ap (λ (k : ℕ). Val.readHex k t) (length-take-le (m .result) z (m .ensures .1)))) (c .pass .result) (c .pass .ensures) in
+    (p .0, p .1, m .ensures .1)
 
 pub message-spec : {M : Type 1} → statement M
 message-spec =
@@ -75,4 +72,5 @@ message-spec =
     array-borrow-prefix-bytes
     slice-aggregate-hex
     hex-requires
+    pass-requires
     returns)

@@ -1,8 +1,12 @@
 use borrow.Author.Needs.{needs}
-use lib.ListN.{drop}
-use Rattle.grammar.specs.Values as Val
-use Rattle.grammar.proofs.Texts.{number-empty}
-use Rattle.grammar.proofs.Steps.{line-read}
+use mathlib.Core.Path.{ap, _∙_}
+use Rattle.values.specs.Values as Val
+use Rattle.values.specs.Enums as Enum
+use Rattle.grammar.specs.Cursors as C
+use Prim.Native.Nat.{_-_}
+use native.Mathlib.Omega.{arith}
+use lib.ListN.{take, drop}
+use Rattle.grammar.proofs.Steps.{line-read, number-if, number-fits}
 use Rattle.grammar.proofs.keyed.number.Statement.{statement}
 use Rattle.grammar.proofs.keyed.number.Tie as tie
 
@@ -21,16 +25,27 @@ part-number-end c = search needs
 number-requires : tie.Need-number-requires
 number-requires c κs = search needs
 
+number-line-requires : tie.Need-number-line-requires
+number-line-requires c κs = search needs
+
 returns : tie.Need-returns
 returns c =
-    let d = c .before .before in
-    let s = d .before .before .before in
-    let r = d .due .result in
+    let d = c .before .before .before .due in
+    let s = c .before .before .before .before .before .before in
     let i = s .args .input .now in
-    let v = c .number in
-    (line-read (Val.number (s .args .most)) (s .args .key .now) (drop (s .args .at) i) i (r .from) (r .to) (r .next) (d .due .ensures .0) (d .due .ensures .3) (number-empty (s .args .most)) (v .result .good) (v .result .value) (v .ensures .0), v .ensures .1)
+    let q = c .number-line in
+    let v = c .before .number in
+    let p = line-read (Val.readNumber (s .args .most)) (s .args .key .now) i (d .result .lines) (d .result .from) (d .result .to) (s .args .c) (d .result .rest) (d .ensures .0) (d .ensures .1) (C.isNumber (v .result)) (q .result .value) (ap (Enum.valueIf (C.isNumber (v .result))) (q .ensures .1) ∙ number-if (v .result) ∙ v .ensures) (q .result .next) (q .ensures .0) in
+    (p .0, p .1, omega (arith, q .ensures .1, number-fits (s .args .most) (take (d .result .to - d .result .from) (drop (d .result .from) i)) (v .result) (v .ensures)))
 
 pub number-spec : {M : Type 1} → statement M
 number-spec =
     tie.close
-    (tie.spec due-requires sub-number part-number-start part-number-end number-requires returns)
+    (tie.spec
+    due-requires
+    sub-number
+    part-number-start
+    part-number-end
+    number-requires
+    number-line-requires
+    returns)

@@ -1,4 +1,4 @@
-use Prim.Native.Nat.{ℕ, _+_, _-_}
+use Prim.Native.Nat.{ℕ, _+_}
 use mathlib.Core.Path.{_≡_, sym, ap}
 use mathlib.Core.List.{_∷_, _++_}
 use native.Mathlib.Omega.{arith}
@@ -9,7 +9,7 @@ use Rattle.record.specs.Layout as L
 use Rattle.octets.specs.Words.{wordBytes}
 use Rattle.text.specs.Buffer.{Put}
 use Rattle.text.proofs.Writing.{put-put}
-use Rattle.grammar.specs.Values as Val
+use Rattle.values.specs.Values as Val
 use Rattle.grammar.proofs.records.put_cited.Statement.{statement}
 use Rattle.grammar.proofs.records.put_cited.Tie as tie
 

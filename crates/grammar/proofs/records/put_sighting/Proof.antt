@@ -1,4 +1,3 @@
-use Prim.Native.Nat.{_+_, _-_}
 use mathlib.Core.Path.{_∙_}
 use mathlib.Core.List.{_∷_, _++_}
 use borrow.Author.Needs.{needs}
@@ -6,7 +5,7 @@ use Rattle.record.specs.Layout as L
 use Rattle.octets.specs.Words.{wordBytes}
 use Rattle.text.specs.Buffer.{Put}
 use Rattle.text.proofs.Writing.{put-put}
-use Rattle.grammar.specs.Values as Val
+use Rattle.values.specs.Values as Val
 use Rattle.grammar.proofs.records.put_sighting.Statement.{statement}
 use Rattle.grammar.proofs.records.put_sighting.Tie as tie
 

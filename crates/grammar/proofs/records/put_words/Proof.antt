@@ -5,7 +5,7 @@ use lib.ListN.{length, getD, take}
 use borrow.Author.Needs.{needs}
 use Rattle.text.specs.Buffer.{Put}
 use Rattle.text.proofs.Writing.{put-put, put-as, put-length}
-use Rattle.grammar.specs.Values as Val
+use Rattle.values.specs.Values as Val
 use Rattle.grammar.proofs.Filling.{words-none, words-all, word-put, words-more}
 use Rattle.grammar.proofs.records.put_words.Statement.{statement}
 use Rattle.grammar.proofs.records.put_words.Tie as tie

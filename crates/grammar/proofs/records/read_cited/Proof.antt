@@ -1,14 +1,14 @@
 use borrow.Author.Needs.{needs}
 use Prim.Native.Nat.{ℕ}
 use mathlib.Core.List.{List}
-use native.Mathlib.Omega.{arith}
-use lib.ListN.{length, take, drop}
+use lib.ListN.{length, take}
 use Rattle.record.specs.Layout.{maxModels}
-use Rattle.lines.specs.Ascii.{ascii}
-use Rattle.grammar.specs.Values as Val
+use native.Mathlib.Omega.{arith}
+use Rattle.octets.specs.Ascii.{ascii}
+use Rattle.values.specs.Values as Val
 use Rattle.grammar.specs.Grammar as G
-use Rattle.grammar.proofs.Texts.{listed-count, models-padded}
-use Rattle.grammar.proofs.Steps.{three-lines, three-most}
+use Rattle.grammar.proofs.Steps.{three-parts}
+use Rattle.values.proofs.Texts.{stored-count, models-pad}
 use Rattle.grammar.proofs.records.read_cited.Statement.{statement}
 use Rattle.grammar.proofs.records.read_cited.Tie as tie
 
@@ -24,35 +24,24 @@ number-requires c κs = search needs
 covariance-requires : tie.Need-covariance-requires
 covariance-requires c κs = search needs
 
-good-lines-requires : tie.Need-good-lines-requires
-good-lines-requires c κs = search needs
-
 returns : tie.Need-returns
-unfolding G.citedOf ascii
+unfolding G.readCited ascii
 returns c =
-    let v = c .before .before .before .covariance in
-    let l = c .before .before .before .before in
-    let s = l .number in
-    let m = l .before .before .models in
-    let i = l .before .before .before .before .args .input .now in
-    let f = m .ensures .fits in
-    let most = three-most (m .result .good) (s .result .good) (v .result .good) in (
-      rw (models-padded (m .result .count) (m .result .values) f (m .ensures .zeros), listed-count (m .result .count) (m .result .values) (omega arith) (m .ensures .zeros)) at
-          (three-lines (m .result .good) (take (m .result .count) (m .result .values)) (drop (m .result .next) i) (s .result .good) (s .result .value) (drop (s .result .next) i)
-          (v .result .good) (v .result .bytes) (drop (v .result .next) i) (G.line (ascii "spec=") (Val.number Val.u16)) (G.line (ascii "cov=") Val.covariance)
-          (λ (models : List ℕ) (spec : ℕ) (cov : List ℕ). G.citedBytes (length models) (Val.padded maxModels models) spec cov) (c .good-lines .result)
-          (m .ensures .list) (s .ensures .0) (v .ensures) (c .good-lines .ensures .0)),
-      omega (arith, c .good-lines .ensures .0, most),
-      f,
+    let v = c .before .before .covariance in
+    let p = c .before .before .before .number in
+    let m = c .before .before .before .before .before .models in
+    let s = c .before .before .before .before .before .before .before in
+    let w = m .ensures .2 in (
+      rw (models-pad (m .result .count) (m .result .values) w, stored-count (m .result .count) (m .result .values) (omega (arith, w .0), w .1)) at
+          (three-parts (s .args .c) (m .result .next) (p .result .next) (v .result .next) (take (m .result .count) (m .result .values)) (p .result .value) (v .result .bytes) (s .args .input .now)
+          (G.readLine (ascii "models=") Val.readModels) (G.readLine (ascii "spec=") (Val.readNumber Val.u16)) (G.readLine (ascii "cov=") Val.readCovariance)
+          (λ (models : List ℕ) (spec : ℕ) (cov : List ℕ). G.citedBytes (length models) (Val.pad maxModels models) spec cov)
+          (m .ensures .0) (p .ensures .0) (v .ensures .0)),
+      omega (arith, m .ensures .1, p .ensures .1, v .ensures .1),
+      w .0,
     )
 
 pub read-cited-spec : {M : Type 1} → statement M
 read-cited-spec =
     tie.close
-    (tie.spec
-    models-requires
-    slice-aggregate-number
-    number-requires
-    covariance-requires
-    good-lines-requires
-    returns)
+    (tie.spec models-requires slice-aggregate-number number-requires covariance-requires returns)

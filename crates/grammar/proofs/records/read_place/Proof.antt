@@ -1,11 +1,11 @@
 use borrow.Author.Needs.{needs}
 use mathlib.Core.List.{_∷_}
-use lib.ListN.{drop}
 use Rattle.octets.specs.Words.{wordBytes}
-use Rattle.lines.specs.Ascii.{ascii}
-use Rattle.grammar.specs.Values as Val
+use native.Mathlib.Omega.{arith}
+use Rattle.octets.specs.Ascii.{ascii}
+use Rattle.values.specs.Values as Val
 use Rattle.grammar.specs.Grammar as G
-use Rattle.grammar.proofs.Steps.{four-lines}
+use Rattle.grammar.proofs.Steps.{four-parts}
 use Rattle.grammar.proofs.records.read_place.Statement.{statement}
 use Rattle.grammar.proofs.records.read_place.Tie as tie
 
@@ -30,23 +30,18 @@ signed-requires-2 c κs = search needs
 height-requires : tie.Need-height-requires
 height-requires c κs = search needs
 
-good-lines-requires : tie.Need-good-lines-requires
-good-lines-requires c κs = search needs
-
 returns : tie.Need-returns
-unfolding G.placeOf ascii
+unfolding G.readPlace ascii
 returns c =
-    let h = c .before .height in
-    let o = c .before .before .signed2 in
-    let l = c .before .before .before .before in
-    let t = l .before .before .number in
-    let i = l .before .before .before .before .before .args .input .now in
-    let a = l .signed in (
-      four-lines (t .result .good) (t .result .value) (drop (t .result .next) i) (a .result .good) (a .result .value) (drop (a .result .next) i)
-          (o .result .good) (o .result .value) (drop (o .result .next) i) (G.line (ascii "lat=") Val.signedBits) (G.line (ascii "lon=") Val.signedBits)
-          (h .result .good) (h .result .flag ∷ wordBytes 4 (h .result .value)) (drop (h .result .next) i) (G.line (ascii "height=") Val.height)
-          G.placeBytes (c .good-lines .result) (t .ensures .0) (a .ensures) (o .ensures) (h .ensures) (c .good-lines .ensures .0),
-      c .good-lines .ensures .1,
+    let h = c .height in
+    let o = c .before .signed2 in
+    let a = c .before .before .before .signed in
+    let t = c .before .before .before .before .before .number in
+    let s = c .before .before .before .before .before .before .before .before in (
+      four-parts (s .args .c) (t .result .next) (a .result .next) (o .result .next) (h .result .next) (t .result .value) (a .result .value) (o .result .value) (h .result .flag ∷ wordBytes 4 (h .result .bits)) (s .args .input .now)
+          (G.readLine (ascii "time=") (Val.readNumber Val.u64)) (G.readLine (ascii "lat=") Val.readSigned) (G.readLine (ascii "lon=") Val.readSigned) (G.readLine (ascii "height=") Val.readHeight) G.placeBytes
+          (t .ensures .0) (a .ensures .0) (o .ensures .0) (h .ensures .0),
+      omega (arith, t .ensures .1, a .ensures .1, o .ensures .1, h .ensures .1),
     )
 
 pub read-place-spec : {M : Type 1} → statement M
@@ -60,5 +55,4 @@ read-place-spec =
     slice-aggregate-signed-2
     signed-requires-2
     height-requires
-    good-lines-requires
     returns)

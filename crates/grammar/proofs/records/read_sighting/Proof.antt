@@ -1,14 +1,14 @@
 use borrow.Author.Needs.{needs}
 use Prim.Native.Nat.{ℕ}
 use mathlib.Core.List.{List, _∷_}
-use native.Mathlib.Omega.{arith}
-use lib.ListN.{length, take, drop}
+use lib.ListN.{length, take}
 use Rattle.record.specs.Layout.{maxTags}
-use Rattle.lines.specs.Ascii.{ascii}
-use Rattle.grammar.specs.Values as Val
+use native.Mathlib.Omega.{arith}
+use Rattle.octets.specs.Ascii.{ascii}
+use Rattle.values.specs.Values as Val
 use Rattle.grammar.specs.Grammar as G
-use Rattle.grammar.proofs.Texts.{listed-count}
-use Rattle.grammar.proofs.Steps.{three-lines, three-most}
+use Rattle.grammar.proofs.Steps.{three-parts}
+use Rattle.values.proofs.Texts.{stored-count}
 use Rattle.grammar.proofs.records.read_sighting.Statement.{statement}
 use Rattle.grammar.proofs.records.read_sighting.Tie as tie
 
@@ -24,35 +24,25 @@ slice-aggregate-number c = search needs
 number-requires : tie.Need-number-requires
 number-requires c κs = search needs
 
-good-lines-requires : tie.Need-good-lines-requires
-good-lines-requires c κs = search needs
-
 returns : tie.Need-returns
-unfolding G.sightingOf ascii
+unfolding G.readSighting ascii
 returns c =
-    let u = c .before .before .before .number in
-    let l = c .before .before .before .before .before in
-    let t = l .tags in
-    let m = l .before .message in
-    let i = l .before .before .before .args .input .now in
-    let most = three-most (m .result .good) (t .result .good) (u .result .good) in (
-      rw (← (t .ensures .zeros), listed-count (t .result .count) (t .result .values) (t .ensures .fits) (t .ensures .zeros)) at
-          (three-lines (m .result .good) (m .result .size ∷ m .result .bytes) (drop (m .result .next) i) (t .result .good) (take (t .result .count) (t .result .values)) (drop (t .result .next) i)
-          (u .result .good) (u .result .value) (drop (u .result .next) i) (G.line (ascii "tags=") Val.tags) (G.line (ascii "used=") (Val.number Val.u16))
-          (λ (message : List ℕ) (tags : List ℕ) (used : ℕ). G.sightingBytes message (length tags) used (Val.padded maxTags tags)) (c .good-lines .result)
-          (m .ensures .0) (t .ensures .list) (u .ensures .0) (c .good-lines .ensures .0)),
-      omega (arith, c .good-lines .ensures .0, most),
-      m .ensures .1,
-      t .ensures .fits,
+    let u = c .before .before .number in
+    let t = c .before .before .before .before .tags in
+    let m = c .before .before .before .before .before .message in
+    let s = c .before .before .before .before .before .before .before in
+    let w = t .ensures .2 in (
+      rw (← (w .1), stored-count (t .result .count) (t .result .values) w) at
+          (three-parts (s .args .c) (m .result .next) (t .result .next) (u .result .next) (m .result .size ∷ m .result .bytes) (take (t .result .count) (t .result .values)) (u .result .value) (s .args .input .now)
+          (G.readLine (ascii "message=") Val.readMessage) (G.readLine (ascii "tags=") Val.readTags) (G.readLine (ascii "used=") (Val.readNumber Val.u16))
+          (λ (message tags : List ℕ) (used : ℕ). G.sightingBytes message (length tags) used (Val.pad maxTags tags))
+          (m .ensures .0) (t .ensures .0) (u .ensures .0)),
+      omega (arith, m .ensures .1, t .ensures .1, u .ensures .1),
+      m .ensures .2,
+      w .0,
     )
 
 pub read-sighting-spec : {M : Type 1} → statement M
 read-sighting-spec =
     tie.close
-    (tie.spec
-    message-requires
-    tags-requires
-    slice-aggregate-number
-    number-requires
-    good-lines-requires
-    returns)
+    (tie.spec message-requires tags-requires slice-aggregate-number number-requires returns)

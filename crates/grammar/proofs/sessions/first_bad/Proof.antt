@@ -1,19 +1,20 @@
 use Prim.Native.Nat.{ℕ, _+_, _-_, _≤_}
-use mathlib.Core.Path.{_≡_, sym, _∙_}
+use mathlib.Core.Path.{_≡_, sym, ap, _∙_}
 use mathlib.Core.List.{List}
 use native.Mathlib.Omega.{arith}
 use lib.ListN.{length, drop, length-drop}
-use borrow.Author.Tests.{not-true, not-false}
+use borrow.Author.Needs.{needs}
 use Rattle.register.specs.Calls.{Call}
-use Rattle.grammar.specs.Reading.{good}
-use Rattle.grammar.specs.Grammar as G
+use Rattle.grammar.specs.declared.keyed.Cursor.{Cursor}
+use Rattle.grammar.specs.Reading.{bad, good}
+use Rattle.grammar.specs.Grammar.{readOperation}
+use Rattle.grammar.specs.Cursors as C
 use Rattle.grammar.proofs.Whole.{goes-on, badFrom, bad-start, bad-empty, bad-end, bad-here, bad-next}
-use Rattle.grammar.proofs.Steps.{told-bad-is, told-good-is}
 use Rattle.grammar.proofs.sessions.first_bad.Statement.{statement}
 use Rattle.grammar.proofs.sessions.first_bad.Tie as tie
 
 abbrev Inv-loop : tie.InvT-loop
-Inv-loop input at₀ lines₀ at lines = (length input ≤ 65536) × (lines + (length input - at) ≤ length input) × (G.firstBad input ≡ badFrom lines (drop at input))
+Inv-loop input at₀ lines₀ at lines = (length input ≤ 65536) × (lines + (length input - at) ≤ length input) × (C.firstBad input ≡ badFrom lines (drop at input))
 
 abbrev μ-loop : tie.MeasureT-loop
 μ-loop input at₀ lines₀ at lines = length input - at
@@ -36,48 +37,70 @@ module _ (p : tie.After-operation Inv-loop μ-loop) where
   i = at-loop .before .before .before .args .input .now
 
   abbrev call : Call
-  call = let q = p .operation .result in G.callOf (q .kind) (q .engine) (q .model) (q .spec) (q .inputs) (q .«record»)
+  call = let q = p .operation .result in C.callIn (q .request) (q .inputs) (q .«record»)
 
 -- it is good
-module _ (e : tie.Else2 Inv-loop μ-loop) where
+module _ (e : tie.After-next Inv-loop μ-loop) where
   abbrev p : tie.After-operation Inv-loop μ-loop
   p = e .before .before
 
-  is-good : G.operationOf (drop (at-loop p .loop .at) (i p)) ≡ good (p .operation .result .lines) (call p) (drop (p .operation .result .next) (i p))
-  is-good = let q = p .operation .result in told-good-is (q .good) (q .lines) (call p) (drop (q .next) (i p)) (p .operation .ensures .0) (not-false (q .good) (e .if2 .left))
+  abbrev n : ℕ
+  n = e .next .given .0 .0
 
-add-result : tie.Need-add-result Inv-loop μ-loop
-add-result c = let v = at-loop (c .before .before .before) .loop .inv in omega (arith, c .before .before .before .operation .ensures .1)
+  abbrev to : ℕ
+  to = e .next .given .0 .1 .0
 
-add-result-2 : tie.Need-add-result-2 Inv-loop μ-loop
-add-result-2 c = let v = at-loop (c .before .before .before) .loop .inv in omega (arith, c .before .before .before .operation .ensures .1)
+  is-good : readOperation (drop (at-loop p .loop .at) (i p)) ≡ good n (call p) (drop to (i p))
+  is-good = sym (p .operation .ensures .0) ∙ ap (λ (x : Cursor). C.readingAt x (call p) (i p)) (e .next .given .1)
 
-returns-2 : tie.Need-returns-2 Inv-loop μ-loop
-returns-2 c =
-    let p = c .before .before .before in
-    let l = at-loop p .loop in
-    let q = p .operation .result in
-    sym (l .inv .2 ∙ bad-here (l .lines) (drop (l .at) (i p)) (q .lines) (let d = length-drop (l .at) (i p) in λ z. omega arith)
-    (told-bad-is (q .good) (q .lines) (call p) (drop (q .next) (i p)) (p .operation .ensures .0) (not-true (q .good) (c .before .if2 .taken))))
+  few : n ≤ 12
+  few = omega (arith, ap C.linesBefore (e .next .given .1), p .operation .ensures .1)
+
+enum-known-next : tie.Need-enum-known-next Inv-loop μ-loop
+enum-known-next c = search needs
 
 add-lines : tie.Need-add-lines Inv-loop μ-loop
-add-lines c = let v = at-loop (c .before .before .before) .loop .inv in omega (arith, c .before .before .before .operation .ensures .1)
+add-lines c = let v = at-loop (p (c .before)) .loop .inv in omega (arith, few (c .before), v .0, v .1)
 
 loop-less : tie.Need-loop-less Inv-loop μ-loop
 loop-less c =
     let e = c .before in
-    let q = p e .operation .result in
-    let w = goes-on (i (p e)) (at-loop (p e) .loop .at) (q .next) (q .lines) (call (p e)) (is-good e) in
+    let w = goes-on (i (p e)) (at-loop (p e) .loop .at) (to e) (n e) (call (p e)) (is-good e) in
     omega (arith, w .0, w .1)
 
 loop-again : tie.Need-loop-again Inv-loop μ-loop
 loop-again c =
     let e = c .before in
-    let q = p e .operation .result in
     let l = at-loop (p e) .loop in
     let v = l .inv in
-    let w = goes-on (i (p e)) (l .at) (q .next) (q .lines) (call (p e)) (is-good e) in
-    (v .0, omega (arith, w .0, v .1), v .2 ∙ bad-next (l .lines) (drop (l .at) (i (p e))) (q .lines) (call (p e)) (drop (q .next) (i (p e))) (is-good e))
+    let w = goes-on (i (p e)) (l .at) (to e) (n e) (call (p e)) (is-good e) in
+    (v .0, omega (arith, w .0, v .1), v .2 ∙ bad-next (l .lines) (drop (l .at) (i (p e))) (n e) (call (p e)) (drop (to e) (i (p e))) (is-good e))
+
+-- it is bad
+module _ (e : tie.After-next2 Inv-loop μ-loop) where
+  abbrev b : tie.After-operation Inv-loop μ-loop
+  b = e .before .before
+
+  is-bad : readOperation (drop (at-loop b .loop .at) (i b)) ≡ bad (e .next2 .given .0 .0)
+  is-bad = sym (b .operation .ensures .0) ∙ ap (λ (x : Cursor). C.readingAt x (call b) (i b)) (e .next2 .given .1)
+
+  few-good : e .next2 .given .0 .0 ≤ 12
+  few-good = omega (arith, ap C.linesBefore (e .next2 .given .1), b .operation .ensures .1)
+
+enum-known-next-2 : tie.Need-enum-known-next-2 Inv-loop μ-loop
+enum-known-next-2 c = search needs
+
+add-t13 : tie.Need-add-t13 Inv-loop μ-loop
+add-t13 c = let v = at-loop (b (c .before)) .loop .inv in omega (arith, few-good (c .before), v .0, v .1)
+
+add-t14 : tie.Need-add-t14 Inv-loop μ-loop
+add-t14 c = let v = at-loop (b (c .before)) .loop .inv in omega (arith, few-good (c .before), v .0, v .1)
+
+returns-2 : tie.Need-returns-2 Inv-loop μ-loop
+returns-2 c =
+    let e = c .before in
+    let l = at-loop (b e) .loop in
+    sym (l .inv .2 ∙ bad-here (l .lines) (drop (l .at) (i (b e))) (e .next2 .given .0 .0) (let d = length-drop (l .at) (i (b e)) in λ z. omega arith) (is-bad e))
 
 returns-3 : tie.Need-returns-3 Inv-loop μ-loop
 returns-3 c =
@@ -94,10 +117,12 @@ first-bad-spec =
     returns
     loop-holds
     operation-requires
-    add-result
-    add-result-2
-    returns-2
+    enum-known-next
     add-lines
     loop-less
     loop-again
+    enum-known-next-2
+    add-t13
+    add-t14
+    returns-2
     returns-3)

@@ -1,64 +1,86 @@
-use Prim.Native.Nat.{_-_}
-use mathlib.Core.Path.{refl}
+use mathlib.Core.Path.{_≡_, sym, ap, _∙_}
 use native.Mathlib.Omega.{arith}
 use lib.ListN.{drop}
-use borrow.Author.Tests.{not-true, not-false}
 use borrow.Author.Needs.{needs}
-use Rattle.lines.specs.Ascii.{ascii}
-use Rattle.grammar.specs.Reading.{bad, good}
-use Rattle.grammar.specs.Grammar as G
-use Rattle.grammar.proofs.Steps.{told-stop, kind-two}
+use Rattle.octets.specs.Ascii.{ascii}
+use Rattle.grammar.specs.declared.keyed.Cursor.{Cursor}
+use Rattle.grammar.specs.declared.keyed.Opening.{Opening}
+use Rattle.grammar.specs.Reading.{Reading, _▸_}
+use Rattle.grammar.specs.Grammar.{Kind, readOperands, readOperation}
+use Rattle.grammar.specs.Cursors as C
 use Rattle.grammar.proofs.sessions.operation.Statement.{statement}
 use Rattle.grammar.proofs.sessions.operation.Tie as tie
 
-kind-requires : tie.Need-kind-requires
-kind-requires c κs = search needs
+-- the first line was read as x
+opens : (a : tie.After-first-line) {x : Opening} → a .first-line .result ≡ x
+    → (C.openingIn x (a .before .before .args .input .now) ▸ readOperands) ≡ readOperation (drop (a .before .before .args .at) (a .before .before .args .input .now))
+unfolding readOperation ascii
+opens a {x} e =
+    let i = a .before .before .args .input .now in
+    ap (λ (m : Reading Kind). m ▸ readOperands) (sym (ap (λ (y : Opening). C.openingIn y i) e) ∙ a .first-line .ensures)
+
+first-line-requires : tie.Need-first-line-requires
+first-line-requires c κs = search needs
+
+enum-known-next : tie.Need-enum-known-next
+enum-known-next c = search needs
+
+summary-requires : tie.Need-summary-requires
+summary-requires c κs = search needs
+
+enum-known-next-2 : tie.Need-enum-known-next-2
+enum-known-next-2 c = search needs
+
+convict-requires : tie.Need-convict-requires
+convict-requires c κs = search needs
+
+enum-known-next-3 : tie.Need-enum-known-next-3
+enum-known-next-3 c = search needs
+
+report-requires : tie.Need-report-requires
+report-requires c κs = search needs
+
+enum-told : tie.Need-enum-told
+enum-told c = search needs
 
 bad-requires : tie.Need-bad-requires
 bad-requires c κs = search needs
 
 returns : tie.Need-returns
-unfolding G.operationOf ascii
-returns c = (told-stop (c .bad .result .good) (c .bad .result .lines) 0 (G.callOf (c .bad .result .kind) (c .bad .result .engine) (c .bad .result .model) (c .bad .result .spec) (c .bad .result .inputs) (c .bad .result .record)) (drop (c .bad .result .next) (c .before .before .before .before .before .args .input .now)) (c .bad .ensures .0) (c .bad .ensures .1) (rw (← (c .before .before .before .kind .ensures), not-true (c .before .before .before .kind .result .good) (c .before .if1 .taken)) refl), omega (arith, c .bad .ensures .1))
-
-summary-requires : tie.Need-summary-requires
-summary-requires c κs = search needs
+unfolding readOperation ascii
+returns c = (c .summary .ensures .0 ∙ opens (c .before .before .before .before) (c .before .before .next .given .1), c .summary .ensures .1)
 
 returns-2 : tie.Need-returns-2
-unfolding G.operationOf ascii
-returns-2 c = (rw (← (c .before .before .before .before .before .kind .ensures), not-false (c .before .before .before .before .before .kind .result .good) (c .before .before .before .if1 .left), c .before .if2 .taken) (c .summary .ensures .0), c .summary .ensures .1)
-
-convict-requires : tie.Need-convict-requires
-convict-requires c κs = search needs
+unfolding readOperation ascii
+returns-2 c = (c .convict .ensures .0 ∙ opens (c .before .before .before .before) (c .before .before .next2 .given .1), c .convict .ensures .1)
 
 returns-3 : tie.Need-returns-3
-unfolding G.operationOf ascii
-returns-3 c =
-    let else1 = c .before .before .before .before .before in
-    let after-kind = else1 .before .before in
-    (rw (← (after-kind .kind .ensures), not-false (after-kind .kind .result .good) (else1 .if1 .left), c .before .if3 .taken) (c .convict .ensures .0), c .convict .ensures .1)
-
-report-requires : tie.Need-report-requires
-report-requires c κs = search needs
+unfolding readOperation ascii
+returns-3 c = (c .report .ensures .0 ∙ opens (c .before .before .before .before) (c .before .before .next3 .given .1), c .report .ensures .1)
 
 returns-4 : tie.Need-returns-4
-unfolding G.operationOf ascii
+unfolding readOperation ascii
 returns-4 c =
-    let else2 = c .before .before .before in
-    let else1 = else2 .before .before in
-    let after-kind = else1 .before .before in
-    (rw (← (after-kind .kind .ensures), not-false (after-kind .kind .result .good) (else1 .if1 .left), kind-two (after-kind .kind .result .value) (else2 .if2 .left) (c .before .if3 .left)) (c .report .ensures .0), c .report .ensures .1)
+    let b = c .bad in (
+      ap (λ (y : Cursor). C.readingAt y (C.callIn (b .result .request) (b .result .inputs) (b .result .«record»)) (c .before .before .before .before .before .args .input .now)) (b .ensures)
+          ∙ opens (c .before .before .before) (c .before .enum-told .given .1),
+      omega (arith, ap C.linesBefore (b .ensures)),
+    )
 
 pub operation-spec : {M : Type 1} → statement M
 operation-spec =
     tie.close
     (tie.spec
-    kind-requires
+    first-line-requires
+    enum-known-next
+    summary-requires
+    enum-known-next-2
+    convict-requires
+    enum-known-next-3
+    report-requires
+    enum-told
     bad-requires
     returns
-    summary-requires
     returns-2
-    convict-requires
     returns-3
-    report-requires
     returns-4)

@@ -1,0 +1,3 @@
+pub mod Texts
+pub mod Printed
+pub mod Worked
