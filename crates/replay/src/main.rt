@@ -9,7 +9,8 @@ use toastlagoon::answers::INDICES_SIZE;
 use toastlagoon::answers::REFUSAL_SIZE;
 ghost use Prim.Native.Nat.{_+_, _<_, _≤_};
 ghost use lib.ListN.{length};
-ghost use Rattle.toastlagoon.specs.Layout.{indicesSize, refusalSize, refusalsSize};
+ghost use Rattle.toastlagoon.specs.Layout.{refusalSize};
+ghost use Rattle.toastlagoon.specs.Offsets.{indicesSize, refusalsSize};
 
 // A claim: latitude, longitude, whether it has a height, the height, and the covariance.
 const CLAIM_SIZE: usize = 61;

@@ -10,7 +10,8 @@ use mir.Val.{boolByte}
 use lib.Ieee.{binary64, toBits}
 use lib.ListN.{length, take, drop, set, getD, length-set, length-append, length-replicate, length-take, replicate}
 use lib.Seq.{sets, sets-eq, take-suc, take-all, take-at, drop-at}
-use Rattle.octets.specs.Words.{wordBytes, putWord}
+use Rattle.octets.specs.Words.{wordBytes}
+use Rattle.octets.specs.Writes.{putWord}
 use Rattle.octets.proofs.Numbers.{length-word-bytes}
 use Rattle.text.specs.Buffer.{Put}
 use Rattle.text.proofs.Writing.{put-put, put-whole}
@@ -18,8 +19,9 @@ use Rattle.items.specs.Layout.{maxItems}
 use Rattle.decision.specs.declared.Refusal.{Refusal}
 use Rattle.decision.specs.declared.Refusals.{Refusals}
 use Rattle.decision.specs.declared.Decision.{Decision}
-use Rattle.toastlagoon.specs.Layout.{indicesSize, refusalSize, refusalsSize, rankedAt, dominatedAt, refusalsAt, answerSize}
-use Rattle.toastlagoon.specs.Answer.{indicesBytes, refusalBytes, eachBytes, counted, refusalsBytes, answerBytes}
+use Rattle.toastlagoon.specs.Layout.{refusalSize}
+use Rattle.toastlagoon.specs.Offsets.{indicesSize, refusalsSize, rankedAt, dominatedAt, refusalsAt, answerSize}
+use Rattle.toastlagoon.specs.Answer.{indicesBytes, refusalBytes, eachBytes, countedBytes, refusalsBytes, answerBytes}
 
 -- a number put at a place is a text of its bytes
 pub word-put : (n at x : ℕ) (s : List ℕ) → at + n ≤ length s → Put s at (wordBytes n x) (at + n) (putWord n at x s)
@@ -109,8 +111,8 @@ pub record Roomy (d : Decision) : Type 0 where
 refusals-long : (x : Refusals) → length (x .list) ≡ maxItems → length (refusalsBytes x) ≡ refusalsSize
 refusals-long x h =
     let f = counted-fits (x .list) (x .count) in
-    let n = maxItems * refusalSize - length (counted x) in
-    let e : length (counted x ++ replicate n 0) ≡ length (counted x) + n = length-append (counted x) (replicate n 0) ∙ ap (λ (k : ℕ). length (counted x) + k) (length-replicate n 0) in
+    let n = maxItems * refusalSize - length (countedBytes x) in
+    let e : length (countedBytes x ++ replicate n 0) ≡ length (countedBytes x) + n = length-append (countedBytes x) (replicate n 0) ∙ ap (λ (k : ℕ). length (countedBytes x) + k) (length-replicate n 0) in
     omega arith
 
 pub answer-long : (d : Decision) → Roomy d → length (answerBytes d) ≡ answerSize

@@ -26,15 +26,15 @@ unfoldable pub eachBytes : List Refusal → List ℕ
 eachBytes [] = []
 eachBytes (x ∷ xs) = refusalBytes x ++ eachBytes xs
 
-abbrev pub counted : Refusals → List ℕ
-counted x = eachBytes (take (x .count) (x .list))
+abbrev pub countedBytes : Refusals → List ℕ
+countedBytes x = eachBytes (take (x .count) (x .list))
 
 abbrev pub refusalsBytes : Refusals → List ℕ
-refusalsBytes x = x .count ∷ (counted x ++ replicate (maxItems * refusalSize - length (counted x)) 0)
+refusalsBytes x = x .count ∷ (countedBytes x ++ replicate (maxItems * refusalSize - length (countedBytes x)) 0)
 
 unfoldable pub answerBytes : Decision → List ℕ
 answerBytes d = indicesBytes (d .ranked) ++ (indicesBytes (d .dominated) ++ refusalsBytes (d .refusals))
 
 -- what is answered, and what the array holds then: the decision, or what was found there ("A refusal returns its number and changes no lent byte")
-unfoldable pub told : Decision → List ℕ → After (List ℕ)
-told d found = cond (eqb (d .answer) 0) (after 0 (answerBytes d)) (after (d .answer) found)
+unfoldable pub handOut : Decision → List ℕ → After (List ℕ)
+handOut d found = cond (eqb (d .answer) 0) (after 0 (answerBytes d)) (after (d .answer) found)

@@ -1,5 +1,6 @@
--- What crosses the border to C: a claim's numbers one by one (Claims), and the bytes in which a decision goes out: their layout (Layout), and what they
--- are (Answer).
-pub mod Claims
+-- What crosses the border to C: a claim's numbers one by one (Border), and the bytes in which a decision goes out: a refusal's layout (Layout), what they are
+-- (Answer), and where each list begins (Offsets).
+pub mod Border
 pub mod Layout
 pub mod Answer
+pub mod Offsets

@@ -11,8 +11,9 @@ ghost use mathlib.Core.List.{_∷_};
 ghost use Prim.Native.Nat.{_+_, _≤_};
 ghost use lib.ListN.{length};
 ghost use Rattle.text.specs.Buffer.{Put};
-ghost use Rattle.toastlagoon.specs.Layout.{indicesSize, refusalSize, refusalsSize};
-ghost use Rattle.toastlagoon.specs.Answer.{indicesBytes, refusalBytes, counted, answerBytes};
+ghost use Rattle.toastlagoon.specs.Layout.{refusalSize};
+ghost use Rattle.toastlagoon.specs.Offsets.{indicesSize, refusalsSize};
+ghost use Rattle.toastlagoon.specs.Answer.{indicesBytes, refusalBytes, countedBytes, answerBytes};
 
 // A count and room for an index of each item.
 pub const INDICES_SIZE: usize = 1 + MAX_ITEMS;
@@ -53,7 +54,7 @@ fn wide(x: u8) -> usize
 // The count, and so many refusals.
 fn put_refusals(out: &mut [u8], at: usize, x: Refusals) -> usize
     requires { ⌜ at + refusalsSize ≤ length (now out) ⌝ }
-    ensures { λ r. ⌜ (r ≤ at + refusalsSize) × Put (now (out .entry)) at (x .count ∷ counted x) r (now (out .exit)) ⌝ }
+    ensures { λ r. ⌜ (r ≤ at + refusalsSize) × Put (now (out .entry)) at (x .count ∷ countedBytes x) r (now (out .exit)) ⌝ }
 {
     let list = x.list;
     let count = wide(x.count);

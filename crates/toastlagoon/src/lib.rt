@@ -8,11 +8,11 @@ ghost use Rattle.hashing.specs.Blake2s as Hash;
 ghost use Rattle.floats.specs.Root as Root;
 ghost use Rattle.arithmetic.specs.Agree.{agreementOf, sigmaOf};
 ghost use Rattle.decision.specs.Answer.{decided};
-ghost use Rattle.register.specs.Register.{after, reported, summarized, convictedOf};
+ghost use Rattle.register.specs.Register.{after, takeReport, takeSummary, takeConviction};
 ghost use Rattle.register.specs.Memory.{onMemory};
-ghost use Rattle.board.specs.Board.{boarded};
-ghost use Rattle.toastlagoon.specs.Claims.{covarianceOf, claimOf};
-ghost use Rattle.toastlagoon.specs.Answer.{told};
+ghost use Rattle.board.specs.Board.{drawBoard};
+ghost use Rattle.toastlagoon.specs.Border.{covarianceFrom, claimFrom};
+ghost use Rattle.toastlagoon.specs.Answer.{handOut};
 
 pub mod answers;
 
@@ -34,7 +34,7 @@ pub extern "C" fn tl_root(x: f64) -> f64
 }
 
 fn covariance(xx: f64, xy: f64, xz: f64, yy: f64, yz: f64, zz: f64) -> Covariance
-    ensures { λ r. ⌜ r ≡ covarianceOf xx xy xz yy yz zz ⌝ }
+    ensures { λ r. ⌜ r ≡ covarianceFrom xx xy xz yy yz zz ⌝ }
 {
     Covariance {
         xx,
@@ -49,7 +49,7 @@ fn covariance(xx: f64, xy: f64, xz: f64, yy: f64, yz: f64, zz: f64) -> Covarianc
 // The horizontal deviation of a covariance, in metres.
 #[no_mangle]
 pub extern "C" fn tl_horizontal_sigma(xx: f64, xy: f64, xz: f64, yy: f64, yz: f64, zz: f64) -> f64
-    ensures { λ r. ⌜ r ≡ sigmaOf (covarianceOf xx xy xz yy yz zz) ⌝ }
+    ensures { λ r. ⌜ r ≡ sigmaOf (covarianceFrom xx xy xz yy yz zz) ⌝ }
 {
     arithmetic::horizontal_sigma_m(covariance(xx, xy, xz, yy, yz, zz))
 }
@@ -67,7 +67,7 @@ fn claim(
     yz: f64,
     zz: f64,
 ) -> Claimed
-    ensures { λ r. ⌜ r ≡ claimOf lat lon «has_height» height xx xy xz yy yz zz ⌝ }
+    ensures { λ r. ⌜ r ≡ claimFrom lat lon «has_height» height xx xy xz yy yz zz ⌝ }
 {
     let covariance = covariance(xx, xy, xz, yy, yz, zz);
     Claimed {
@@ -106,7 +106,7 @@ pub extern "C" fn tl_agreement(
     limit: &mut f64,
 ) -> u32
     ensures { λ a. ⌜ (a ≡ 0) × (record { chi2 = now (chi2 .exit); limit = now (limit .exit) }
-        ≡ agreementOf (claimOf lat lon «has_height» height xx xy xz yy yz zz) (claimOf lat2 lon2 «has_height2» height2 xx2 xy2 xz2 yy2 yz2 zz2)) ⌝ }
+        ≡ agreementOf (claimFrom lat lon «has_height» height xx xy xz yy yz zz) (claimFrom lat2 lon2 «has_height2» height2 xx2 xy2 xz2 yy2 yz2 zz2)) ⌝ }
 {
     let smaller = claim(lat, lon, has_height, height, xx, xy, xz, yy, yz, zz);
     let larger = claim(
@@ -136,7 +136,7 @@ fn wide(x: u8) -> u32
 // Decides items in bytes. The array is written where something is decided, and stays as it is on a refusal.
 #[no_mangle]
 pub extern "C" fn tl_decide(items: &[u8], answer: &mut [u8; ANSWER_SIZE]) -> u32
-    ensures { λ a. ⌜ after a (now (answer .exit)) ≡ told (decided (now (items .entry))) (now (answer .entry)) ⌝ }
+    ensures { λ a. ⌜ after a (now (answer .exit)) ≡ handOut (decided (now (items .entry))) (now (answer .entry)) ⌝ }
 {
     let d = decision::decide(items);
     if d.answer == 0 {
@@ -149,7 +149,7 @@ pub extern "C" fn tl_decide(items: &[u8], answer: &mut [u8; ANSWER_SIZE]) -> u32
 // Reports a record for an engine into a register.
 #[no_mangle]
 pub extern "C" fn tl_register_report(memory: &mut [u8], engine: u32, r: &[u8]) -> u32
-    ensures { λ a. ⌜ after a (now (memory .exit)) ≡ onMemory (reported engine (now (r .entry))) (now (memory .entry)) ⌝ }
+    ensures { λ a. ⌜ after a (now (memory .exit)) ≡ onMemory (takeReport engine (now (r .entry))) (now (memory .entry)) ⌝ }
 {
     register::reports::report(memory, engine, r)
 }
@@ -163,7 +163,7 @@ pub extern "C" fn tl_register_summary(
     spec: u16,
     inputs: &[u8],
 ) -> u32
-    ensures { λ a. ⌜ after a (now (memory .exit)) ≡ onMemory (summarized engine model spec (now (inputs .entry))) (now (memory .entry)) ⌝ }
+    ensures { λ a. ⌜ after a (now (memory .exit)) ≡ onMemory (takeSummary engine model spec (now (inputs .entry))) (now (memory .entry)) ⌝ }
 {
     register::summaries::summary(memory, engine, model, spec, inputs)
 }
@@ -171,7 +171,7 @@ pub extern "C" fn tl_register_summary(
 // Strikes an engine from a register, with all that it alone said.
 #[no_mangle]
 pub extern "C" fn tl_register_conviction(memory: &mut [u8], engine: u32) -> u32
-    ensures { λ a. ⌜ after a (now (memory .exit)) ≡ onMemory (convictedOf engine) (now (memory .entry)) ⌝ }
+    ensures { λ a. ⌜ after a (now (memory .exit)) ≡ onMemory (takeConviction engine) (now (memory .entry)) ⌝ }
 {
     register::convictions::conviction(memory, engine)
 }
@@ -179,7 +179,7 @@ pub extern "C" fn tl_register_conviction(memory: &mut [u8], engine: u32) -> u32
 // The board of a register into `out`: 1 or 10, or its length, which is 0 or greater than every refusal's number.
 #[no_mangle]
 pub extern "C" fn tl_board(memory: &[u8], out: &mut [u8]) -> u32
-    ensures { λ a. ⌜ after a (now (out .exit)) ≡ boarded (now (memory .entry)) (now (out .entry)) ⌝ }
+    ensures { λ a. ⌜ after a (now (out .exit)) ≡ drawBoard (now (memory .entry)) (now (out .entry)) ⌝ }
 {
     board::board(memory, out)
 }

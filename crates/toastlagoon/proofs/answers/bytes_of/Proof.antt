@@ -4,9 +4,10 @@ use mathlib.Core.Path.{_≡_, ap, _∙_}
 use mathlib.Core.List.{_∷_, _++_}
 use lib.ListN.{length, replicate}
 use Rattle.items.specs.Layout.{maxItems}
-use Rattle.toastlagoon.specs.Layout.{refusalSize, answerSize}
+use Rattle.toastlagoon.specs.Layout.{refusalSize}
+use Rattle.toastlagoon.specs.Offsets.{answerSize}
 use native.Mathlib.Omega.{arith}
-use Rattle.toastlagoon.specs.Answer.{indicesBytes, counted, answerBytes}
+use Rattle.toastlagoon.specs.Answer.{indicesBytes, countedBytes, answerBytes}
 use Rattle.toastlagoon.proofs.Parts.{put-zeros}
 use borrow.Author.Needs.{needs}
 use Rattle.toastlagoon.proofs.answers.bytes_of.Statement.{statement}
@@ -43,9 +44,9 @@ returns c =
     let f = c .before .before .before .before .before .before .before .put-indices in
     let d = c .before .before .before .before .before .before .before .before .before .before .before .before .args .d in
     let x = d .refusals in
-    let e : answerSize - h .result ≡ maxItems * refusalSize - length (counted x) = omega (arith, h .ensures .1 .next, g .ensures .0, f .ensures .0) in
+    let e : answerSize - h .result ≡ maxItems * refusalSize - length (countedBytes x) = omega (arith, h .ensures .1 .next, g .ensures .0, f .ensures .0) in
     put-zeros answerSize (f .ensures .1) (g .ensures .1) (h .ensures .1) (omega (arith, h .ensures .0, g .ensures .0, f .ensures .0))
-    ∙ ap (λ (k : ℕ). indicesBytes (d .ranked) ++ (indicesBytes (d .dominated) ++ ((x .count ∷ counted x) ++ replicate k 0))) e
+    ∙ ap (λ (k : ℕ). indicesBytes (d .ranked) ++ (indicesBytes (d .dominated) ++ ((x .count ∷ countedBytes x) ++ replicate k 0))) e
 
 pub bytes-of-spec : {M : Type 1} → statement M
 bytes-of-spec =
