@@ -2,7 +2,6 @@
 pub mod Bools
 pub mod Range
 pub mod Tables
-pub mod Least
 pub mod Orders
 pub mod Lists
 pub mod Sorting

@@ -1,17 +1,15 @@
--- Laws of tests over a range of indices: a turn of a loop over them, and what the first, the least and the list of those at which a test holds mean.
+-- Laws of tests over a range of indices: a turn of a loop over them, and what the first and the list of those at which a test holds mean.
 use mathlib.Core.Path.{_≡_, refl, sym, ap, ap₂, _∙_, subst}
 use mathlib.Core.Bool.{Bool, true, false, cond, _||_, true≢false, false≢true}
-use mathlib.Core.Logic.{_⊎_, inl, inr, ⊎-elim}
+use mathlib.Core.Logic.{⊎-elim}
 use mathlib.Core.List.{List, [], _∷_, _++_, map, map-id, append-nil, List·Memᴰ, List·Memᴰ·head, List·Memᴰ·tail, List·Memᴰ·not-nil, List·Memᴰ·cases-cons}
-use borrow.Author.Tests.{eqb-false}
 use Prim.Native.Nat.{ℕ, zero, suc, _+_, _-_, _≤_, _<_}
 use native.Mathlib.Omega.{arith}
 use native.Mathlib.Nat.{eq-or-lt-of-le, sub-zero, add-zero, zero-add}
 use lib.ListN.{length, getD, replicate, set, length-append, length-replicate, length-map}
 use lib.Seq.{set-at, append-snoc}
 use native.Mathlib.Numerals.{add-one}
-use lib.Dec.{eqb}
-use Rattle.ranges.specs.Range.{any, first, filt, better, least, collect, Filled, Collected, Valid}
+use Rattle.ranges.specs.Range.{any, first, filt, collect, Filled, Collected}
 use Rattle.ranges.specs.Tables.{itself}
 use Rattle.ranges.proofs.Bools.{decide, clash, no-true, by, or}
 
@@ -117,51 +115,6 @@ unfolding any
 any-ext g h k zero e = refl
 any-ext g h k (suc f) e = ap₂ _||_ (e k (omega arith) (omega arith)) (any-ext g h (suc k) f (λ i p q. e i (omega arith) (omega arith)))
 
-module _ (before : ℕ → ℕ → Bool) (none : ℕ) where
-  pub least-ext : (g h : ℕ → Bool) (best k f : ℕ) → ((i : ℕ) → k ≤ i → i < k + f → g i ≡ h i) → least before none g best k f ≡ least before none h best k f
-  unfolding least
-  least-ext g h best k zero e = refl
-  least-ext g h best k (suc f) e =
-      ap (λ (b : Bool). least before none g (cond b (better before none best k) best) (suc k) f) (e k (omega arith) (omega arith))
-      ∙ least-ext g h _ (suc k) f (λ i p q. e i (omega arith) (omega arith))
-
-  better-is : (best k : ℕ) → (better before none best k ≡ k) ⊎ (better before none best k ≡ best)
-  unfolding better
-  better-is best k = by (eqb best none) (λ p. inl (rw p refl)) (λ p. by (before k best) (λ q. inl (rw (p, q) refl)) (λ q. inr (rw (p, q) refl)))
-
-  better-some : (best k : ℕ) → k < none → best ≤ none → better before none best k < none
-  unfolding better
-  better-some best k h b =
-      by (eqb best none) (λ p. rw p h) (λ p. by (before k best) (λ q. rw (p, q) h) (λ q. rw (p, q) (or (eq-or-lt-of-le b) (λ e. absurd (eqb-false best none p e)) (λ l. l))))
-
-  -- the least is where it began, or one at which g holds
-  pub least-in : (g : ℕ → Bool) (best k f : ℕ) → let r = least before none g best k f in (r ≡ best) ⊎ ((k ≤ r) × (r < k + f) × (g r ≡ true))
-  unfolding least
-  least-in g best k zero = inl refl
-  least-in g best k (suc f) =
-      ⊎-elim
-      (λ p. rw p (⊎-elim
-      (λ e. ⊎-elim (λ q. inr (let z = e ∙ q in (omega arith, omega arith, ap g z ∙ p))) (λ q. inl (e ∙ q)) (better-is best k))
-      (λ t. inr (omega arith, omega arith, t .2))
-      (least-in g (better before none best k) (suc k) f)))
-      (λ p. rw p (⊎-elim (λ e. inl e) (λ t. inr (omega arith, omega arith, t .2)) (least-in g best (suc k) f)))
-      (decide (g k))
-
-  -- so it is below the end where it is not none
-  pub least-below : (g : ℕ → Bool) (n b : ℕ) → b ≡ least before none g none 0 n → (b ≡ none → ⊥) → b < n
-  least-below g n b e f = or (least-in g none 0 n) (λ q. absurd (f (e ∙ q))) (λ t. let z = t .1 in rw e (omega arith))
-
-  -- there is a least where there is any
-  pub least-some : (g : ℕ → Bool) (best k f : ℕ) → k + f ≤ none → best ≤ none → (best < none) ⊎ (any g k f ≡ true) → least before none g best k f < none
-  unfolding least any
-  least-some g best k zero h b (inl l) = l
-  least-some g best k zero h b (inr e) = absurd (false≢true e)
-  least-some g best k (suc f) h b s =
-      ⊎-elim
-      (λ p. rw p (let l = better-some best k (omega arith) b in least-some g (better before none best k) (suc k) f (omega arith) (omega arith) (inl l)))
-      (λ p. rw p (least-some g best (suc k) f (omega arith) b (⊎-elim (λ l. inl l) (λ e. inr (rw p at e)) s)))
-      (decide (g k))
-
 -- ---- the list of the indices at which a test holds
 pub filt-mem : (g : ℕ → Bool) (k f i : ℕ) → k ≤ i → i < k + f → g i ≡ true → List·Memᴰ i (filt g k f)
 unfolding filt
@@ -179,11 +132,6 @@ filt-at g k (suc f) i m =
     (λ p. or (List·Memᴰ·cases-cons (rw p at m)) (λ q. (omega arith, omega arith, ap g q ∙ p)) (λ r. let z = filt-at g (suc k) f i r in (omega arith, omega arith, z .2)))
     (λ p. let z = filt-at g (suc k) f i (rw p at m) in (omega arith, omega arith, z .2))
 
-pub filt-none : (g : ℕ → Bool) (k f : ℕ) → ((i : ℕ) → k ≤ i → i < k + f → g i ≡ false) → filt g k f ≡ []
-unfolding filt
-filt-none g k zero e = refl
-filt-none g k (suc f) e = rw (e k (omega arith) (omega arith)) (filt-none g (suc k) f (λ i u v. e i (omega arith) (omega arith)))
-
 pub filt-all : (g : ℕ → Bool) (k f : ℕ) → ((i : ℕ) → k ≤ i → i < k + f → g i ≡ true) → length (filt g k f) ≡ f
 unfolding filt
 filt-all g k zero e = refl
@@ -193,25 +141,6 @@ pub filt-few : (g : ℕ → Bool) (k f : ℕ) → length (filt g k f) ≤ f
 unfolding filt
 filt-few g k zero = omega arith
 filt-few g k (suc f) = let r = filt-few g (suc k) f in by (g k) (λ e. rw e (omega arith)) (λ e. rw e (omega arith))
-
-pub least-start : (before : ℕ → ℕ → Bool) (none : ℕ) (g : ℕ → Bool) (best n : ℕ) → least before none g best 0 n ≡ least before none g best 0 (n - 0)
-least-start before none g best n = rw sub-zero refl
-
-pub least-turn : (before : ℕ → ℕ → Bool) (none : ℕ) (g : ℕ → Bool) (best i n : ℕ) → i < n
-    → least before none g best i (n - i) ≡ least before none g (cond (g i) (better before none best i) best) (i + 1) (n - (i + 1))
-unfolding least
-least-turn before none g best i n h = rw (turn i n h, add-one) refl
-
-pub least-end : (before : ℕ → ℕ → Bool) (none : ℕ) (g : ℕ → Bool) (best i n : ℕ) → n ≤ i → least before none g best i (n - i) ≡ best
-unfolding least
-least-end before none g best i n h = let z : n - i ≡ 0 = omega arith in rw z refl
-
--- the same where an `if` of the loop set best
-pub least-either : (before : ℕ → ℕ → Bool) (none : ℕ) (g : ℕ → Bool) (best i n b′ : ℕ) → i < n
-    → ((g i ≡ true) × (b′ ≡ better before none best i)) ⊎ ((g i ≡ false) × (b′ ≡ best))
-    → least before none g best i (n - i) ≡ least before none g b′ (i + 1) (n - (i + 1))
-least-either before none g best i n b′ h (inl p) = least-turn before none g best i n h ∙ rw (p .0, p .1) refl
-least-either before none g best i n b′ h (inr p) = least-turn before none g best i n h ∙ rw (p .0, p .1) refl
 
 -- ---- h of each index at which g holds, and a counted array that holds them
 module _ {A : Type 0} where
@@ -343,13 +272,3 @@ collect-below g h b z k (suc f) m (suc i) e =
     by (g k)
     (λ p. rw p (collect-below g h b z (suc k) f m i (λ j u v. e j (omega arith) (omega arith))))
     (λ p. rw p (collect-below g h b z (suc k) f m (suc i) (λ j u v. e j (omega arith) (omega arith))))
-
--- ---- an index below n, or none
-pub valid-none : (none n : ℕ) → Valid none n none
-valid-none none n = record { below = λ f. absurd (f refl) }
-
-pub valid-better : (before : ℕ → ℕ → Bool) (none n best k r : ℕ) → Valid none n best → k < n → r ≡ better before none best k → Valid none n r
-valid-better before none n best k r v h e =
-    or (better-is before none best k)
-    (λ p. record { below = λ f. let q = e ∙ p in omega arith })
-    (λ p. subst (Valid none n) (sym (e ∙ p)) v)

@@ -1,11 +1,10 @@
--- No claim rests on these definitions: they say what loops over the indices k, k + 1, .., k + f - 1 find: whether a test holds at some, the first and the
--- least at which it holds, the list of them, and an array that holds such a list.
+-- No claim rests on these definitions: they say what loops over the indices k, k + 1, .., k + f - 1 find: whether a test holds at some, the first
+-- at which it holds, the list of them, and an array that holds such a list.
 use mathlib.Core.Path.{_≡_}
 use mathlib.Core.Bool.{Bool, false, cond, _||_}
 use mathlib.Core.List.{List, [], _∷_, _++_}
-use Prim.Native.Nat.{ℕ, zero, suc, _+_, _-_, _≤_, _<_}
+use Prim.Native.Nat.{ℕ, zero, suc, _+_, _-_, _≤_}
 use lib.ListN.{length, replicate}
-use lib.Dec.{eqb}
 
 unfoldable pub any : (ℕ → Bool) → ℕ → ℕ → Bool
 any g k zero = false
@@ -19,14 +18,6 @@ first g k (suc f) = let r = first g (suc k) f in cond (g k) k r
 unfoldable pub filt : (ℕ → Bool) → ℕ → ℕ → List ℕ
 filt g k zero = []
 filt g k (suc f) = cond (g k) (k ∷ filt g (suc k) f) (filt g (suc k) f)
-
--- the least by `before` of those at which g holds and of `best`; `none` is no index
-unfoldable pub better : (ℕ → ℕ → Bool) → ℕ → ℕ → ℕ → ℕ
-better before none best k = cond (eqb best none) k (cond (before k best) k best)
-
-unfoldable pub least : (ℕ → ℕ → Bool) → ℕ → (ℕ → Bool) → ℕ → ℕ → ℕ → ℕ
-least before none g best k zero = best
-least before none g best k (suc f) = least before none g (cond (g k) (better before none best k) best) (suc k) f
 
 -- ---- h of each index at which g holds, and a counted array that holds them
 module _ {A : Type 0} where
@@ -48,7 +39,3 @@ module _ {A : Type 0} where
     pub count : k ≡ length (collect g h 0 i)
     pub few : k ≤ i
     pub filled : Filled N d a (collect g h 0 i)
-
--- ---- an index below n, or none
-pub record Valid (none n best : ℕ) : Type 0 where
-  pub below : (best ≡ none → ⊥) → best < n

@@ -6,9 +6,7 @@ ghost use mathlib.Core.List.{[]};
 ghost use Prim.Native.Nat.{ℕ, _+_, _*_, _<_, _≤_};
 ghost use lib.ListN.{length, getD, drop};
 ghost use Rattle.fixes.specs.Layout.{fixSize, maxFixes};
-ghost use Rattle.ranges.specs.Lists.{filter, upTo};
-ghost use Rattle.ranges.specs.Tables.{marked};
-ghost use Rattle.decision.specs.Choosing.{better, choose, Below};
+ghost use Rattle.decision.specs.Choosing.{better, Below};
 ghost use Rattle.transmissions.specs.Members.{headsOf};
 ghost use Rattle.transmissions.specs.Picture.{maxShown};
 ghost use Rattle.transmissions.specs.Latest as L;
@@ -73,7 +71,7 @@ fn latest_left(t: &[u8], leads: &[u8], n: u8, left: &[bool; MAX_FIXES]) -> Choic
     requires { ⌜ length (now t) ≡ maxFixes * fixSize ⌝ }
     requires { ⌜ (n ≤ length (now leads)) × ((i : ℕ) → getD (now leads) i 0 < maxFixes) ⌝ }
     requires { ⌜ n ≤ maxFixes ⌝ }
-    ensures { λ r. ⌜ r ≡ choose (L.later (now (t .entry)) (now (leads .entry))) Choice.Nobody (filter (marked (now (left .entry))) (upTo n)) ⌝ }
+    ensures { λ r. ⌜ r ≡ L.latestLeft (now (t .entry)) (now (leads .entry)) n (now (left .entry)) ⌝ }
 {
     let mut best = Choice::Nobody;
     let mut i: u8 = 0;
