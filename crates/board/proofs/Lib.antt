@@ -7,3 +7,4 @@ pub mod Fitting
 pub mod WholeLists
 pub mod Shows
 pub mod Positions
+pub mod Worked

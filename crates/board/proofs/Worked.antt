@@ -1,0 +1,55 @@
+-- A whole board, by computation. The session program prints these lines for the same reports, and so does the second writing of the board in plain Rust
+-- (oracle/peer).
+use Prim.Native.Nat.{ℕ}
+use mathlib.Core.Path.{_≡_, refl}
+use mathlib.Core.List.{List, [], _∷_, _++_, flatMap}
+use lib.Count.{leadingZeros}
+use lib.Ieee.{ofBits, toBits, round, le, lt, eq, ofInt, div, mul, add, sub, neg, isNan}
+use Rattle.octets.specs.Ascii.{ascii}
+use Rattle.octets.specs.Words.{wordBytes, word}
+use Rattle.octets.specs.Order.{same, isBefore}
+use Rattle.octets.specs.Masks.{bits}
+use Rattle.text.specs.Numbers.{digits, signed, hex}
+use Rattle.hashing.specs.Blake2s as B
+use Rattle.record.specs.Fields.{tagsFrom}
+use Rattle.record.specs.Relations.{subset, allIn, anyIn, member, sharesTag}
+use Rattle.record.specs.Worked.{recordWith}
+use Rattle.floats.specs.Root.{isqrt, digitsOf, rootOf, rootFinite, rootBits, root}
+use Rattle.arithmetic.specs.Numbers.{fromDecimal}
+use Rattle.arithmetic.specs.Angles.{degree, radiansOf, factorial, coefficient, sineSeries, cosineSeries, sincosOf}
+use Rattle.arithmetic.specs.Geodesy.{flattening, eccentricity2, toEcef, enuBasis, subOf, dotOf}
+use Rattle.arithmetic.specs.Linalg.{less, rowsBelow, columns, choleskyOf, forwards, forward, backwards, backward, solveOf, plus}
+use Rattle.arithmetic.specs.Agree.{limitOf, geodeticOf, matrixOf, lengthUnder, chiSquareOf, finiteOr, differenceOf, agreementOf, agreesOf}
+use Rattle.ranges.specs.Lists.{anyOf, filter, insert, sort, foremost}
+use Rattle.items.specs.Claimed.{claimOf}
+use Rattle.decision.specs.Positions.{S, M, L}
+use Rattle.models.specs.Models.{allAgreed, stateFrom, summariesFor}
+use Rattle.models.specs.Identity.{citedInputs, setHash, identityFrom, inputsInOrder}
+use Rattle.fixes.specs.Fixes.{enter, enterAll, fixesOf}
+use Rattle.links.specs.Transmissions.{recordsLink, reach, transmissionsOf}
+use Rattle.transmissions.specs.Shown.{shown}
+use Rattle.transmissions.specs.Picture.{picture}
+use Rattle.drawing.specs.Lines.{header, line, refusedLine, fixText, whereWhen, heightText}
+use Rattle.drawing.specs.Text.{textOf, textFrom}
+use Rattle.board.specs.Board.{boardOf}
+
+-- a record in its slot, with its signers
+abbrev slot : List ℕ → ℕ → List ℕ
+slot r signers = r ++ wordBytes 4 signers
+
+-- S, M and L; another record of S's identity, which S represents; and a fix with another tag, of a lower identity. All are of one time.
+abbrev slots : List (List ℕ)
+slots = slot S 2 ∷ slot M 4 ∷ slot L 8 ∷ slot (recordWith (1 ∷ []) 1) 16 ∷ slot (recordWith (9 ∷ []) 7) 32 ∷ []
+
+abbrev lines : List ℕ
+lines =
+    ascii "transmission=1 ranked=1 dominated=0 refused=0\n"
+    ++ ascii "role=ranked time=1000 lat=7 lon=0 height=2 weight=1 signers=00000020\n"
+    ++ ascii "transmission=2 ranked=1 dominated=1 refused=1\n"
+    ++ ascii "role=ranked time=1000 lat=2700 lon=0 height=2 weight=2 signers=00000004\n"
+    ++ ascii "role=dominated time=1000 lat=0 lon=0 height=2 weight=1 signers=00000012\n"
+    ++ ascii "role=refused time=1000 lat=5400 lon=0 height=2 weight=3 signers=00000008 chi2=4041d3951c37e7a3\n"
+
+pub whole-board : boardOf [] slots ≡ lines
+unfolding boardOf shown textFrom textOf picture transmissionsOf reach fixesOf enter enterAll anyOf filter insert sort foremost flatMap recordsLink sharesTag anyIn ascii header line refusedLine fixText whereWhen heightText digits signed hex allAgreed stateFrom summariesFor citedInputs setHash identityFrom inputsInOrder B.rotateRight B.iv B.sigma B.addWord B.turnWord B.halfMix B.mixWords B.mixColumns B.mixDiagonals B.roundBy B.rounds B.startState B.compressBlock B.wordsOf B.padBlock B.firstState B.chainBlocks B.hashWords B.bytesOfWords B.blake2s256 subset allIn member same isBefore bits tagsFrom claimOf wordBytes word limitOf geodeticOf matrixOf lengthUnder chiSquareOf finiteOr differenceOf agreementOf agreesOf degree radiansOf factorial coefficient sineSeries cosineSeries sincosOf flattening eccentricity2 toEcef enuBasis subOf dotOf less rowsBelow columns choleskyOf forwards forward backwards backward solveOf plus fromDecimal isqrt digitsOf rootOf rootFinite rootBits root leadingZeros ofBits toBits round le lt eq ofInt div mul add sub neg isNan
+whole-board = refl
