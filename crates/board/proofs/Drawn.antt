@@ -31,11 +31,12 @@ use Rattle.decision.specs.Answer.{bad, outcome, decision, decided, indices, ref
 use Rattle.decision.proofs.Carried.{carriedRefusal, carriedOutcome}
 use Rattle.fixes.specs.Layout.{maxFixes, fixSize, fixRecord, fixSigners}
 use Rattle.fixes.specs.Gathered.{Gathered}
-use Rattle.fixes.specs.Fixes.{Fix, fixesOf}
+use Rattle.shown.specs.Fix.{Fix}
+use Rattle.fixes.specs.Fixes.{fixesOf}
 use Rattle.fixes.proofs.Soundness.{record-formed}
 use Rattle.fixes.proofs.Distinct.{identities-differ}
-use Rattle.fixes.proofs.Indexed.{noFix, at, at-in, Apart}
-use Rattle.fixes.proofs.Encoded.{bytesOf, Fit, AllFit, identity-is, record-is, inputs-are, signers-are, all-apart}
+use Rattle.shown.proofs.Indexed.{noFix, at, at-in, Apart}
+use Rattle.fixes.proofs.Encoded.{bytesOf, AllFit, fit-formed, identity-is, record-is, inputs-are, signers-are, all-apart}
 use Rattle.links.specs.Links.{linkAt}
 use Rattle.links.specs.Walk as W
 use Rattle.links.specs.Transmissions.{transmissionsOf}
@@ -43,16 +44,19 @@ use Rattle.links.proofs.Symmetry.{links-turned}
 use Rattle.links.proofs.Indexed.{map-map, map-same, transmissions-are}
 use Rattle.links.proofs.Reaching.{some-in}
 use Rattle.links.proofs.Fitness.{all-self-linked, links-agree}
-use Rattle.transmissions.specs.Shown.{Transmission, shown}
-use Rattle.transmissions.specs.Picture as P
-use Rattle.transmissions.specs.Picture.{olderThan, olderFirst, latestOf, maxShown}
-use Rattle.transmissions.specs.Members.{unjudged, itemsOf, belongs, membersOf, nth, outcomeOf, leading, leaderOf, leadersOf, headsOf, every}
+use Rattle.shown.specs.Shown.{Transmission, shown}
+use Rattle.shown.specs.Ages as A
+use Rattle.shown.specs.Ages.{olderFirst}
+use Rattle.transmissions.specs.Picture.{olderThan, latestOf, maxShown}
+use Rattle.shown.specs.Items.{unjudged}
+use Rattle.transmissions.specs.Members.{itemsOf, belongs, membersOf, nth, outcomeOf, leading, leaderOf, leadersOf, headsOf, every}
 use Rattle.transmissions.specs.Latest.{laterFix, later}
 use Rattle.transmissions.proofs.Items.{members-below, members-length, members-good}
 use Rattle.transmissions.proofs.Gathering.{nth-is}
 use Rattle.transmissions.proofs.Ages.{later-total}
 use Rattle.transmissions.proofs.Selection.{older, Marked, latest-is, lastOf-map}
-use Rattle.transmissions.proofs.Itemized.{itemsFor, shown-of-items}
+use Rattle.shown.specs.Items.{itemsFor}
+use Rattle.shown.proofs.Itemized.{Formed, AllFormed, shown-of-items}
 use Rattle.drawing.specs.Lines.{line, refusedLine}
 use Rattle.drawing.specs.Text.{refusedText, textOf, textFrom, boardText}
 use Rattle.drawing.specs.Drawing.{linesOf, refusedLines, decidedText, transmissionText, drawFrom, shownOf, drawTable}
@@ -137,11 +141,11 @@ module _ (ss : List (List ℕ)) (fs : List Fix) (w : AllFit ss fs) (wides : wide
       (ap₂ _++_ (record-is ss fs w wides j h) (ap₂ _++_ (inputs-are ss fs w wides j h) (ap (λ (x : List ℕ). x ++ unjudged) (identity-is ss fs w wides j h))))
       (items-are js (λ i k. b (suc i) (omega arith)))
 
-  fits : (js : List ℕ) → Below js → AllFit ss (map (at fs) js)
+  fits : (js : List ℕ) → Below js → AllFormed (map (at fs) js)
   fits [] b f m = absurd (List·Memᴰ·not-nil m)
   fits (j ∷ js) b f m =
       or (List·Memᴰ·cases-cons m)
-      (λ e. subst (Fit ss) (sym e) (w (at fs j) (at-in noFix fs j (b 0 (omega arith)))))
+      (λ e. subst Formed (sym e) (fit-formed ss (at fs j) (w (at fs j) (at-in noFix fs j (b 0 (omega arith))))))
       (λ k. fits js (λ i h. b (suc i) (omega arith)) f k)
 
   pub at-map : (js : List ℕ) (i : ℕ) → i < length js → at (map (at fs) js) i ≡ at fs (getD js i 0)
@@ -183,7 +187,7 @@ module _ (ss : List (List ℕ)) (fs : List Fix) (w : AllFit ss fs) (wides : wide
     outcome-of = rw decides (ap decision outcome-is)
 
     shown-is : shown gs ≡ carriedOutcome (at gs) o
-    shown-is = shown-of-items ss gs (fits ms below)
+    shown-is = shown-of-items gs (fits ms below)
 
     -- ---- its text
 
@@ -315,7 +319,7 @@ module _ (ss : List (List ℕ)) (fs : List Fix) (w : AllFit ss fs) (wides : wide
   leaders-at : (s : ℕ) → s < n → belongs l s s ≡ true → getD (leadersOf t l n) s 0 ≡ leaderOf t l n s
   leaders-at s h b = tabled-at 0 (leading t l n) n s h ∙ rw b refl
 
-  older-is : (i j : ℕ) → i < n → j < n → P.older (at fs i) (at fs j) ≡ laterFix t j i
+  older-is : (i j : ℕ) → i < n → j < n → A.older (at fs i) (at fs j) ≡ laterFix t j i
   unfolding laterFix
   older-is i j h k = rw (record-is ss fs w wides i h, record-is ss fs w wides j k, identity-is ss fs w wides i h, identity-is ss fs w wides j k) refl
 

@@ -16,12 +16,13 @@ use Rattle.fixes.specs.Representatives.{representatives}
 use Rattle.fixes.proofs.Soundness.{representatives-gathered}
 use Rattle.drawing.specs.Text.{boardSize}
 use Rattle.drawing.proofs.Lengths.{board-fits, board-long}
-use Rattle.register.specs.Register.{Register, after}
+use Rattle.held.specs.After.{after, writeText}
+use Rattle.register.specs.Register.{Register}
 use Rattle.register.specs.Memory.{wellFormed, decode}
 use Rattle.register.proofs.Opened.{opened}
 use Rattle.register.proofs.Valid.{Valid}
 use Rattle.register.proofs.Kept.{decode-valid}
-use Rattle.board.specs.Board.{boardIn, writeText}
+use Rattle.board.specs.Board.{boardIn}
 use Rattle.board.specs.Tables.{labelsOf}
 use Rattle.board.proofs.Pictured.{slots-formed, valid-board}
 

@@ -15,11 +15,12 @@ use Rattle.fixes.specs.Layout.{maxFixes, fixSize}
 use Rattle.fixes.specs.Gathered.{slotFormed, Gathered}
 use Rattle.fixes.specs.Representatives.{representatives}
 use Rattle.fixes.proofs.Soundness.{representatives-gathered}
-use Rattle.register.specs.Layout.{summariesAt, recordsAt, placeSize}
-use Rattle.register.specs.Memory as M
-use Rattle.register.specs.Memory.{wellFormed, decode, summaryCount, recordCount, summaryTable, recordTable, recordsIn}
+use Rattle.held.specs.Limits.{placeSize}
+use Rattle.held.specs.Signed.{placeFormed}
+use Rattle.held.proofs.Testing.{all-weaken}
+use Rattle.register.specs.Layout.{summariesAt, recordsAt}
+use Rattle.register.specs.Memory.{wellFormed, convictedIn, decode, summaryCount, recordCount, summaryTable, recordTable, recordsIn}
 use Rattle.register.proofs.Opened.{Opened, opened, summary-bytes-length, record-bytes-length, records-length}
-use Rattle.register.proofs.Valid.{all-weaken}
 
 -- the fixes that its board shows
 abbrev pub fixesIn : List ℕ → List (List ℕ)
@@ -37,7 +38,7 @@ module _ (m : List ℕ) (w : wellFormed m ≡ true) where
   tail-is = tail-lent m recordsAt
 
   pub formed-places : allPlaces slotFormed (recordsIn m) ≡ true
-  formed-places = all-weaken (M.placeFormed (M.convictedIn m)) slotFormed (λ p h. and-left (R.wellFormed (take recordSize p)) _ h) (recordsIn m) (o .records-formed)
+  formed-places = all-weaken (placeFormed (convictedIn m)) slotFormed (λ p h. and-left (R.wellFormed (take recordSize p)) _ h) (recordsIn m) (o .records-formed)
 
   pub record Lends (a b : ℕ) : Type 0 where
     pub summaries-lie : a * summarySize ≤ length (summaryTable m)

@@ -17,16 +17,20 @@ use Rattle.ranges.proofs.Bools.{or, and-left, and-right}
 use Rattle.fixes.specs.Layout.{maxFixes, fixSize}
 use Rattle.fixes.specs.Gathered as G
 use Rattle.fixes.specs.Gathered.{Gathered}
-use Rattle.fixes.specs.Fixes.{Fix, fixesOf}
+use Rattle.shown.specs.Fix.{Fix}
+use Rattle.fixes.specs.Fixes.{fixesOf}
 use Rattle.fixes.proofs.Gathering.{representatives-ordered}
 use Rattle.fixes.proofs.Soundness.{representatives-gathered}
 use Rattle.fixes.proofs.Encoded.{bytesOf, AllFit, Signed, representatives-are}
 use Rattle.transmissions.specs.Picture.{picture}
 use Rattle.drawing.specs.Drawing.{drawTable}
-use Rattle.register.specs.Register.{Register, signersIn}
-use Rattle.register.specs.Memory.{wellFormed, decode, placeFormed}
+use Rattle.held.specs.Signed.{signersIn, placeFormed}
+use Rattle.held.proofs.Testing.{all-weaken}
+use Rattle.held.proofs.Signatures.{placeHeld}
+use Rattle.register.specs.Register.{Register}
+use Rattle.register.specs.Memory.{wellFormed, decode}
 use Rattle.register.proofs.Opened.{opened}
-use Rattle.register.proofs.Valid.{Valid, placeHeld, all-weaken}
+use Rattle.register.proofs.Valid.{Valid}
 use Rattle.register.proofs.Kept.{decode-valid}
 use Rattle.board.specs.Board.{boardOf, boardIn}
 use Rattle.board.specs.Tables.{labelsOf, drawFixes, drawSlots}

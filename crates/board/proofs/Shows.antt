@@ -21,8 +21,9 @@ use Rattle.decision.specs.Standing.{decide}
 use Rattle.decision.specs.Outcome.{Outcome}
 use Rattle.decision.specs.Claims.{listedIn}
 use Rattle.decision.proofs.Laws.{Sound, listed-once, some-ranked}
-use Rattle.fixes.specs.Fixes.{Fix, fixesOf}
-use Rattle.fixes.proofs.Indexed.{noFix, at, in-at, Apart}
+use Rattle.shown.specs.Fix.{Fix}
+use Rattle.fixes.specs.Fixes.{fixesOf}
+use Rattle.shown.proofs.Indexed.{noFix, at, in-at, Apart}
 use Rattle.fixes.proofs.Encoded.{all-apart}
 use Rattle.links.specs.Transmissions.{transmissionOf, leads, isFirst, transmissionsOf}
 use Rattle.links.specs.Claims.{Partition}
@@ -30,11 +31,13 @@ use Rattle.links.proofs.Indexed.{map-map}
 use Rattle.links.proofs.Reaching.{chain-in}
 use Rattle.links.proofs.Partition.{partition, map-of, map-from}
 use Rattle.links.proofs.Fitness.{all-self-linked}
-use Rattle.transmissions.specs.Shown.{Transmission, subsetOf, agreement, shown}
-use Rattle.transmissions.specs.Picture.{older, olderFirst, olderThan, picture}
-use Rattle.transmissions.specs.Claims.{fixRelations}
-use Rattle.transmissions.proofs.Plainly.{shown-is-decided}
-use Rattle.transmissions.proofs.Ages.{older-total, olderThan-trans}
+use Rattle.shown.specs.Shown.{Transmission, subsetOf, agreement, shown}
+use Rattle.shown.specs.Ages.{older, olderFirst}
+use Rattle.transmissions.specs.Picture.{olderThan, picture}
+use Rattle.shown.specs.Claims.{fixRelations}
+use Rattle.shown.proofs.Plainly.{shown-is-decided}
+use Rattle.shown.proofs.Ages.{older-total}
+use Rattle.transmissions.proofs.Ages.{olderThan-trans}
 use Rattle.register.specs.Register.{Register}
 use Rattle.register.specs.Memory.{decode, fresh}
 use Rattle.register.specs.Calls.{Call, runs, noneFull, remaining}

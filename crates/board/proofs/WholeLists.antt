@@ -8,7 +8,8 @@ use native.Mathlib.Omega.{arith}
 use lib.ListN.{length}
 use borrow.Author.Tests.{le-ltb}
 use Rattle.drawing.specs.Text.{boardSize}
-use Rattle.register.specs.Register.{Register, After}
+use Rattle.held.specs.After.{After, writeText}
+use Rattle.register.specs.Register.{Register}
 use Rattle.register.specs.Memory.{wellFormed, decode, fresh}
 use Rattle.register.specs.Calls.{Call, runs, noneFull, remaining}
 use Rattle.register.specs.Remains.{summariesHeld, recordsHeld}
@@ -17,7 +18,7 @@ use Rattle.register.proofs.Valid.{Valid}
 use Rattle.register.proofs.Whole.{sum, whole, same-bytes, decoded, same-summaries, same-records}
 use Rattle.register.proofs.Room.{none-full}
 use Rattle.register.proofs.Remaining.{holds-in-order}
-use Rattle.board.specs.Board.{boardOf, boardIn, drawBoard, writeText}
+use Rattle.board.specs.Board.{boardOf, boardIn, drawBoard}
 use Rattle.board.specs.Claims.{boardOver, greatestRefusal, SameInBothRooms, WholeLists}
 use Rattle.board.proofs.Fitting.{long}
 

@@ -12,7 +12,7 @@ use Rattle.octets.specs.Masks.{bits}
 use Rattle.text.specs.Numbers.{digits, signed, hex}
 use Rattle.hashing.specs.Blake2s as B
 use Rattle.record.specs.Fields.{tagsFrom}
-use Rattle.record.specs.Relations.{subset, allIn, anyIn, member, sharesTag}
+use Rattle.record.specs.Relations.{subset, allIn, anyIn, member, sharesTag, tied}
 use Rattle.record.specs.Worked.{recordWith}
 use Rattle.floats.specs.Root.{isqrt, digitsOf, rootOf, rootFinite, rootBits, root}
 use Rattle.arithmetic.specs.Numbers.{fromDecimal}
@@ -27,7 +27,7 @@ use Rattle.models.specs.Models.{allAgreed, stateFrom, summariesFor}
 use Rattle.models.specs.Identity.{citedInputs, setHash, identityFrom, inputsInOrder}
 use Rattle.fixes.specs.Fixes.{enter, enterAll, fixesOf}
 use Rattle.links.specs.Transmissions.{recordsLink, reach, transmissionsOf}
-use Rattle.transmissions.specs.Shown.{shown}
+use Rattle.shown.specs.Shown.{shown}
 use Rattle.transmissions.specs.Picture.{picture}
 use Rattle.drawing.specs.Lines.{header, line, refusedLine, fixText, whereWhen, heightText}
 use Rattle.drawing.specs.Text.{textOf, textFrom}
@@ -51,5 +51,5 @@ lines =
     ++ ascii "role=refused time=1000 lat=5400 lon=0 height=2 weight=3 signers=00000008 chi2=4041d3951c37e7a3\n"
 
 pub whole-board : boardOf [] slots ≡ lines
-unfolding boardOf shown textFrom textOf picture transmissionsOf reach fixesOf enter enterAll anyOf filter insert sort foremost flatMap recordsLink sharesTag anyIn ascii header line refusedLine fixText whereWhen heightText digits signed hex allAgreed stateFrom summariesFor citedInputs setHash identityFrom inputsInOrder B.rotateRight B.iv B.sigma B.addWord B.turnWord B.halfMix B.mixWords B.mixColumns B.mixDiagonals B.roundBy B.rounds B.startState B.compressBlock B.wordsOf B.padBlock B.firstState B.chainBlocks B.hashWords B.bytesOfWords B.blake2s256 subset allIn member same isBefore bits tagsFrom claimOf wordBytes word limitOf geodeticOf matrixOf lengthUnder chiSquareOf finiteOr differenceOf agreementOf agreesOf degree radiansOf factorial coefficient sineSeries cosineSeries sincosOf flattening eccentricity2 toEcef enuBasis subOf dotOf less rowsBelow columns choleskyOf forwards forward backwards backward solveOf plus fromDecimal isqrt digitsOf rootOf rootFinite rootBits root leadingZeros ofBits toBits round le lt eq ofInt div mul add sub neg isNan
+unfolding boardOf shown textFrom textOf picture transmissionsOf reach fixesOf enter enterAll anyOf filter insert sort foremost flatMap recordsLink tied sharesTag anyIn ascii header line refusedLine fixText whereWhen heightText digits signed hex allAgreed stateFrom summariesFor citedInputs setHash identityFrom inputsInOrder B.rotateRight B.iv B.sigma B.addWord B.turnWord B.halfMix B.mixWords B.mixColumns B.mixDiagonals B.roundBy B.rounds B.startState B.compressBlock B.wordsOf B.padBlock B.firstState B.chainBlocks B.hashWords B.bytesOfWords B.blake2s256 subset allIn member same isBefore bits tagsFrom claimOf wordBytes word limitOf geodeticOf matrixOf lengthUnder chiSquareOf finiteOr differenceOf agreementOf agreesOf degree radiansOf factorial coefficient sineSeries cosineSeries sincosOf flattening eccentricity2 toEcef enuBasis subOf dotOf less rowsBelow columns choleskyOf forwards forward backwards backward solveOf plus fromDecimal isqrt digitsOf rootOf rootFinite rootBits root leadingZeros ofBits toBits round le lt eq ofInt div mul add sub neg isNan
 whole-board = refl

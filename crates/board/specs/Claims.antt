@@ -17,7 +17,8 @@ use Rattle.register.specs.Memory.{fresh}
 use Rattle.register.specs.Calls.{Call, runs, noneFull, remaining}
 use Rattle.register.specs.Remains.{summariesHeld, recordsHeld}
 use Rattle.register.specs.Claims.{SameRemains, HoldsWhatRemains, FullExactlyWhen}
-use Rattle.board.specs.Board.{boardOf, drawBoard, writeText}
+use Rattle.held.specs.After.{writeText}
+use Rattle.board.specs.Board.{boardOf, drawBoard}
 
 -- "The board over what remains takes the remaining records and summaries, with the engines of a record's remaining reports as its signers."
 abbrev pub boardOver : List Call → List ℕ

@@ -5,10 +5,11 @@ use mathlib.Core.Bool.{true}
 use mathlib.Core.List.{List, map, List·Memᴰ, List·Permᴰ}
 use Rattle.ranges.specs.Lists.{Ascending}
 use Rattle.decision.specs.Claims.{listedIn}
-use Rattle.fixes.specs.Fixes.{Fix, fixesOf}
+use Rattle.shown.specs.Fix.{Fix}
+use Rattle.fixes.specs.Fixes.{fixesOf}
 use Rattle.links.specs.Transmissions.{transmissionsOf}
 use Rattle.links.specs.Claims.{Partition}
-use Rattle.transmissions.specs.Shown.{Transmission, shown}
+use Rattle.shown.specs.Shown.{Transmission, shown}
 use Rattle.transmissions.specs.Picture.{olderThan, picture}
 use Rattle.register.specs.Memory.{fresh}
 use Rattle.register.specs.Calls.{Call, noneFull, remaining}

@@ -8,7 +8,7 @@ ghost use Prim.Native.Nat.{_≤_};
 ghost use lib.ListN.{length};
 ghost use Rattle.text.specs.Buffer.{Put};
 ghost use Rattle.drawing.specs.Text.{boardSize};
-ghost use Rattle.register.specs.Register.{after};
+ghost use Rattle.held.specs.After.{after};
 ghost use Rattle.register.specs.Memory.{wellFormed, decode};
 ghost use Rattle.board.specs.Board.{boardIn, drawBoard};
 

@@ -4,9 +4,9 @@ use Prim.Native.Nat.{ℕ, suc}
 use mathlib.Core.List.{List, [], _∷_, _++_, flatMap}
 use lib.Ieee.{binary64, toBits}
 use lib.ListN.{length}
-use Rattle.fixes.specs.Fixes.{Fix}
+use Rattle.shown.specs.Fix.{Fix}
 use Rattle.decision.specs.Outcome.{Refused}
-use Rattle.transmissions.specs.Shown.{Transmission}
+use Rattle.shown.specs.Shown.{Transmission}
 use Rattle.drawing.specs.Lines.{header, rankedLine, dominatedLine, refusedLine}
 
 abbrev pub headerOf : ℕ → Transmission → List ℕ

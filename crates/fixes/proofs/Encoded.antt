@@ -30,8 +30,10 @@ use Rattle.fixes.specs.Gathered.{slotFormed, Gathered}
 use Rattle.fixes.proofs.Gathering.{key-length, joined-none, joined-some, all-none, all-more, formed-head, formed-tail}
 use Rattle.fixes.proofs.Distinct.{identities-differ}
 use Rattle.ranges.specs.Lists.{filter}
-use Rattle.fixes.specs.Fixes.{Fix, recordIn, fixOf, unite, enter, enterAll, fixesOf}
-use Rattle.fixes.proofs.Indexed.{noFix, at, at-in, Apart}
+use Rattle.shown.specs.Fix.{Fix}
+use Rattle.fixes.specs.Fixes.{recordIn, fixOf, unite, enter, enterAll, fixesOf}
+use Rattle.shown.proofs.Itemized.{Formed}
+use Rattle.shown.proofs.Indexed.{noFix, at, at-in, Apart}
 
 -- the bytes of a fix
 abbrev pub bytesOf : Fix → List ℕ
@@ -59,6 +61,9 @@ module _ (ss : List (List ℕ)) (f : Fix) (h : Fit ss f) where
 
   pub inputs-size : length (f .inputs) ≡ hashSize
   inputs-size = ap length (h .cited) ∙ cited-length ss (f .recordBytes)
+
+  pub fit-formed : Formed f
+  fit-formed = record { key = h .key; form = h .form; cited = inputs-size }
 
   abbrev value : List ℕ
   value = f .recordBytes ++ (f .inputs ++ wordBytes 4 (f .signers))

@@ -9,17 +9,9 @@ use Rattle.octets.specs.Order.{isBefore}
 use Rattle.octets.specs.Words.{word}
 use Rattle.record.specs.Layout.{recordSize}
 use Rattle.ranges.specs.Lists.{filter}
+use Rattle.shown.specs.Fix.{Fix, withSigners}
 use Rattle.models.specs.Models.{counts}
 use Rattle.models.specs.Identity as I
-
-pub record Fix : Type 0 where
-  pub identity : List ℕ
-  -- the bytes of the record that represents it
-  pub recordBytes : List ℕ
-  -- the model inputs of that record
-  pub inputs : List ℕ
-  -- the engines that signed a record of this identity, bit n for engine n
-  pub signers : ℕ
 
 -- the record in a slot
 abbrev pub recordIn : List ℕ → List ℕ
@@ -37,9 +29,6 @@ fixOf ss p = record {
 -- "Of two records with one identity, the part whose bytes come first in byte order is handed back and represents it"
 abbrev pub representative : Fix → Fix → Fix
 representative f g = cond (isBefore (g .recordBytes) (f .recordBytes)) g f
-
-abbrev pub withSigners : ℕ → Fix → Fix
-withSigners engines f = record { identity = f .identity; recordBytes = f .recordBytes; inputs = f .inputs; signers = engines }
 
 -- "its engines are the signers of all of them"
 abbrev pub unite : Fix → Fix → Fix

@@ -12,15 +12,15 @@ use Rattle.places.specs.Places.{allPlaces, tableOf}
 use Rattle.places.proofs.Tables.{wide}
 use Rattle.record.specs.Fields.{message, tags, tagCount, tagsFrom, tagAt}
 use Rattle.record.specs.Formed.{wellFormed}
-use Rattle.record.specs.Relations.{sharesTag, anyIn, member}
+use Rattle.record.specs.Relations.{sharesTag, anyIn, member, tied}
 use Rattle.record.proofs.Parts.{formed}
 use Rattle.ranges.proofs.Bools.{and-both}
 use Rattle.fixes.specs.Layout.{maxFixes, fixSize}
 use Rattle.fixes.specs.Gathered.{slotFormed, Gathered}
 use Rattle.fixes.specs.Representatives.{representatives}
-use Rattle.fixes.specs.Fixes.{Fix}
+use Rattle.shown.specs.Fix.{Fix}
 use Rattle.fixes.proofs.Soundness.{gathered-long, record-formed, representatives-gathered}
-use Rattle.fixes.proofs.Indexed.{at}
+use Rattle.shown.proofs.Indexed.{at}
 use Rattle.fixes.proofs.Encoded.{bytesOf, AllFit, table, record-is}
 use Rattle.links.specs.Links.{linkAt, Sound}
 use Rattle.links.specs.Transmissions.{recordsLink, linked}
@@ -34,7 +34,7 @@ some-tag r zero p = absurd (omega arith)
 some-tag r (suc n) p = rw (eq-eqb (tagAt r 0) (tagAt r 0) refl) refl
 
 pub self-linked : (r : List ℕ) → wellFormed r ≡ true → recordsLink r r ≡ true
-unfolding recordsLink sharesTag
+unfolding recordsLink tied sharesTag
 self-linked r h = and-both (same (message r) (message r)) (anyIn (tags r) (tags r)) (same-refl (message r)) (some-tag r (tagCount r) (formed r h .some))
 
 pub all-self-linked : (ss : List (List ℕ)) (fs : List Fix) → AllFit ss fs → SelfLinked fs

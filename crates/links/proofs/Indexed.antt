@@ -19,9 +19,9 @@ use Rattle.links.specs.Walk as W
 use Rattle.links.proofs.Transmissions.{label-le, label-below, label-label, label-same}
 use Rattle.links.proofs.Chains as C
 use Rattle.ranges.specs.Lists.{anyOf, filter}
-use Rattle.fixes.specs.Fixes.{Fix}
+use Rattle.shown.specs.Fix.{Fix}
 use Rattle.links.specs.Transmissions.{linked, Chain, here, more, reach, transmissionOf, leads, isFirst, transmissionsOf}
-use Rattle.fixes.proofs.Indexed.{noFix, at, at-in, in-at, Apart}
+use Rattle.shown.proofs.Indexed.{noFix, at, at-in, in-at, Apart}
 use Rattle.ranges.proofs.Lists.{filter-in, filter-of}
 use Rattle.links.proofs.Reaching.{SelfLinked, transmission-is}
 

@@ -11,9 +11,9 @@ use Rattle.links.specs.Chains as I
 use Rattle.links.specs.Walk as W
 use Rattle.links.proofs.Symmetry.{linked-turned}
 use Rattle.links.proofs.Transmissions as X
-use Rattle.fixes.specs.Fixes.{Fix}
+use Rattle.shown.specs.Fix.{Fix}
 use Rattle.links.specs.Transmissions.{linked, Chain, transmissionOf, transmissionsOf}
-use Rattle.fixes.proofs.Indexed.{noFix, at, at-in, in-at, Apart}
+use Rattle.shown.proofs.Indexed.{noFix, at, at-in, in-at, Apart}
 use Rattle.links.proofs.Reaching.{SelfLinked, transmission-is}
 use Rattle.links.proofs.Indexed.{transmission-at, transmissions-are}
 use Rattle.links.specs.Claims.{Partition}

@@ -7,7 +7,7 @@ use Rattle.octets.specs.Order.{same, isBefore}
 use Rattle.octets.specs.Runs.{allZero}
 use Rattle.record.specs.Fields.{tagsFrom}
 use Rattle.record.specs.Formed.{wellFormed, ascends, ascendsFrom, allUpTo}
-use Rattle.record.specs.Relations.{sharesTag, anyIn, member}
+use Rattle.record.specs.Relations.{sharesTag, anyIn, member, tied}
 use Rattle.ranges.specs.Lists.{anyOf, filter}
 use Rattle.links.specs.Transmissions.{recordsLink, reach, transmissionsOf}
 use Rattle.links.specs.Positions.{one, two, both, other}
@@ -18,9 +18,9 @@ unfolding wellFormed ascends ascendsFrom allUpTo allZero tagsFrom word wordBytes
 records-formed = (refl, refl, refl, refl)
 
 pub position-6 : Position6
-unfolding transmissionsOf reach filter anyOf recordsLink sharesTag anyIn member same isBefore tagsFrom word wordBytes
+unfolding transmissionsOf reach filter anyOf recordsLink tied sharesTag anyIn member same isBefore tagsFrom word wordBytes
 position-6 = refl
 
 pub apart : transmissionsOf (one ∷ two ∷ other ∷ []) ≡ (one ∷ []) ∷ (two ∷ []) ∷ (other ∷ []) ∷ []
-unfolding transmissionsOf reach filter anyOf recordsLink sharesTag anyIn member same isBefore tagsFrom word wordBytes
+unfolding transmissionsOf reach filter anyOf recordsLink tied sharesTag anyIn member same isBefore tagsFrom word wordBytes
 apart = refl

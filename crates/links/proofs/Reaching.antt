@@ -10,7 +10,7 @@ use lib.ListN.{length}
 use borrow.Author.Tests.{ltb-true, ltb-false}
 use Rattle.ranges.proofs.Bools.{by, or}
 use Rattle.ranges.specs.Lists.{anyOf, filter}
-use Rattle.fixes.specs.Fixes.{Fix}
+use Rattle.shown.specs.Fix.{Fix}
 use Rattle.links.specs.Transmissions.{linked, Chain, here, more, reach, transmissionOf}
 use Rattle.ranges.proofs.Lists.{any-in, any-of, filter-in, filter-of}
 use Rattle.links.proofs.Listing.{filter-no-wider, filter-all}

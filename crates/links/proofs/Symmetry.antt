@@ -6,6 +6,7 @@ use Prim.Native.Nat.{ℕ}
 use Rattle.octets.specs.Order.{isBefore, same}
 use Rattle.ranges.proofs.Bools.{by}
 use Rattle.record.specs.Fields.{message}
+use Rattle.record.specs.Relations.{tied}
 use Rattle.record.proofs.Laws.{shares-sym}
 use Rattle.links.specs.Transmissions.{recordsLink}
 use Rattle.links.specs.Links.{linkAt}
@@ -19,7 +20,7 @@ same-turned a b =
     (λ p. by (isBefore b a) (λ q. rw (p, q) refl) (λ q. rw (p, q) refl))
 
 pub linked-turned : (a b : List ℕ) → recordsLink a b ≡ recordsLink b a
-unfolding recordsLink
+unfolding recordsLink tied
 linked-turned a b = ap₂ _&&_ (same-turned (message a) (message b)) (shares-sym a b)
 
 pub links-turned : (t : List ℕ) → Symmetric (linkAt t)

@@ -2,7 +2,7 @@
 use mathlib.Core.List.{List, [], _∷_}
 use Prim.Native.Nat.{ℕ}
 use Rattle.record.specs.Worked.{recordWith}
-use Rattle.fixes.specs.Fixes.{Fix}
+use Rattle.shown.specs.Fix.{Fix}
 
 -- a fix of these tags, without model inputs, signed by engine 0
 abbrev pub tagged : ℕ → List ℕ → Fix

@@ -2,17 +2,17 @@
 -- through any chain."
 use Prim.Native.Nat.{ℕ, zero, suc}
 use mathlib.Core.Path.{_≡_}
-use mathlib.Core.Bool.{Bool, true, false, _&&_}
+use mathlib.Core.Bool.{Bool, true, false}
 use mathlib.Core.List.{List, [], _∷_, List·Memᴰ, map}
 use lib.ListN.{length}
 use Rattle.octets.specs.Order.{same}
-use Rattle.record.specs.Relations.{sameMessage, sharesTag}
+use Rattle.record.specs.Relations.{tied}
 use Rattle.ranges.specs.Lists.{anyOf, filter}
-use Rattle.fixes.specs.Fixes.{Fix}
+use Rattle.shown.specs.Fix.{Fix}
 
 -- "message and at least one tag are common"
 unfoldable pub recordsLink : List ℕ → List ℕ → Bool
-recordsLink a b = sameMessage a b && sharesTag a b
+recordsLink a b = tied a b
 
 abbrev pub linked : Fix → Fix → Bool
 linked f g = recordsLink (f .recordBytes) (g .recordBytes)

@@ -25,10 +25,7 @@ fn records_link(a: &[u8], b: &[u8]) -> bool
     requires { ⌜ wellFormed (now b) ≡ true ⌝ }
     ensures { λ r. ⌜ r ≡ recordsLink (now (a .entry)) (now (b .entry)) ⌝ }
 {
-    if !record::relations::same_message(a, b) {
-        return false;
-    }
-    record::relations::shares_tag(a, b)
+    record::relations::tied(a, b)
 }
 
 // Whether fixes i and j link.

@@ -16,7 +16,7 @@ use Rattle.octets.specs.Words.{wordAt}
 use Rattle.models.specs.Summary.{summarySize, summarySpecAt, summaryInputsAt, inputsSize, modelOf, specOf, summaryInputs}
 use Rattle.models.specs.Models.{State, missing, agreed, disputed, summariesFor, claims, stateFrom, stateOf}
 use Rattle.models.specs.Answers.{concurs, firstOf, answer, valueOf}
-use Rattle.models.specs.Refusals.{isMissing}
+use Rattle.models.specs.Missing.{isMissing}
 use Rattle.models.specs.declared.states.ModelState.{ModelState}
 use Rattle.models.specs.declared.states.ModelState.the-variants.{Missing, Agreed, Disputed}
 

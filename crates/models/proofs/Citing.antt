@@ -10,7 +10,7 @@ use lib.Seq.{drop-cons}
 use Rattle.record.specs.Layout as L
 use Rattle.record.specs.Fields.{messageLength, message, tagCount, modelCount, models}
 use Rattle.models.specs.Models.{stateOf, agreedAs, allAgreed}
-use Rattle.models.specs.Refusals.{isMissing, anyMissing}
+use Rattle.models.specs.Missing.{isMissing, anyMissing}
 use Rattle.models.specs.Identity.{agreedInputs, inputsInOrder, tagBytes}
 
 module _ (ms : List ℕ) (ps : List (List ℕ)) (i : ℕ) where

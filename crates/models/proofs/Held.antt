@@ -18,7 +18,7 @@ use Rattle.record.specs.Fields.{models, spec}
 use Rattle.models.specs.Summary.{summarySize, modelAt, summarySpecAt, summaryInputsAt, inputsSize, modelOf, specOf, summaryInputs}
 use Rattle.models.specs.Models.{State, missing, agreed, disputed, summariesFor, claims, stateFrom, stateOf, agreedAs, allAgreed, counts}
 use Rattle.models.specs.Answers.{concurs}
-use Rattle.models.specs.Refusals.{isMissing, anyMissing, citesMissing}
+use Rattle.models.specs.Missing.{isMissing, anyMissing, citesMissing}
 use Rattle.models.specs.Identity.{agreedInputs, inputsInOrder, citedInputs, setHash, identityFrom, identityOf}
 use Rattle.models.proofs.Agreeing.{concur-all}
 

@@ -10,7 +10,8 @@ use lib.Dec.{eqb}
 use Rattle.ranges.proofs.Bools.{by}
 use Rattle.record.specs.Fields.{models, spec}
 use Rattle.models.specs.Models.{State, missing, agreed, disputed, stateOf, agreedAs, allAgreed, counts}
-use Rattle.models.specs.Refusals.{numberOf, isMissing, anyMissing, citesMissing, refusalOf}
+use Rattle.models.specs.Missing.{isMissing, anyMissing, citesMissing}
+use Rattle.models.specs.Refusals.{numberOf, refusalOf}
 
 some-none : {n : ℕ} {A : Type 0} → some n ≡ none → A
 some-none e = absurd (let z : _≡_ {A = ℕ} 0 1 = cc in omega arith)

@@ -1,32 +1,18 @@
 -- No claim rests on these definitions: they say with which number a track refuses a report for a model that its record cites (document 01, 'Answers and
 -- refusals', 'Track report'): "6: a cited model has no summary; 7: a cited model is disputed or of another spec". `models::states` gives the state of a model.
 use Prim.Native.Nat.{ℕ}
-use mathlib.Core.Bool.{Bool, true, false, cond, _||_}
-use mathlib.Core.List.{List, [], _∷_}
+use mathlib.Core.Bool.{cond}
+use mathlib.Core.List.{List}
 use mathlib.Core.Option.{Option, none, some}
 use lib.Dec.{eqb}
-use Rattle.record.specs.Fields.{models}
-use Rattle.models.specs.Models.{State, missing, agreed, disputed, stateOf, counts}
+use Rattle.models.specs.Models.{State, missing, agreed, disputed, counts}
+use Rattle.models.specs.Missing.{citesMissing}
 
 -- the number for a model in this state, cited by a record of spec s, or none
 abbrev pub numberOf : ℕ → State → Option ℕ
 numberOf s missing = some 6
 numberOf s (agreed x h) = cond (eqb x s) none (some 7)
 numberOf s disputed = some 7
-
-abbrev pub isMissing : State → Bool
-isMissing missing = true
-isMissing (agreed x h) = false
-isMissing disputed = false
-
--- some of the models has no summary
-unfoldable pub anyMissing : List ℕ → List (List ℕ) → Bool
-anyMissing [] ps = false
-anyMissing (m ∷ ms) ps = isMissing (stateOf m ps) || anyMissing ms ps
-
--- whether a record cites a model without a summary, which a track looks for in all of them before anything else
-abbrev pub citesMissing : List (List ℕ) → List ℕ → Bool
-citesMissing ps r = anyMissing (models r) ps
 
 -- the number for a record, or none: 6 comes before 7, whichever model is cited first
 abbrev pub refusalOf : List (List ℕ) → List ℕ → Option ℕ

@@ -15,7 +15,7 @@ ghost use Rattle.record.specs.Layout.{maxModels};
 ghost use Rattle.record.specs.Formed.{wellFormed};
 ghost use Rattle.models.specs.Summary.{summarySize, inputsSize};
 ghost use Rattle.models.specs.Models as M;
-ghost use Rattle.models.specs.Refusals.{anyMissing, citesMissing};
+ghost use Rattle.models.specs.Missing.{anyMissing, citesMissing};
 ghost use Rattle.models.specs.Identity.{agreedInputs, inputsInOrder, citedDomain, citedInputs};
 
 // The bytes that model inputs are hashed from: a domain and a zero byte, and the inputs of at most

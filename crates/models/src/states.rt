@@ -7,7 +7,7 @@ ghost use Rattle.places.specs.Places.{places, allPlaces};
 ghost use Rattle.models.specs.Summary.{summarySize, specOf, summaryInputs};
 ghost use Rattle.models.specs.Models.{stateOf};
 ghost use Rattle.models.specs.Answers.{concurs, firstOf, answer, valueOf};
-ghost use Rattle.models.specs.Refusals.{isMissing};
+ghost use Rattle.models.specs.Missing.{isMissing};
 
 // The state of a model.
 pub enum ModelState {

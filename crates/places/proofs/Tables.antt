@@ -180,15 +180,19 @@ place-at w cap ps k h l =
 
 -- ---- bytes that pass the test are a table, and a table passes it
 
-pub table-is : (w cap n k : ℕ) (t : List ℕ) → length t ≡ cap * w → n ≤ cap → isTable k w n t ≡ true → t ≡ tableOf w cap (places w n t)
-table-is w cap n k t e l h =
-    let z = zero-run (drop (n * w) t) (and-right (ascending k (places w n t)) (allZero (drop (n * w) t)) h) in
+-- places with zeros behind them
+pub filled-table : (w cap n : ℕ) (t : List ℕ) → length t ≡ cap * w → n ≤ cap → allZero (drop (n * w) t) ≡ true → t ≡ tableOf w cap (places w n t)
+filled-table w cap n t e l h =
+    let z = zero-run (drop (n * w) t) h in
     let b : n * w ≤ cap * w = mul-le-mul-right w l in
     let f : length (drop (n * w) t) ≡ (cap - n) * w = length-drop (n * w) t ∙ ap (λ (i : ℕ). i - n * w) e ∙ sym (sub-mul cap n w) in
     sym (take-append-drop (n * w) t) ∙ ap₂ (λ (x y : List ℕ). x ++ y) (sym (flat-places w n t (rw e b))) (z ∙ ap (λ (i : ℕ). replicate i 0) (f ∙ ap (λ (i : ℕ). (cap - i) * w) (sym (length-places w n t))))
   where
     sub-mul : (a b c : ℕ) → (a - b) * c ≡ a * c - b * c
     sub-mul a b c = mul-comm (a - b) c ∙ mul-sub c a b ∙ ap₂ (λ (x y : ℕ). x - y) (mul-comm c a) (mul-comm c b)
+
+pub table-is : (w cap n k : ℕ) (t : List ℕ) → length t ≡ cap * w → n ≤ cap → isTable k w n t ≡ true → t ≡ tableOf w cap (places w n t)
+table-is w cap n k t e l h = filled-table w cap n t e l (and-right (ascending k (places w n t)) (allZero (drop (n * w) t)) h)
 
 pub is-table-of : (w cap k : ℕ) (ps : List (List ℕ)) → wide w ps → ascending k ps ≡ true → isTable k w (length ps) (tableOf w cap ps) ≡ true
 is-table-of w cap k ps h a =

@@ -1,5 +1,5 @@
--- How two records relate (document 01, 'Decide' and 'The board'): "Subset" means the same message, all tags contained, and fewer tags; two records link when
--- message and at least one tag are common.
+-- How two records relate (document 01, 'Decide' and 'The board'): "Subset" means the same message, all tags contained, and fewer tags; two records are tied when
+-- message and at least one tag are common (the Rust's `same_transmission`).
 use Prim.Native.Nat.{ℕ}
 use mathlib.Core.Bool.{Bool, true, false, cond, _&&_, _||_}
 use mathlib.Core.List.{List, [], _∷_}
@@ -31,3 +31,7 @@ subset a b = sameMessage a b && (ltb (tagCount a) (tagCount b) && allIn (tags a)
 -- a tag of the one is a tag of the other
 unfoldable pub sharesTag : List ℕ → List ℕ → Bool
 sharesTag a b = anyIn (tags a) (tags b)
+
+-- "message and at least one tag are common"
+unfoldable pub tied : List ℕ → List ℕ → Bool
+tied a b = sameMessage a b && sharesTag a b

@@ -92,3 +92,15 @@ pub fn shares_tag(a: &[u8], b: &[u8]) -> bool
     }
     false
 }
+
+// Whether two records are tied: message and at least one tag are common.
+pub fn tied(a: &[u8], b: &[u8]) -> bool
+    requires { ⌜ wellFormed (now a) ≡ true ⌝ }
+    requires { ⌜ wellFormed (now b) ≡ true ⌝ }
+    ensures { λ r. ⌜ r ≡ R.tied (now (a .entry)) (now (b .entry)) ⌝ }
+{
+    if !same_message(a, b) {
+        return false;
+    }
+    shares_tag(a, b)
+}

@@ -1,18 +1,19 @@
 -- The answers of the operations, one for each way through them, on bytes.
 use Prim.Native.Nat.{ℕ, _≤_, _<_}
-use mathlib.Core.Path.{_≡_, refl, sym, ap, _∙_}
-use mathlib.Core.Bool.{Bool, true, false, cond, not, _&&_, _||_}
+use mathlib.Core.Path.{_≡_, refl}
+use mathlib.Core.Bool.{true, false}
 use mathlib.Core.List.{List}
-use lib.Dec.{ltb, leb, eqb}
+use lib.Dec.{eqb}
 use lib.ListN.{length}
-use borrow.Author.Tests.{lt-ltb, le-ltb, eq-eqb, ne-eqb}
+use borrow.Author.Tests.{lt-ltb, le-ltb, ne-eqb}
 use Rattle.octets.specs.Masks.{bit}
 use Rattle.record.specs.Formed as R
 use Rattle.models.specs.Summary.{summaryOf, inputsSize}
 use Rattle.record.specs.Layout.{maxModel}
-use Rattle.register.specs.Layout.{maxEngine}
-use Rattle.register.specs.Register.{Register, After, after, takeReport, signRecord, takeSummary, holdSummary, takeConviction, strikeEngine}
-use Rattle.register.specs.Memory.{wellFormed, convictedIn, decode, encode, commit, onMemory}
+use Rattle.held.specs.After.{After, after}
+use Rattle.held.specs.Limits.{maxEngine}
+use Rattle.register.specs.Register.{Register, takeReport, signRecord, takeSummary, holdSummary, takeConviction, strikeEngine}
+use Rattle.register.specs.Memory.{wellFormed, convictedIn, decode, commit, onMemory}
 
 module _ (f : Register → After Register) (m : List ℕ) where
   pub no-register : wellFormed m ≡ false → after 1 m ≡ onMemory f m

@@ -1,31 +1,16 @@
 -- A register's bytes as a header and two tables: what a write to each part leaves.
-use Prim.Native.Nat.{ℕ, zero, suc, _+_, _*_, _-_, _^_, _≤_, _<_}
+use Prim.Native.Nat.{ℕ, _+_, _-_, _^_, _<_}
 use mathlib.Core.Path.{_≡_, refl, sym, ap, ap₂, _∙_}
-use mathlib.Core.List.{List, [], _∷_, _++_, append-assoc}
+use mathlib.Core.List.{List, [], _++_, append-assoc}
 use native.Mathlib.Omega.{arith}
 use lib.ListN.{length, take, drop, length-append}
-use lib.Seq.{take-at, drop-at, take-add, drop-drop, take-append-add, drop-append-add}
+use lib.Seq.{take-at, drop-at, take-append-add, drop-append-add}
 use Rattle.octets.specs.Words.{word, wordBytes, wordAt}
 use Rattle.octets.specs.Writes.{putWord}
 use Rattle.octets.proofs.Numbers.{length-word-bytes, word-of-bytes}
-use Rattle.register.specs.Layout.{summaryCountAt, recordCountAt, summariesAt, summariesSize, recordsAt}
-
--- ---- any bytes in three parts
-
-module _ (a b z : List ℕ) (at n : ℕ) (p : length a ≡ at) (q : length b ≡ n) where
-  ab : length (a ++ b) ≡ at + n
-  ab = length-append a b ∙ ap₂ (λ (x y : ℕ). x + y) p q
-
-  pub mid-taken : take n (drop at (a ++ (b ++ z))) ≡ b
-  mid-taken = rw (drop-at a (b ++ z) at p) (take-at b z n q)
-
-  pub mid-after : drop (at + n) (a ++ (b ++ z)) ≡ z
-  mid-after = ap (drop (at + n)) (sym (append-assoc a b z)) ∙ drop-at (a ++ b) z (at + n) ab
-
-  pub mid-put : (x : ℕ) → putWord n at x (a ++ (b ++ z)) ≡ a ++ (wordBytes n x ++ z)
-  mid-put x = rw (take-at a (b ++ z) at p, mid-after) refl
-
--- ---- a register's
+use Rattle.held.specs.Limits.{summariesSize}
+use Rattle.held.proofs.Framing.{mid-taken, mid-put}
+use Rattle.register.specs.Layout.{summaryCountAt, recordCountAt, summariesAt, recordsAt}
 
 abbrev pub frame : ℕ → ℕ → ℕ → List ℕ → List ℕ → List ℕ
 frame c n k s r = wordBytes 4 c ++ (wordBytes 2 n ++ (wordBytes 2 k ++ (s ++ r)))

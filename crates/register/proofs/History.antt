@@ -1,35 +1,36 @@
 -- The register after a history of calls, the latest first: it holds what the history has, but for malformed calls and calls of convicted engines.
-use Prim.Native.Nat.{ℕ, zero, suc, _+_, _^_, _≤_, _<_}
-use mathlib.Core.Path.{_≡_, refl, sym, ap, ap₂, _∙_}
-use mathlib.Core.Bool.{Bool, true, false, cond, not, _&&_, _||_, true≢false, false≢true, and-false, and-true}
+use Prim.Native.Nat.{ℕ, _+_, _≤_}
+use mathlib.Core.Path.{_≡_, refl, sym, ap, _∙_}
+use mathlib.Core.Bool.{Bool, true, false, not, _&&_, _||_, false≢true, and-false, and-true}
 use mathlib.Core.Logic.{_⊎_, inl, inr, ⊎-elim}
 use mathlib.Core.List.{List, [], _∷_, _++_, append-nil}
 use native.Mathlib.Omega.{arith}
 use lib.Dec.{eqb, leb, ltb}
-use lib.ListN.{length, take, drop}
-use lib.Seq.{take-all}
-use borrow.Author.Tests.{eq-eqb, ne-eqb, eqb-true, eqb-false, not-true, lt-leb, le-leb, ltb-true, ltb-false, leb-true, leb-false}
-use Rattle.octets.specs.Masks.{bit, withBit, withoutBit}
+use lib.ListN.{length}
+use borrow.Author.Tests.{eq-eqb, ne-eqb, eqb-true, eqb-false, not-true, lt-leb, le-leb, ltb-true, ltb-false, leb-true}
+use Rattle.octets.specs.Masks.{bit}
 use Rattle.octets.specs.Order.{same}
-use Rattle.octets.specs.Words.{word, wordBytes}
+use Rattle.octets.specs.Words.{word}
 use Rattle.ranges.proofs.Bools.{by, and-left, and-right, and-both}
-use Rattle.octets.proofs.Comparison.{same-eq, same-refl}
+use Rattle.octets.proofs.Comparison.{same-eq}
 use Rattle.octets.proofs.Lookup.{bit-set, bit-clear, bit-zero}
-use Rattle.places.specs.Places.{ascending, allPlaces, holds, lookup, putPlace, keepPlaces}
-use Rattle.places.proofs.Keys.{holds-none, absent}
+use Rattle.places.specs.Places.{ascending, allPlaces, holds, lookup, putPlace}
 use Rattle.places.proofs.Putting.{holds-put}
 use Rattle.places.proofs.Keeping.{holds-kept}
 use Rattle.record.specs.Formed as R
 use Rattle.models.specs.Summary.{engineOf, modelOf, summaryOf, summarySize, inputsSize}
 use Rattle.record.specs.Layout.{recordSize, maxModel}
-use Rattle.register.specs.Layout.{maxEngine, maxSummaries, maxRecords}
-use Rattle.register.specs.Register.{Register, After, after, addSigner, noValue, isOfAnother, strikeEngine}
-use Rattle.register.specs.Memory.{summaryFormed}
+use Rattle.held.specs.After.{After}
+use Rattle.held.specs.Limits.{maxEngine, maxSummaries}
+use Rattle.held.specs.Summaries.{noValue, isOfAnother, summaryFormed}
+use Rattle.held.specs.Signed.{addSigner}
+use Rattle.held.proofs.Summarized.{all-of, none-more, summary-length, summary-longer}
+use Rattle.register.specs.Layout.{maxRecords}
+use Rattle.register.specs.Register.{Register, strikeEngine}
 use Rattle.register.specs.Calls.{Call, report, summary, conviction, act, isSound, convicts, reports, summariesOf, elem}
 use Rattle.register.specs.Claims.{signersOf}
-use Rattle.register.proofs.Striking.{all-of, none-more}
-use Rattle.register.proofs.Valid.{Valid, placeHeld}
-use Rattle.register.proofs.Steps.{with-report, report-signers, report-valid, with-summary, summary-valid, summary-length, summary-longer, nothing-follows, struck-signers, struck-valid}
+use Rattle.register.proofs.Valid.{Valid}
+use Rattle.register.proofs.Steps.{with-report, report-signers, report-valid, with-summary, summary-valid, nothing-follows, struck-signers, struck-valid}
 
 abbrev pub start : Register
 start = record { convicted = 0; summaries = []; records = [] }

@@ -1,65 +1,42 @@
 -- On any bytes that are a register: what they decode to is valid, every call leaves a register, and every refusal leaves the bytes.
-use Prim.Native.Nat.{ℕ, zero, suc, _+_, _*_, _^_, _≤_, _<_}
-use mathlib.Core.Path.{_≡_, refl, sym, ap, subst, _∙_}
-use mathlib.Core.Bool.{Bool, true, false, cond, not, _&&_, true≢false}
-use mathlib.Core.List.{List, [], _∷_}
+use Prim.Native.Nat.{ℕ}
+use mathlib.Core.Path.{_≡_, refl, sym, _∙_}
+use mathlib.Core.Bool.{true, false, _&&_, true≢false}
+use mathlib.Core.List.{List}
 use native.Mathlib.Omega.{arith}
 use lib.Dec.{ltb, leb, eqb}
-use lib.ListN.{length, take, drop, length-take, length-drop}
-use lib.Seq.{length-take-le}
+use lib.ListN.{length}
 use borrow.Author.Tests.{eqb-true, not-true, ltb-false, leb-true}
 use Rattle.octets.specs.Masks.{bit}
-use Rattle.octets.specs.Order.{same}
-use Rattle.octets.specs.Words.{word, wordBytes}
-use Rattle.ranges.proofs.Bools.{by, and-left, and-right, and-both}
-use Rattle.octets.proofs.Comparison.{same-refl}
+use Rattle.ranges.proofs.Bools.{by, and-left, and-right}
 use Rattle.octets.specs.Bytes.{Bytes}
-use Rattle.octets.proofs.Numbers.{bytes-take, bytes-drop, bytes-of-word, word-lt}
-use Rattle.places.specs.Places.{places, allPlaces}
+use Rattle.octets.proofs.Numbers.{bytes-drop}
 use Rattle.record.specs.Formed as R
 use Rattle.models.specs.Summary.{summaryOf, summarySize, inputsSize}
-use Rattle.record.specs.Layout.{recordSize, maxModel}
-use Rattle.register.specs.Layout.{maxEngine, placeSize, recordsAt}
-use Rattle.register.specs.Register.{Register, After, after, signersIn}
-use Rattle.register.specs.Memory.{wellFormed, convictedIn, recordCount, recordTable, placeFormed, summaryFormed, decode, encode, commit, onMemory}
+use Rattle.record.specs.Layout.{maxModel}
+use Rattle.held.specs.After.{After}
+use Rattle.held.specs.Limits.{maxEngine}
+use Rattle.held.specs.Summaries.{summaryFormed}
+use Rattle.held.proofs.Summarized.{summary-length}
+use Rattle.held.proofs.Framing.{word-small}
+use Rattle.held.proofs.Signatures.{all-held}
+use Rattle.register.specs.Layout.{recordsAt}
+use Rattle.register.specs.Register.{Register}
+use Rattle.register.specs.Memory.{wellFormed, convictedIn, recordCount, recordTable, decode, onMemory}
 use Rattle.register.specs.Calls.{Call, report, summary, conviction, act}
 use Rattle.register.proofs.Opened.{Opened, opened, record-bytes-length, summaries-length, records-length, summaries-wide, records-wide, summaries-ascend, records-ascend}
-use Rattle.register.proofs.Valid.{Valid, placeHeld, formed-encode}
-use Rattle.register.proofs.Steps.{report-valid, summary-valid, summary-length, struck-valid}
+use Rattle.register.proofs.Valid.{Valid, formed-encode}
+use Rattle.register.proofs.Steps.{report-valid, summary-valid, struck-valid}
 use Rattle.register.proofs.History as H
 use Rattle.register.proofs.History.{report-way, summary-way}
 
 -- ---- what bytes decode to is valid
 
--- the signers of a place are its 4 last bytes
-signers-bytes : (t : List ℕ) → Bytes t → placeSize ≤ length t → wordBytes 4 (signersIn (take placeSize t)) ≡ drop recordSize (take placeSize t)
-signers-bytes t b l =
-    let d = drop recordSize (take placeSize t) in
-    let n : length d ≡ 4 = simp (length-drop, length-take) (omega arith) in
-    ap (λ (x : ℕ). wordBytes x (word d)) (sym n) ∙ bytes-of-word d (bytes-drop recordSize (take placeSize t) (bytes-take placeSize t b))
-
-all-held : (c n : ℕ) (t : List ℕ) → Bytes t → n * placeSize ≤ length t → allPlaces (placeFormed c) (places placeSize n t) ≡ true → allPlaces (placeHeld c) (places placeSize n t) ≡ true
-unfolding allPlaces places
-all-held c zero t b l a = refl
-all-held c (suc n) t b l a =
-    let p = take placeSize t in
-    let rest = places placeSize n (drop placeSize t) in
-    and-both (placeHeld c p) (allPlaces (placeHeld c) rest)
-    (and-both (placeFormed c p) (same (wordBytes 4 (signersIn p)) (drop recordSize p)) (and-left (placeFormed c p) (allPlaces (placeFormed c) rest) a)
-    (rw (signers-bytes t b (omega arith)) (same-refl (drop recordSize p))))
-    (all-held c n (drop placeSize t) (bytes-drop placeSize t b) (rw length-drop (omega arith)) (and-right (placeFormed c p) (allPlaces (placeFormed c) rest) a))
-
 module _ (m : List ℕ) (o : Opened m) (b : Bytes m) where
-  convicted-small : convictedIn m < 256 ^ 4
-  convicted-small =
-      let s = o .size in
-      let l : length (take 4 (drop 0 m)) ≡ 4 = length-take-le 4 (drop 0 m) (rw length-drop (omega arith)) in
-      subst (λ (n : ℕ). convictedIn m < 256 ^ n) l (word-lt (take 4 (drop 0 m)) (bytes-take 4 (drop 0 m) (bytes-drop 0 m b)))
-
   pub decode-valid : Valid (decode m)
   unfolding decode
   decode-valid = record {
-    small = convicted-small;
+    small = let s = o .size in word-small m b 0 4 (omega arith);
     few-summaries = rw (summaries-length m o) (o .few-summaries);
     few-records = rw (records-length m o) (o .few-records);
     summaries-wide = summaries-wide m o;

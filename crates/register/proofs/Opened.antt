@@ -1,25 +1,27 @@
 -- What bytes that are a register show: its parts, and that they are the bytes of what they hold.
-use Prim.Native.Nat.{ℕ, _+_, _*_, _-_, _^_, _≤_, _<_}
+use Prim.Native.Nat.{ℕ, _+_, _*_, _-_, _≤_}
 use mathlib.Core.Path.{_≡_, refl, sym, ap, ap₂, _∙_}
-use mathlib.Core.Bool.{Bool, true, false, _&&_}
-use mathlib.Core.List.{List, [], _∷_, _++_}
+use mathlib.Core.Bool.{true, _&&_}
+use mathlib.Core.List.{List, _++_}
 use native.Mathlib.Omega.{arith}
 use lib.Dec.{leb, eqb}
-use lib.ListN.{length, take, drop, take-append-drop, length-take, length-drop}
-use lib.Seq.{drop-drop, length-take-le, take-all}
+use lib.ListN.{length, drop, length-take, length-drop}
 use borrow.Author.Tests.{eqb-true, leb-true}
-use Rattle.octets.specs.Words.{word, wordBytes, wordAt}
+use Rattle.octets.specs.Words.{wordBytes, wordAt}
 use Rattle.octets.specs.Runs.{allZero}
 use Rattle.ranges.proofs.Bools.{and-left, and-right}
 use Rattle.octets.specs.Bytes.{Bytes}
-use Rattle.octets.proofs.Numbers.{bytes-take, bytes-drop, bytes-of-word}
-use Rattle.places.specs.Places.{places, tableOf, isTable, ascending, allPlaces}
+use Rattle.places.specs.Places.{tableOf, isTable, ascending, allPlaces}
 use Rattle.places.proofs.Tables.{wide, places-wide, length-places, table-is}
 use Rattle.models.specs.Summary.{summarySize}
 use Rattle.record.specs.Layout.{recordSize}
-use Rattle.register.specs.Layout.{maxSummaries, maxRecords, placeSize, summariesAt, summariesSize, recordsSize, registerSize, summaryCountAt, recordCountAt}
+use Rattle.held.specs.Limits.{maxSummaries, placeSize, summariesSize}
+use Rattle.held.specs.Summaries.{summaryFormed}
+use Rattle.held.specs.Signed.{placeFormed}
+use Rattle.register.specs.Layout.{maxRecords, summariesAt, recordsSize, registerSize, summaryCountAt, recordCountAt}
 use Rattle.register.specs.Memory as M
-use Rattle.register.specs.Memory.{wellFormed, convictedIn, summaryCount, recordCount, summaryTable, recordTable, summariesIn, recordsIn, summaryFormed, placeFormed, decode, encode}
+use Rattle.register.specs.Memory.{wellFormed, convictedIn, summaryCount, recordCount, summaryTable, recordTable, summariesIn, recordsIn, decode, encode}
+use Rattle.held.proofs.Framing.{cut, cut-word}
 use Rattle.register.proofs.Frames.{frame}
 
 pub record Opened (m : List ℕ) : Type 0 where
@@ -87,24 +89,17 @@ module _ (m : List ℕ) (o : Opened m) where
   records-are = table-is placeSize maxRecords (recordCount m) recordSize (recordTable m) record-bytes-length (o .few-records) (o .record-table)
 
   module _ (b : Bytes m) where
-    word-part : (at n : ℕ) → at + n ≤ registerSize → take n (drop at m) ≡ wordBytes n (wordAt n at m)
-    word-part at n h =
-        let s = o .size in
-        let l : length (take n (drop at m)) ≡ n = length-take-le n (drop at m) (rw length-drop (omega arith)) in
-        sym (ap (λ (x : ℕ). wordBytes x (wordAt n at m)) (sym l) ∙ bytes-of-word (take n (drop at m)) (bytes-take n (drop at m) (bytes-drop at m b)))
-
-    cut : (at n : ℕ) → drop at m ≡ take n (drop at m) ++ drop (at + n) m
-    cut at n = sym (take-append-drop n (drop at m)) ∙ ap (λ (t : List ℕ). take n (drop at m) ++ t) (drop-drop n at m)
+    -- a number of the header, and what follows it
+    number : (at n x : ℕ) → at + n ≤ registerSize → wordAt n at m ≡ x → drop at m ≡ wordBytes n x ++ drop (at + n) m
+    number at n x h e = let s = o .size in cut-word m b at n (omega arith) ∙ ap (λ (y : ℕ). wordBytes n y ++ drop (at + n) m) e
 
     -- the bytes are those of what they hold
     pub framed : m ≡ frame (convictedIn m) (length (summariesIn m)) (length (recordsIn m)) (tableOf summarySize maxSummaries (summariesIn m)) (tableOf placeSize maxRecords (recordsIn m))
     framed =
-        let p₀ : drop 0 m ≡ wordBytes 4 (convictedIn m) ++ drop summaryCountAt m = cut 0 4 ∙ ap (λ (t : List ℕ). t ++ drop summaryCountAt m) (word-part 0 4 (omega arith)) in
-        let p₁ : drop summaryCountAt m ≡ wordBytes 2 (length (summariesIn m)) ++ drop recordCountAt m =
-        cut summaryCountAt 2 ∙ ap (λ (t : List ℕ). t ++ drop recordCountAt m) (word-part summaryCountAt 2 (omega arith) ∙ ap (wordBytes 2) (sym summaries-length)) in
-        let p₂ : drop recordCountAt m ≡ wordBytes 2 (length (recordsIn m)) ++ drop summariesAt m =
-        cut recordCountAt 2 ∙ ap (λ (t : List ℕ). t ++ drop summariesAt m) (word-part recordCountAt 2 (omega arith) ∙ ap (wordBytes 2) (sym records-length)) in
-        let p₃ : drop summariesAt m ≡ tableOf summarySize maxSummaries (summariesIn m) ++ tableOf placeSize maxRecords (recordsIn m) = cut summariesAt summariesSize ∙ ap₂ (λ (x y : List ℕ). x ++ y) summaries-are records-are in
+        let p₀ = number 0 4 (convictedIn m) (omega arith) refl in
+        let p₁ = number summaryCountAt 2 (length (summariesIn m)) (omega arith) (sym summaries-length) in
+        let p₂ = number recordCountAt 2 (length (recordsIn m)) (omega arith) (sym records-length) in
+        let p₃ : drop summariesAt m ≡ tableOf summarySize maxSummaries (summariesIn m) ++ tableOf placeSize maxRecords (recordsIn m) = cut m summariesAt summariesSize ∙ ap₂ (λ (x y : List ℕ). x ++ y) summaries-are records-are in
         p₀ ∙ ap (λ (t : List ℕ). wordBytes 4 (convictedIn m) ++ t) (p₁ ∙ ap (λ (t : List ℕ). wordBytes 2 (length (summariesIn m)) ++ t) (p₂ ∙ ap (λ (t : List ℕ). wordBytes 2 (length (recordsIn m)) ++ t) p₃))
 
     -- a well-formed memory is the encoding of what it decodes to

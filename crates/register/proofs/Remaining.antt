@@ -1,6 +1,6 @@
 -- What a register holds is what remains of the list, in order: the same tables come of putting in each remaining call.
 use Prim.Native.Nat.{ℕ, _^_, _≤_, _<_}
-use mathlib.Core.Path.{_≡_, refl, sym, ap, ap₂, _∙_}
+use mathlib.Core.Path.{_≡_, refl, sym, ap, _∙_}
 use mathlib.Core.Bool.{Bool, true, false, cond, not, _&&_, _||_}
 use mathlib.Core.List.{List, [], _∷_}
 use native.Mathlib.Omega.{arith}
@@ -20,14 +20,16 @@ use Rattle.places.proofs.Putting.{holds-put, lookup-put, lookup-put-other, put-
 use Rattle.record.specs.Layout.{recordSize, maxModel}
 use Rattle.record.specs.Formed as R
 use Rattle.models.specs.Summary.{summarySize, inputsSize, summaryOf}
-use Rattle.register.specs.Layout.{maxEngine}
-use Rattle.register.specs.Register.{Register, addSigner, noValue}
+use Rattle.held.specs.Limits.{maxEngine}
+use Rattle.held.specs.Summaries.{noValue}
+use Rattle.held.specs.Signed.{addSigner}
+use Rattle.held.proofs.Summarized.{summary-length}
+use Rattle.held.proofs.Signatures.{record-length, with-small, with-some, no-word}
 use Rattle.register.specs.Memory.{decode, fresh}
 use Rattle.register.specs.Calls.{Call, report, summary, conviction, isSound, runs, noneFull, convicts, keep, remaining, reports, summariesOf, elem}
 use Rattle.register.specs.Claims.{signersOf, HoldsInOrder}
 use Rattle.register.specs.Remains.{summariesHeld, recordsHeld}
-use Rattle.register.proofs.Valid.{Valid}
-use Rattle.register.proofs.Steps.{record-length, summary-length, nothing-follows, held-signed, lookup-signed, with-some, with-small, no-word}
+use Rattle.register.proofs.Steps.{nothing-follows, held-signed, lookup-signed}
 use Rattle.register.proofs.Whole.{either, last, sum, signs, summarized, decoded}
 
 -- the signers of a record among the reports of a list

@@ -1,12 +1,12 @@
 -- No call is refused as full exactly when each beginning of the list leaves at most 96 different records and 256 different summaries.
-use Prim.Native.Nat.{ℕ, zero, suc, _+_, _≤_, _<_}
-use mathlib.Core.Path.{_≡_, refl, sym, ap, ap₂, _∙_}
+use Prim.Native.Nat.{ℕ, suc}
+use mathlib.Core.Path.{_≡_, refl, sym, ap, _∙_}
 use mathlib.Core.Bool.{Bool, true, false, cond, not, _&&_, _||_, true≢false, false≢true, and-false}
 use mathlib.Core.List.{List, [], _∷_, reverse, reverseAux}
 use native.Mathlib.Omega.{arith}
 use lib.Dec.{eqb, leb, ltb}
 use lib.ListN.{length, take}
-use borrow.Author.Tests.{eq-eqb, eqb-true, le-leb, lt-leb, leb-true, not-true}
+use borrow.Author.Tests.{le-leb, lt-leb, leb-true, not-true}
 use Rattle.octets.specs.Masks.{bit}
 use Rattle.octets.specs.Order.{same}
 use Rattle.ranges.proofs.Bools.{by, and-left, and-right, and-both}
@@ -15,12 +15,13 @@ use Rattle.places.specs.Places.{ascendingFrom, ascending, holds}
 use Rattle.places.proofs.Keys.{holds-none, holds-here, holds-later, none-below, ascending-from, from-ascending}
 use Rattle.models.specs.Summary.{summaryOf, summarySize}
 use Rattle.record.specs.Layout.{recordSize}
-use Rattle.register.specs.Layout.{maxEngine, maxSummaries, maxRecords}
-use Rattle.register.specs.Register.{Register, After}
-use Rattle.register.specs.Memory.{encode, fresh, onMemory}
+use Rattle.held.specs.Limits.{maxEngine, maxSummaries}
+use Rattle.register.specs.Layout.{maxRecords}
+use Rattle.register.specs.Register.{Register}
+use Rattle.register.specs.Memory.{encode}
 use Rattle.register.specs.Calls.{Call, report, summary, conviction, act, isSound, convicts, keep, remaining, reports, recordsOf, summariesOf, elem, nub, fits, alwaysFits, noneFull}
 use Rattle.register.specs.Claims.{signersOf, FullExactlyWhen}
-use Rattle.register.proofs.History.{run, roomy, start, Sum, history, Way, refused, filled, settled, report-way, summary-way}
+use Rattle.register.proofs.History.{run, roomy, start, Sum, history, refused, filled, settled, report-way, summary-way}
 use Rattle.register.proofs.Whole.{kept-reports, kept-summaries, record-held, one-left, one-answer, fresh-is}
 
 same-sym : (a b : List ℕ) → same a b ≡ same b a

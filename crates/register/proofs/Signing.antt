@@ -1,36 +1,35 @@
 -- What putting a record or a summary into a register's bytes leaves: the bytes of the register with it.
 use Prim.Native.Nat.{ℕ, _+_, _*_, _-_, _≤_, _<_}
 use mathlib.Core.Path.{_≡_, refl, sym, ap, ap₂, _∙_}
-use mathlib.Core.Bool.{Bool, true, false, cond}
+use mathlib.Core.Bool.{true}
 use mathlib.Core.List.{List, [], _++_, append-assoc, append-nil}
 use native.Mathlib.Omega.{arith}
-use lib.Dec.{ltb, leb}
-use lib.ListN.{length, getD, take, drop, set, length-append, length-take, length-drop}
+use lib.Dec.{leb}
+use lib.ListN.{length, getD, take, drop, set, length-append, length-take}
 use lib.Seq.{set-getD, drop-at, take-add, take-take, drop-drop, take-all, length-take-le}
-use borrow.Author.Tests.{ltb-true}
 use Rattle.octets.specs.Masks.{withBit}
-use Rattle.octets.specs.Order.{same}
 use Rattle.octets.specs.Words.{word, wordBytes, wordAt}
 use Rattle.octets.specs.Writes.{putWord}
-use Rattle.ranges.proofs.Bools.{and-left, and-right}
-use Rattle.octets.proofs.Comparison.{same-eq}
 use Rattle.octets.proofs.Moves.{tail-back, tail-lent}
 use Rattle.octets.specs.Bytes.{Bytes}
 use Rattle.octets.proofs.Numbers.{length-word-bytes}
-use Rattle.places.specs.Places.{tableOf, ascending, holds, putPlace}
+use Rattle.places.specs.Places.{tableOf, holds, putPlace}
 use Rattle.places.specs.Positions.{rank}
-use Rattle.places.specs.Put.{PutResult, putResult, tryPut}
+use Rattle.places.specs.Put.{putResult, tryPut}
 use Rattle.places.specs.declared.Put.{Put}
 use Rattle.places.specs.declared.Put.the-variants.{Held, Full, New}
 use Rattle.places.proofs.Tables.{wide, wide-at, table-length, place-at, replace-table}
-use Rattle.places.proofs.Keys.{hasKey, rank-le, holds-at-rank}
-use Rattle.places.proofs.Putting.{put-new, put-held, put-length-held}
+use Rattle.places.proofs.Putting.{put-held, put-length-held}
 use Rattle.places.proofs.Ways.{Way, way, held-told, full-told, new-told, held-at, new-length}
 use Rattle.places.proofs.Trying.{tried-table}
 use Rattle.models.specs.Summary.{summarySize}
 use Rattle.record.specs.Layout.{recordSize}
-use Rattle.register.specs.Layout.{maxSummaries, maxRecords, placeSize, summaryCountAt, recordCountAt, summariesAt, summariesSize, recordsAt}
-use Rattle.register.specs.Register.{Register, after, addSigner, signRecord, holdSummary, noValue}
+use Rattle.held.specs.After.{after}
+use Rattle.held.specs.Limits.{maxSummaries, placeSize, summariesSize}
+use Rattle.held.specs.Summaries.{noValue}
+use Rattle.held.specs.Signed.{addSigner}
+use Rattle.register.specs.Layout.{maxRecords, summaryCountAt, recordCountAt, summariesAt, recordsAt}
+use Rattle.register.specs.Register.{Register, signRecord, holdSummary}
 use Rattle.register.specs.Memory.{convictedIn, summaryCount, recordCount, summariesIn, recordsIn, decode, encode, commit}
 use Rattle.register.proofs.Frames.{frame, put-summary-count, put-record-count, frame-records-back, frame-summaries-back, put-in-records}
 use Rattle.register.proofs.Opened.{Opened, summaries-length, records-length, summaries-wide, records-wide, summaries-ascend, records-ascend, summaries-are, records-are, framed}

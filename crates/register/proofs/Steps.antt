@@ -1,112 +1,38 @@
 -- What each operation does to a valid register: it stays valid, and which engines sign a record afterwards.
-use Prim.Native.Nat.{ℕ, suc, _+_, _*_, _^_, _≤_, _<_}
+use Prim.Native.Nat.{ℕ, _+_, _^_, _≤_, _<_}
 use mathlib.Core.Path.{_≡_, refl, sym, ap, ap₂, subst, _∙_}
-use mathlib.Core.Bool.{Bool, true, false, cond, not, _&&_, _||_, true≢false, false≢true, and-false}
+use mathlib.Core.Bool.{Bool, true, false, cond, not, _&&_, false≢true}
 use mathlib.Core.List.{List, [], _∷_, _++_, append-nil}
 use native.Mathlib.Omega.{arith}
-use native.Mathlib.Nat.{le-trans, lt-of-le-of-lt}
-use lib.Bits.{bitAnd}
-use lib.Dec.{ltb, leb, eqb}
-use lib.ListN.{length, getD, take, drop, length-append, take-append-drop, drop-of-length-le}
-use lib.Seq.{take-at, drop-at, length-take-le}
-use borrow.Author.Tests.{eq-eqb, ne-eqb, eqb-true, eqb-false, not-true, le-leb, leb-false}
+use native.Mathlib.Nat.{le-trans}
+use lib.Dec.{leb, eqb}
+use lib.ListN.{length, take, drop, take-append-drop, drop-of-length-le}
+use lib.Seq.{drop-at, length-take-le}
+use borrow.Author.Tests.{eqb-true, leb-false}
 use Rattle.octets.specs.Masks.{bit, withBit, withoutBit}
 use Rattle.octets.specs.Order.{same}
 use Rattle.octets.specs.Words.{word, wordBytes}
-use Rattle.ranges.proofs.Bools.{by, and-left, and-right, and-both}
-use Rattle.octets.proofs.Comparison.{same-refl, same-eq}
-use Rattle.octets.proofs.Lookup.{bit-set, bit-clear, bit-zero, bit-and, bit-ext, with-lt, without-le}
-use Rattle.octets.proofs.Numbers.{length-word-bytes, word-of-bytes, bytes-word-bytes, word-lt}
-use Rattle.places.specs.Places.{ascending, allPlaces, holds, lookup, putPlace, keepPlaces}
+use Rattle.ranges.proofs.Bools.{by, and-left, and-right}
+use Rattle.octets.proofs.Comparison.{same-eq}
+use Rattle.octets.proofs.Lookup.{without-le}
+use Rattle.octets.proofs.Numbers.{word-of-bytes}
+use Rattle.places.specs.Places.{allPlaces, holds, lookup, putPlace, keepPlaces}
 use Rattle.places.proofs.Tables.{wide}
-use Rattle.places.proofs.Keys.{holds-none, holds-here, holds-later, lookup-here, lookup-later, absent}
+use Rattle.places.proofs.Keys.{holds-none, holds-later, lookup-here, lookup-later, absent}
 use Rattle.places.proofs.Putting.{lookup-put, lookup-put-other, put-ascending, put-length, put-length-held, put-wide, put-all}
-use Rattle.places.proofs.Keeping.{changed, kept-length, kept-wide, kept-ascending, kept-all, lookup-kept}
+use Rattle.places.proofs.Keeping.{kept-length, kept-wide, kept-ascending, kept-all, lookup-kept}
 use Rattle.record.specs.Formed as R
-use Rattle.models.specs.Summary.{engineOf, modelOf, summaryOf, summarySize, inputsSize}
+use Rattle.models.specs.Summary.{summarySize}
 use Rattle.record.specs.Layout.{recordSize}
-use Rattle.register.specs.Layout.{maxEngine, maxSummaries, maxRecords, placeSize}
-use Rattle.register.specs.Register.{Register, signersIn, addSigner, dropSigner, noValue, isOfAnother, hasAnotherSigner, strikeEngine}
-use Rattle.register.specs.Memory.{summaryFormed, placeFormed}
+use Rattle.held.specs.Limits.{maxEngine, maxSummaries, placeSize}
+use Rattle.held.specs.Summaries.{noValue, isOfAnother, summaryFormed}
+use Rattle.held.specs.Signed.{addSigner, dropSigner, hasAnotherSigner}
+use Rattle.held.proofs.Summarized.{all-of, none-more, kept-summary}
+use Rattle.held.proofs.Signatures.{with-small, without-small, no-word, record-length, key-of, added-wide, signers-wide, placeHeld, Place, place, place-small, signed-first, signed-again, kept-record}
+use Rattle.register.specs.Layout.{maxRecords}
+use Rattle.register.specs.Register.{Register, strikeEngine}
 use Rattle.register.specs.Claims.{signersOf}
-use Rattle.register.proofs.Striking.{all-of, none-more, key-of, signers-wide}
-use Rattle.register.proofs.Valid.{Valid, placeHeld, all-weaken}
-
--- ---- masks without a common bit
-
-apart : (m c k : ℕ) → eqb (bitAnd m c) 0 ≡ true → (bit m k && bit c k) ≡ false
-apart m c k h = sym (bit-and m c k) ∙ ap (λ (n : ℕ). bit n k) (eqb-true (bitAnd m c) 0 h) ∙ bit-zero k
-
-disjoint : (m c : ℕ) → ((k : ℕ) → (bit m k && bit c k) ≡ false) → eqb (bitAnd m c) 0 ≡ true
-disjoint m c h = eq-eqb (bitAnd m c) 0 (bit-ext (bitAnd m c) 0 (λ k. bit-and m c k ∙ h k ∙ sym (bit-zero k)))
-
-nothing-apart : (c : ℕ) → eqb (bitAnd 0 c) 0 ≡ true
-nothing-apart c = disjoint 0 c (λ k. rw (bit-zero k) refl)
-
-with-apart : (m c e : ℕ) → eqb (bitAnd m c) 0 ≡ true → bit c e ≡ false → eqb (bitAnd (withBit m e) c) 0 ≡ true
-with-apart m c e h z =
-    disjoint (withBit m e) c (λ k. rw (bit-set m e k) (one (eqb e k) (bit m k) (bit c k) (apart m c k h) (λ q. ap (bit c) (sym (eqb-true e k q)) ∙ z)))
-  where
-    one : (q a b : Bool) → (a && b) ≡ false → (q ≡ true → b ≡ false) → ((q || a) && b) ≡ false
-    one true a b h f = f refl
-    one false a b h f = h
-
-without-apart : (m c e : ℕ) → eqb (bitAnd m c) 0 ≡ true → eqb (bitAnd (withoutBit m e) (withBit c e)) 0 ≡ true
-without-apart m c e h =
-    disjoint (withoutBit m e) (withBit c e) (λ k. rw (bit-clear m e k, bit-set c e k) (one (eqb e k) (bit m k) (bit c k) (apart m c k h)))
-  where
-    one : (q a b : Bool) → (a && b) ≡ false → ((not q && a) && (q || b)) ≡ false
-    one true a b h = refl
-    one false a b h = h
-
-pub with-some : (m e : ℕ) → eqb (withBit m e) 0 ≡ false
-with-some m e =
-    ne-eqb (withBit m e) 0 (λ z. true≢false (sym (bit-set m e e ∙ rw (eq-eqb e e refl) refl) ∙ ap (λ (n : ℕ). bit n e) z ∙ bit-zero e))
-
--- ---- a record's place
-
-pub no-word : word [] ≡ 0
-unfolding word
-no-word = refl
-
-module _ (r : List ℕ) (l : length r ≡ recordSize) (x : ℕ) (b : x < 256 ^ 4) where
-  signers-of : signersIn (r ++ wordBytes 4 x) ≡ x
-  signers-of = ap word (drop-at r (wordBytes 4 x) recordSize l) ∙ word-of-bytes 4 x b
-
-  -- a record with signers that are some, none of them convicted
-  held-place : (c : ℕ) → R.wellFormed r ≡ true → eqb x 0 ≡ false → eqb (bitAnd x c) 0 ≡ true → placeHeld c (r ++ wordBytes 4 x) ≡ true
-  held-place c w n a = rw (signers-of, take-at r (wordBytes 4 x) recordSize l, drop-at r (wordBytes 4 x) recordSize l, w, n, a) (same-refl (wordBytes 4 x))
-
-pub record-length : (r : List ℕ) → R.wellFormed r ≡ true → length r ≡ recordSize
-unfolding R.wellFormed
-record-length r h = eqb-true (length r) recordSize (and-left (eqb (length r) recordSize) _ h)
-
-pub record Place (c : ℕ) (p : List ℕ) : Type 0 where
-  pub formed : R.wellFormed (take recordSize p) ≡ true
-  pub some : eqb (signersIn p) 0 ≡ false
-  pub free : eqb (bitAnd (signersIn p) c) 0 ≡ true
-  pub bytes : drop recordSize p ≡ wordBytes 4 (signersIn p)
-
-pub place : (c : ℕ) (p : List ℕ) → placeHeld c p ≡ true → Place c p
-place c p h =
-    let a = R.wellFormed (take recordSize p) in
-    let b = not (eqb (signersIn p) 0) in
-    let d = eqb (bitAnd (signersIn p) c) 0 in
-    let q = same (wordBytes 4 (signersIn p)) (drop recordSize p) in
-    let f : (a && (b && d)) ≡ true = and-left (a && (b && d)) q h in
-    record {
-      formed = and-left a (b && d) f;
-      some = not-true (eqb (signersIn p) 0) (and-left b d (and-right a (b && d) f));
-      free = and-right b d (and-right a (b && d) f);
-      bytes = sym (same-eq (wordBytes 4 (signersIn p)) (drop recordSize p) (and-right (a && (b && d)) q h));
-    }
-
-place-small : (c : ℕ) (p : List ℕ) → Place c p → signersIn p < 256 ^ 4
-place-small c p h =
-    let b = word-lt (wordBytes 4 (signersIn p)) (bytes-word-bytes 4 (signersIn p)) in
-    let l = length-word-bytes 4 (signersIn p) in
-    let w : signersIn p ≡ word (wordBytes 4 (signersIn p)) = ap word (h .bytes) in
-    subst (λ (n : ℕ). n < 256 ^ 4) (sym w) (subst (λ (n : ℕ). word (wordBytes 4 (signersIn p)) < 256 ^ n) l b)
+use Rattle.register.proofs.Valid.{Valid}
 
 -- ---- what is looked up
 
@@ -177,13 +103,6 @@ module _ (s : Register) (v : Valid s) (r : List ℕ) where
 
 -- ---- a report
 
--- signers with one more
-pub with-small : (x e : ℕ) → e ≤ maxEngine → x < 256 ^ 4 → withBit x e < 256 ^ 4
-with-small x e h b = with-lt 32 x e (omega arith) b
-
-without-small : (x e : ℕ) → x < 256 ^ 4 → withoutBit x e < 256 ^ 4
-without-small x e b = lt-of-le-of-lt (without-le x e) b
-
 module _ (s : Register) (v : Valid s) (e : ℕ) (q : List ℕ) (a : e ≤ maxEngine) (w : R.wellFormed q ≡ true) where
   abbrev pub reported-records : List (List ℕ)
   reported-records = putPlace recordSize (addSigner e) q (s .records)
@@ -200,33 +119,19 @@ module _ (s : Register) (v : Valid s) (e : ℕ) (q : List ℕ) (a : e ≤ maxEng
       ∙ ap (λ (x : List ℕ). withBit (signersOf x s) e) (same-eq q r h) ∙ sym (ap (λ (b : Bool). cond b (withBit (signersOf r s) e) (signersOf r s)) h))
       (λ h. ap word (lookup-put-other recordSize (addSigner e) q (record-length q w) r (s .records) h) ∙ sym (ap (λ (b : Bool). cond b (withBit (signersOf r s) e) (signersOf r s)) h))
 
-  new-held : bit (s .convicted) e ≡ false → placeHeld (s .convicted) (q ++ addSigner e []) ≡ true
-  new-held z =
-      held-place q (record-length q w) (withBit (word []) e) (with-small (word []) e a (rw no-word (omega arith))) (s .convicted) w (with-some (word []) e)
-      (with-apart (word []) (s .convicted) e (rw no-word (nothing-apart (s .convicted))) z)
-
-  again-held : bit (s .convicted) e ≡ false → (p : List ℕ) → take recordSize p ≡ q → placeHeld (s .convicted) p ≡ true → placeHeld (s .convicted) (take recordSize p ++ addSigner e (drop recordSize p)) ≡ true
-  again-held z p k h =
-      let o = place (s .convicted) p h in
-      rw k (held-place q (record-length q w) (withBit (signersIn p) e) (with-small (signersIn p) e a (place-small (s .convicted) p o)) (s .convicted) w (with-some (signersIn p) e)
-      (with-apart (signersIn p) (s .convicted) e (o .free) z))
-
   pub report-valid : bit (s .convicted) e ≡ false → (not (holds recordSize q (s .records)) && leb maxRecords (length (s .records))) ≡ false → Valid with-report
   report-valid z f = record {
     small = v .small;
     few-summaries = v .few-summaries;
     few-records = few;
     summaries-wide = v .summaries-wide;
-    records-wide = put-wide recordSize (addSigner e) q (record-length q w) placeSize (λ x l. wide-signed x) (λ x l. wide-signed x) (s .records) key-of (v .records-wide);
+    records-wide = put-wide recordSize (addSigner e) q (record-length q w) placeSize (λ x l. added-wide e x) (λ x l. added-wide e x) (s .records) key-of (v .records-wide);
     summaries-ascend = v .summaries-ascend;
     records-ascend = put-ascending recordSize (addSigner e) q (record-length q w) (s .records) (v .records-ascend);
     summaries-formed = v .summaries-formed;
-    records-held = put-all recordSize (addSigner e) q (placeHeld (s .convicted)) (s .records) (new-held z) (again-held z) (v .records-held);
+    records-held = put-all recordSize (addSigner e) q (placeHeld (s .convicted)) (s .records) (signed-first (s .convicted) e q a w z) (signed-again (s .convicted) e q a w z) (v .records-held);
   }
     where
-      wide-signed : (x : List ℕ) → recordSize + length (addSigner e x) ≡ placeSize
-      wide-signed x = ap (λ (n : ℕ). recordSize + n) (length-word-bytes 4 (withBit (word x) e))
-
       few : length reported-records ≤ maxRecords
       few =
           by (holds recordSize q (s .records))
@@ -234,12 +139,6 @@ module _ (s : Register) (v : Valid s) (e : ℕ) (q : List ℕ) (a : e ≤ maxEng
           (λ h. let n = leb-false maxRecords (length (s .records)) (sym (rw h refl) ∙ f) in let m = put-length recordSize (addSigner e) q (record-length q w) (s .records) in omega arith)
 
 -- ---- a summary
-
-pub summary-length : (e model spec : ℕ) (inputs : List ℕ) → length inputs ≡ inputsSize → length (summaryOf e model spec inputs) ≡ summarySize
-summary-length e model spec inputs h = rw (length-append, length-word-bytes 2 spec, h) refl
-
-pub summary-longer : (e model spec : ℕ) (inputs : List ℕ) → length (summaryOf e model spec inputs) ≡ 4 + length inputs
-summary-longer e model spec inputs = rw (length-append, length-word-bytes 2 spec) (omega arith)
 
 -- nothing follows a summary
 pub nothing-follows : (p : List ℕ) (ps : List (List ℕ)) → wide summarySize ps → lookup summarySize p ps ≡ []
@@ -277,15 +176,6 @@ module _ (s : Register) (v : Valid s) (p : List ℕ) (l : length p ≡ summarySi
 
 -- ---- a conviction
 
-engine-kept : (p : List ℕ) → engineOf (take summarySize p ++ []) ≡ engineOf p
-engine-kept [] = refl
-engine-kept (x ∷ p) = refl
-
-model-kept : (p : List ℕ) → modelOf (take summarySize p ++ []) ≡ modelOf p
-model-kept [] = refl
-model-kept (x ∷ []) = refl
-model-kept (x ∷ (y ∷ p)) = refl
-
 module _ (s : Register) (v : Valid s) (e : ℕ) (a : e ≤ maxEngine) where
   abbrev struck-records : List (List ℕ)
   struck-records = keepPlaces recordSize (hasAnotherSigner e) (dropSigner e) (s .records)
@@ -302,18 +192,6 @@ module _ (s : Register) (v : Valid s) (e : ℕ) (a : e ≤ maxEngine) where
       clear-zero : (e : ℕ) → withoutBit 0 e ≡ 0
       clear-zero e = let h = without-le 0 e in omega arith
 
-  kept-summary : (p : List ℕ) → summaryFormed (s .convicted) p ≡ true → isOfAnother e p ≡ true → summaryFormed (withBit (s .convicted) e) (changed summarySize (isOfAnother e) noValue p) ≡ true
-  kept-summary p h o =
-      let x = engineOf p in
-      let n : eqb e x ≡ false = ne-eqb e x (λ z. eqb-false x e (not-true (eqb x e) o) (sym z)) in
-      rw (engine-kept p, model-kept p, bit-set (s .convicted) e x, n) h
-
-  kept-record : (p : List ℕ) → placeHeld (s .convicted) p ≡ true → hasAnotherSigner e p ≡ true → placeHeld (withBit (s .convicted) e) (changed recordSize (hasAnotherSigner e) (dropSigner e) p) ≡ true
-  kept-record p h o =
-      let u = place (s .convicted) p h in
-      held-place (take recordSize p) (record-length (take recordSize p) (u .formed)) (withoutBit (signersIn p) e) (without-small (signersIn p) e (place-small (s .convicted) p u))
-      (withBit (s .convicted) e) (u .formed) (not-true (eqb (withoutBit (signersIn p) e) 0) o) (without-apart (signersIn p) (s .convicted) e (u .free))
-
   pub struck-valid : Valid (strikeEngine e s)
   struck-valid = record {
     small = with-small (s .convicted) e a (v .small);
@@ -323,6 +201,6 @@ module _ (s : Register) (v : Valid s) (e : ℕ) (a : e ≤ maxEngine) where
     records-wide = kept-wide recordSize (hasAnotherSigner e) (dropSigner e) placeSize key-of (signers-wide e) (s .records) (v .records-wide);
     summaries-ascend = kept-ascending summarySize (isOfAnother e) noValue summarySize all-of none-more (s .summaries) (v .summaries-wide) (v .summaries-ascend);
     records-ascend = kept-ascending recordSize (hasAnotherSigner e) (dropSigner e) placeSize key-of (signers-wide e) (s .records) (v .records-wide) (v .records-ascend);
-    summaries-formed = kept-all summarySize (isOfAnother e) noValue (summaryFormed (s .convicted)) (summaryFormed (withBit (s .convicted) e)) kept-summary (s .summaries) (v .summaries-formed);
-    records-held = kept-all recordSize (hasAnotherSigner e) (dropSigner e) (placeHeld (s .convicted)) (placeHeld (withBit (s .convicted) e)) kept-record (s .records) (v .records-held);
+    summaries-formed = kept-all summarySize (isOfAnother e) noValue (summaryFormed (s .convicted)) (summaryFormed (withBit (s .convicted) e)) (kept-summary (s .convicted) e) (s .summaries) (v .summaries-formed);
+    records-held = kept-all recordSize (hasAnotherSigner e) (dropSigner e) (placeHeld (s .convicted)) (placeHeld (withBit (s .convicted) e)) (kept-record (s .convicted) e) (s .records) (v .records-held);
   }

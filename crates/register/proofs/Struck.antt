@@ -1,32 +1,29 @@
 -- What a conviction leaves of a register's bytes: the bytes of the register without the engine.
-use Prim.Native.Nat.{ℕ, _+_, _*_, _-_, _≤_, _<_}
-use mathlib.Core.Path.{_≡_, refl, sym, ap, ap₂, _∙_}
-use mathlib.Core.List.{List, [], _∷_, _++_}
+use Prim.Native.Nat.{ℕ, _+_, _-_, _≤_}
+use mathlib.Core.Path.{_≡_, refl, sym, ap, _∙_}
+use mathlib.Core.List.{List, _++_}
 use native.Mathlib.Omega.{arith}
-use native.Mathlib.Nat.{mul-comm, mul-sub}
-use lib.ListN.{length, take, drop, replicate}
+use lib.ListN.{length, take, drop}
 use Rattle.octets.specs.Masks.{withBit}
 use Rattle.octets.specs.Writes.{putWord}
 use Rattle.octets.proofs.Moves.{tail-back, tail-lent}
 use Rattle.octets.specs.Bytes.{Bytes}
-use Rattle.places.specs.Places.{places, flat, tableOf, keepPlaces}
-use Rattle.places.proofs.Tables.{table-length, wide}
+use Rattle.places.specs.Places.{places, tableOf, keepPlaces}
+use Rattle.places.proofs.Tables.{table-length}
 use Rattle.places.proofs.Keeping.{kept-length, kept-wide}
 use Rattle.models.specs.Summary.{summarySize}
 use Rattle.record.specs.Layout.{recordSize}
-use Rattle.register.specs.Layout.{maxSummaries, maxRecords, placeSize, summaryCountAt, recordCountAt, summariesAt, summariesSize, recordsAt}
-use Rattle.register.specs.Register.{Register, noValue, isOfAnother, dropSigner, hasAnotherSigner, strikeEngine}
+use Rattle.held.specs.Limits.{maxSummaries, placeSize, summariesSize}
+use Rattle.held.specs.Summaries.{noValue, isOfAnother}
+use Rattle.held.specs.Signed.{dropSigner, hasAnotherSigner}
+use Rattle.held.specs.Strikes.{Struck}
+use Rattle.held.proofs.Striking.{struck-table}
+use Rattle.held.proofs.Summarized.{all-of, none-more}
+use Rattle.register.specs.Layout.{maxRecords, summaryCountAt, recordCountAt, summariesAt, recordsAt}
+use Rattle.register.specs.Register.{strikeEngine}
 use Rattle.register.specs.Memory.{convictedIn, summaryCount, recordCount, summaryTable, recordTable, summariesIn, recordsIn, decode, encode}
-use Rattle.register.specs.Strikes.{Struck}
 use Rattle.register.proofs.Frames.{frame, put-convicted, put-summary-count, put-record-count, frame-records, frame-records-back, frame-summaries-back}
-use Rattle.register.proofs.Opened.{Opened, summaries-length, records-length, summaries-wide, summary-bytes-length, record-bytes-length, summaries-are, records-are, framed}
-use Rattle.register.proofs.Striking.{all-of, none-more}
-
--- places left in a table are a table
-left-table : (w cap : ℕ) (kept : List (List ℕ)) (t : List ℕ) (n : ℕ) (t′ : List ℕ) → length t ≡ cap * w → Struck w kept t n t′ → t′ ≡ tableOf w cap kept
-left-table w cap kept t n t′ l s =
-    s .bytes ∙ ap (λ (x : ℕ). flat kept ++ replicate x 0)
-    (ap₂ (λ (a b : ℕ). a - b * w) l (s .count) ∙ sym (ap (λ (x : ℕ). x) (mul-comm (cap - length kept) w ∙ mul-sub w cap (length kept) ∙ ap₂ (λ (a b : ℕ). a - b) (mul-comm w cap) (mul-comm w (length kept)))))
+use Rattle.register.proofs.Opened.{Opened, summaries-length, records-length, summaries-wide, summary-bytes-length, record-bytes-length, records-are, framed}
 
 module _ (m : List ℕ) (o : Opened m) (b : Bytes m) (e : ℕ) where
   abbrev ss : List (List ℕ)
@@ -63,7 +60,7 @@ module _ (m : List ℕ) (o : Opened m) (b : Bytes m) (e : ℕ) where
     first =
         q ∙ ap (λ (x : List ℕ). take summariesAt x ++ (s′ ++ drop summariesSize (drop summariesAt x))) (framed m o b)
         ∙ frame-summaries-back c ns nr (tableOf summarySize maxSummaries (summariesIn m)) (tableOf placeSize maxRecords (recordsIn m)) table-s s′
-        ∙ ap (λ (x : List ℕ). frame c ns nr x (tableOf placeSize maxRecords (recordsIn m))) (left-table summarySize maxSummaries ss (summaryTable m) a s′ (summary-bytes-length m o) p′)
+        ∙ ap (λ (x : List ℕ). frame c ns nr x (tableOf placeSize maxRecords (recordsIn m))) (struck-table summarySize maxSummaries ss (summaryTable m) a s′ (summary-bytes-length m o) p′)
 
     pub summaries-left : a ≤ maxSummaries
     summaries-left = rw (p′ .count) few
@@ -84,7 +81,7 @@ module _ (m : List ℕ) (o : Opened m) (b : Bytes m) (e : ℕ) where
       second =
           v ∙ tail-back m₁ r′ recordsAt ∙ ap (λ (x : List ℕ). take recordsAt x ++ r′) first
           ∙ frame-records-back c ns nr (tableOf summarySize maxSummaries ss) (tableOf placeSize maxRecords (recordsIn m)) table-ss r′
-          ∙ ap (frame c ns nr (tableOf summarySize maxSummaries ss)) (left-table placeSize maxRecords rs (recordTable m) d r′ (record-bytes-length m o) u′)
+          ∙ ap (frame c ns nr (tableOf summarySize maxSummaries ss)) (struck-table placeSize maxRecords rs (recordTable m) d r′ (record-bytes-length m o) u′)
 
       pub third : (y : ℕ) (x : List ℕ) → y ≡ withBit c e → x ≡ putWord 2 recordCountAt d (putWord 2 summaryCountAt a (putWord 4 0 y m₂)) → x ≡ encode (strikeEngine e (decode m))
       unfolding encode decode

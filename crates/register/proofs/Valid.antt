@@ -1,28 +1,30 @@
 -- Registers that bytes can hold: their bytes are well-formed, and decode to them.
-use Prim.Native.Nat.{ℕ, _+_, _*_, _^_, _≤_, _<_}
-use mathlib.Core.Path.{_≡_, refl, sym, ap, ap₂, _∙_}
-use mathlib.Core.Bool.{Bool, true, false, cond, not, _&&_}
-use mathlib.Core.List.{List, [], _∷_, _++_}
+use Prim.Native.Nat.{ℕ, _^_, _≤_, _<_}
+use mathlib.Core.Path.{_≡_, refl, ap₂, _∙_}
+use mathlib.Core.Bool.{true, _&&_}
+use mathlib.Core.List.{List}
 use native.Mathlib.Omega.{arith}
 use lib.Dec.{leb, eqb}
-use lib.ListN.{length, take, drop, length-append}
+use lib.ListN.{length, drop, length-append}
 use borrow.Author.Tests.{eq-eqb, le-leb}
 use Rattle.octets.specs.Order.{same}
-use Rattle.octets.specs.Words.{word, wordBytes}
-use Rattle.ranges.proofs.Bools.{and-left, and-right, and-both}
+use Rattle.octets.specs.Words.{wordBytes}
+use Rattle.ranges.proofs.Bools.{and-left, and-both}
 use Rattle.octets.proofs.Numbers.{length-word-bytes}
 use Rattle.places.specs.Places.{places, tableOf, isTable, ascending, allPlaces}
 use Rattle.places.proofs.Tables.{wide, table-length, is-table-of, places-of-table}
 use Rattle.models.specs.Summary.{summarySize}
 use Rattle.record.specs.Layout.{recordSize}
-use Rattle.register.specs.Layout.{maxSummaries, maxRecords, placeSize, summariesSize, recordsSize, registerSize}
-use Rattle.register.specs.Register.{Register, After, after, signersIn}
-use Rattle.register.specs.Memory.{wellFormed, convictedIn, summaryCount, recordCount, summaryTable, recordTable, summariesIn, recordsIn, summaryFormed, placeFormed, decode, encode, commit, onMemory}
-use Rattle.register.proofs.Frames.{frame, read-convicted, read-summary-count, read-record-count, frame-summaries, frame-records}
-
--- a record's place that is formed, with signers that are 4 bytes
-abbrev pub placeHeld : ℕ → List ℕ → Bool
-placeHeld c p = placeFormed c p && same (wordBytes 4 (signersIn p)) (drop recordSize p)
+use Rattle.held.specs.After.{After}
+use Rattle.held.specs.Limits.{maxSummaries, placeSize, summariesSize}
+use Rattle.held.specs.Summaries.{summaryFormed}
+use Rattle.held.specs.Signed.{signersIn, placeFormed}
+use Rattle.held.proofs.Testing.{all-weaken}
+use Rattle.held.proofs.Signatures.{placeHeld}
+use Rattle.register.specs.Layout.{maxRecords, recordsSize, registerSize}
+use Rattle.register.specs.Register.{Register}
+use Rattle.register.specs.Memory.{wellFormed, convictedIn, summaryCount, recordCount, summaryTable, recordTable, summariesIn, recordsIn, decode, encode, commit, onMemory}
+use Rattle.register.proofs.Frames.{read-convicted, read-summary-count, read-record-count, frame-summaries, frame-records}
 
 pub record Valid (s : Register) : Type 0 where
   pub small : s .convicted < 256 ^ 4
@@ -34,11 +36,6 @@ pub record Valid (s : Register) : Type 0 where
   pub records-ascend : ascending recordSize (s .records) ≡ true
   pub summaries-formed : allPlaces (summaryFormed (s .convicted)) (s .summaries) ≡ true
   pub records-held : allPlaces (placeHeld (s .convicted)) (s .records) ≡ true
-
-pub all-weaken : (a b : List ℕ → Bool) → ((p : List ℕ) → a p ≡ true → b p ≡ true) → (ps : List (List ℕ)) → allPlaces a ps ≡ true → allPlaces b ps ≡ true
-unfolding allPlaces
-all-weaken a b f [] h = refl
-all-weaken a b f (p ∷ ps) h = and-both (b p) (allPlaces b ps) (f p (and-left (a p) (allPlaces a ps) h)) (all-weaken a b f ps (and-right (a p) (allPlaces a ps) h))
 
 module _ (s : Register) (v : Valid s) where
   abbrev t₁ : List ℕ

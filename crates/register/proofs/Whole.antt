@@ -1,7 +1,7 @@
 -- The claims on whole lists, on the register's bytes: what they hold, and that lists of which the same remains leave the same.
-use Prim.Native.Nat.{ℕ, zero, suc, _+_, _*_, _-_, _/_, _%_, _≤_, _<_}
+use Prim.Native.Nat.{ℕ, suc, _+_, _-_, _/_, _%_}
 use mathlib.Core.Path.{_≡_, refl, sym, ap, ap₂, _∙_}
-use mathlib.Core.Bool.{Bool, true, false, cond, not, _&&_, _||_, true≢false, false≢true, and-false, or-false, or-true}
+use mathlib.Core.Bool.{Bool, true, false, cond, not, _&&_, _||_, false≢true, and-false, or-false, or-true}
 use mathlib.Core.List.{List, [], _∷_, _++_, reverse, reverseAux}
 use native.Mathlib.Omega.{arith}
 use lib.Dec.{eqb, leb, ltb}
@@ -13,18 +13,20 @@ use Rattle.octets.specs.Masks.{bit}
 use Rattle.octets.specs.Order.{same}
 use Rattle.octets.specs.Words.{wordBytes}
 use Rattle.ranges.proofs.Bools.{by, and-left, and-right, and-both}
-use Rattle.octets.proofs.Comparison.{same-eq, same-refl}
+use Rattle.octets.proofs.Comparison.{same-eq}
 use Rattle.octets.proofs.Lookup.{bit-ext, bit-zero}
 use Rattle.octets.proofs.Numbers.{length-word-bytes}
-use Rattle.places.specs.Places.{flat, tableOf, holds, lookup}
+use Rattle.places.specs.Places.{flat, tableOf, holds}
 use Rattle.places.proofs.Keys.{ascending-ext}
 use Rattle.record.specs.Formed as R
 use Rattle.models.specs.Summary.{engineOf, summaryOf, summarySize, inputsSize}
 use Rattle.record.specs.Layout.{recordSize, maxModel}
-use Rattle.register.specs.Layout.{maxEngine, maxSummaries, maxRecords, placeSize, summariesAt, summariesSize, recordsSize}
-use Rattle.register.specs.Register.{Register, After, after}
+use Rattle.held.specs.After.{After, after}
+use Rattle.held.specs.Limits.{maxEngine, maxSummaries, placeSize, summariesSize}
+use Rattle.register.specs.Layout.{maxRecords, summariesAt, recordsSize}
+use Rattle.register.specs.Register.{Register}
 use Rattle.register.specs.Memory.{decode, encode, fresh, commit, onMemory, wellFormed}
-use Rattle.register.specs.Calls.{Call, report, summary, conviction, act, isSound, callEngine, runs, noneFull, convicts, keep, remaining, reports, recordsOf, summariesOf, elem}
+use Rattle.register.specs.Calls.{Call, report, summary, conviction, act, isSound, runs, noneFull, convicts, keep, remaining, reports, recordsOf, summariesOf, elem}
 use Rattle.register.specs.Claims.{signersOf, HoldsExactly, SameRemains, HoldsWhatRemains, SameBytes}
 use Rattle.register.proofs.Valid.{Valid, decode-encode, formed-encode, on-encode}
 use Rattle.register.proofs.Steps.{held-signed, lookup-signed, nothing-follows}

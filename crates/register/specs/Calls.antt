@@ -9,8 +9,10 @@ use Rattle.octets.specs.Order.{same}
 use Rattle.record.specs.Layout.{maxModel}
 use Rattle.record.specs.Formed.{wellFormed}
 use Rattle.models.specs.Summary.{inputsSize, summaryOf}
-use Rattle.register.specs.Layout.{maxEngine, maxSummaries, maxRecords}
-use Rattle.register.specs.Register.{Register, After, takeReport, takeSummary, takeConviction}
+use Rattle.held.specs.After.{After}
+use Rattle.held.specs.Limits.{maxEngine, maxSummaries}
+use Rattle.register.specs.Layout.{maxRecords}
+use Rattle.register.specs.Register.{Register, takeReport, takeSummary, takeConviction}
 use Rattle.register.specs.Memory.{onMemory}
 
 -- report(engine, record), summary(engine, model, spec, inputs), conviction(engine)

@@ -2,7 +2,7 @@
 -- file, and the definitions it names, needs none of the proofs; those are in proofs/Whole and proofs/Room.
 use Prim.Native.Nat.{ℕ}
 use mathlib.Core.Path.{_≡_}
-use mathlib.Core.Bool.{Bool, true}
+use mathlib.Core.Bool.{true}
 use mathlib.Core.List.{List, reverse}
 use lib.ListN.{drop}
 use Rattle.octets.specs.Masks.{bit}

@@ -1,23 +1,10 @@
--- The layout of a register (document 01, 'The register (30,920 bytes)'): its limits, and where each part begins, each from the one before it.
+-- The layout of a register (document 01, 'The register (30,920 bytes)'): its limit of records, and where each part begins, each from the one before it.
 use Prim.Native.Nat.{ℕ, _+_, _*_}
-use Rattle.record.specs.Layout.{recordSize}
-use Rattle.models.specs.Summary.{summarySize}
+use Rattle.held.specs.Limits.{summariesSize, placeSize}
 
--- ---- limits
-
--- the greatest engine number
-abbrev pub maxEngine : ℕ
-maxEngine = 31
-
-abbrev pub maxSummaries : ℕ
-maxSummaries = 256
-
+-- as many records at most
 abbrev pub maxRecords : ℕ
 maxRecords = 96
-
--- a record's place: the record, and its signers, bit n for engine n
-abbrev pub placeSize : ℕ
-placeSize = recordSize + 4
 
 -- ---- where each part begins
 
@@ -32,9 +19,6 @@ recordCountAt = summaryCountAt + 2
 
 abbrev pub summariesAt : ℕ
 summariesAt = recordCountAt + 2
-
-abbrev pub summariesSize : ℕ
-summariesSize = maxSummaries * summarySize
 
 abbrev pub recordsAt : ℕ
 recordsAt = summariesAt + summariesSize

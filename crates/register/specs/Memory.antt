@@ -1,18 +1,19 @@
 -- A register in memory (document 01, 'The register (30,920 bytes)'): which bytes are one, the register that bytes are, its bytes, and an operation on bytes.
 use Prim.Native.Nat.{ℕ}
-use mathlib.Core.Bool.{Bool, true, false, cond, not, _&&_}
+use mathlib.Core.Bool.{Bool, cond, _&&_}
 use mathlib.Core.List.{List, _++_}
-use lib.Bits.{bitAnd}
 use lib.Dec.{leb, eqb}
 use lib.ListN.{length, take, drop, replicate}
-use Rattle.octets.specs.Masks.{bit}
 use Rattle.octets.specs.Words.{wordAt, wordBytes}
 use Rattle.places.specs.Places.{places, tableOf, isTable, allPlaces}
-use Rattle.record.specs.Layout.{recordSize, maxModel}
-use Rattle.record.specs.Formed as R
-use Rattle.models.specs.Summary.{summarySize, engineOf, modelOf}
+use Rattle.record.specs.Layout.{recordSize}
+use Rattle.models.specs.Summary.{summarySize}
+use Rattle.held.specs.After.{After, after}
+use Rattle.held.specs.Limits.{maxSummaries, summariesSize, placeSize}
+use Rattle.held.specs.Summaries.{summaryFormed}
+use Rattle.held.specs.Signed.{placeFormed}
 use Rattle.register.specs.Layout as L
-use Rattle.register.specs.Register.{Register, After, after, signersIn}
+use Rattle.register.specs.Register.{Register}
 
 -- ---- the parts of the bytes
 
@@ -26,7 +27,7 @@ abbrev pub recordCount : List ℕ → ℕ
 recordCount m = wordAt 2 L.recordCountAt m
 
 abbrev pub summaryTable : List ℕ → List ℕ
-summaryTable m = take L.summariesSize (drop L.summariesAt m)
+summaryTable m = take summariesSize (drop L.summariesAt m)
 
 abbrev pub recordTable : List ℕ → List ℕ
 recordTable m = drop L.recordsAt m
@@ -35,26 +36,18 @@ abbrev pub summariesIn : List ℕ → List (List ℕ)
 summariesIn m = places summarySize (summaryCount m) (summaryTable m)
 
 abbrev pub recordsIn : List ℕ → List (List ℕ)
-recordsIn m = places L.placeSize (recordCount m) (recordTable m)
+recordsIn m = places placeSize (recordCount m) (recordTable m)
 
 -- ---- which bytes are a register
-
--- a summary within the limits, of an engine that is not convicted
-abbrev pub summaryFormed : ℕ → List ℕ → Bool
-summaryFormed c p = leb (engineOf p) L.maxEngine && (leb (modelOf p) maxModel && not (bit c (engineOf p)))
-
--- a record that is one, with signers, none of them convicted
-abbrev pub placeFormed : ℕ → List ℕ → Bool
-placeFormed c p = R.wellFormed (take recordSize p) && (not (eqb (signersIn p) 0) && eqb (bitAnd (signersIn p) c) 0)
 
 unfoldable pub wellFormed : List ℕ → Bool
 wellFormed m =
     eqb (length m) L.registerSize
-    && (leb (summaryCount m) L.maxSummaries
+    && (leb (summaryCount m) maxSummaries
     && (leb (recordCount m) L.maxRecords
     && (isTable summarySize summarySize (summaryCount m) (summaryTable m)
     && (allPlaces (summaryFormed (convictedIn m)) (summariesIn m)
-    && (isTable recordSize L.placeSize (recordCount m) (recordTable m)
+    && (isTable recordSize placeSize (recordCount m) (recordTable m)
     && allPlaces (placeFormed (convictedIn m)) (recordsIn m))))))
 
 -- ---- bytes and registers
@@ -67,7 +60,7 @@ encode s =
     wordBytes 4 (s .convicted)
     ++ (wordBytes 2 (length (s .summaries))
     ++ (wordBytes 2 (length (s .records))
-    ++ (tableOf summarySize L.maxSummaries (s .summaries) ++ tableOf L.placeSize L.maxRecords (s .records))))
+    ++ (tableOf summarySize maxSummaries (s .summaries) ++ tableOf placeSize L.maxRecords (s .records))))
 
 -- "Fresh is all zero."
 abbrev pub fresh : List ℕ

@@ -1,45 +1,25 @@
 -- What a register holds, and what its operations do to it (document 01, 'Answers and refusals, operation by operation' and 'The register').
 use Prim.Native.Nat.{ℕ}
-use mathlib.Core.Bool.{Bool, true, false, cond, not, _&&_, _||_}
-use mathlib.Core.List.{List, []}
+use mathlib.Core.Bool.{cond, not, _&&_, _||_}
+use mathlib.Core.List.{List}
 use lib.Dec.{ltb, leb, eqb}
-use lib.ListN.{length, drop}
-use Rattle.octets.specs.Masks.{bit, withBit, withoutBit}
-use Rattle.octets.specs.Words.{word, wordBytes}
+use lib.ListN.{length}
+use Rattle.octets.specs.Masks.{bit, withBit}
 use Rattle.places.specs.Places.{holds, putPlace, keepPlaces}
 use Rattle.record.specs.Layout.{recordSize, maxModel}
 use Rattle.record.specs.Formed.{wellFormed}
-use Rattle.models.specs.Summary.{summarySize, inputsSize, engineOf, summaryOf}
-use Rattle.register.specs.Layout.{maxEngine, maxSummaries, maxRecords}
+use Rattle.models.specs.Summary.{summarySize, inputsSize, summaryOf}
+use Rattle.held.specs.After.{After, after}
+use Rattle.held.specs.Limits.{maxEngine, maxSummaries}
+use Rattle.held.specs.Summaries.{isOfAnother, noValue}
+use Rattle.held.specs.Signed.{addSigner, dropSigner, hasAnotherSigner}
+use Rattle.register.specs.Layout.{maxRecords}
 
 -- The convicted engines, bit n for engine n; the summaries, each its 36 bytes; the records, each its 222 bytes and 4 of signers. Both ascend.
 pub record Register : Type 0 where
   pub convicted : ℕ
   pub summaries : List (List ℕ)
   pub records : List (List ℕ)
-
--- what an operation answers, and what it leaves
-pub record After (A : Type 0) : Type 0 where
-  pub answer : ℕ
-  pub left : A
-
-abbrev pub after : {A : Type 0} → ℕ → A → After A
-after a x = record { answer = a; left = x }
-
--- the signers of a record's place
-abbrev pub signersIn : List ℕ → ℕ
-signersIn p = word (drop recordSize p)
-
--- signers with an engine, and without
-abbrev pub addSigner : ℕ → List ℕ → List ℕ
-addSigner e v = wordBytes 4 (withBit (word v) e)
-
-abbrev pub dropSigner : ℕ → List ℕ → List ℕ
-dropSigner e v = wordBytes 4 (withoutBit (word v) e)
-
--- nothing follows a summary's key, which is all of it
-abbrev pub noValue : List ℕ → List ℕ
-noValue v = []
 
 -- a record that is one, of an engine that may report: "5: record not yet held and 96 are held. Else 0." "A repeated record only gains a signer."
 abbrev pub signRecord : ℕ → List ℕ → Register → After Register
@@ -66,13 +46,6 @@ takeSummary e model spec inputs s =
     cond (ltb maxEngine e) (after 2 s)
     (cond (ltb maxModel model || not (eqb (length inputs) inputsSize)) (after 9 s)
     (cond (bit (s .convicted) e) (after 4 s) (holdSummary (summaryOf e model spec inputs) s)))
-
--- a summary of another engine, and a record with another signer
-abbrev pub isOfAnother : ℕ → List ℕ → Bool
-isOfAnother e p = not (eqb (engineOf p) e)
-
-abbrev pub hasAnotherSigner : ℕ → List ℕ → Bool
-hasAnotherSigner e p = not (eqb (withoutBit (signersIn p) e) 0)
 
 -- "A conviction removes the engine's summaries, its signer bit, and records left without signers."
 abbrev pub strikeEngine : ℕ → Register → Register

@@ -5,7 +5,8 @@ use mathlib.Core.List.{List, [], _∷_}
 use Rattle.places.specs.Places.{putPlace}
 use Rattle.record.specs.Layout.{recordSize}
 use Rattle.models.specs.Summary.{summarySize, summaryOf}
-use Rattle.register.specs.Register.{addSigner, noValue}
+use Rattle.held.specs.Summaries.{noValue}
+use Rattle.held.specs.Signed.{addSigner}
 use Rattle.register.specs.Calls.{Call, report, summary, conviction}
 
 unfoldable pub summariesHeld : List Call → List (List ℕ)

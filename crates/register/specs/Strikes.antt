@@ -1,17 +1,10 @@
--- No claim rests on these definitions: they say what a conviction's loops leave of a table's bytes.
-use Prim.Native.Nat.{ℕ, _+_, _*_, _-_}
-use mathlib.Core.Path.{_≡_}
+-- No claim rests on these definitions: they say what a conviction's loop does to a place of a table.
+use Prim.Native.Nat.{ℕ, _+_}
 use mathlib.Core.List.{List, _++_}
-use lib.ListN.{length, take, drop, replicate}
+use lib.ListN.{take, drop}
 use Rattle.octets.specs.Words.{wordBytes}
-use Rattle.places.specs.Places.{flat}
 use Rattle.record.specs.Layout.{recordSize}
-use Rattle.register.specs.Layout.{placeSize}
-
--- of the table t the places `kept` are left, n of them, and zeros after them
-pub record Struck (w : ℕ) (kept : List (List ℕ)) (t : List ℕ) (n : ℕ) (t′ : List ℕ) : Type 0 where
-  pub count : n ≡ length kept
-  pub bytes : t′ ≡ flat kept ++ replicate (length t - n * w) 0
+use Rattle.held.specs.Limits.{placeSize}
 
 -- t with the record at one byte copied to another, with these signers
 abbrev pub keptAt : ℕ → ℕ → ℕ → List ℕ → List ℕ

@@ -1,51 +1,32 @@
 // A conviction in a register.
 use crate::formed;
 use crate::layout;
-use models::layout::SUMMARY_SIZE;
+use held::layout::MAX_ENGINE;
+use held::layout::PLACE_SIZE;
 use record::layout::RECORD_SIZE;
 ghost use mathlib.Core.Path.{_≡_};
 ghost use mathlib.Core.Bool.{true};
-ghost use mathlib.Core.List.{_++_};
-ghost use Prim.Native.Nat.{_+_, _*_, _-_, _<_, _≤_};
-ghost use lib.ListN.{length, replicate};
-ghost use Rattle.models.specs.Summary.{summarySize};
-ghost use Rattle.places.specs.Places.{places, flat, keepPlaces};
+ghost use Prim.Native.Nat.{_+_, _*_, _<_, _≤_};
+ghost use lib.ListN.{length};
+ghost use Rattle.places.specs.Places.{places, keepPlaces};
 ghost use Rattle.record.specs.Layout.{recordSize};
 ghost use Rattle.octets.specs.Writes.{putWord};
-ghost use Rattle.register.specs.Layout.{placeSize, convictedAt, summaryCountAt, recordCountAt, summariesAt as layoutEnd};
-ghost use Rattle.register.specs.Register.{after, noValue, isOfAnother, dropSigner, hasAnotherSigner, strikeEngine, takeConviction};
+ghost use Rattle.held.specs.After.{after};
+ghost use Rattle.held.specs.Limits.{placeSize};
+ghost use Rattle.held.specs.Signed.{dropSigner, hasAnotherSigner};
+ghost use Rattle.held.specs.Strikes.{Struck};
+ghost use Rattle.register.specs.Layout.{convictedAt, summaryCountAt, recordCountAt, summariesAt as layoutEnd};
+ghost use Rattle.register.specs.Register.{strikeEngine, takeConviction};
 ghost use Rattle.register.specs.Memory.{wellFormed, decode, encode, onMemory};
-ghost use Rattle.register.specs.Strikes.{Struck};
-
-// Takes an engine's summaries out of the first n of a table, and returns how many are left.
-fn strike_summaries(t: &mut [u8], n: usize, engine: u8) -> usize
-    requires { ⌜ n * summarySize ≤ length (now t) ⌝ }
-    ensures { λ r. ⌜ Struck summarySize (keepPlaces summarySize (isOfAnother engine) noValue (places summarySize n (now (t .entry)))) (now (t .entry)) r (now (t .exit)) ⌝ }
-{
-    let mut i = 0;
-    let mut j = 0;
-    while i < n {
-        let at = i * SUMMARY_SIZE;
-        if t[at] == engine {
-            i += 1;
-            continue;
-        }
-        octets::runs::copy_down(t, at, j * SUMMARY_SIZE, SUMMARY_SIZE);
-        i += 1;
-        j += 1;
-    }
-    let end = j * SUMMARY_SIZE;
-    octets::runs::clear(&mut t[end..]);
-    j
-}
+ghost use Rattle.register.specs.Strikes.{keptAt};
 
 // Copies the record at one byte down to another, with these signers.
 fn keep_place(t: &mut [u8], from: usize, to: usize, signers: u32)
     requires { ⌜ to ≤ from ⌝ }
     requires { ⌜ from + placeSize ≤ length (now t) ⌝ }
-    ensures { λ _. ⌜ now (t .exit) ≡ Rattle.register.specs.Strikes.keptAt from to signers (now (t .entry)) ⌝ }
+    ensures { λ _. ⌜ now (t .exit) ≡ keptAt from to signers (now (t .entry)) ⌝ }
 {
-    octets::runs::copy_down(t, from, to, layout::PLACE_SIZE);
+    octets::runs::copy_down(t, from, to, PLACE_SIZE);
     octets::words::put_u32(t, to + RECORD_SIZE, signers);
 }
 
@@ -59,7 +40,7 @@ fn strike_records(t: &mut [u8], n: usize, engine: u32) -> usize
     let mut i = 0;
     let mut j = 0;
     while i < n {
-        let at = i * layout::PLACE_SIZE;
+        let at = i * PLACE_SIZE;
         let signers = octets::masks::without_u32(
             octets::words::u32_at(t, at + RECORD_SIZE),
             engine,
@@ -68,12 +49,11 @@ fn strike_records(t: &mut [u8], n: usize, engine: u32) -> usize
             i += 1;
             continue;
         }
-        keep_place(t, at, j * layout::PLACE_SIZE, signers);
+        keep_place(t, at, j * PLACE_SIZE, signers);
         i += 1;
         j += 1;
     }
-    let end = j * layout::PLACE_SIZE;
-    octets::runs::clear(&mut t[end..]);
+    held::strikes::clear_rest(t, j, PLACE_SIZE);
     j
 }
 
@@ -96,7 +76,7 @@ fn strike(memory: &mut [u8], engine: u32)
     let convicted = octets::words::u32_at(memory, layout::CONVICTED_AT);
     let n = octets::words::u16_at(memory, layout::SUMMARY_COUNT_AT) as usize;
     let k = octets::words::u16_at(memory, layout::RECORD_COUNT_AT) as usize;
-    let summaries = strike_summaries(
+    let summaries = held::strikes::strike_summaries(
         &mut memory[layout::SUMMARIES_AT..layout::RECORDS_AT],
         n,
         engine as u8,
@@ -117,7 +97,7 @@ pub fn conviction(memory: &mut [u8], engine: u32) -> u32
     if !formed::well_formed(memory) {
         return 1;
     }
-    if layout::MAX_ENGINE < engine {
+    if MAX_ENGINE < engine {
         return 2;
     }
     strike(memory, engine);

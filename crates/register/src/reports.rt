@@ -1,29 +1,34 @@
 // A report into a register.
 use crate::formed;
 use crate::layout;
+use held::layout::MAX_ENGINE;
+use held::layout::PLACE_SIZE;
 use places::Put;
 use record::layout::RECORD_SIZE;
 ghost use mathlib.Core.Path.{_≡_};
 ghost use mathlib.Core.Bool.{true};
 ghost use mathlib.Core.List.{[], _++_};
-ghost use Prim.Native.Nat.{_+_, _*_, _<_, _≤_};
+ghost use Prim.Native.Nat.{_+_, _*_, _<_};
 ghost use lib.ListN.{length};
 ghost use Rattle.octets.specs.Masks.{withBit};
 ghost use Rattle.octets.specs.Words.{wordAt};
 ghost use Rattle.octets.specs.Writes.{putWord};
 ghost use Rattle.record.specs.Formed as R;
 ghost use Rattle.record.specs.Layout.{recordSize};
-ghost use Rattle.register.specs.Layout.{maxRecords, placeSize, recordsAt, registerSize};
-ghost use Rattle.register.specs.Register.{after, addSigner, signRecord, takeReport};
+ghost use Rattle.held.specs.After.{after};
+ghost use Rattle.held.specs.Limits.{placeSize};
+ghost use Rattle.held.specs.Signed.{addSigner};
+ghost use Rattle.register.specs.Layout.{maxRecords, recordsAt, registerSize};
+ghost use Rattle.register.specs.Register.{signRecord, takeReport};
 ghost use Rattle.register.specs.Memory.{wellFormed, decode, commit, onMemory};
 
 // The place of a record with its first signer.
-fn new_place(r: &[u8], engine: u32) -> [u8; layout::PLACE_SIZE]
+fn new_place(r: &[u8], engine: u32) -> [u8; PLACE_SIZE]
     requires { ⌜ length (now r) ≡ recordSize ⌝ }
     requires { ⌜ engine < 32 ⌝ }
     ensures { λ p. ⌜ p ≡ now (r .entry) ++ addSigner engine [] ⌝ }
 {
-    let mut p = [0u8; layout::PLACE_SIZE];
+    let mut p = [0u8; PLACE_SIZE];
     bytes::copy(r, &mut p);
     octets::words::put_u32(&mut p, RECORD_SIZE, octets::masks::with_u32(0, engine));
     p
@@ -36,7 +41,7 @@ fn add_signer(memory: &mut [u8], i: usize, engine: u32)
     requires { ⌜ engine < 32 ⌝ }
     ensures { λ _. ⌜ now (memory .exit) ≡ putWord 4 (recordsAt + i * placeSize + recordSize) (withBit (wordAt 4 (recordsAt + i * placeSize + recordSize) (now (memory .entry))) engine) (now (memory .entry)) ⌝ }
 {
-    let at = layout::RECORDS_AT + i * layout::PLACE_SIZE + RECORD_SIZE;
+    let at = layout::RECORDS_AT + i * PLACE_SIZE + RECORD_SIZE;
     let signers = octets::words::u32_at(memory, at);
     octets::words::put_u32(memory, at, octets::masks::with_u32(signers, engine));
 }
@@ -54,7 +59,7 @@ fn sign(memory: &mut [u8], engine: u32, r: &[u8]) -> u32
         &mut memory[layout::RECORDS_AT..],
         n as usize,
         layout::MAX_RECORDS,
-        layout::PLACE_SIZE,
+        PLACE_SIZE,
         RECORD_SIZE,
         &p,
     );
@@ -78,7 +83,7 @@ pub fn report(memory: &mut [u8], engine: u32, r: &[u8]) -> u32
     if !formed::well_formed(memory) {
         return 1;
     }
-    if layout::MAX_ENGINE < engine {
+    if MAX_ENGINE < engine {
         return 2;
     }
     if !record::formed::well_formed(r) {

@@ -1,28 +1,18 @@
 // A summary into a register.
 use crate::formed;
 use crate::layout;
+use held::layout::MAX_ENGINE;
+use held::layout::MAX_SUMMARIES;
 use models::layout::SUMMARY_SIZE;
 use places::Put;
 ghost use mathlib.Core.Path.{_≡_};
 ghost use mathlib.Core.Bool.{true};
-ghost use Prim.Native.Nat.{_<_, _≤_};
+ghost use Prim.Native.Nat.{_<_};
 ghost use lib.ListN.{length};
-ghost use Rattle.models.specs.Summary.{inputsSize, summarySize, summaryOf};
-ghost use Rattle.register.specs.Register.{after, holdSummary, takeSummary};
+ghost use Rattle.models.specs.Summary.{summarySize};
+ghost use Rattle.held.specs.After.{after};
+ghost use Rattle.register.specs.Register.{holdSummary, takeSummary};
 ghost use Rattle.register.specs.Memory.{wellFormed, decode, commit, onMemory};
-
-// The bytes of a summary.
-fn new_summary(engine: u8, model: u8, spec: u16, inputs: &[u8]) -> [u8; SUMMARY_SIZE]
-    requires { ⌜ length (now inputs) ≡ inputsSize ⌝ }
-    ensures { λ p. ⌜ p ≡ summaryOf engine model spec (now (inputs .entry)) ⌝ }
-{
-    let mut p = [0u8; SUMMARY_SIZE];
-    p[models::layout::ENGINE_AT] = engine;
-    p[models::layout::MODEL_AT] = model;
-    octets::words::put_u16(&mut p, models::layout::SPEC_AT, spec);
-    bytes::copy(inputs, &mut p[models::layout::INPUTS_AT..]);
-    p
-}
 
 // Puts a summary in, unless it is held.
 fn hold(memory: &mut [u8], p: &[u8]) -> u32
@@ -34,7 +24,7 @@ fn hold(memory: &mut [u8], p: &[u8]) -> u32
     let tried = places::put_by_key(
         &mut memory[layout::SUMMARIES_AT..layout::RECORDS_AT],
         n as usize,
-        layout::MAX_SUMMARIES,
+        MAX_SUMMARIES,
         SUMMARY_SIZE,
         SUMMARY_SIZE,
         p,
@@ -56,7 +46,7 @@ pub fn summary(memory: &mut [u8], engine: u32, model: u32, spec: u16, inputs: &[
     if !formed::well_formed(memory) {
         return 1;
     }
-    if layout::MAX_ENGINE < engine {
+    if MAX_ENGINE < engine {
         return 2;
     }
     if (record::layout::MAX_MODEL as u32) < model {
@@ -68,6 +58,6 @@ pub fn summary(memory: &mut [u8], engine: u32, model: u32, spec: u16, inputs: &[
     if octets::masks::has_u32(octets::words::u32_at(memory, layout::CONVICTED_AT), engine) {
         return 4;
     }
-    let p = new_summary(engine as u8, model as u8, spec, inputs);
+    let p = held::summaries::new_summary(engine as u8, model as u8, spec, inputs);
     hold(memory, &p)
 }

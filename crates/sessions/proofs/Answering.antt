@@ -11,7 +11,7 @@ use Rattle.ranges.proofs.Bools.{by}
 use Rattle.octets.specs.Bytes.{Bytes}
 use Rattle.text.specs.Buffer.{Put}
 use Rattle.text.proofs.Writing.{put-put, put-as, put-none}
-use Rattle.register.specs.Register.{After, after}
+use Rattle.held.specs.After.{After, after}
 use Rattle.register.specs.Memory.{wellFormed, onMemory}
 use Rattle.register.specs.Calls.{Call, act, runs}
 use Rattle.register.proofs.Kept.{still-formed}

@@ -14,8 +14,9 @@ use Rattle.record.specs.Layout.{maxModel}
 use Rattle.record.specs.Formed as R
 use Rattle.models.specs.Summary.{inputsSize}
 use Rattle.octets.specs.Ascii.{ascii}
-use Rattle.register.specs.Layout.{maxEngine}
-use Rattle.register.specs.Register.{Register, After}
+use Rattle.held.specs.After.{After}
+use Rattle.held.specs.Limits.{maxEngine}
+use Rattle.register.specs.Register.{Register}
 use Rattle.register.specs.Memory.{wellFormed, decode, onMemory}
 use Rattle.register.specs.Calls.{Call, report, summary, conviction, act}
 use Rattle.register.proofs.History.{Way, report-way, summary-way}

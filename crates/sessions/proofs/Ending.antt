@@ -12,11 +12,11 @@ use Rattle.octets.specs.Bytes.{Bytes}
 use Rattle.octets.proofs.Moves.{tail-back, tail-lent}
 use Rattle.text.specs.Buffer.{Put}
 use Rattle.drawing.specs.Text.{boardSize}
-use Rattle.register.specs.Register.{After, after}
+use Rattle.held.specs.After.{After, after, writeText}
 use Rattle.register.specs.Memory.{wellFormed, decode, fresh}
 use Rattle.register.specs.Calls.{runs, noneFull}
 use Rattle.register.proofs.Whole.{whole}
-use Rattle.board.specs.Board.{boardIn, drawBoard, writeText}
+use Rattle.board.specs.Board.{boardIn, drawBoard}
 use Rattle.board.proofs.Fitting.{fits-board}
 use Rattle.octets.specs.Ascii.{ascii}
 use Rattle.grammar.specs.Grammar.{Session, badAt, calls, sessionOf}

@@ -12,7 +12,7 @@ ghost use lib.ListN.{length};
 ghost use Rattle.octets.specs.Bytes.{Bytes};
 ghost use Rattle.text.specs.Buffer.{Put};
 ghost use Rattle.drawing.specs.Text.{boardSize};
-ghost use Rattle.register.specs.Register.{after};
+ghost use Rattle.held.specs.After.{after};
 ghost use Rattle.register.specs.Memory.{wellFormed, onMemory, fresh};
 ghost use Rattle.register.specs.Calls.{act, runs};
 ghost use Rattle.grammar.specs.Cursors.{callIn, firstBad, callsFrom};

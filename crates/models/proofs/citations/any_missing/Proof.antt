@@ -5,7 +5,7 @@ use native.Mathlib.Omega.{arith}
 use lib.ListN.{length, drop}
 use Rattle.places.specs.Places.{places}
 use Rattle.models.specs.Summary.{summarySize}
-use Rattle.models.specs.Refusals.{anyMissing}
+use Rattle.models.specs.Missing.{anyMissing}
 use Rattle.models.proofs.Citing.{missing-next, missing-end}
 use borrow.Author.Needs.{needs}
 use Rattle.models.proofs.citations.any_missing.Statement.{statement}

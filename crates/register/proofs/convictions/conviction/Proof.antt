@@ -5,7 +5,8 @@ use mathlib.Core.Bool.{true}
 use mathlib.Core.List.{List}
 use native.Mathlib.Omega.{arith}
 use borrow.Author.Tests.{not-true, not-false}
-use Rattle.register.specs.Register.{after, takeConviction}
+use Rattle.held.specs.After.{after}
+use Rattle.register.specs.Register.{takeConviction}
 use Rattle.register.specs.Memory.{wellFormed, decode}
 use Rattle.register.proofs.Answers.{no-register, on-register, refused, conviction-2, conviction-0}
 use borrow.Author.Needs.{needs}

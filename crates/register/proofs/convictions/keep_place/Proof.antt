@@ -8,9 +8,9 @@ use lib.Seq.{take-add, length-take-le}
 use Rattle.octets.specs.Words.{wordBytes}
 use Rattle.octets.specs.Writes.{putWord}
 use Rattle.record.specs.Layout.{recordSize}
-use Rattle.register.specs.Layout.{placeSize}
+use Rattle.held.specs.Limits.{placeSize}
+use Rattle.held.proofs.Framing.{mid-put}
 use Rattle.register.specs.Strikes.{keptAt}
-use Rattle.register.proofs.Frames.{mid-put}
 use borrow.Author.Needs.{needs}
 use Rattle.register.proofs.convictions.keep_place.Statement.{statement}
 use Rattle.register.proofs.convictions.keep_place.Tie as tie

@@ -9,7 +9,8 @@ use Rattle.octets.specs.Masks.{withBit}
 use Rattle.octets.specs.Writes.{putWord}
 use Rattle.octets.specs.Bytes.{Bytes}
 use Rattle.octets.proofs.Numbers.{all-bytes}
-use Rattle.register.specs.Layout.{maxSummaries, maxRecords, convictedAt, summaryCountAt, recordCountAt, summariesAt, summariesSize, recordsAt, recordsSize, registerSize}
+use Rattle.held.specs.Limits.{maxSummaries, summariesSize}
+use Rattle.register.specs.Layout.{maxRecords, convictedAt, summaryCountAt, recordCountAt, summariesAt, recordsAt, recordsSize, registerSize}
 use Rattle.register.specs.Register.{strikeEngine}
 use Rattle.register.specs.Memory.{convictedIn, summaryCount, recordCount, decode, encode}
 use Rattle.register.proofs.Opened.{Opened, opened, summary-bytes-length, record-bytes-length}

@@ -10,8 +10,11 @@ use Rattle.octets.proofs.Moves.{tail-lent}
 use Rattle.places.specs.Places.{places, isTable, allPlaces}
 use Rattle.models.specs.Summary.{summarySize}
 use Rattle.record.specs.Layout.{recordSize}
-use Rattle.register.specs.Layout.{maxSummaries, maxRecords, placeSize, recordsAt, registerSize}
-use Rattle.register.specs.Memory.{convictedIn, summaryCount, recordCount, summaryTable, recordTable, summariesIn, summaryFormed, placeFormed, wellFormed}
+use Rattle.held.specs.Limits.{maxSummaries, placeSize}
+use Rattle.held.specs.Summaries.{summaryFormed}
+use Rattle.held.specs.Signed.{placeFormed}
+use Rattle.register.specs.Layout.{maxRecords, recordsAt, registerSize}
+use Rattle.register.specs.Memory.{convictedIn, summaryCount, recordCount, summaryTable, recordTable, summariesIn, wellFormed}
 use borrow.Author.Needs.{needs}
 use Rattle.register.proofs.formed.well_formed.Statement.{statement}
 use Rattle.register.proofs.formed.well_formed.Tie as tie

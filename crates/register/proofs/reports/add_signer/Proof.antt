@@ -4,7 +4,8 @@ use mathlib.Core.Path.{ap, _∙_}
 use Rattle.octets.specs.Masks.{withBit}
 use Rattle.octets.specs.Writes.{putWord}
 use Rattle.record.specs.Layout.{recordSize}
-use Rattle.register.specs.Layout.{placeSize, recordsAt}
+use Rattle.held.specs.Limits.{placeSize}
+use Rattle.register.specs.Layout.{recordsAt}
 use borrow.Author.Needs.{needs}
 use Rattle.register.proofs.reports.add_signer.Statement.{statement}
 use Rattle.register.proofs.reports.add_signer.Tie as tie

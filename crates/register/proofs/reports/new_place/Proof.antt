@@ -9,8 +9,8 @@ use Rattle.octets.specs.Words.{word}
 use Rattle.octets.specs.Writes.{putWord}
 use Rattle.octets.specs.Masks.{withBit}
 use Rattle.record.specs.Layout.{recordSize}
-use Rattle.register.specs.Layout.{placeSize}
-use Rattle.register.specs.Register.{addSigner}
+use Rattle.held.specs.Limits.{placeSize}
+use Rattle.held.specs.Signed.{addSigner}
 use borrow.Author.Needs.{needs}
 use Rattle.register.proofs.reports.new_place.Statement.{statement}
 use Rattle.register.proofs.reports.new_place.Tie as tie

@@ -8,8 +8,9 @@ use lib.Dec.{eqb}
 use borrow.Author.Tests.{not-true, not-false}
 use Rattle.octets.specs.Masks.{bit}
 use Rattle.record.specs.Formed as R
-use Rattle.register.specs.Layout.{maxEngine}
-use Rattle.register.specs.Register.{Register, After, after, takeReport}
+use Rattle.held.specs.After.{After, after}
+use Rattle.held.specs.Limits.{maxEngine}
+use Rattle.register.specs.Register.{Register, takeReport}
 use Rattle.register.specs.Memory.{wellFormed, decode, commit, onMemory}
 use Rattle.register.proofs.Opened.{opened}
 use Rattle.register.proofs.Answers.{no-register, on-register, refused, report-2, report-3, report-4, report-rest, decoded-convicted}

@@ -12,7 +12,8 @@ use Rattle.octets.proofs.Numbers.{all-bytes}
 use Rattle.places.specs.Places.{places, ascending}
 use Rattle.record.proofs.Parts.{formed}
 use Rattle.record.specs.Layout.{recordSize}
-use Rattle.register.specs.Layout.{maxRecords, placeSize, recordsAt, recordsSize}
+use Rattle.held.specs.Limits.{placeSize}
+use Rattle.register.specs.Layout.{maxRecords, recordsAt, recordsSize}
 use Rattle.register.specs.Memory.{recordCount}
 use Rattle.register.proofs.Opened.{Opened, opened, record-bytes-length, records-ascend}
 use Rattle.register.proofs.Signing.{RecordWay, withRecords, place-length, record-way, record-new, record-full, record-again, held-within}

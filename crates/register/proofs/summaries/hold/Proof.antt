@@ -10,7 +10,8 @@ use Rattle.octets.specs.Bytes.{Bytes}
 use Rattle.octets.proofs.Numbers.{all-bytes}
 use Rattle.places.specs.Places.{places, ascending}
 use Rattle.models.specs.Summary.{summarySize}
-use Rattle.register.specs.Layout.{summariesAt, summariesSize}
+use Rattle.held.specs.Limits.{summariesSize}
+use Rattle.register.specs.Layout.{summariesAt}
 use Rattle.register.specs.Memory.{summaryTable, summaryCount}
 use Rattle.register.proofs.Opened.{Opened, opened, summary-bytes-length, summaries-ascend}
 use Rattle.register.proofs.Signing.{SummaryWay, withSummaries, summary-way, summary-held, summary-full, summary-new}

@@ -12,8 +12,9 @@ use Rattle.octets.specs.Words.{wordBytes}
 use Rattle.octets.proofs.Numbers.{length-word-bytes}
 use Rattle.models.specs.Summary.{summaryOf, summarySize, inputsSize}
 use Rattle.record.specs.Layout.{maxModel}
-use Rattle.register.specs.Layout.{maxEngine}
-use Rattle.register.specs.Register.{Register, After, after, takeSummary, holdSummary}
+use Rattle.held.specs.After.{After, after}
+use Rattle.held.specs.Limits.{maxEngine}
+use Rattle.register.specs.Register.{Register, takeSummary, holdSummary}
 use Rattle.register.specs.Memory.{wellFormed, decode, commit, onMemory}
 use Rattle.register.proofs.Opened.{opened}
 use Rattle.register.proofs.Answers.{no-register, on-register, refused, summary-2, summary-9-model, summary-9-inputs, summary-4, summary-rest, decoded-convicted}
