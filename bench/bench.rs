@@ -288,7 +288,7 @@ fn main() {
     }
     root(&mut random);
     agreement(&mut random);
-    for n in [2, 8, 32, 96] {
+    for n in [1, 2, 4, 10, 32, 96] {
         decide(&mut random, n);
     }
     register(false);

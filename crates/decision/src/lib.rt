@@ -1,6 +1,7 @@
 // Which of one transmission's fixes stand, in rank, which are dominated, and which are refused, and against whom.
 //
-// The work is done by `rule`, over tables that `items::pairs` fills. `decide` takes any bytes.
+// The work is done by `rule`, over tables that `items::pairs` fills. `decide` takes any bytes; `settled` is for callers who lend
+// the tables.
 use items::layout::ITEM_SIZE;
 use items::layout::MAX_ITEMS;
 ghost use mathlib.Core.Path.{_≡_};
@@ -9,37 +10,33 @@ ghost use Prim.Native.Nat.{_+_, _*_, _≤_, _<_};
 ghost use lib.ListN.{length};
 ghost use Rattle.ranges.specs.Lists.{anyOf, upTo};
 ghost use Rattle.arithmetic.specs.Stages.{preparedSize};
-ghost use Rattle.items.specs.Layout.{itemSize};
+ghost use Rattle.items.specs.Layout.{itemSize, maxItems};
 ghost use Rattle.items.specs.Items.{sameIdentity};
-ghost use Rattle.items.specs.Pairs.{stride, Whole};
-ghost use Rattle.decision.specs.Standing as S;
-ghost use Rattle.decision.specs.Related.{itemRelations};
-ghost use Rattle.decision.specs.Answer.{badAt, decision, decided, refusedDecision};
+ghost use Rattle.items.specs.Pairs.{stride};
+ghost use Rattle.decision.specs.Rule.{few, plainly};
+ghost use Rattle.decision.specs.Answer.{badAt, bad, outcome, decision, decided};
 
 mod rule;
+pub mod settled;
 
 // Up to this many items have small tables, which cost little to clear.
-const FEW: u8 = 8;
+pub const FEW: usize = 10;
 
-// The sizes of the tables of prepared numbers, of codes and of chi-squares.
-const FEW_NUMBERS: usize = 8 * arithmetic::PREPARED;
+// The sizes of the tables of prepared numbers and of codes.
+pub const FEW_NUMBERS: usize = FEW * arithmetic::PREPARED;
 
-const FEW_CODES: usize = 8 * MAX_ITEMS;
+pub const FEW_CODES: usize = FEW * MAX_ITEMS;
 
-const FEW_CHIS: usize = 8 * 8;
+pub const MANY_NUMBERS: usize = MAX_ITEMS * arithmetic::PREPARED;
 
-const MANY_NUMBERS: usize = MAX_ITEMS * arithmetic::PREPARED;
-
-const MANY_CODES: usize = MAX_ITEMS * MAX_ITEMS;
-
-const MANY_CHIS: usize = MAX_ITEMS * MAX_ITEMS;
+pub const MANY_CODES: usize = MAX_ITEMS * MAX_ITEMS;
 
 // A refused item, the one that it is refused against, and the chi-square between them. `superseded`: it is the smaller,
 // and a verified superset with more standing took its place; else it is the larger.
 pub struct Refusal {
+    pub chi2: f64,
     pub refused: u8,
     pub kept: u8,
-    pub chi2: f64,
     pub superseded: bool,
 }
 
@@ -53,12 +50,30 @@ pub struct Indices {
     pub count: u8,
 }
 
+// The answer of a decision, and of items of which nothing is decided.
+const DECIDED: u8 = 0;
+
+const BAD_ITEMS: u8 = 8;
+
 // The answer is 0, or 8 with nothing decided. Ranked in rank, dominated and refusals ascending by index.
 pub struct Decision {
     pub answer: u8,
     pub ranked: Indices,
     pub dominated: Indices,
     pub refusals: Refusals,
+}
+
+// Of each item, whether it takes the place of another, whether another takes its place, and whether it is refused.
+pub struct Marks {
+    pub superseding: [bool; MAX_ITEMS],
+    pub superseded: [bool; MAX_ITEMS],
+    pub refused: [bool; MAX_ITEMS],
+}
+
+// Whether an item is refused, and how.
+pub enum Finding {
+    Unrefused,
+    Refused(Refusal),
 }
 
 // What a search for the first of some items finds.
@@ -106,20 +121,34 @@ fn any_bad(s: &[u8], n: u8) -> bool
     false
 }
 
-fn refused_decision() -> Decision
-    ensures { λ r. ⌜ r ≡ refusedDecision ⌝ }
+// Over 96 items, no whole number of items, a malformed one, or two with one identity.
+pub fn is_bad(s: &[u8]) -> bool
+    ensures { λ r. ⌜ r ≡ bad (now (s .entry)) ⌝ }
+{
+    if MAX_ITEMS * ITEM_SIZE < s.len() {
+        return true;
+    }
+    if s.len() % ITEM_SIZE != 0 {
+        return true;
+    }
+    any_bad(s, (s.len() / ITEM_SIZE) as u8)
+}
+
+// The decision that ranks the first n of at most one item, and lists no other.
+fn plain(answer: u8, n: u8) -> Decision
+    ensures { λ r. ⌜ r ≡ plainly answer n ⌝ }
 {
     let none = Refusal {
+        chi2: 0.0,
         refused: 0,
         kept: 0,
-        chi2: 0.0,
         superseded: false,
     };
     let list = [none; MAX_ITEMS];
     let zeros = [0u8; MAX_ITEMS];
     let ranked = Indices {
         list: zeros,
-        count: 0,
+        count: n,
     };
     let dominated = Indices {
         list: zeros,
@@ -127,57 +156,60 @@ fn refused_decision() -> Decision
     };
     let refusals = Refusals { list, count: 0 };
     Decision {
-        answer: 8,
+        answer,
         ranked,
         dominated,
         refusals,
     }
 }
 
-// Fills the lent tables, and decides by them.
-fn decide_in(s: &[u8], n: u8, table: &mut [f64], codes: &mut [u8], chis: &mut [f64]) -> Decision
-    requires { ⌜ Whole (now s) n × (anyOf (badAt (now s)) (upTo n) ≡ false) × (n * preparedSize ≤ length (now table)) × (n * stride ≤ length (now codes)) × (n * n ≤ length (now chis)) ⌝ }
-    ensures { λ r. ⌜ r ≡ decision (S.decide (itemRelations (now (s .entry))) (upTo n)) ⌝ }
+// Decides in the lent tables.
+fn decide_in(s: &[u8], n: u8, table: &mut [f64], codes: &mut [u8]) -> Decision
+    requires { ⌜ (bad (now s) ≡ false) × (length (now s) ≡ n * itemSize) × (n * preparedSize ≤ length (now table)) × (n * stride ≤ length (now codes)) ⌝ }
+    ensures { λ r. ⌜ r ≡ decision (outcome (now (s .entry))) ⌝ }
 {
-    items::pairs::prepare_all(s, n, table);
-    items::pairs::code_all(s, n, table, codes, chis);
-    rule::decide_all(s, codes, chis, n)
+    let m = settled::settle(s, n, table, codes);
+    let refusals = settled::refusals(s, n, table, codes, m);
+    let dominated = settled::dominated(s, n, codes, m);
+    let ranked = settled::ranked(s, n, codes, m);
+    Decision {
+        answer: DECIDED,
+        ranked,
+        dominated,
+        refusals,
+    }
 }
 
 fn decide_few(s: &[u8], n: u8) -> Decision
-    requires { ⌜ Whole (now s) n × (anyOf (badAt (now s)) (upTo n) ≡ false) × (n ≤ 8) ⌝ }
-    ensures { λ r. ⌜ r ≡ decision (S.decide (itemRelations (now (s .entry))) (upTo n)) ⌝ }
+    requires { ⌜ (bad (now s) ≡ false) × (length (now s) ≡ n * itemSize) × (n ≤ few) ⌝ }
+    ensures { λ r. ⌜ r ≡ decision (outcome (now (s .entry))) ⌝ }
 {
     let mut table = [0.0; FEW_NUMBERS];
     let mut codes = [0u8; FEW_CODES];
-    let mut chis = [0.0; FEW_CHIS];
-    decide_in(s, n, &mut table, &mut codes, &mut chis)
+    decide_in(s, n, &mut table, &mut codes)
 }
 
 fn decide_many(s: &[u8], n: u8) -> Decision
-    requires { ⌜ Whole (now s) n × (anyOf (badAt (now s)) (upTo n) ≡ false) ⌝ }
-    ensures { λ r. ⌜ r ≡ decision (S.decide (itemRelations (now (s .entry))) (upTo n)) ⌝ }
+    requires { ⌜ (bad (now s) ≡ false) × (length (now s) ≡ n * itemSize) × (n ≤ maxItems) ⌝ }
+    ensures { λ r. ⌜ r ≡ decision (outcome (now (s .entry))) ⌝ }
 {
     let mut table = [0.0; MANY_NUMBERS];
     let mut codes = [0u8; MANY_CODES];
-    let mut chis = [0.0; MANY_CHIS];
-    decide_in(s, n, &mut table, &mut codes, &mut chis)
+    decide_in(s, n, &mut table, &mut codes)
 }
 
 pub fn decide(s: &[u8]) -> Decision
     ensures { λ r. ⌜ r ≡ decided (now (s .entry)) ⌝ }
 {
-    if MAX_ITEMS * ITEM_SIZE < s.len() {
-        return refused_decision();
-    }
-    if s.len() % ITEM_SIZE != 0 {
-        return refused_decision();
+    if is_bad(s) {
+        return plain(BAD_ITEMS, 0);
     }
     let n = (s.len() / ITEM_SIZE) as u8;
-    if any_bad(s, n) {
-        return refused_decision();
+    // Nothing opposes an item that is alone.
+    if n <= 1 {
+        return plain(DECIDED, n);
     }
-    if n <= FEW {
+    if n as usize <= FEW {
         return decide_few(s, n);
     }
     decide_many(s, n)

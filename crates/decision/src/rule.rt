@@ -1,16 +1,15 @@
 // The rule, over tables: who supersedes, who is superseded, who is refused and against whom, who is dominated, and the rest by
 // rank. Each test is a function of one or two indices, and each table is filled by one loop.
 use crate::Choice;
-use crate::Decision;
+use crate::Finding;
 use crate::Indices;
+use crate::Marks;
 use crate::Refusal;
-use crate::Refusals;
 use items::layout::MAX_ITEMS;
 use items::pairs::APART;
 use items::pairs::DISAGREES;
 ghost use mathlib.Core.Path.{_≡_};
 ghost use mathlib.Core.Bool.{true, false};
-ghost use mathlib.Core.List.{map, flatMap};
 ghost use Prim.Native.Nat.{_+_, _*_, _≤_, _<_};
 ghost use lib.ListN.{length};
 ghost use Rattle.ranges.specs.Lists.{anyOf, filter, sort, upTo};
@@ -18,19 +17,13 @@ ghost use Rattle.ranges.specs.Range.{Holds};
 ghost use Rattle.ranges.specs.Tables.{Cached, marked};
 ghost use Rattle.items.specs.Layout.{itemSize, maxItems};
 ghost use Rattle.items.specs.Items.{subsetAt, disagreesAt, withinAt, lowerAt, aheadAt};
-ghost use Rattle.items.specs.Pairs.{Kept};
+ghost use Rattle.items.specs.Pairs.{Prepared};
 ghost use Rattle.decision.specs.Standing as S;
 ghost use Rattle.decision.specs.Related.{itemRelations};
-ghost use Rattle.decision.specs.Answer.{badAt, refusal, noRefusal, decision};
+ghost use Rattle.decision.specs.Answer.{badAt};
 ghost use Rattle.decision.specs.Choosing.{better, choose, Below};
-ghost use Rattle.decision.specs.Rule.{Ready, resists, covers, finding};
+ghost use Rattle.decision.specs.Rule.{Ready, Marked, resists, covers, finding};
 ghost use Rattle.decision.specs.Rule.{stands as isStanding, dominated as isDominated};
-
-// Whether an item is refused, and how.
-enum Finding {
-    Unrefused,
-    Refused(Refusal),
-}
 
 // Whether item i's record is a subset of item j's.
 fn subset(s: &[u8], codes: &[u8], n: u8, i: u8, j: u8) -> bool
@@ -247,6 +240,21 @@ fn refused_table(
     m
 }
 
+// The three tables.
+pub fn mark_all(s: &[u8], codes: &[u8], n: u8) -> Marks
+    requires { ⌜ (n ≤ maxItems) × Ready (now s) (now codes) n ⌝ }
+    ensures { λ r. ⌜ Marked (now (s .entry)) n r ⌝ }
+{
+    let superseding = super_table(s, codes, n);
+    let superseded = superseded_table(s, codes, n, &superseding);
+    let refused = refused_table(s, codes, n, &superseding, &superseded);
+    Marks {
+        superseding,
+        superseded,
+        refused,
+    }
+}
+
 // The lower identity of best, if there is one, and k.
 fn better_identity(s: &[u8], n: u8, best: Choice, k: u8) -> Choice
     requires { ⌜ (n * itemSize ≤ length (now s)) × (k < n) × Below n best ⌝ }
@@ -298,15 +306,15 @@ fn opposing(s: &[u8], codes: &[u8], n: u8, sd: &[bool; MAX_ITEMS], i: u8) -> Cho
 }
 
 // The refusal of item i that another takes the place of.
-fn replaced(s: &[u8], codes: &[u8], chis: &[f64], n: u8, sup: &[bool; MAX_ITEMS], i: u8) -> Finding
-    requires { ⌜ (i < n) × (n ≤ maxItems) × Ready (now s) (now codes) n × Cached false (now sup) (S.supersedes (itemRelations (now s)) (upTo n)) n × Kept (now s) (now chis) n (n * n) ⌝ }
+fn replaced(s: &[u8], codes: &[u8], table: &[f64], n: u8, sup: &[bool; MAX_ITEMS], i: u8) -> Finding
+    requires { ⌜ (i < n) × (n ≤ maxItems) × Ready (now s) (now codes) n × Cached false (now sup) (S.supersedes (itemRelations (now s)) (upTo n)) n × Prepared (now s) (now table) n ⌝ }
     ensures { λ r. ⌜ r ≡ finding (S.replaced (itemRelations (now (s .entry))) (upTo n) i (filter (S.replaces (itemRelations (now (s .entry))) (upTo n) i) (upTo n))) ⌝ }
 {
     let by = replacing(s, codes, n, sup, i);
     let Choice::Item(k) = by else {
         return Finding::Unrefused;
     };
-    let chi2 = items::pairs::chi_square(s, n, chis, k, i);
+    let chi2 = items::pairs::chi_square(s, n, table, k, i);
     Finding::Refused(Refusal {
         refused: i,
         kept: k,
@@ -316,15 +324,15 @@ fn replaced(s: &[u8], codes: &[u8], chis: &[f64], n: u8, sup: &[bool; MAX_ITEMS]
 }
 
 // The refusal of item i that another opposes.
-fn contested(s: &[u8], codes: &[u8], chis: &[f64], n: u8, sd: &[bool; MAX_ITEMS], i: u8) -> Finding
-    requires { ⌜ (i < n) × (n ≤ maxItems) × Ready (now s) (now codes) n × Cached false (now sd) (S.isSuperseded (itemRelations (now s)) (upTo n)) n × Kept (now s) (now chis) n (n * n) ⌝ }
+fn contested(s: &[u8], codes: &[u8], table: &[f64], n: u8, sd: &[bool; MAX_ITEMS], i: u8) -> Finding
+    requires { ⌜ (i < n) × (n ≤ maxItems) × Ready (now s) (now codes) n × Cached false (now sd) (S.isSuperseded (itemRelations (now s)) (upTo n)) n × Prepared (now s) (now table) n ⌝ }
     ensures { λ r. ⌜ r ≡ finding (S.opposed (itemRelations (now (s .entry))) (upTo n) i (filter (S.opposes (itemRelations (now (s .entry))) (upTo n) i) (upTo n))) ⌝ }
 {
     let by = opposing(s, codes, n, sd, i);
     let Choice::Item(k) = by else {
         return Finding::Unrefused;
     };
-    let chi2 = items::pairs::chi_square(s, n, chis, i, k);
+    let chi2 = items::pairs::chi_square(s, n, table, i, k);
     Finding::Refused(Refusal {
         refused: i,
         kept: k,
@@ -333,61 +341,27 @@ fn contested(s: &[u8], codes: &[u8], chis: &[f64], n: u8, sd: &[bool; MAX_ITEMS]
     })
 }
 
-// The refusal of an item that is refused.
-fn refusal_of(
+// The refusal of item i, if it is refused.
+pub fn refusal_of(
     s: &[u8],
     codes: &[u8],
-    chis: &[f64],
-    n: u8,
-    sup: &[bool; MAX_ITEMS],
-    sd: &[bool; MAX_ITEMS],
-    i: u8,
-) -> Finding
-    requires { ⌜ (i < n) × (n ≤ maxItems) × Ready (now s) (now codes) n × Cached false (now sup) (S.supersedes (itemRelations (now s)) (upTo n)) n × Cached false (now sd) (S.isSuperseded (itemRelations (now s)) (upTo n)) n × Kept (now s) (now chis) n (n * n) × (S.isRefused (itemRelations (now s)) (upTo n) i ≡ true) ⌝ }
-    ensures { λ r. ⌜ r ≡ finding (S.refusalOf (itemRelations (now (s .entry))) (upTo n) i) ⌝ }
-{
-    if sd[i as usize] {
-        return replaced(s, codes, chis, n, sup, i);
-    }
-    contested(s, codes, chis, n, sd, i)
-}
-
-fn refuse_all(
-    s: &[u8],
-    codes: &[u8],
-    chis: &[f64],
+    table: &[f64],
     n: u8,
     sup: &[bool; MAX_ITEMS],
     sd: &[bool; MAX_ITEMS],
     rf: &[bool; MAX_ITEMS],
-) -> Refusals
-    requires { ⌜ (n ≤ maxItems) × Ready (now s) (now codes) n × Cached false (now sup) (S.supersedes (itemRelations (now s)) (upTo n)) n × Cached false (now sd) (S.isSuperseded (itemRelations (now s)) (upTo n)) n × Cached false (now rf) (S.isRefused (itemRelations (now s)) (upTo n)) n × Kept (now s) (now chis) n (n * n) ⌝ }
-    ensures { λ r. ⌜ Holds maxItems noRefusal (r .list) (r .count) (map refusal (flatMap (S.refusalOf (itemRelations (now (s .entry))) (upTo n)) (upTo n))) ⌝ }
+    i: u8,
+) -> Finding
+    requires { ⌜ (i < n) × (n ≤ maxItems) × Ready (now s) (now codes) n × Cached false (now sup) (S.supersedes (itemRelations (now s)) (upTo n)) n × Cached false (now sd) (S.isSuperseded (itemRelations (now s)) (upTo n)) n × Prepared (now s) (now table) n × Cached false (now rf) (S.isRefused (itemRelations (now s)) (upTo n)) n ⌝ }
+    ensures { λ r. ⌜ r ≡ finding (S.refusalOf (itemRelations (now (s .entry))) (upTo n) i) ⌝ }
 {
-    let none = Refusal {
-        refused: 0,
-        kept: 0,
-        chi2: 0.0,
-        superseded: false,
-    };
-    let mut list = [none; MAX_ITEMS];
-    let mut count: u8 = 0;
-    let mut i: u8 = 0;
-    while i < n {
-        if !rf[i as usize] {
-            i += 1;
-            continue;
-        }
-        let found = refusal_of(s, codes, chis, n, sup, sd, i);
-        let Finding::Refused(x) = found else {
-            i += 1;
-            continue;
-        };
-        list[count as usize] = x;
-        count += 1;
-        i += 1;
+    if !rf[i as usize] {
+        return Finding::Unrefused;
     }
-    Refusals { list, count }
+    if sd[i as usize] {
+        return replaced(s, codes, table, n, sup, i);
+    }
+    contested(s, codes, table, n, sd, i)
 }
 
 // What the table says of i.
@@ -423,7 +397,7 @@ fn covered(s: &[u8], codes: &[u8], n: u8, rf: &[bool; MAX_ITEMS], i: u8) -> bool
     false
 }
 
-fn dominated_at(s: &[u8], codes: &[u8], n: u8, rf: &[bool; MAX_ITEMS], i: u8) -> bool
+pub fn dominated_at(s: &[u8], codes: &[u8], n: u8, rf: &[bool; MAX_ITEMS], i: u8) -> bool
     requires { ⌜ (i < n) × (n ≤ maxItems) × Ready (now s) (now codes) n × Cached false (now rf) (S.isRefused (itemRelations (now s)) (upTo n)) n ⌝ }
     ensures { λ r. ⌜ r ≡ isDominated (itemRelations (now (s .entry))) (upTo n) i ⌝ }
 {
@@ -444,7 +418,7 @@ fn stands_at(s: &[u8], codes: &[u8], n: u8, rf: &[bool; MAX_ITEMS], i: u8) -> bo
 }
 
 // Who stands.
-fn stands_table(s: &[u8], codes: &[u8], n: u8, rf: &[bool; MAX_ITEMS]) -> [bool; MAX_ITEMS]
+pub fn stands_table(s: &[u8], codes: &[u8], n: u8, rf: &[bool; MAX_ITEMS]) -> [bool; MAX_ITEMS]
     requires { ⌜ (n ≤ maxItems) × Ready (now s) (now codes) n × Cached false (now rf) (S.isRefused (itemRelations (now s)) (upTo n)) n ⌝ }
     ensures { λ r. ⌜ Cached false r (isStanding (itemRelations (now (s .entry))) (upTo n)) n ⌝ }
 {
@@ -455,25 +429,6 @@ fn stands_table(s: &[u8], codes: &[u8], n: u8, rf: &[bool; MAX_ITEMS]) -> [bool;
         i += 1;
     }
     m
-}
-
-fn dominate_all(s: &[u8], codes: &[u8], n: u8, rf: &[bool; MAX_ITEMS]) -> Indices
-    requires { ⌜ (n ≤ maxItems) × Ready (now s) (now codes) n × Cached false (now rf) (S.isRefused (itemRelations (now s)) (upTo n)) n ⌝ }
-    ensures { λ r. ⌜ Holds maxItems 0 (r .list) (r .count) (filter (isDominated (itemRelations (now (s .entry))) (upTo n)) (upTo n)) ⌝ }
-{
-    let mut list = [0u8; MAX_ITEMS];
-    let mut count: u8 = 0;
-    let mut i: u8 = 0;
-    while i < n {
-        if !dominated_at(s, codes, n, rf, i) {
-            i += 1;
-            continue;
-        }
-        list[count as usize] = i;
-        count += 1;
-        i += 1;
-    }
-    Indices { list, count }
 }
 
 // The first by rank of best, if there is one, and k.
@@ -508,7 +463,7 @@ fn first_left(s: &[u8], n: u8, left: &[bool; MAX_ITEMS]) -> Choice
     best
 }
 
-fn rank_all(s: &[u8], n: u8, stands: [bool; MAX_ITEMS]) -> Indices
+pub fn rank_all(s: &[u8], n: u8, stands: [bool; MAX_ITEMS]) -> Indices
     requires { ⌜ (n ≤ maxItems) × (n * itemSize ≤ length (now s)) × (anyOf (badAt (now s)) (upTo n) ≡ false) × Cached false stands (isStanding (itemRelations (now s)) (upTo n)) n ⌝ }
     ensures { λ r. ⌜ Holds maxItems 0 (r .list) (r .count) (sort (aheadAt (now (s .entry))) (filter (isStanding (itemRelations (now (s .entry))) (upTo n)) (upTo n))) ⌝ }
 {
@@ -525,23 +480,4 @@ fn rank_all(s: &[u8], n: u8, stands: [bool; MAX_ITEMS]) -> Indices
         count += 1;
     }
     Indices { list, count }
-}
-
-// What is decided of n items that are not bad.
-pub fn decide_all(s: &[u8], codes: &[u8], chis: &[f64], n: u8) -> Decision
-    requires { ⌜ (n ≤ maxItems) × Ready (now s) (now codes) n × Kept (now s) (now chis) n (n * n) × (anyOf (badAt (now s)) (upTo n) ≡ false) ⌝ }
-    ensures { λ r. ⌜ r ≡ decision (S.decide (itemRelations (now (s .entry))) (upTo n)) ⌝ }
-{
-    let sup = super_table(s, codes, n);
-    let sd = superseded_table(s, codes, n, &sup);
-    let rf = refused_table(s, codes, n, &sup, &sd);
-    let refusals = refuse_all(s, codes, chis, n, &sup, &sd, &rf);
-    let dominated = dominate_all(s, codes, n, &rf);
-    let ranked = rank_all(s, n, stands_table(s, codes, n, &rf));
-    Decision {
-        answer: 0,
-        ranked,
-        dominated,
-        refusals,
-    }
 }

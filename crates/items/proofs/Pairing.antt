@@ -1,25 +1,22 @@
 -- The laws of the tables of `Pairs`: what fills them, and what is read of them.
-use mathlib.Core.Path.{_≡_, refl, sym, ap, _∙_}
+use mathlib.Core.Path.{_≡_, refl, ap, _∙_}
 use mathlib.Core.Bool.{Bool, true, false, not}
 use mathlib.Core.List.{List}
 use Prim.Native.Nat.{ℕ, _+_, _-_, _*_, _≤_, _<_}
 use native.Mathlib.Omega.{arith}
-use native.Mathlib.Nat.{add-mul, le-trans, mul-le-mul-left, mul-le-mul-right}
 use borrow.Author.Count.{below-more}
-use borrow.Author.Tests.{eqb-true, eqb-false, ltb-true, ltb-false}
-use lib.Dec.{eqb, ltb}
+use lib.Dec.{eqb}
 use lib.Ieee.{Float}
 use lib.ListN.{length, getD, take, drop, set, length-set, length-drop}
 use lib.Seq.{length-take-le, getD-set-same, getD-set-other}
 use Rattle.arithmetic.specs.Agree.{agreesOf}
-use Rattle.arithmetic.specs.Linalg.{item}
 use Rattle.arithmetic.specs.Stages.{preparedSize, preparedOf, entryOf, entered}
 use Rattle.arithmetic.specs.declared.standing.Claimed.{Claimed}
 use Rattle.arithmetic.proofs.Staged.{entry-here, entry-other, length-entered, length-prepared}
 use Rattle.items.specs.Layout.{maxItems}
 use Rattle.items.specs.Items.{itemRecord, itemConsistent, subsetAt, agreementAt, disagreesAt}
 use Rattle.items.specs.Claimed.{claimOf}
-use Rattle.items.specs.Pairs.{pairCode, keptAt, stride, Coded, CodedRow, Kept}
+use Rattle.items.specs.Pairs.{pairCode, stride, Coded, CodedRow}
 
 by : {A : Type 0} (b : Bool) → (b ≡ true → A) → (b ≡ false → A) → A
 by true f g = f refl
@@ -98,94 +95,3 @@ module _ (s : List ℕ) (i j : ℕ) where
       by (itemConsistent s j)
       (λ q. by (subsetAt s j i) (λ p. rw (p, q) (by (agreesOf (agreementAt s i j)) (λ r. rw r refl) (λ r. rw r refl))) (λ p. rw (p, q) refl))
       (λ q. by (subsetAt s j i) (λ p. rw (p, q) refl) (λ p. rw (p, q) refl))
-
--- ---- places in rows of n
-
-pub row-after : (n k : ℕ) → (k + 1) * n ≡ k * n + n
-row-after n k = omega (arith, add-mul k 1 n)
-
--- each place of a row lies before those of a later row
-pub row-before : (n i k : ℕ) → i < k → i * n + n ≤ k * n
-row-before n i k h = let l : (i + 1) * n ≤ k * n = mul-le-mul-right n (omega arith) in omega (arith, row-after n i)
-
-pub in-rows : (n i j : ℕ) → i < n → j < n → i * n + j < n * n
-in-rows n i j h g = let l = row-before n i n h in omega arith
-
--- fewer rows have fewer places
-pub rows-within : (n w : ℕ) → n ≤ w → n * n ≤ w * w
-rows-within n w h = le-trans (mul-le-mul-right n h) (mul-le-mul-left w h)
-
--- a place is a small number
-pub place-fits : (n i j : ℕ) → i < n → j < n → n ≤ maxItems → i * n + j < maxItems * maxItems
-place-fits n i j h g f = let p = in-rows n i j h g in let w = rows-within n maxItems f in omega arith
-
--- a place has one row and one column
-one-place : (n i j k l : ℕ) → j < n → l < n → i * n + j ≡ k * n + l → (i ≡ k) × (j ≡ l)
-one-place n i j k l p q e =
-    by (ltb i k)
-    (λ u. let b = row-before n i k (ltb-true i k u) in absurd (omega arith))
-    (λ u. by (ltb k i)
-    (λ v. let b = row-before n k i (ltb-true k i v) in absurd (omega arith))
-    (λ v.
-    let a = ltb-false i k u in
-    let b = ltb-false k i v in
-    let r : i ≡ k = omega arith in
-    let m : i * n ≡ k * n = ap (λ (x : ℕ). x * n) r in
-    (r, omega arith)))
-
--- ---- the chi-squares
-
-module _ (s : List ℕ) (n : ℕ) where
-  pub kept-none : (c : List Float) → n * n ≤ length c → Kept s c n (0 * n)
-  kept-none c h = record { room = h; chis = λ i j p q z d. absurd (omega arith) }
-
-  kept-length : (c : List Float) (k l : ℕ) → length (keptAt s c n k l) ≡ length c
-  unfolding keptAt
-  kept-length c k l = by (disagreesAt s k l) (λ p. rw (p, length-set c (k * n + l) (agreementAt s k l .chi2)) refl) (λ p. rw p refl)
-
-  -- the place itself
-  kept-here : (c : List Float) (k l : ℕ) → k * n + l < length c → disagreesAt s k l ≡ true → item (keptAt s c n k l) (k * n + l) ≡ agreementAt s k l .chi2
-  unfolding keptAt
-  kept-here c k l h d = rw d (getD-set-same c (k * n + l) (agreementAt s k l .chi2) _ h)
-
-  -- any other
-  kept-other : (c : List Float) (k l a : ℕ) → (a ≡ k * n + l → ⊥) → item (keptAt s c n k l) a ≡ item c a
-  unfolding keptAt
-  kept-other c k l a h = by (disagreesAt s k l) (λ p. rw p (getD-set-other c (k * n + l) a (agreementAt s k l .chi2) _ h)) (λ p. rw p refl)
-
-  -- a pair more
-  pub kept-more : (c : List Float) (k l : ℕ) → k < n → l < n → Kept s c n (k * n + l) → Kept s (keptAt s c n k l) n (k * n + (l + 1))
-  kept-more c k l h g t =
-      let rm = t .room in
-      let b = in-rows n k l h g in
-      record {
-        room = rw (kept-length c k l) rm;
-        chis = λ i j p q z d.
-            by (eqb (i * n + j) (k * n + l))
-            (λ e.
-            let u = one-place n i j k l q g (eqb-true (i * n + j) (k * n + l) e) in
-            rw (u .0, u .1) (kept-here c k l (omega arith) (rw (u .0, u .1) at d)))
-            (λ e.
-            let f = eqb-false (i * n + j) (k * n + l) e in
-            kept-other c k l (i * n + j) f ∙ t .chis i j p q (by (ltb (i * n + j) (k * n + l)) (λ v. ltb-true _ _ v) (λ v. let w = ltb-false (i * n + j) (k * n + l) v in absurd (f (omega arith)))) d);
-      }
-
-  -- of fewer places
-  pub kept-fewer : (c : List Float) (m k : ℕ) → k ≤ m → Kept s c n m → Kept s c n k
-  kept-fewer c m k h t = record { room = t .room; chis = λ i j p q z d. t .chis i j p q (omega arith) d }
-
-  -- a row more
-  pub kept-next : (c : List Float) (k l : ℕ) → n ≤ l → Kept s c n (k * n + l) → Kept s c n ((k + 1) * n)
-  kept-next c k l h = kept-fewer c (k * n + l) ((k + 1) * n) (let e = row-after n k in omega arith)
-
-  pub kept-all : (c : List Float) (k : ℕ) → n ≤ k → Kept s c n (k * n) → Kept s c n (n * n)
-  kept-all c k h = kept-fewer c (k * n) (n * n) (mul-le-mul-right n h)
-
-  -- what a code says of the table
-  pub kept-not : (c : List Float) (i j b : ℕ) → b ≡ pairCode s i j → eqb b 2 ≡ false → c ≡ keptAt s c n i j
-  unfolding keptAt
-  kept-not c i j b e f = rw (sym (code-disagrees s i j) ∙ ap (λ (x : ℕ). eqb x 2) (sym e) ∙ f) refl
-
-  pub kept-so : (c : List Float) (i j : ℕ) → 2 ≡ pairCode s i j → set c (i * n + j) (agreementAt s i j .chi2) ≡ keptAt s c n i j
-  unfolding keptAt
-  kept-so c i j e = rw (sym (code-disagrees s i j) ∙ ap (λ (x : ℕ). eqb x 2) (sym e)) refl

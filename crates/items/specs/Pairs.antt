@@ -1,17 +1,16 @@
 -- No claim rests on these definitions: they say what the tables hold that a decision is worked out from. Each item's claim is prepared once, and each
--- ordered pair of items has a code, and a chi-square where it disagrees, so that a pair is compared at most once.
+-- ordered pair of items has a code.
 use mathlib.Core.Path.{_≡_}
 use mathlib.Core.Bool.{true, cond}
 use mathlib.Core.List.{List}
 use Prim.Native.Nat.{ℕ, _+_, _*_, _≤_, _<_}
 use lib.Ieee.{Float}
-use lib.ListN.{length, getD, set}
+use lib.ListN.{length, getD}
 use Rattle.record.specs.Formed.{wellFormed}
 use Rattle.arithmetic.specs.Agree.{agreesOf}
-use Rattle.arithmetic.specs.Linalg.{item}
 use Rattle.arithmetic.specs.Stages.{preparedSize, preparedOf, entryOf}
 use Rattle.items.specs.Layout.{maxItems, itemSize}
-use Rattle.items.specs.Items.{itemRecord, itemConsistent, subsetAt, agreementAt, disagreesAt}
+use Rattle.items.specs.Items.{itemRecord, itemConsistent, subsetAt, agreementAt}
 use Rattle.items.specs.Claimed.{claimOf}
 
 -- 0 where j is no subset of i, 2 where it is a consistent one that disagrees, else 1
@@ -44,13 +43,3 @@ pub record CodedRow (s : List ℕ) (m : List ℕ) (n k l : ℕ) : Type 0 where
   pub room : n * stride ≤ length m
   pub rows : (i j : ℕ) → i < k → j < n → getD m (i * stride + j) 0 ≡ pairCode s i j
   pub row : (j : ℕ) → j < l → getD m (k * stride + j) 0 ≡ pairCode s k j
-
--- Chi-squares stand in rows of n, and not of `stride`: few items need a small table, which costs little to clear.
--- The table with that of a pair put in its place, if it disagrees.
-unfoldable pub keptAt : List ℕ → List Float → ℕ → ℕ → ℕ → List Float
-keptAt s c n i j = cond (disagreesAt s i j) (set c (i * n + j) (agreementAt s i j .chi2)) c
-
--- of the first m places, the chi-square of each pair that disagrees
-pub record Kept (s : List ℕ) (c : List Float) (n m : ℕ) : Type 0 where
-  pub room : n * n ≤ length c
-  pub chis : (i j : ℕ) → i < n → j < n → i * n + j < m → disagreesAt s i j ≡ true → item c (i * n + j) ≡ agreementAt s i j .chi2

@@ -1,16 +1,15 @@
 // The tables that a decision is worked out from. Each item's claim is prepared once, so that the comparison of a pair takes
-// no root and no sine or cosine, and each ordered pair is compared at most once: its code is kept, and its chi-square where
-// it disagrees.
+// no root and no sine or cosine, and each ordered pair is compared once: its code is kept. The chi-square of a pair is worked
+// out again where it is asked for: at most once for each item that is refused.
 use crate::layout::MAX_ITEMS;
 use arithmetic::standing::Agreement;
 ghost use mathlib.Core.Path.{_≡_};
 ghost use Prim.Native.Nat.{_+_, _*_, _≤_, _<_};
 ghost use lib.ListN.{length};
 ghost use Rattle.arithmetic.specs.Stages.{preparedSize};
-ghost use Rattle.items.specs.Layout.{itemSize, maxItems};
-ghost use mathlib.Core.Bool.{true};
-ghost use Rattle.items.specs.Items.{agreementAt, disagreesAt};
-ghost use Rattle.items.specs.Pairs.{pairCode, keptAt, stride, Whole, Prepared, Coded, CodedRow, Kept};
+ghost use Rattle.items.specs.Layout.{itemSize};
+ghost use Rattle.items.specs.Items.{agreementAt};
+ghost use Rattle.items.specs.Pairs.{pairCode, stride, Whole, Prepared, Coded, CodedRow};
 
 // The codes of a pair of items: the second is no subset of the first; a subset; a consistent one that disagrees.
 pub const APART: u8 = 0;
@@ -39,10 +38,10 @@ fn compared(s: &[u8], n: u8, table: &[f64], i: u8, j: u8) -> Agreement
     arithmetic::compare(table, j as usize, i as usize)
 }
 
-// The code of a pair; where it disagrees its chi-square is kept.
-fn code_pair(s: &[u8], n: u8, table: &[f64], i: u8, j: u8, chis: &mut [f64]) -> u8
-    requires { ⌜ (i < n) × (j < n) × Whole (now s) n × Prepared (now s) (now table) n × (n * n ≤ length (now chis)) ⌝ }
-    ensures { λ r. ⌜ (r ≡ pairCode (now (s .entry)) i j) × (now (chis .exit) ≡ keptAt (now (s .entry)) (now (chis .entry)) n i j) ⌝ }
+// The code of a pair.
+fn code_pair(s: &[u8], n: u8, table: &[f64], i: u8, j: u8) -> u8
+    requires { ⌜ (i < n) × (j < n) × Whole (now s) n × Prepared (now s) (now table) n ⌝ }
+    ensures { λ r. ⌜ r ≡ pairCode (now (s .entry)) i j ⌝ }
 {
     if !crate::subset(s, j, i) {
         return APART;
@@ -50,45 +49,43 @@ fn code_pair(s: &[u8], n: u8, table: &[f64], i: u8, j: u8, chis: &mut [f64]) -> 
     if !crate::consistent(s, j) {
         return SUBSET;
     }
-    let a = compared(s, n, table, i, j);
-    if arithmetic::agrees(a) {
+    if arithmetic::agrees(compared(s, n, table, i, j)) {
         return SUBSET;
     }
-    let at = i as usize * n as usize + j as usize;
-    chis[at] = a.chi2;
     DISAGREES
 }
 
-// The codes and the chi-squares of item i with each other, beside those of the items before it.
-fn code_row(s: &[u8], n: u8, table: &[f64], i: u8, codes: &mut [u8], chis: &mut [f64])
-    requires { ⌜ (i < n) × Whole (now s) n × Prepared (now s) (now table) n × CodedRow (now s) (now codes) n i 0 × Kept (now s) (now chis) n (i * n) ⌝ }
-    ensures { λ _. ⌜ CodedRow (now (s .entry)) (now (codes .exit)) n (i + 1) 0 × Kept (now (s .entry)) (now (chis .exit)) n ((i + 1) * n) ⌝ }
+// The codes of item i with each other, beside those of the items before it.
+fn code_row(s: &[u8], n: u8, table: &[f64], i: u8, codes: &mut [u8])
+    requires { ⌜ (i < n) × Whole (now s) n × Prepared (now s) (now table) n × CodedRow (now s) (now codes) n i 0 ⌝ }
+    ensures { λ _. ⌜ CodedRow (now (s .entry)) (now (codes .exit)) n (i + 1) 0 ⌝ }
 {
     let from = i as usize * MAX_ITEMS;
     let mut j: u8 = 0;
     while j < n {
         let at = from + j as usize;
-        codes[at] = code_pair(s, n, table, i, j, chis);
+        codes[at] = code_pair(s, n, table, i, j);
         j += 1;
     }
 }
 
-// The codes of each pair of n items, and the chi-squares of those that disagree.
-pub fn code_all(s: &[u8], n: u8, table: &[f64], codes: &mut [u8], chis: &mut [f64])
-    requires { ⌜ (n * stride ≤ length (now codes)) × (n * n ≤ length (now chis)) × Whole (now s) n × Prepared (now s) (now table) n ⌝ }
-    ensures { λ _. ⌜ Coded (now (s .entry)) (now (codes .exit)) n × Kept (now (s .entry)) (now (chis .exit)) n (n * n) ⌝ }
+// The codes of each pair of n items.
+pub fn code_all(s: &[u8], n: u8, table: &[f64], codes: &mut [u8])
+    requires { ⌜ (n * stride ≤ length (now codes)) × Whole (now s) n × Prepared (now s) (now table) n ⌝ }
+    ensures { λ _. ⌜ Coded (now (s .entry)) (now (codes .exit)) n ⌝ }
 {
     let mut i: u8 = 0;
     while i < n {
-        code_row(s, n, table, i, codes, chis);
+        code_row(s, n, table, i, codes);
         i += 1;
     }
 }
 
-// The chi-square of item i against a subset j that disagrees, as it was kept.
-pub fn chi_square(s: &[u8], n: u8, chis: &[f64], i: u8, j: u8) -> f64
-    requires { ⌜ (i < n) × (j < n) × (n ≤ maxItems) × Kept (now s) (now chis) n (n * n) × (disagreesAt (now s) i j ≡ true) ⌝ }
+// The chi-square of item i against its subset j.
+pub fn chi_square(s: &[u8], n: u8, table: &[f64], i: u8, j: u8) -> f64
+    requires { ⌜ (i < n) × (j < n) × Prepared (now s) (now table) n ⌝ }
     ensures { λ r. ⌜ r ≡ agreementAt (now (s .entry)) i j .chi2 ⌝ }
 {
-    chis[i as usize * n as usize + j as usize]
+    let a = compared(s, n, table, i, j);
+    a.chi2
 }

@@ -5,6 +5,7 @@ use arithmetic::standing::Covariance;
 use items::layout::MAX_ITEMS;
 use libc::STDIN_FILENO;
 use libc::STDOUT_FILENO;
+use toastlagoon::answers::ANSWER_SIZE;
 use toastlagoon::answers::INDICES_SIZE;
 use toastlagoon::answers::REFUSAL_SIZE;
 ghost use Prim.Native.Nat.{_+_, _<_, _≤_};
@@ -137,17 +138,21 @@ fn show_refusals(s: &[u8], at: usize)
     }
 }
 
-fn decide(items: &[u8]) {
-    let d = decision::decide(items);
-    word(b"answer");
-    show(wide(d.answer));
-    let answer = toastlagoon::answers::bytes_of(d);
+fn show_answer(answer: [u8; ANSWER_SIZE]) {
     word(b" ranked");
     show_indices(&answer, 0);
     word(b" dominated");
     show_indices(&answer, INDICES_SIZE);
     word(b" refused");
     show_refusals(&answer, INDICES_SIZE + INDICES_SIZE);
+}
+
+fn decide(items: &[u8]) {
+    let mut answer = [0u8; ANSWER_SIZE];
+    let number = toastlagoon::answers::decide(items, &mut answer);
+    word(b"answer");
+    show(number as u64);
+    show_answer(answer);
     word(b"\n");
 }
 

@@ -1,15 +1,15 @@
 -- Laws of a decision's bytes: how wide each part is, where it stands, and how one refusal more is written.
-use mathlib.Core.Path.{_≡_, refl, sym, ap, ap₂, _∙_}
+use mathlib.Core.Path.{_≡_, refl, sym, ap, ap₂, _∙_, subst}
 use mathlib.Core.Bool.{Bool, true, false, cond}
-use mathlib.Core.List.{List, [], _∷_, _++_, append-assoc, append-nil}
+use mathlib.Core.List.{List, [], _∷_, _++_, map, append-assoc, append-nil}
 use Prim.Native.Nat.{ℕ, zero, suc, _+_, _-_, _*_, _≤_, _<_}
 use native.Mathlib.Nat.{sub-zero}
 use native.Mathlib.Omega.{arith}
 use native.Mathlib.Numerals.{add-one}
 use mir.Val.{boolByte}
 use lib.Ieee.{binary64, toBits}
-use lib.ListN.{length, take, drop, set, getD, length-set, length-append, length-replicate, length-take, replicate}
-use lib.Seq.{sets, sets-eq, take-suc, take-all, take-at, drop-at}
+use lib.ListN.{length, take, drop, set, length-set, length-append, length-replicate, length-take, replicate}
+use lib.Seq.{sets, sets-eq, set-comm, take-at, drop-at}
 use Rattle.octets.specs.Words.{wordBytes}
 use Rattle.octets.specs.Writes.{putWord}
 use Rattle.octets.proofs.Numbers.{length-word-bytes}
@@ -18,9 +18,13 @@ use Rattle.text.proofs.Writing.{put-put, put-whole}
 use Rattle.items.specs.Layout.{maxItems}
 use Rattle.decision.specs.declared.Refusal.{Refusal}
 use Rattle.decision.specs.declared.Refusals.{Refusals}
+use Rattle.decision.specs.declared.Indices.{Indices}
 use Rattle.decision.specs.declared.Decision.{Decision}
+use Rattle.decision.specs.Outcome.{Outcome}
+use Rattle.decision.specs.Answer.{indices, refusal, noRefusal, refusals, decision}
+use Rattle.decision.specs.Rule.{plainly}
 use Rattle.toastlagoon.specs.Layout.{refusalSize}
-use Rattle.toastlagoon.specs.Offsets.{indicesSize, refusalsSize, rankedAt, dominatedAt, refusalsAt, answerSize}
+use Rattle.toastlagoon.specs.Offsets.{indicesSize, refusalsSize, rankedAt, dominatedAt, refusalsAt, answerSize, listBytes}
 use Rattle.toastlagoon.specs.Answer.{indicesBytes, refusalBytes, eachBytes, countedBytes, refusalsBytes, answerBytes}
 
 -- a number put at a place is a text of its bytes
@@ -62,7 +66,7 @@ drop-zeros (suc k) zero = let e : 0 ≡ 0 - suc k = omega arith in ap (λ (m : �
 drop-zeros (suc k) (suc n) = let e : suc n - suc k ≡ n - k = omega arith in drop-zeros k n ∙ ap (λ (m : ℕ). replicate m 0) (sym e)
 
 -- three texts, one after another, into n zeros: the rest stays zero
-pub put-zeros : (n : ℕ) {l₁ l₂ l₃ t u v : List ℕ} {r₁ r₂ r₃ : ℕ} → Put (replicate n 0) 0 t r₁ l₁ → Put l₁ r₁ u r₂ l₂ → Put l₂ r₂ v r₃ l₃ → r₃ ≤ n → l₃ ≡ t ++ (u ++ (v ++ replicate (n - r₃) 0))
+put-zeros : (n : ℕ) {l₁ l₂ l₃ t u v : List ℕ} {r₁ r₂ r₃ : ℕ} → Put (replicate n 0) 0 t r₁ l₁ → Put l₁ r₁ u r₂ l₂ → Put l₂ r₂ v r₃ l₃ → r₃ ≤ n → l₃ ≡ t ++ (u ++ (v ++ replicate (n - r₃) 0))
 put-zeros n {l₁} {l₂} {l₃} {t} {u} {v} {r₁} {r₂} {r₃} p q r h =
     let a = t ++ (u ++ v) in
     let w = put-put p (put-put q r) in
@@ -86,16 +90,53 @@ length-each [] = refl
 length-each (x ∷ l) = length-append (refusalBytes x) (eachBytes l) ∙ rw (length-refusal x, length-each l) (omega arith)
 
 -- one refusal more
-pub each-more : (l : List Refusal) (i : ℕ) (d : Refusal) → i < length l → eachBytes (take (i + 1) l) ≡ eachBytes (take i l) ++ refusalBytes (getD l i d)
+pub each-more : (l : List Refusal) (x : Refusal) → eachBytes l ++ refusalBytes x ≡ eachBytes (l ++ (x ∷ []))
 unfolding eachBytes
-each-more l i d h =
-    ap eachBytes (ap (λ (k : ℕ). take k l) (add-one i) ∙ take-suc l i d h)
-    ∙ each-append (take i l) (getD l i d ∷ [])
-    ∙ ap (λ (t : List ℕ). eachBytes (take i l) ++ t) (append-nil (refusalBytes (getD l i d)))
+each-more l x = sym (each-append l (x ∷ []) ∙ ap (λ (t : List ℕ). eachBytes l ++ t) (append-nil (refusalBytes x)))
 
--- as many as there are, when all were written, or when the count was reached
-pub all-counted : (l : List Refusal) (i n : ℕ) → length l ≤ i → i ≤ n → take i l ≡ take n l
-all-counted l i n h k = take-all i l h ∙ sym (take-all n l (omega arith))
+-- ---- a byte before a text that was written
+
+sets-before : (t l : List ℕ) (k at b : ℕ) → at < k → set (sets l k t) at b ≡ sets (set l at b) k t
+sets-before [] l k at b h = refl
+sets-before (x ∷ t) l k at b h =
+    sets-before t (set l k x) (suc k) at b (omega arith) ∙ ap (λ (m : List ℕ). sets m (suc k) t) (set-comm l k at x b (λ e. omega arith))
+
+pub put-before : {l l′ : List ℕ} {at r : ℕ} {t : List ℕ} (b : ℕ) → Put l (at + 1) t r l′ → Put l at (b ∷ t) r (set l′ at b)
+put-before {l} {l′} {at} {r} {t} b p =
+    let n = p .next in
+    record {
+      next = omega arith;
+      bytes = ap (λ (m : List ℕ). set m at b) (p .bytes) ∙ sets-before t l (at + 1) at b (omega arith) ∙ ap (λ (k : ℕ). sets (set l at b) k t) (add-one at);
+    }
+
+-- ---- the bytes of a decision that was made
+
+all-counted : (l : List Refusal) → countedBytes (refusals l) ≡ eachBytes l
+unfolding refusals
+all-counted l = ap eachBytes (take-at l (replicate (maxItems - length l) noRefusal) (length l) refl)
+
+-- its three parts, and zeros after them
+answer-of : (o : Outcome ℕ) (k : ℕ) → k ≡ maxItems * refusalSize - length (eachBytes (map refusal (o .refused)))
+    → indicesBytes (indices (o .ranked)) ++ (indicesBytes (indices (o .dominated)) ++ (listBytes (map refusal (o .refused)) ++ replicate k 0)) ≡ answerBytes (decision o)
+unfolding answerBytes decision refusals
+answer-of o k e =
+    let l = map refusal (o .refused) in
+    ap (λ (t : List ℕ). indicesBytes (indices (o .ranked)) ++ (indicesBytes (indices (o .dominated)) ++ (length l ∷ t)))
+    (ap (λ (j : ℕ). eachBytes l ++ replicate j 0) e ∙ ap (λ (t : List ℕ). t ++ replicate (maxItems * refusalSize - length t) 0) (sym (all-counted l)))
+
+-- as they are written into zeros one after another
+pub answer-put : (o : Outcome ℕ) {z l₁ l₂ l₃ : List ℕ} {a b : Indices} {r₁ r₂ r₃ : ℕ} → z ≡ replicate answerSize 0 → a ≡ indices (o .ranked) → b ≡ indices (o .dominated)
+    → Put z 0 (indicesBytes a) r₁ l₁ → Put l₁ r₁ (indicesBytes b) r₂ l₂ → Put l₂ r₂ (listBytes (map refusal (o .refused))) r₃ l₃ → r₂ ≡ refusalsAt → r₃ ≤ answerSize → l₃ ≡ answerBytes (decision o)
+answer-put o {z} {l₁} {l₂} {l₃} {a} {b} {r₁} {r₂} {r₃} e f g p q r h k =
+    let n = r .next in
+    put-zeros answerSize (subst (λ (t : List ℕ). Put t 0 (indicesBytes a) r₁ l₁) e p) q r k
+    ∙ ap₂ (λ (x y : Indices). indicesBytes x ++ (indicesBytes y ++ (listBytes (map refusal (o .refused)) ++ replicate (answerSize - r₃) 0))) f g
+    ∙ answer-of o (answerSize - r₃) (omega arith)
+
+-- of one item, or of none, all is zero but the count of the ranked
+pub answer-alone : (n : ℕ) → set (replicate answerSize 0) 0 n ≡ answerBytes (plainly 0 n)
+unfolding answerBytes plainly indices refusals eachBytes
+answer-alone n = refl
 
 -- they fit
 pub counted-fits : (l : List Refusal) (n : ℕ) → length (eachBytes (take n l)) ≤ length l * refusalSize

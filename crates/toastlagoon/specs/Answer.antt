@@ -12,7 +12,7 @@ use Rattle.decision.specs.declared.Refusal.{Refusal}
 use Rattle.decision.specs.declared.Refusals.{Refusals}
 use Rattle.decision.specs.declared.Indices.{Indices}
 use Rattle.decision.specs.declared.Decision.{Decision}
-use Rattle.register.specs.Register.{After, after}
+use Rattle.held.specs.After.{After, after}
 use Rattle.toastlagoon.specs.Layout.{refusalSize}
 
 abbrev pub indicesBytes : Indices → List ℕ

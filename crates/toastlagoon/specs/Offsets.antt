@@ -1,8 +1,12 @@
--- No claim rests on these definitions: they say where each list begins in the bytes of a decision, and how long they are. include/toastlagoon.h and
+-- No claim rests on these definitions: they say where each list begins in the bytes of a decision, how long they are, and what is written of the refusals. include/toastlagoon.h and
 -- oracle/driver/binding.rs have the same.
 use Prim.Native.Nat.{ℕ, _+_, _*_}
+use mathlib.Core.List.{List, _∷_}
+use lib.ListN.{length}
 use Rattle.items.specs.Layout.{maxItems}
+use Rattle.decision.specs.declared.Refusal.{Refusal}
 use Rattle.toastlagoon.specs.Layout.{refusalSize}
+use Rattle.toastlagoon.specs.Answer.{eachBytes}
 
 -- a count, and an index for each item
 abbrev pub indicesSize : ℕ
@@ -22,3 +26,7 @@ refusalsAt = dominatedAt + indicesSize
 
 abbrev pub answerSize : ℕ
 answerSize = refusalsAt + refusalsSize
+
+-- refusals with their count before them, and nothing after them
+abbrev pub listBytes : List Refusal → List ℕ
+listBytes l = length l ∷ eachBytes l

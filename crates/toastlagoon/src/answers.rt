@@ -1,19 +1,29 @@
 // A decision's bytes: ranked, dominated and refusals, each a count and room for all items.
 //
-// Each writer puts its part at a position of a lent buffer and returns the position after it.
-use decision::Decision;
+// Each writer puts its part at a position of a lent buffer and returns the position after it. The parts are asked for one by
+// one, so that no whole decision is made and copied.
+use decision::Finding;
 use decision::Indices;
+use decision::Marks;
 use decision::Refusal;
-use decision::Refusals;
+use items::layout::ITEM_SIZE;
 use items::layout::MAX_ITEMS;
 ghost use mathlib.Core.Path.{_≡_};
-ghost use mathlib.Core.List.{_∷_};
-ghost use Prim.Native.Nat.{_+_, _≤_};
-ghost use lib.ListN.{length};
+ghost use mathlib.Core.Bool.{false};
+ghost use mathlib.Core.List.{map};
+ghost use Prim.Native.Nat.{_+_, _*_, _≤_};
+ghost use lib.ListN.{length, replicate};
 ghost use Rattle.text.specs.Buffer.{Put};
+ghost use Rattle.arithmetic.specs.Stages.{preparedSize};
+ghost use Rattle.items.specs.Layout.{itemSize, maxItems};
+ghost use Rattle.items.specs.Pairs.{stride, Prepared};
+ghost use Rattle.decision.specs.Rule.{few, Settled};
+ghost use Rattle.decision.specs.Answer.{bad, outcome, refusal, decision, decided};
+ghost use Rattle.held.specs.After.{after};
 ghost use Rattle.toastlagoon.specs.Layout.{refusalSize};
-ghost use Rattle.toastlagoon.specs.Offsets.{indicesSize, refusalsSize};
-ghost use Rattle.toastlagoon.specs.Answer.{indicesBytes, refusalBytes, countedBytes, answerBytes};
+ghost use Rattle.toastlagoon.specs.Offsets.{indicesSize, refusalsSize, answerSize};
+ghost use Rattle.toastlagoon.specs.Answer.{indicesBytes, refusalBytes, answerBytes, handOut};
+ghost use Rattle.toastlagoon.specs.Offsets.{listBytes};
 
 // A count and room for an index of each item.
 pub const INDICES_SIZE: usize = 1 + MAX_ITEMS;
@@ -24,6 +34,11 @@ pub const REFUSAL_SIZE: usize = 3 + 8;
 pub const REFUSALS_SIZE: usize = 1 + MAX_ITEMS * REFUSAL_SIZE;
 
 pub const ANSWER_SIZE: usize = INDICES_SIZE + INDICES_SIZE + REFUSALS_SIZE;
+
+// The answers of items of which something is decided, and of bad ones.
+const DECIDED: u32 = 0;
+
+const BAD_ITEMS: u32 = 8;
 
 fn put_indices(out: &mut [u8], at: usize, x: Indices) -> usize
     requires { ⌜ at + indicesSize ≤ length (now out) ⌝ }
@@ -45,42 +60,93 @@ fn put_refusal(out: &mut [u8], at: usize, x: Refusal) -> usize
     at + REFUSAL_SIZE
 }
 
-fn wide(x: u8) -> usize
-    ensures { λ r. ⌜ r ≡ x ⌝ }
-{
-    x as usize
-}
-
-// The count, and so many refusals.
-fn put_refusals(out: &mut [u8], at: usize, x: Refusals) -> usize
+// The refusals, with their count before them.
+fn put_refusals(
+    out: &mut [u8],
+    at: usize,
+    s: &[u8],
+    n: u8,
+    table: &[f64],
+    codes: &[u8],
+    m: Marks,
+) -> usize
     requires { ⌜ at + refusalsSize ≤ length (now out) ⌝ }
-    ensures { λ r. ⌜ (r ≤ at + refusalsSize) × Put (now (out .entry)) at (x .count ∷ countedBytes x) r (now (out .exit)) ⌝ }
+    requires { ⌜ Prepared (now s) (now table) n × Settled (now s) n (now codes) m ⌝ }
+    ensures { λ r. ⌜ (r ≤ at + refusalsSize) × Put (now (out .entry)) at (listBytes (map refusal (outcome (now (s .entry)) .refused))) r (now (out .exit)) ⌝ }
 {
-    let list = x.list;
-    let count = wide(x.count);
-    out[at] = x.count;
     let mut next = at + 1;
-    let mut i = 0;
-    while i < MAX_ITEMS {
-        if count <= i {
-            return next;
-        }
-        next = put_refusal(out, next, list[i]);
+    let mut count: u8 = 0;
+    let mut i: u8 = 0;
+    while i < n {
+        let found = decision::settled::refusal(s, n, table, codes, m, i);
+        let Finding::Refused(x) = found else {
+            i += 1;
+            continue;
+        };
+        next = put_refusal(out, next, x);
+        count += 1;
         i += 1;
     }
+    out[at] = count;
     next
 }
 
-// Into zeros, so that what is not used is zero.
-pub fn bytes_of(d: Decision) -> [u8; ANSWER_SIZE]
-    ensures { λ r. ⌜ r ≡ answerBytes d ⌝ }
+// The three parts, one after another, into zeros, so that what is not used is zero.
+fn put_parts(out: &mut [u8], s: &[u8], n: u8, table: &[f64], codes: &[u8], m: Marks)
+    requires { ⌜ now out ≡ replicate answerSize 0 ⌝ }
+    requires { ⌜ Prepared (now s) (now table) n × Settled (now s) n (now codes) m ⌝ }
+    ensures { λ _. ⌜ now (out .exit) ≡ answerBytes (decision (outcome (now (s .entry)))) ⌝ }
 {
-    let mut out = [0u8; ANSWER_SIZE];
-    let ranked = d.ranked;
-    let dominated = d.dominated;
-    let refusals = d.refusals;
-    let second = put_indices(&mut out, 0, ranked);
-    let third = put_indices(&mut out, second, dominated);
-    put_refusals(&mut out, third, refusals);
-    out
+    let second = put_indices(out, 0, decision::settled::ranked(s, n, codes, m));
+    let third = put_indices(out, second, decision::settled::dominated(s, n, codes, m));
+    put_refusals(out, third, s, n, table, codes, m);
+}
+
+// Decides in the lent tables.
+fn put_in(out: &mut [u8], s: &[u8], n: u8, table: &mut [f64], codes: &mut [u8])
+    requires { ⌜ (now out ≡ replicate answerSize 0) × (bad (now s) ≡ false) × (length (now s) ≡ n * itemSize) × (n * preparedSize ≤ length (now table)) × (n * stride ≤ length (now codes)) ⌝ }
+    ensures { λ _. ⌜ now (out .exit) ≡ answerBytes (decision (outcome (now (s .entry)))) ⌝ }
+{
+    let m = decision::settled::settle(s, n, table, codes);
+    put_parts(out, s, n, table, codes, m);
+}
+
+fn put_few(out: &mut [u8], s: &[u8], n: u8)
+    requires { ⌜ (now out ≡ replicate answerSize 0) × (bad (now s) ≡ false) × (length (now s) ≡ n * itemSize) × (n ≤ few) ⌝ }
+    ensures { λ _. ⌜ now (out .exit) ≡ answerBytes (decision (outcome (now (s .entry)))) ⌝ }
+{
+    let mut table = [0.0; decision::FEW_NUMBERS];
+    let mut codes = [0u8; decision::FEW_CODES];
+    put_in(out, s, n, &mut table, &mut codes);
+}
+
+fn put_many(out: &mut [u8], s: &[u8], n: u8)
+    requires { ⌜ (now out ≡ replicate answerSize 0) × (bad (now s) ≡ false) × (length (now s) ≡ n * itemSize) × (n ≤ maxItems) ⌝ }
+    ensures { λ _. ⌜ now (out .exit) ≡ answerBytes (decision (outcome (now (s .entry)))) ⌝ }
+{
+    let mut table = [0.0; decision::MANY_NUMBERS];
+    let mut codes = [0u8; decision::MANY_CODES];
+    put_in(out, s, n, &mut table, &mut codes);
+}
+
+// Decides items in bytes. The array is written where something is decided, and stays as it is on a refusal.
+pub fn decide(s: &[u8], out: &mut [u8; ANSWER_SIZE]) -> u32
+    ensures { λ a. ⌜ after a (now (out .exit)) ≡ handOut (decided (now (s .entry))) (now (out .entry)) ⌝ }
+{
+    if decision::is_bad(s) {
+        return BAD_ITEMS;
+    }
+    let n = (s.len() / ITEM_SIZE) as u8;
+    *out = [0u8; ANSWER_SIZE];
+    // An item that is alone is ranked.
+    if n <= 1 {
+        out[0] = n;
+        return DECIDED;
+    }
+    if n as usize <= decision::FEW {
+        put_few(out, s, n);
+        return DECIDED;
+    }
+    put_many(out, s, n);
+    DECIDED
 }

@@ -8,7 +8,8 @@ ghost use Rattle.hashing.specs.Blake2s as Hash;
 ghost use Rattle.floats.specs.Root as Root;
 ghost use Rattle.arithmetic.specs.Agree.{agreementOf, sigmaOf};
 ghost use Rattle.decision.specs.Answer.{decided};
-ghost use Rattle.register.specs.Register.{after, takeReport, takeSummary, takeConviction};
+ghost use Rattle.held.specs.After.{after};
+ghost use Rattle.register.specs.Register.{takeReport, takeSummary, takeConviction};
 ghost use Rattle.register.specs.Memory.{onMemory};
 ghost use Rattle.board.specs.Board.{drawBoard};
 ghost use Rattle.toastlagoon.specs.Border.{covarianceFrom, claimFrom};
@@ -127,23 +128,12 @@ pub extern "C" fn tl_agreement(
     0
 }
 
-fn wide(x: u8) -> u32
-    ensures { λ r. ⌜ r ≡ x ⌝ }
-{
-    x as u32
-}
-
 // Decides items in bytes. The array is written where something is decided, and stays as it is on a refusal.
 #[no_mangle]
 pub extern "C" fn tl_decide(items: &[u8], answer: &mut [u8; ANSWER_SIZE]) -> u32
     ensures { λ a. ⌜ after a (now (answer .exit)) ≡ handOut (decided (now (items .entry))) (now (answer .entry)) ⌝ }
 {
-    let d = decision::decide(items);
-    if d.answer == 0 {
-        *answer = answers::bytes_of(d);
-        return 0;
-    }
-    wide(d.answer)
+    answers::decide(items, answer)
 }
 
 // Reports a record for an engine into a register.

@@ -17,8 +17,10 @@ use Rattle.items.specs.Layout.{maxItems, itemSize, hashSize, itemIdentityAt}
 use Rattle.items.specs.Items as I
 use Rattle.fixes.specs.Layout.{maxFixes, fixSize, fixRecordAt, fixInputsAt, fixRecord, fixInputs, fixIdentity}
 use Rattle.fixes.proofs.Parts.{taken}
-use Rattle.decision.specs.Answer.{badAt, bad}
-use Rattle.transmissions.specs.Members.{unjudged, itemOf, itemsOf, belongs, membersOf}
+use Rattle.decision.specs.Answer.{badAt, bad, indices}
+use Rattle.decision.proofs.Alone.{first-alone}
+use Rattle.shown.specs.Items.{unjudged}
+use Rattle.transmissions.specs.Members.{itemOf, itemsOf, belongs, membersOf, nth, outcomeOf, leaderOf}
 use Rattle.transmissions.proofs.Gathering.{members-listed}
 
 -- ---- items one after another
@@ -96,6 +98,12 @@ members-within l n s f i h = let r = members-below l n s i h in omega arith
 -- their items, one for one
 pub members-length : (t l : List ℕ) (n s : ℕ) → length t ≡ maxFixes * fixSize → n ≤ maxFixes → length (itemsOf t (membersOf l n s)) ≡ length (membersOf l n s) * itemSize
 members-length t l n s wide f = items-length t wide (membersOf l n s) (members-within l n s f)
+
+-- whoever is alone is the first ranked
+pub alone-leads : (t l : List ℕ) (n s : ℕ) → length t ≡ maxFixes * fixSize → n ≤ maxFixes → length (membersOf l n s) ≤ 1 → nth (indices (membersOf l n s)) 0 ≡ leaderOf t l n s
+unfolding leaderOf outcomeOf
+alone-leads t l n s wide f h =
+    ap (nth (indices (membersOf l n s))) (sym (first-alone (itemsOf t (membersOf l n s)) (length (membersOf l n s)) (members-length t l n s wide f) h))
 
 -- ---- none is refused
 

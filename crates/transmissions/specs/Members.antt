@@ -11,6 +11,7 @@ use Rattle.fixes.specs.Layout.{maxFixes, fixRecord, fixInputs, fixIdentity}
 use Rattle.decision.specs.declared.Indices.{Indices}
 use Rattle.decision.specs.declared.Decision.{Decision}
 use Rattle.decision.specs.Answer.{indices, decided}
+use Rattle.shown.specs.Items.{itemFrom}
 
 abbrev pub belongs : List ℕ → ℕ → ℕ → Bool
 belongs l s j = eqb (getD l j 0) s
@@ -22,12 +23,8 @@ membersOf l n s = collect (belongs l s) itself 0 n
 abbrev pub nth : Indices → ℕ → ℕ
 nth m i = getD (m .list) i 0
 
--- "with standing 0, consistent, unverified, not preferred"
-abbrev pub unjudged : List ℕ
-unjudged = replicate 8 0 ++ (1 ∷ 0 ∷ 0 ∷ [])
-
 abbrev pub itemOf : List ℕ → ℕ → List ℕ
-itemOf t j = fixRecord t j ++ (fixInputs t j ++ (fixIdentity t j ++ unjudged))
+itemOf t j = itemFrom (fixRecord t j) (fixInputs t j) (fixIdentity t j)
 
 unfoldable pub itemsOf : List ℕ → List ℕ → List ℕ
 itemsOf t [] = []

@@ -1,26 +1,12 @@
 -- What a register shows (document 01, 'The board'): "The 8 latest are written, oldest first, by time then identity of the first ranked".
 use Prim.Native.Nat.{ℕ}
-use mathlib.Core.Bool.{Bool, true, false, cond}
-use mathlib.Core.List.{List, [], _∷_, map}
-use lib.Dec.{ltb}
-use Rattle.record.specs.Fields.{time}
+use mathlib.Core.Bool.{Bool}
+use mathlib.Core.List.{List, map}
 use Rattle.ranges.specs.Lists.{sort, lastOf}
-use Rattle.fixes.specs.Fixes.{Fix, fixesOf}
+use Rattle.shown.specs.Shown.{Transmission, shown}
+use Rattle.shown.specs.Ages.{olderFirst}
+use Rattle.fixes.specs.Fixes.{fixesOf}
 use Rattle.links.specs.Transmissions.{transmissionsOf}
-use Rattle.transmissions.specs.Shown.{Transmission, shown, lower}
-
-abbrev pub timeOf : Fix → ℕ
-timeOf f = time (f .recordBytes)
-
--- f is older than g: by time, then by identity
-abbrev pub older : Fix → Fix → Bool
-older f g = cond (ltb (timeOf f) (timeOf g)) true (cond (ltb (timeOf g) (timeOf f)) false (lower f g))
-
--- the first of one list is older than the first of the other; a transmission always has a ranked fix
-abbrev pub olderFirst : List Fix → List Fix → Bool
-olderFirst [] gs = true
-olderFirst (f ∷ fs) [] = false
-olderFirst (f ∷ fs) (g ∷ gs) = older f g
 
 -- "by time then identity of the first ranked"
 abbrev pub olderThan : Transmission → Transmission → Bool

@@ -44,16 +44,19 @@ pub fn nth(list: &[u8], i: u8) -> u8
     list[i as usize]
 }
 
-// Fix j as an item of a decision: standing 0, consistent, unjudged, not preferred.
+// Fix j as an item of a decision.
 fn put_item(items: &mut [u8], at: usize, t: &[u8], j: u8) -> usize
     requires { ⌜ j * fixSize + fixSize ≤ length (now t) ⌝ }
     requires { ⌜ at + itemSize ≤ length (now items) ⌝ }
     ensures { λ r. ⌜ (r ≡ at + itemSize) × Put (now (items .entry)) at (itemOf (now (t .entry)) j) r (now (items .exit)) ⌝ }
 {
-    let a = text::put_bytes(items, at, fixes::record_of(t, j));
-    let b = text::put_bytes(items, a, fixes::inputs(t, j));
-    let c = text::put_bytes(items, b, fixes::identity(t, j));
-    text::put_bytes(items, c, b"\0\0\0\0\0\0\0\0\x01\0\0")
+    shown::put_item(
+        items,
+        at,
+        fixes::record_of(t, j),
+        fixes::inputs(t, j),
+        fixes::identity(t, j),
+    )
 }
 
 // The first of a list of fixes as items.
@@ -92,6 +95,10 @@ fn leader(items: &mut [u8], t: &[u8], labels: &[u8; MAX_FIXES], n: u8, s: u8) ->
 {
     let m = members(labels, n, s);
     let list = m.list;
+    // Whoever is alone is the first ranked.
+    if m.count <= 1 {
+        return list[0];
+    }
     let d = outcome(items, t, &list, m.count);
     let ranked = d.ranked.list;
     nth(&list, ranked[0])

@@ -1,84 +1,74 @@
 -- `decide` meets its contract.
 use mathlib.Core.Path.{_≡_, sym, _∙_}
 use mathlib.Core.Bool.{false}
-use Prim.Native.Nat.{_/_}
+use mathlib.Core.List.{List}
+use Prim.Native.Nat.{ℕ}
 use native.Mathlib.Omega.{arith}
-use lib.ListN.{length}
+use Rattle.decision.specs.Answer.{bad, decided, refusedDecision, indices}
+use Rattle.decision.specs.Rule.{plainly}
+use Rattle.decision.proofs.Passed.{few-items, long-items}
+use Rattle.decision.proofs.Decided.{decided-is}
+use Rattle.decision.proofs.Alone.{alone}
 use borrow.Author.Needs.{needs}
-use borrow.Author.Tests.{eq-eqb, ne-eqb, lt-ltb, le-ltb}
-use Rattle.ranges.specs.Lists.{anyOf, upTo}
-use Rattle.items.specs.Layout.{itemSize}
-use Rattle.decision.specs.Answer.{bad, badAt, decided}
-use Rattle.decision.proofs.Passed.{whole-of}
 use Rattle.decision.proofs.decide.Statement.{statement}
 use Rattle.decision.proofs.decide.Tie as tie
 
-mul-if1 : tie.Need-mul-if1
-mul-if1 c = search needs
+is-bad-requires : tie.Need-is-bad-requires
+is-bad-requires c κs = search needs
 
-refused-decision-requires : tie.Need-refused-decision-requires
-refused-decision-requires c κs = search needs
+plain-requires : tie.Need-plain-requires
+plain-requires c κs = search needs
 
 returns : tie.Need-returns
-unfolding bad decided
-returns c = rw (lt-ltb _ _ (c .before .if1 .taken)) (c .refused-decision .ensures)
+unfolding decided refusedDecision plainly indices
+returns c = rw (sym (c .before .before .is-bad .ensures) ∙ c .before .if1 .taken) (c .plain .ensures)
 
-refused-decision-requires-2 : tie.Need-refused-decision-requires-2
-refused-decision-requires-2 c κs = search needs
+-- what is known of items that are not bad
+module _ (a : tie.Else1) where
+  abbrev items : List ℕ
+  items = a .before .before .before .args .s .now
 
-returns-2 : tie.Need-returns-2
-unfolding bad decided
-returns-2 c = rw (le-ltb _ _ (c .before .before .if1 .left), ne-eqb _ _ (c .before .if2 .taken)) (c .refused-decision2 .ensures)
+  good : bad items ≡ false
+  good = sym (a .before .is-bad .ensures) ∙ a .if1 .left
 
 cast-n : tie.Need-cast-n
-cast-n c = search needs
+cast-n c = let f = few-items (items c) (good c) in omega arith
 
-any-bad-requires : tie.Need-any-bad-requires
-any-bad-requires c κs = search needs
+plain-requires-2 : tie.Need-plain-requires-2
+plain-requires-2 c κs = search needs
 
-refused-decision-requires-3 : tie.Need-refused-decision-requires-3
-refused-decision-requires-3 c κs = search needs
+returns-2 : tie.Need-returns-2
+returns-2 c =
+    let g = good (c .before .before) in
+    c .plain2 .ensures ∙ alone _ _ (long-items _ g) (c .before .if2 .taken) g ∙ sym (decided-is _ g)
 
-returns-3 : tie.Need-returns-3
-unfolding bad decided
-returns-3 c = rw (le-ltb _ _ (c .before .before .before .before .if1 .left), eq-eqb _ _ (c .before .before .before .if2 .left), ← c .before .before .any-bad .ensures, c .before .if3 .taken) (c .refused-decision3 .ensures)
-
--- none of the items is bad
-module _ (a : tie.Else3) where
-  abbrev start : tie.Start
-  start = a .before .before .before .before .before
-
-  good : anyOf (badAt (start .args .s .now)) (upTo (length (start .args .s .now) / itemSize)) ≡ false
-  good = sym (a .before .any-bad .ensures) ∙ a .if3 .left
+cast-if3 : tie.Need-cast-if3
+cast-if3 c = search needs
 
 decide-few-requires : tie.Need-decide-few-requires
-decide-few-requires c κs = let g = good (c .before) in (whole-of _ _ (omega arith) (omega arith) g, g, c .if4 .taken)
+decide-few-requires c κs = let g = good (c .before .before) in (g, long-items _ g, c .if3 .taken)
 
-returns-4 : tie.Need-returns-4
-unfolding bad decided
-returns-4 c = rw (le-ltb _ _ (c .before .before .before .before .before .if1 .left), eq-eqb _ _ (c .before .before .before .before .if2 .left), ← c .before .before .before .any-bad .ensures, c .before .before .if3 .left) (c .decide-few .ensures)
+returns-3 : tie.Need-returns-3
+returns-3 c = c .decide-few .ensures ∙ sym (decided-is _ (good (c .before .before .before)))
 
 decide-many-requires : tie.Need-decide-many-requires
-decide-many-requires c κs = let g = good (c .before) in (whole-of _ _ (omega arith) (omega arith) g, g)
+decide-many-requires c κs = let g = good (c .before .before) in (g, long-items _ g, few-items _ g)
 
-returns-5 : tie.Need-returns-5
-unfolding bad decided
-returns-5 c = rw (le-ltb _ _ (c .before .before .before .before .before .if1 .left), eq-eqb _ _ (c .before .before .before .before .if2 .left), ← c .before .before .before .any-bad .ensures, c .before .before .if3 .left) (c .decide-many .ensures)
+returns-4 : tie.Need-returns-4
+returns-4 c = c .decide-many .ensures ∙ sym (decided-is _ (good (c .before .before .before)))
 
 pub decide-spec : {M : Type 1} → statement M
 decide-spec =
     tie.close
     (tie.spec
-    mul-if1
-    refused-decision-requires
+    is-bad-requires
+    plain-requires
     returns
-    refused-decision-requires-2
-    returns-2
     cast-n
-    any-bad-requires
-    refused-decision-requires-3
-    returns-3
+    plain-requires-2
+    returns-2
+    cast-if3
     decide-few-requires
-    returns-4
+    returns-3
     decide-many-requires
-    returns-5)
+    returns-4)

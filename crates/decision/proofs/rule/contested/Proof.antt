@@ -3,7 +3,8 @@ use mathlib.Core.Path.{sym, _∙_}
 use borrow.Author.Needs.{needs}
 use Rattle.ranges.specs.Lists.{upTo}
 use Rattle.decision.specs.Related.{itemRelations}
-use Rattle.decision.proofs.Findings.{none-opposes, one-opposes, opposes-in}
+use Rattle.decision.proofs.Choosing.{chose-among}
+use Rattle.decision.proofs.Findings.{none-opposes, one-opposes}
 use Rattle.decision.proofs.rule.contested.Statement.{statement}
 use Rattle.decision.proofs.rule.contested.Tie as tie
 
@@ -26,8 +27,8 @@ chi-square-requires c κs =
     let a = c .before .before .before in
     let st = a .before .before .before .before in
     let p = st .pre in
-    let l = opposes-in (itemRelations (st .args .s .now)) (st .args .n) (st .args .i) _ (sym (a .opposing .ensures) ∙ c .before .by .given .1) in
-    (p .0, l .0, p .1, p .4, l .1)
+    let l = chose-among _ _ _ _ (sym (a .opposing .ensures) ∙ c .before .by .given .1) in
+    (p .0, l .0, p .4)
 
 returns-2 : tie.Need-returns-2
 returns-2 c =

@@ -1,20 +1,19 @@
 -- `code_pair` meets its contract.
 use borrow.Author.Tests.{not-true, not-false}
 use mathlib.Core.Path.{_≡_, refl, sym, ap, _∙_}
-use mathlib.Core.Bool.{Bool, true, false}
+use mathlib.Core.Bool.{true, false}
 use mathlib.Core.List.{List}
 use Prim.Native.Nat.{ℕ}
 use native.Mathlib.Omega.{arith}
 use Rattle.arithmetic.specs.Agree.{agreesOf}
 use Rattle.items.specs.Items.{itemConsistent, subsetAt, agreementAt}
 use Rattle.items.specs.Pairs.{pairCode}
-use Rattle.items.proofs.Pairing.{in-rows, place-fits, kept-not, kept-so}
 use borrow.Author.Needs.{needs}
 use Rattle.items.proofs.pairs.code_pair.Statement.{statement}
 use Rattle.items.proofs.pairs.code_pair.Tie as tie
 
 subset-requires : tie.Need-subset-requires
-subset-requires c κs = let a = c .before .before .before in let p = a .pre in ((omega arith, omega arith), (p .2 .formed (a .args .j) (p .1), p .2 .formed (a .args .i) (p .0)))
+subset-requires c κs = let a = c .before .before in let p = a .pre in ((omega arith, omega arith), (p .2 .formed (a .args .j) (p .1), p .2 .formed (a .args .i) (p .0)))
 
 -- the code of each way
 module _ (s : List ℕ) (i j : ℕ) where
@@ -35,19 +34,16 @@ module _ (s : List ℕ) (i j : ℕ) where
   disagreeing p q r = rw (p, q, r) refl
 
 returns : tie.Need-returns
-returns c =
-    let a = c .before .before .before .before .before in
-    let e = apart (a .args .s .now) (a .args .i) (a .args .j) (sym (c .before .subset .ensures) ∙ not-true _ (c .if1 .taken)) in
-    (e, kept-not (a .args .s .now) (a .args .n) _ (a .args .i) (a .args .j) _ e refl)
+returns c = apart _ _ _ (sym (c .before .subset .ensures) ∙ not-true _ (c .if1 .taken))
 
 consistent-requires : tie.Need-consistent-requires
 consistent-requires c κs = search needs
 
 returns-2 : tie.Need-returns-2
 returns-2 c =
-    let a = c .before .before .before .before .before .before .before in
-    let e = unjudged (a .args .s .now) (a .args .i) (a .args .j) (sym (c .before .before .before .subset .ensures) ∙ not-false _ (c .before .before .if1 .left)) (sym (c .before .consistent .ensures) ∙ not-true _ (c .if2 .taken)) in
-    (e, kept-not (a .args .s .now) (a .args .n) _ (a .args .i) (a .args .j) _ e refl)
+    unjudged _ _ _
+    (sym (c .before .before .before .subset .ensures) ∙ not-false _ (c .before .before .if1 .left))
+    (sym (c .before .consistent .ensures) ∙ not-true _ (c .if2 .taken))
 
 compared-requires : tie.Need-compared-requires
 compared-requires c κs = search needs
@@ -57,30 +53,17 @@ agrees-requires c κs = search needs
 
 returns-3 : tie.Need-returns-3
 returns-3 c =
-    let a = c .before .before .before .before .before .before .before .before .before .before in
-    let e = agreeing (a .args .s .now) (a .args .i) (a .args .j) (sym (c .before .before .before .before .before .before .subset .ensures) ∙ not-false _ (c .before .before .before .before .before .if1 .left)) (sym (c .before .before .before .before .consistent .ensures) ∙ not-false _ (c .before .before .before .if2 .left)) (ap agreesOf (sym (c .before .before .compared .ensures)) ∙ sym (c .before .agrees .ensures) ∙ c .if3 .taken) in
-    (e, kept-not (a .args .s .now) (a .args .n) _ (a .args .i) (a .args .j) _ e refl)
-
-mul-at : tie.Need-mul-at
-mul-at c = let a = c .before .before .before .before .before .before .before .before .before .before in let p = a .pre in let f = place-fits (a .args .n) (a .args .i) (a .args .j) (p .0) (p .1) (p .2 .few) in omega arith
-
-add-at : tie.Need-add-at
-add-at c = let a = c .before .before .before .before .before .before .before .before .before .before in let p = a .pre in let f = place-fits (a .args .n) (a .args .i) (a .args .j) (p .0) (p .1) (p .2 .few) in omega arith
-
-mul-chis : tie.Need-mul-chis
-mul-chis c = let a = c .before .before .before .before .before .before .before .before .before .before in let p = a .pre in let f = place-fits (a .args .n) (a .args .i) (a .args .j) (p .0) (p .1) (p .2 .few) in omega arith
-
-slice-write-chis : tie.Need-slice-write-chis
-slice-write-chis c = let a = c .before .before .before .before .before .before .before .before .before .before in let p = a .pre in let f = in-rows (a .args .n) (a .args .i) (a .args .j) (p .0) (p .1) in let r = p .4 in omega arith
-
-same-length : tie.Need-same-length
-same-length c = search needs
+    agreeing _ _ _
+    (sym (c .before .before .before .before .before .before .subset .ensures) ∙ not-false _ (c .before .before .before .before .before .if1 .left))
+    (sym (c .before .before .before .before .consistent .ensures) ∙ not-false _ (c .before .before .before .if2 .left))
+    (ap agreesOf (sym (c .before .before .compared .ensures)) ∙ sym (c .before .agrees .ensures) ∙ c .if3 .taken)
 
 returns-4 : tie.Need-returns-4
 returns-4 c =
-    let a = c .before .before .before .before .before .before .before .before .before .before in
-    let e = disagreeing (a .args .s .now) (a .args .i) (a .args .j) (sym (c .before .before .before .before .before .before .subset .ensures) ∙ not-false _ (c .before .before .before .before .before .if1 .left)) (sym (c .before .before .before .before .consistent .ensures) ∙ not-false _ (c .before .before .before .if2 .left)) (ap agreesOf (sym (c .before .before .compared .ensures)) ∙ sym (c .before .agrees .ensures) ∙ c .if3 .left) in
-    (e, rw (c .before .before .compared .ensures) (kept-so (a .args .s .now) (a .args .n) (a .args .chis .now) (a .args .i) (a .args .j) e))
+    disagreeing _ _ _
+    (sym (c .before .before .before .before .before .before .subset .ensures) ∙ not-false _ (c .before .before .before .before .before .if1 .left))
+    (sym (c .before .before .before .before .consistent .ensures) ∙ not-false _ (c .before .before .before .if2 .left))
+    (ap agreesOf (sym (c .before .before .compared .ensures)) ∙ sym (c .before .agrees .ensures) ∙ c .if3 .left)
 
 pub code-pair-spec : {M : Type 1} → statement M
 code-pair-spec =
@@ -93,9 +76,4 @@ code-pair-spec =
     compared-requires
     agrees-requires
     returns-3
-    mul-at
-    add-at
-    mul-chis
-    slice-write-chis
-    same-length
     returns-4)

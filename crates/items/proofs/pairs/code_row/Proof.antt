@@ -1,25 +1,25 @@
 -- `code_row` meets its contract.
-use Prim.Native.Nat.{_+_, _-_, _*_, _≤_}
+use Prim.Native.Nat.{_-_, _≤_}
 use mathlib.Core.Path.{_≡_, refl}
 use native.Mathlib.Omega.{arith}
 use lib.ListN.{length, length-set}
-use Rattle.items.specs.Pairs.{CodedRow, Kept}
-use Rattle.items.proofs.Pairing.{coded-more, coded-next, kept-more, kept-fewer, kept-next}
+use Rattle.items.specs.Pairs.{CodedRow}
+use Rattle.items.proofs.Pairing.{coded-more, coded-next}
 use borrow.Author.Needs.{needs}
 use Rattle.items.proofs.pairs.code_row.Statement.{statement}
 use Rattle.items.proofs.pairs.code_row.Tie as tie
 
 abbrev Inv-loop : tie.InvT-loop
-Inv-loop s n table i codes₀ chis₀ from j₀ codes chis j = (j ≤ n) × (length codes ≡ length codes₀) × (length chis ≡ length chis₀) × CodedRow s codes n i j × Kept s chis n (i * n + j)
+Inv-loop s n table i codes₀ from j₀ codes j = (j ≤ n) × (length codes ≡ length codes₀) × CodedRow s codes n i j
 
 abbrev μ-loop : tie.MeasureT-loop
-μ-loop s n table i codes₀ chis₀ from j₀ codes chis j = n - j
+μ-loop s n table i codes₀ from j₀ codes j = n - j
 
 mul-from : tie.Need-mul-from Inv-loop μ-loop
 mul-from c = search needs
 
 loop-holds : tie.Need-loop-holds Inv-loop μ-loop
-loop-holds c = let a = c .before .before .before .before in let p = a .pre in (omega arith, refl, refl, p .3, kept-fewer (a .args .s .now) (a .args .n) _ (a .args .i * a .args .n) _ (omega arith) (p .4))
+loop-holds c = (omega arith, refl, c .before .before .before .pre .3)
 
 cast-at : tie.Need-cast-at Inv-loop μ-loop
 cast-at c = search needs
@@ -28,7 +28,7 @@ add-at : tie.Need-add-at Inv-loop μ-loop
 add-at c = search needs
 
 code-pair-requires : tie.Need-code-pair-requires Inv-loop μ-loop
-code-pair-requires c κs = let p = c .before .before .before .before .before .before .before .pre in (p .0, c .before .loop-test .taken, p .1, p .2, c .before .before .loop .inv .4 .room)
+code-pair-requires c κs = search needs
 
 slice-write-codes : tie.Need-slice-write-codes Inv-loop μ-loop
 slice-write-codes c = search needs
@@ -41,29 +41,21 @@ loop-less c = search needs
 
 loop-again : tie.Need-loop-again Inv-loop μ-loop
 loop-again c =
-    let a = c .before .before .before .before .before .before .before .before .before .before in
-    let l = c .before .before .before .before .before .loop in
-    let h = c .before .before .before .before .loop-test .taken in
-    let e = c .before .before .code-pair .ensures in (
+    let a = c .before .before .before .before .before .before in
+    let l = c .before .before .loop in (
       omega arith,
       simp length-set (l .inv .1),
-      search needs,
-      coded-more (a .args .s .now) (a .args .n) (a .pre .1 .few) _ _ _ _ (a .pre .0) h (e .0) (l .inv .3),
-      rw (e .1) (kept-more (a .args .s .now) (a .args .n) _ _ _ (a .pre .0) h (l .inv .4)),
+      coded-more (a .args .s .now) (a .args .n) (a .pre .1 .few) _ _ _ _ (a .pre .0) (c .before .loop-test .taken) (c .code-pair .ensures) (l .inv .2),
     )
 
 same-length : tie.Need-same-length Inv-loop μ-loop
 same-length c = c .before .loop .inv .1
 
-same-length-2 : tie.Need-same-length-2 Inv-loop μ-loop
-same-length-2 c = c .before .loop .inv .2
-
 returns : tie.Need-returns Inv-loop μ-loop
 returns c =
-    let a = c .before .before .before .before .before .before in
+    let a = c .before .before .before .before .before in
     let l = c .before .loop in
-    let h = c .loop-test .left in
-    (coded-next (a .args .s .now) (a .args .n) (a .pre .1 .few) _ _ _ h (l .inv .3), kept-next (a .args .s .now) (a .args .n) _ _ _ h (l .inv .4))
+    coded-next (a .args .s .now) (a .args .n) (a .pre .1 .few) _ _ _ (c .loop-test .left) (l .inv .2)
 
 pub code-row-spec : {M : Type 1} → statement M
 code-row-spec =
@@ -81,5 +73,4 @@ code-row-spec =
     loop-less
     loop-again
     same-length
-    same-length-2
     returns)

@@ -1,77 +1,56 @@
--- `put_refusals` meets its contract. The loop has written the refusals so far; an array of 96 is 96 long, which the arguments tell.
-use Prim.Native.Nat.{ℕ, _+_, _-_, _*_, _≤_, _<_}
-use mathlib.Core.Path.{_≡_, sym, ap, _∙_}
-use mathlib.Core.List.{List}
-use lib.ListN.{length-set, length-map}
-use mathlib.Core.Bool.{false}
-use lib.Ieee.{nan}
-use lib.Seq.{length-take-le}
-use Rattle.toastlagoon.specs.Layout.{refusalSize}
+-- `put_refusals` meets its contract. The loop has written the refusals so far, and left the place of their count as it was.
+use Prim.Native.Nat.{ℕ, _+_, _-_, _*_, _≤_}
+use mathlib.Core.Path.{_≡_, refl, sym, ap, _∙_}
+use mathlib.Core.List.{_∷_}
 use native.Mathlib.Omega.{arith}
-use lib.ListN.{length, take}
-use Rattle.items.specs.Layout.{maxItems}
-use Rattle.text.specs.Buffer.{Put}
-use Rattle.text.proofs.Writing.{put-put, put-none, put-one, put-as, put-length}
-use Rattle.toastlagoon.specs.Answer.{eachBytes}
-use Rattle.toastlagoon.proofs.Parts.{length-each, each-more, all-counted, counted-fits}
+use lib.ListN.{length, length-set, length-append}
 use borrow.Author.Needs.{needs}
+use Rattle.text.specs.Buffer.{Put}
+use Rattle.text.proofs.Writing.{put-put, put-none, put-as, put-length}
+use Rattle.items.specs.Pairs.{Prepared}
+use Rattle.decision.specs.Related.{itemRelations}
+use Rattle.decision.specs.Rule.{Settled}
+use Rattle.decision.proofs.Findings.{refusedTo, none-refused, found-none, found-one, all-refused}
+use Rattle.toastlagoon.specs.Layout.{refusalSize}
+use Rattle.toastlagoon.specs.Offsets.{listBytes}
+use Rattle.toastlagoon.specs.Answer.{eachBytes}
+use Rattle.toastlagoon.proofs.Parts.{length-each, each-more, put-before}
 use Rattle.toastlagoon.proofs.answers.put_refusals.Statement.{statement}
 use Rattle.toastlagoon.proofs.answers.put_refusals.Tie as tie
 
 abbrev Inv-loop : tie.InvT-loop
-Inv-loop out₀ at list count next₀ i₀ out next i = (i ≤ maxItems) × (i ≤ count) × Put out₀ next₀ (eachBytes (take i list)) next out
+Inv-loop out₀ at s n table codes m next₀ count₀ i₀ out next count i =
+    (i ≤ n) × (count ≤ i) × (count ≡ length (refusedTo (itemRelations s) n i)) × Put out₀ next₀ (eachBytes (refusedTo (itemRelations s) n i)) next out
 
 abbrev μ-loop : tie.MeasureT-loop
-μ-loop out₀ at list count next₀ i₀ out next i = maxItems - i
-
-wide-requires : tie.Need-wide-requires Inv-loop μ-loop
-wide-requires c κs = search needs
-
-slice-write-out : tie.Need-slice-write-out Inv-loop μ-loop
-slice-write-out c = search needs
+μ-loop out₀ at s n table codes m next₀ count₀ i₀ out next count i = n - i
 
 add-next : tie.Need-add-next Inv-loop μ-loop
 add-next c = search needs
 
 loop-holds : tie.Need-loop-holds Inv-loop μ-loop
 unfolding eachBytes
-loop-holds c = (search needs, search needs, put-none _ _)
+loop-holds c = rw none-refused (omega arith, omega arith, refl, put-none _ _)
 
-same-length : tie.Need-same-length Inv-loop μ-loop
-same-length c =
-    put-length (c .before .before .loop .inv .2) ∙ simp length-set
+-- what is known of the items and of the lent tables, and how much was written
+module _ (a : tie.At-loop Inv-loop μ-loop) where
+  abbrev start : tie.Start Inv-loop μ-loop
+  start = a .before .before .before .before .before
 
-returns : tie.Need-returns Inv-loop μ-loop
-returns c =
-    let b = c .before .before in
-    let i = c .if1 .taken in
-    let s = b .before .before .before .before in
-    let x = s .args .x .list in
-    let w : length x ≡ maxItems = sym (length-map x _) ∙ s .good .1 .1 .0 .1 .1 .0 .1 .0 .1 in
-    let n : b .before .wide .result ≡ s .args .x .count = b .before .wide .ensures in
-    let m : b .loop .i ≡ s .args .x .count = omega arith in
-    let q = put-as (ap (λ (k : ℕ). eachBytes (take k x)) m) (b .loop .inv .2) in
-    let e : b .loop .next ≡ s .args .at + 1 + length (eachBytes (take (s .args .x .count) x)) = q .next in
-    (omega (arith, counted-fits x (s .args .x .count)), put-put (put-one (s .args .out .now) (s .args .at) (s .args .x .count)) q)
+  settled : Prepared (start .args .s .now) (start .args .table .now) (start .args .n) × Settled (start .args .s .now) (start .args .n) (start .args .codes .now) (start .args .m)
+  settled = start .pre .1
 
-mul-put-refusal : tie.Need-mul-put-refusal Inv-loop μ-loop
-mul-put-refusal c = search needs
+  so-far : a .loop .next ≡ start .args .at + 1 + a .loop .count * refusalSize
+  so-far = let p = a .loop .inv .3 .next in let e = length-each (refusedTo (itemRelations (start .args .s .now)) (start .args .n) (a .loop .i)) in let k = a .loop .inv .2 in omega arith
 
-array-copy-out-put-refusal : tie.Need-array-copy-out-put-refusal Inv-loop μ-loop
-array-copy-out-put-refusal c = search needs
+refusal-requires : tie.Need-refusal-requires Inv-loop μ-loop
+refusal-requires c κs = search needs
 
-put-refusal-requires : tie.Need-put-refusal-requires Inv-loop μ-loop
-put-refusal-requires c κs =
-    let b = c .before .before .before .before in
-    let s = b .before .before .before .before in
-    let x = s .args .x .list in
-    let w : length x ≡ maxItems = sym (length-map x _) ∙ s .good .1 .1 .0 .1 .1 .0 .1 .0 .1 in
-    let p = b .loop .inv .2 in
-    let i : b .loop .i < maxItems = c .before .before .before .loop-test .taken in
-    let e : length (eachBytes (take (b .loop .i) x)) ≡ b .loop .i * refusalSize = length-each (take (b .loop .i) x) ∙ ap (λ (k : ℕ). k * refusalSize) (length-take-le (b .loop .i) x (omega arith)) in
-    let l : length (b .loop .out) ≡ length (s .args .out .now) = put-length p ∙ simp length-set in
-    let n : b .loop .next ≡ s .args .at + 1 + length (eachBytes (take (b .loop .i) x)) = p .next in
-    omega (arith, s .pre)
+enum-known-found : tie.Need-enum-known-found Inv-loop μ-loop
+enum-known-found c = search needs
+
+enum-told : tie.Need-enum-told Inv-loop μ-loop
+enum-told c = search needs
 
 add-i : tie.Need-add-i Inv-loop μ-loop
 add-i c = search needs
@@ -81,29 +60,55 @@ loop-less c = search needs
 
 loop-again : tie.Need-loop-again Inv-loop μ-loop
 loop-again c =
-    let b = c .before .before .before .before .before .before .before in
-    let s = b .before .before .before .before in
-    let x = s .args .x .list in
-    let w : length x ≡ maxItems = sym (length-map x _) ∙ s .good .1 .1 .0 .1 .1 .0 .1 .0 .1 in
-    let i : b .loop .i < maxItems = c .before .before .before .before .before .before .loop-test .taken in
-    let k = c .before .before .before .before .before .if1 .left in
-    (omega arith, omega arith, put-as (sym (each-more x (b .loop .i) (record { refused = 0; kept = 0; chi2 = nan; superseded = false }) (omega arith))) (put-put (b .loop .inv .2) (c .before .before .put-refusal .ensures)))
+    let f = c .before .before in
+    let v = f .before .before .loop .inv in
+    let e = found-none _ _ _ _ (f .refusal .ensures) (c .enum-told .given .1) in
+    (omega arith, omega arith, v .2 ∙ ap length (sym e), put-as (ap eachBytes (sym e)) (v .3))
 
-same-length-2 : tie.Need-same-length-2 Inv-loop μ-loop
-same-length-2 c =
-    put-length (c .before .loop .inv .2) ∙ simp length-set
+put-refusal-requires : tie.Need-put-refusal-requires Inv-loop μ-loop
+put-refusal-requires c κs =
+    let a = c .before .before .before .before .before .before in
+    let l = put-length (a .loop .inv .3) in
+    let n = so-far a in
+    let h = settled a .1 .whole .few in
+    let p = start a .pre .0 in
+    omega (arith, c .before .before .before .before .before .loop-test .taken)
 
-returns-2 : tie.Need-returns-2 Inv-loop μ-loop
-returns-2 c =
-    let b = c .before in
-    let i = c .loop-test .left in
-    let s = b .before .before .before .before in
-    let x = s .args .x .list in
-    let w : length x ≡ maxItems = sym (length-map x _) ∙ s .good .1 .1 .0 .1 .1 .0 .1 .0 .1 in
-    let n : b .before .wide .result ≡ s .args .x .count = b .before .wide .ensures in
-    let q = put-as (ap eachBytes (all-counted x (b .loop .i) (s .args .x .count) (omega arith) (omega arith))) (b .loop .inv .2) in
-    let e : b .loop .next ≡ s .args .at + 1 + length (eachBytes (take (s .args .x .count) x)) = q .next in
-    (omega (arith, counted-fits x (s .args .x .count)), put-put (put-one (s .args .out .now) (s .args .at) (s .args .x .count)) q)
+add-count : tie.Need-add-count Inv-loop μ-loop
+add-count c = search needs
+
+add-i-2 : tie.Need-add-i-2 Inv-loop μ-loop
+add-i-2 c = search needs
+
+loop-less-2 : tie.Need-loop-less-2 Inv-loop μ-loop
+loop-less-2 c = search needs
+
+loop-again-2 : tie.Need-loop-again-2 Inv-loop μ-loop
+loop-again-2 c =
+    let f = c .before .before .before .before .before .before .before in
+    let v = f .before .before .loop .inv in
+    let e = found-one _ _ _ _ (f .refusal .ensures) _ (c .before .before .before .before .before .found .given .1) in (
+      omega arith,
+      omega arith,
+      rw (e, length-append, ← v .2) refl,
+      put-as (each-more _ _ ∙ ap eachBytes (sym e)) (put-put (v .3) (c .before .before .put-refusal .ensures)),
+    )
+
+slice-write-out : tie.Need-slice-write-out Inv-loop μ-loop
+slice-write-out c = let a = c .before in let l = put-length (a .loop .inv .3) in omega (arith, start a .pre .0)
+
+same-length : tie.Need-same-length Inv-loop μ-loop
+same-length c = simp length-set (put-length (c .before .loop .inv .3))
+
+returns : tie.Need-returns Inv-loop μ-loop
+returns c =
+    let a = c .before in
+    let v = a .loop .inv in
+    let h = settled a .1 .whole .few in
+    let n = so-far a in
+    let e = all-refused _ _ _ (settled a .1 .whole .long) (v .0) (c .loop-test .left) in
+    let l = refusedTo (itemRelations (start a .args .s .now)) (start a .args .n) (a .loop .i) in
+    (omega arith, put-as (ap (λ (k : ℕ). k ∷ eachBytes l) (v .2) ∙ ap listBytes e) (put-before (a .loop .count) (v .3)))
 
 pub put-refusals-spec : {M : Type 1} → statement M
 put-refusals-spec =
@@ -111,17 +116,19 @@ put-refusals-spec =
     (tie.spec
     Inv-loop
     μ-loop
-    wide-requires
-    slice-write-out
     add-next
     loop-holds
-    same-length
-    returns
-    mul-put-refusal
-    array-copy-out-put-refusal
-    put-refusal-requires
+    refusal-requires
+    enum-known-found
+    enum-told
     add-i
     loop-less
     loop-again
-    same-length-2
-    returns-2)
+    put-refusal-requires
+    add-count
+    add-i-2
+    loop-less-2
+    loop-again-2
+    slice-write-out
+    same-length
+    returns)

@@ -1,6 +1,6 @@
--- `dominate_all` meets its contract.
+-- `dominated` meets its contract.
 use Prim.Native.Nat.{_-_, _≤_}
-use mathlib.Core.Path.{_≡_, refl, sym, _∙_}
+use mathlib.Core.Path.{_≡_, refl, sym, ap, _∙_}
 use native.Mathlib.Omega.{arith}
 use lib.ListN.{length, length-set}
 use borrow.Author.Needs.{needs}
@@ -9,17 +9,21 @@ use Rattle.ranges.specs.Range.{Holds}
 use Rattle.ranges.proofs.Bools.{not-t, not-false-t}
 use Rattle.ranges.proofs.Searches.{holds-none, listed-hit, listed-miss, listed-done}
 use Rattle.items.specs.Layout.{maxItems}
+use Rattle.decision.specs.Standing as S
 use Rattle.decision.specs.Related.{itemRelations}
-use Rattle.decision.specs.Rule.{dominated}
-use Rattle.decision.proofs.rule.dominate_all.Statement.{statement}
-use Rattle.decision.proofs.rule.dominate_all.Tie as tie
+use Rattle.decision.specs.Answer.{indices}
+use Rattle.decision.specs.Rule as R
+use Rattle.decision.proofs.Arrays.{held-indices}
+use Rattle.decision.proofs.Passed.{outcome-is}
+use Rattle.decision.proofs.settled.dominated.Statement.{statement}
+use Rattle.decision.proofs.settled.dominated.Tie as tie
 
 abbrev Inv-loop : tie.InvT-loop
-Inv-loop s codes n rf list₀ count₀ i₀ list count i =
-    (i ≤ n) × (length list ≡ maxItems) × (count ≤ i) × Holds maxItems 0 list count (filter (dominated (itemRelations s) (upTo n)) (upTo i))
+Inv-loop s n codes rf list₀ count₀ i₀ list count i =
+    (i ≤ n) × (length list ≡ maxItems) × (count ≤ i) × Holds maxItems 0 list count (filter (R.dominated (itemRelations s) (upTo n)) (upTo i))
 
 abbrev μ-loop : tie.MeasureT-loop
-μ-loop s codes n rf list₀ count₀ i₀ list count i = n - i
+μ-loop s n codes rf list₀ count₀ i₀ list count i = n - i
 
 loop-holds : tie.Need-loop-holds Inv-loop μ-loop
 unfolding countFrom filter
@@ -36,7 +40,7 @@ loop-less c = search needs
 
 loop-again : tie.Need-loop-again Inv-loop μ-loop
 loop-again c =
-    let v = c .before .before .before .loop .inv in
+    let v = c .before .before .before .before .loop .inv in
     (omega arith, v .1, omega arith, listed-miss _ _ _ _ _ (v .3) (sym (c .before .dominated-at .ensures) ∙ not-t _ (c .if1 .taken)))
 
 cast-list : tie.Need-cast-list Inv-loop μ-loop
@@ -56,7 +60,7 @@ loop-less-2 c = search needs
 
 loop-again-2 : tie.Need-loop-again-2 Inv-loop μ-loop
 loop-again-2 c =
-    let v = c .before .before .before .loop .inv in (
+    let v = c .before .before .before .before .loop .inv in (
       omega arith,
       simp length-set (v .1),
       omega arith,
@@ -64,10 +68,16 @@ loop-again-2 c =
     )
 
 returns : tie.Need-returns Inv-loop μ-loop
-returns c = let v = c .before .loop .inv in listed-done _ _ _ _ _ (v .3) _ (v .0) (c .loop-test .left)
+unfolding S.decide
+returns c =
+    let a = c .before in
+    let v = a .loop .inv in
+    let p = a .before .before .before .before .pre in
+    held-indices _ _ (listed-done _ _ _ _ _ (v .3) _ (v .0) (c .loop-test .left))
+    ∙ ap (λ o. indices (o .dominated)) (sym (outcome-is _ _ (p .whole .long)))
 
-pub dominate-all-spec : {M : Type 1} → statement M
-dominate-all-spec =
+pub dominated-spec : {M : Type 1} → statement M
+dominated-spec =
     tie.close
     (tie.spec
     Inv-loop
