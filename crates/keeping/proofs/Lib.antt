@@ -1,0 +1,4 @@
+pub mod Lowering
+pub mod Outcomes
+pub mod Tabled
+pub mod Parted

@@ -1,0 +1,191 @@
+-- `join_identified` meets its contract.
+use Prim.Native.Nat.{ℕ, _+_}
+use mathlib.Core.Path.{_≡_, sym, ap, ap₂, _∙_, subst}
+use mathlib.Core.List.{List, [], map}
+use native.Mathlib.Omega.{arith}
+use lib.Bits.{bitOr}
+use lib.ListN.{length, length-map}
+use Rattle.octets.specs.Words.{wordAt}
+use Rattle.octets.specs.Writes.{putWord}
+use Rattle.octets.proofs.Numbers.{all-bytes}
+use Rattle.tracked.specs.Layout.{signersAt}
+use Rattle.tracked.specs.Bytes.{identityIn, refusedCount}
+use Rattle.tracked.specs.Parts.{heldPlaces, heldCount, heldPlace}
+use Rattle.tracked.proofs.Holding.{held-length}
+use Rattle.normalize.specs.Working.{Listed}
+use Rattle.normalize.proofs.Listing.{listed}
+use Rattle.merge.specs.declared.Found.the-variants.{At}
+use Rattle.merge.specs.Searching.{First, isIdentity}
+use Rattle.merge.proofs.Identified.{ids-places, none-held, first-held, some-held, signed-bytes}
+use borrow.Author.Needs.{needs}
+use Rattle.merge.proofs.join_identified.Statement.{statement}
+use Rattle.merge.proofs.join_identified.Tie as tie
+use Rattle.merge.proofs.join_identified.Reads as reads
+use Rattle.merge.proofs.join_identified.Lts as lts
+use Rattle.merge.proofs.find_identity.Reads as find-identity-reads
+use Rattle.normalize.proofs.identities.Reads as identities-reads
+use Rattle.normalize.proofs.join.Reads as join-reads
+use Rattle.tracked.proofs.fix_count.Reads as fix-count-reads
+use Rattle.tracked.proofs.identity.Reads as identity-reads
+use Rattle.tracked.proofs.refused_count.Reads as refused-count-reads
+use Rattle.tracked.proofs.sign.Reads as sign-reads
+use Rattle.tracked.proofs.signers.Reads as signers-reads
+
+identity-requires : tie.Need-identity-requires
+identity-requires c κs = search needs
+
+slice-aggregate-identities : tie.Need-slice-aggregate-identities
+slice-aggregate-identities c = search needs
+
+identities-requires : tie.Need-identities-requires
+identities-requires c κs = search needs
+
+fix-count-requires : tie.Need-fix-count-requires
+fix-count-requires c κs = search needs
+
+refused-count-requires : tie.Need-refused-count-requires
+refused-count-requires c κs = search needs
+
+add-n : tie.Need-add-n
+add-n c = search needs
+
+slice-aggregate-find-identity : tie.Need-slice-aggregate-find-identity
+slice-aggregate-find-identity c = search needs
+
+cast-find-identity : tie.Need-cast-find-identity
+cast-find-identity c = search needs
+
+slice-aggregate-find-identity-2 : tie.Need-slice-aggregate-find-identity-2
+slice-aggregate-find-identity-2 c = search needs
+
+find-identity-requires : tie.Need-find-identity-requires
+find-identity-requires c κs = search needs
+
+enum-known-found : tie.Need-enum-known-found
+enum-known-found c = search needs
+
+enum-told : tie.Need-enum-told
+enum-told c = search needs
+
+slice-aggregate-join : tie.Need-slice-aggregate-join
+slice-aggregate-join c = search needs
+
+slice-aggregate-join-2 : tie.Need-slice-aggregate-join-2
+slice-aggregate-join-2 c = search needs
+
+-- ---- where the identity was looked for
+
+abbrev beginning : tie.After-find-identity → tie.After-slice-known
+beginning o = o .before .before .before .before .before .before .before .before .before .before .before .before .before
+
+abbrev start : tie.After-find-identity → tie.Start
+start o = beginning o .before
+
+module _ (o : tie.After-find-identity) where
+  abbrev b : List ℕ
+  b = start o .args .b .now
+
+  abbrev f : List ℕ
+  f = start o .args .f .now
+
+  abbrev written : tie.After-identities
+  written = o .before .before .before .before .before .before .before .before
+
+  abbrev ids : List ℕ
+  ids = written .identities .last .1 .0
+
+  identified : written .before .before .before .identity .result ≡ identityIn f
+  identified = written .before .before .before .identity .ensures
+
+  listed-there : Listed b ids
+  listed-there = listed b ids _ (written .identities .ensures)
+
+  counted : o .before .before .before .refused-count .result ≡ refusedCount b
+  counted = o .before .before .before .refused-count .ensures
+
+  searched : First (isIdentity (identityIn f)) (map identityIn (heldPlaces b)) [] 0 (o .find-identity .result)
+  searched = rw (sym identified, sym (ids-places b ids listed-there), sum) (o .find-identity .ensures)
+    where
+      sum : heldCount b ≡ o .before .before .before .before .before .fix-count .result + o .before .before .before .refused-count .result
+      sum = sym (ap₂ _+_ (o .before .before .before .before .before .fix-count .ensures) counted)
+
+  among : length (map identityIn (heldPlaces b)) ≡ heldCount b
+  among = length-map (heldPlaces b) identityIn ∙ held-length b
+
+-- where it was found
+found : (k : tie.After-known-told) → First (isIdentity (identityIn (f (k .before .before .before)))) (map identityIn (heldPlaces (b (k .before .before .before)))) [] 0 (At (k .before .found .given .0 .0))
+found k = subst (First (isIdentity (identityIn (f (k .before .before .before)))) (map identityIn (heldPlaces (b (k .before .before .before)))) [] 0) (k .before .found .given .1) (searched (k .before .before .before))
+
+join-requires : tie.Need-join-requires
+join-requires c κs =
+    let o = c .before .before .before .before .before in
+    let s = start o in
+    ((s .pre .0 .sound, s .pre .0 .some, s .pre .0 .signed, listed-there o), (s .pre .1 .0, s .pre .1 .1, identified o))
+
+same-length : tie.Need-same-length
+same-length c = search needs
+
+returns : tie.Need-returns
+returns c =
+    let j = c .before .before in
+    let e = j .before .before .before .before in
+    let o = e .before .before in
+    let s = start o in
+    let a = subst (First (isIdentity (identityIn (s .args .f .now))) (map identityIn (heldPlaces (s .args .b .now))) [] 0) (e .enum-told .given .1) (searched o) in
+    (none-held (s .args .b .now) (s .args .f .now) a, j .join .ensures .0, j .join .ensures .1)
+
+cast-sign : tie.Need-cast-sign
+cast-sign c = let k = c .before in let f = found k in let o = k .before .before .before in omega (arith, f .1, among o, start o .pre .0 .sound .few, start o .pre .0 .sound .few-refused)
+
+signers-requires : tie.Need-signers-requires
+signers-requires c κs = search needs
+
+sign-requires : tie.Need-sign-requires
+sign-requires c κs = let k = c .before .before in let o = k .before .before .before in (start o .pre .0 .sound, rw (among o) at (found k .1))
+
+same-length-2 : tie.Need-same-length-2
+same-length-2 c = search needs
+
+returns-2 : tie.Need-returns-2
+returns-2 c =
+    let g = c .before .before in
+    let k = g .before .before .before in
+    let o = k .before .before .before in
+    let s = start o in
+    let b = s .args .b .now in
+    let f = s .args .f .now in
+    let i = k .before .found .given .0 .0 in
+    let r = found k in
+    let l = rw (among o) at (r .1) in
+    let y = all-bytes b (λ x. beginning o .slice-known .given x .fits) in
+    let p = first-held b f i l (r .2) (r .3) in (
+      some-held b y (s .pre .0) f i l (p .0) (p .1),
+      g .sign .ensures ∙ ap (λ (x : ℕ). putWord 4 (heldPlace b i + signersAt) (bitOr (wordAt 4 (heldPlace b i + signersAt) b) x) b) (g .before .signers .ensures) ∙ signed-bytes b y (s .pre .0) f i l (p .0) (p .1),
+    )
+
+pub join-identified-spec : {M : Type 1} → statement M
+join-identified-spec =
+    tie.close
+    (tie.spec
+    identity-requires
+    slice-aggregate-identities
+    identities-requires
+    fix-count-requires
+    refused-count-requires
+    add-n
+    slice-aggregate-find-identity
+    cast-find-identity
+    slice-aggregate-find-identity-2
+    find-identity-requires
+    enum-known-found
+    enum-told
+    slice-aggregate-join
+    slice-aggregate-join-2
+    join-requires
+    same-length
+    returns
+    cast-sign
+    signers-requires
+    sign-requires
+    same-length-2
+    returns-2)

@@ -1,0 +1,142 @@
+-- `normalize` meets its contract.
+use Prim.Native.Nat.{ℕ, _+_, _-_, _*_}
+use mathlib.Core.Path.{_≡_, refl, sym, ap, ap₂, _∙_, subst}
+use mathlib.Core.List.{List, []}
+use native.Mathlib.Omega.{arith}
+use lib.ListN.{length, replicate}
+use Rattle.items.specs.Layout.{itemSize}
+use Rattle.ranges.specs.Lists.{filter}
+use Rattle.shown.specs.Fix.{Fix}
+use Rattle.tracked.specs.Held.{heldIn}
+use Rattle.tracked.specs.Bytes.{transmissionIn, transmissionBytes}
+use Rattle.tracked.specs.Parts.{Sound, heldCount}
+use Rattle.normalize.specs.Normal.{gatherAll, distinct}
+use Rattle.normalize.specs.Signed.{isSigned}
+use Rattle.normalize.specs.Working.{maxGathered, Laid, signedIn, Listed, kept}
+use Rattle.normalize.proofs.Laying.{laid-none, laid-reads, laid-again}
+use Rattle.normalize.proofs.Listing.{all-held, listed}
+use Rattle.normalize.proofs.Settling.{normalized-is}
+use borrow.Author.Needs.{needs}
+use Rattle.normalize.proofs.normalize.Statement.{statement}
+use Rattle.normalize.proofs.normalize.Tie as tie
+use Rattle.normalize.proofs.normalize.Reads as reads
+use Rattle.normalize.proofs.normalize.Lts as lts
+use Rattle.normalize.proofs.gather_held.Reads as gather-held-reads
+use Rattle.normalize.proofs.identities.Reads as identities-reads
+use Rattle.normalize.proofs.identity_room.Reads as identity-room-reads
+use Rattle.normalize.proofs.item_room.Reads as item-room-reads
+use Rattle.normalize.proofs.settle.Reads as settle-reads
+use Rattle.tracked.proofs.fix_count.Reads as fix-count-reads
+use Rattle.tracked.proofs.refused_count.Reads as refused-count-reads
+
+-- ---- the identities are listed
+
+module _ (i : tie.After-ids3) where
+  abbrev start : tie.Start
+  start = i .before .before .before .before .before .before .before .before .before .before .before .before .before .before .before
+
+  abbrev b : List ℕ
+  b = start .args .b .now
+
+  sound : Sound b
+  sound = start .pre
+
+  counted : i .before .before .before .before .before .before .before .before .before .before .fix-count .result + i .before .before .before .before .before .before .before .before .refused-count .result ≡ heldCount b
+  counted = ap₂ _+_ (i .before .before .before .before .before .before .before .before .before .before .fix-count .ensures) (i .before .before .before .before .before .before .before .before .refused-count .ensures)
+
+  empty : Laid (i .before .before .before .before .before .before .before .before .before .before .before .before .item-room .result) (replicate maxGathered 0) 0 []
+  empty =
+      let l : length (i .before .before .before .before .before .before .before .before .before .before .before .before .item-room .result) ≡ maxGathered * itemSize = search needs in
+      laid-none (i .before .before .before .before .before .before .before .before .before .before .before .before .item-room .result) (replicate maxGathered 0) l refl
+
+  are-listed : Listed b (i .before .before .before .before .before .identities .last .1 .0)
+  are-listed = listed b (i .before .before .before .before .before .identities .last .1 .0) _ (i .before .before .before .before .before .identities .ensures)
+
+-- ---- and the fixes gathered
+
+module _ (h : tie.After-gather-held) where
+  abbrev s : tie.Start
+  s = start (h .before)
+
+  abbrev fs : List Fix
+  fs = filter isSigned (heldIn (transmissionIn (b (h .before))))
+
+  gathered : Laid (h .gather-held .last .0) (h .gather-held .last .1 .0) (h .gather-held .result) (distinct fs)
+  gathered =
+      subst (λ (x : List Fix). Laid (h .gather-held .last .0) (h .gather-held .last .1 .0) (h .gather-held .result) x)
+      (ap₂ (λ (x : List Fix) (n : ℕ). gatherAll x (signedIn (b (h .before)) 0 n)) (laid-reads (empty (h .before))) (counted (h .before))
+      ∙ ap (gatherAll []) (all-held (b (h .before))))
+      (h .gather-held .ensures)
+
+identity-room-requires : tie.Need-identity-room-requires
+identity-room-requires c κs = search needs
+
+item-room-requires : tie.Need-item-room-requires
+item-room-requires c κs = search needs
+
+fix-count-requires : tie.Need-fix-count-requires
+fix-count-requires c κs = search needs
+
+refused-count-requires : tie.Need-refused-count-requires
+refused-count-requires c κs = search needs
+
+add-e : tie.Need-add-e
+add-e c = search needs
+
+slice-aggregate-identities : tie.Need-slice-aggregate-identities
+slice-aggregate-identities c = search needs
+
+identities-requires : tie.Need-identities-requires
+identities-requires c κs = search needs
+
+slice-aggregate-gather-held : tie.Need-slice-aggregate-gather-held
+slice-aggregate-gather-held c = search needs
+
+slice-aggregate-gather-held-2 : tie.Need-slice-aggregate-gather-held-2
+slice-aggregate-gather-held-2 c = search needs
+
+slice-aggregate-gather-held-3 : tie.Need-slice-aggregate-gather-held-3
+slice-aggregate-gather-held-3 c = search needs
+
+gather-held-requires : tie.Need-gather-held-requires
+gather-held-requires c κs =
+    (laid-again (empty c), ((sound c, are-listed c), (omega arith, omega (arith, counted c), omega (arith, counted c, sound c .few, sound c .few-refused))))
+
+slice-aggregate-settle : tie.Need-slice-aggregate-settle
+slice-aggregate-settle c = search needs
+
+slice-aggregate-settle-2 : tie.Need-slice-aggregate-settle-2
+slice-aggregate-settle-2 c = search needs
+
+settle-requires : tie.Need-settle-requires
+settle-requires c κs = let h = c .before .before .before .before .before in (sound (h .before) .size, laid-again (gathered h))
+
+same-length : tie.Need-same-length
+same-length c = search needs
+
+returns : tie.Need-returns
+returns c =
+    let k = c .before .before in
+    let h = k .before .before .before .before .before .before in
+    k .settle .ensures .0 ∙ ap (λ (x : List Fix). transmissionBytes (kept x)) (laid-reads (gathered h)) ∙ ap transmissionBytes (sym (normalized-is (fs h)))
+
+pub normalize-spec : {M : Type 1} → statement M
+normalize-spec =
+    tie.close
+    (tie.spec
+    identity-room-requires
+    item-room-requires
+    fix-count-requires
+    refused-count-requires
+    add-e
+    slice-aggregate-identities
+    identities-requires
+    slice-aggregate-gather-held
+    slice-aggregate-gather-held-2
+    slice-aggregate-gather-held-3
+    gather-held-requires
+    slice-aggregate-settle
+    slice-aggregate-settle-2
+    settle-requires
+    same-length
+    returns)

@@ -1,0 +1,4 @@
+pub mod Holding
+pub mod Encoding
+pub mod Searching
+pub mod Sets
