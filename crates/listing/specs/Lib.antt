@@ -1,0 +1,2 @@
+-- The text of a track (Listing).
+pub mod Listing

@@ -1,0 +1,148 @@
+-- Each way that a summary goes, and whether its model is disputed before and after.
+use Prim.Native.Nat.{ℕ}
+use mathlib.Core.Path.{_≡_, refl, sym, ap, _∙_}
+use mathlib.Core.Bool.{Bool, true, false, not, _&&_}
+use mathlib.Core.List.{List}
+use borrow.Author.Tests.{not-true, not-false}
+use Rattle.octets.specs.Bytes.{Bytes}
+use Rattle.octets.proofs.Numbers.{all-bytes}
+use Rattle.models.specs.Models.{stateOf}
+use Rattle.held.specs.Summaries.{summaryFormed}
+use Rattle.track.specs.Track.{Track, isDisputed, recheck}
+use Rattle.track.specs.Memory.{summariesIn, wellFormed, decode, encode}
+use Rattle.track.specs.Steps.{withPair}
+use Rattle.track.proofs.Opened.{opened}
+use Rattle.track.proofs.Valid.{Valid, decode-valid, formed-encode, decode-encode, summaries-back}
+use Rattle.track.proofs.Answers.{decoded-convicted, decoded-summaries}
+use Rattle.track.proofs.Pairs.{pair-refused, pair-room, pair-left, pair-plain, pair-rechecked, pair-valid}
+use borrow.Author.Needs.{needs}
+use Rattle.track.proofs.summaries.hold.Statement.{statement}
+use Rattle.track.proofs.summaries.hold.Tie as tie
+
+-- the summary was put in, or refused
+module _ (a : tie.After-put-pair) where
+  abbrev s : tie.Start
+  s = a .before .before .before .before .before .before
+
+  abbrev m : List ℕ
+  m = s .args .memory .now
+
+  abbrev p : List ℕ
+  p = s .args .p .now
+
+  abbrev model : ℕ
+  model = s .args .model
+
+  abbrev x : List ℕ
+  x = a .put-pair .last .0
+
+  bytes : Bytes m
+  bytes = all-bytes m (λ i. a .before .before .before .before .before .slice-known .given i .fits)
+
+  abbrev t : Track
+  t = withPair p (decode m)
+
+  was : a .before .before .disputed-in .result ≡ isDisputed (stateOf model (decode m .summaries))
+  was = a .before .before .disputed-in .ensures ∙ ap (λ (ss : List (List ℕ)). isDisputed (stateOf model ss)) (sym (decoded-summaries m))
+
+  -- it was put in
+  module _ (z : a .put-pair .result ≡ 0) where
+    valid : Valid t
+    valid =
+        pair-valid p (s .pre .1) (decode m) (decode-valid m (opened m (s .pre .0)) bytes) (ap (λ (k : ℕ). summaryFormed k p) (decoded-convicted m) ∙ s .pre .2)
+        (pair-room m model p (a .put-pair .result) x (a .put-pair .ensures) z)
+
+    left : x ≡ encode t
+    left = pair-left m model p (a .put-pair .result) x (a .put-pair .ensures) z
+
+    is-track : wellFormed x ≡ true
+    is-track = ap wellFormed left ∙ formed-encode t valid
+
+    held : summariesIn x ≡ t .summaries
+    held = ap summariesIn left ∙ summaries-back t valid
+
+neither : (u v : Bool) → u ≡ false → v ≡ true → (not u && v) ≡ true
+neither u v p q = rw (p, q) refl
+
+first : (u v : Bool) → u ≡ true → (not u && v) ≡ false
+first u v p = rw p refl
+
+second : (u v : Bool) → v ≡ false → (not u && v) ≡ false
+second true v p = refl
+second false v p = p
+
+disputed-in-requires : tie.Need-disputed-in-requires
+disputed-in-requires c κs = search needs
+
+put-pair-requires : tie.Need-put-pair-requires
+put-pair-requires c κs = search needs
+
+same-length : tie.Need-same-length
+same-length c = search needs
+
+returns : tie.Need-returns
+returns c = let a = c .before .before .before in pair-refused (m a) (model a) (p a) (a .put-pair .result) (x a) (a .put-pair .ensures) (c .if1 .taken)
+
+same-length-2 : tie.Need-same-length-2
+same-length-2 c = search needs
+
+returns-2 : tie.Need-returns-2
+returns-2 c =
+    let d = c .before in
+    let a = d .before .before .before in
+    pair-plain (m a) (model a) (p a) (a .put-pair .result) (x a) (a .put-pair .ensures) (d .if1 .left) (first _ _ (sym (was a) ∙ c .if2 .taken))
+
+disputed-in-requires-2 : tie.Need-disputed-in-requires-2
+disputed-in-requires-2 c κs =
+    let d = c .before .before in
+    let a = d .before .before .before in
+    is-track a (d .if1 .left)
+
+same-length-3 : tie.Need-same-length-3
+same-length-3 c = search needs
+
+returns-3 : tie.Need-returns-3
+returns-3 c =
+    let n = c .before in
+    let d = n .before .before .before in
+    let a = d .before .before .before in
+    pair-plain (m a) (model a) (p a) (a .put-pair .result) (x a) (a .put-pair .ensures) (d .if1 .left)
+    (second (isDisputed (stateOf (model a) (decode (m a) .summaries))) _ (ap (λ (ss : List (List ℕ)). isDisputed (stateOf (model a) ss)) (sym (held a (d .if1 .left))) ∙ sym (n .disputed-in2 .ensures) ∙ not-true _ (c .if3 .taken)))
+
+recheck-requires : tie.Need-recheck-requires
+recheck-requires c κs =
+    let n = c .before .before in
+    let d = n .before .before .before in
+    let a = d .before .before .before in
+    is-track a (d .if1 .left)
+
+same-length-4 : tie.Need-same-length-4
+same-length-4 c = search needs
+
+returns-4 : tie.Need-returns-4
+returns-4 c =
+    let g = c .before .before .before .before in
+    let n = g .before in
+    let d = n .before .before .before in
+    let a = d .before .before .before in
+    let z = d .if1 .left in
+    pair-rechecked (m a) (model a) (p a) (a .put-pair .result) (x a) (a .put-pair .ensures) z
+    (neither _ _ (sym (was a) ∙ n .before .before .if2 .left) (ap (λ (ss : List (List ℕ)). isDisputed (stateOf (model a) ss)) (sym (held a z)) ∙ sym (n .disputed-in2 .ensures) ∙ not-false _ (g .if3 .left))) _
+    (c .before .before .recheck .ensures ∙ ap (λ (l : List ℕ). encode (recheck (decode l))) (left a z) ∙ ap (λ (y : Track). encode (recheck y)) (decode-encode (t a) (valid a z)))
+
+pub hold-spec : {M : Type 1} → statement M
+hold-spec =
+    tie.close
+    (tie.spec
+    disputed-in-requires
+    put-pair-requires
+    same-length
+    returns
+    same-length-2
+    returns-2
+    disputed-in-requires-2
+    same-length-3
+    returns-3
+    recheck-requires
+    same-length-4
+    returns-4)
