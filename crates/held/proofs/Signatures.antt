@@ -1,11 +1,11 @@
 -- Laws of records with signers: reading and writing the signers, and that a place stays formed as engines sign and are convicted.
-use Prim.Native.Nat.{ℕ, zero, suc, _+_, _*_, _^_, _≤_, _<_}
+use Prim.Native.Nat.{ℕ, zero, suc, _+_, _*_, _/_, _%_, _^_, _≤_, _<_, max}
 use mathlib.Core.Path.{_≡_, refl, sym, ap, subst, _∙_}
 use mathlib.Core.Bool.{Bool, true, false, not, _&&_, _||_, true≢false}
 use mathlib.Core.List.{List, [], _++_}
 use native.Mathlib.Omega.{arith}
 use native.Mathlib.Nat.{lt-of-le-of-lt}
-use lib.Bits.{bitAnd}
+use lib.Bits.{bitAnd, bitOr, or-step}
 use lib.Dec.{eqb}
 use lib.ListN.{length, take, drop, length-take, length-drop}
 use lib.Seq.{take-at, drop-at, take-all, drop-drop, take-add, length-take-le}
@@ -32,6 +32,27 @@ apart m c k h = sym (bit-and m c k) ∙ ap (λ (n : ℕ). bit n k) (eqb-true (bi
 
 pub disjoint : (m c : ℕ) → ((k : ℕ) → (bit m k && bit c k) ≡ false) → eqb (bitAnd m c) 0 ≡ true
 disjoint m c h = eq-eqb (bitAnd m c) 0 (bit-ext (bitAnd m c) 0 (λ k. bit-and m c k ∙ h k ∙ sym (bit-zero k)))
+
+max-either : (a b : ℕ) → a < 2 → b < 2 → eqb (max a b) 1 ≡ (eqb a 1 || eqb b 1)
+max-either zero zero h k = refl
+max-either zero (suc zero) h k = refl
+max-either (suc zero) zero h k = refl
+max-either (suc zero) (suc zero) h k = refl
+max-either zero (suc (suc b)) h k = absurd (omega arith)
+max-either (suc zero) (suc (suc b)) h k = absurd (omega arith)
+max-either (suc (suc a)) b h k = absurd (omega arith)
+
+bit-or : (a b k : ℕ) → bit (bitOr a b) k ≡ (bit a k || bit b k)
+unfolding bit
+bit-or a b zero = let p : bitOr a b % 2 ≡ max (a % 2) (b % 2) = omega (arith, or-step a b) in rw p (max-either (a % 2) (b % 2) (omega arith) (omega arith))
+bit-or a b (suc k) = let p : bitOr a b / 2 ≡ bitOr (a / 2) (b / 2) = omega (arith, or-step a b) in rw p (bit-or (a / 2) (b / 2) k)
+
+pub or-apart : (m n c : ℕ) → eqb (bitAnd m c) 0 ≡ true → eqb (bitAnd n c) 0 ≡ true → eqb (bitAnd (bitOr m n) c) 0 ≡ true
+or-apart m n c h g = disjoint (bitOr m n) c (λ k. rw (bit-or m n k) (one (bit m k) (bit n k) (bit c k) (apart m c k h) (apart n c k g)))
+  where
+    one : (a b d : Bool) → (a && d) ≡ false → (b && d) ≡ false → ((a || b) && d) ≡ false
+    one true b d p q = p
+    one false b d p q = q
 
 pub nothing-apart : (c : ℕ) → eqb (bitAnd 0 c) 0 ≡ true
 nothing-apart c = disjoint 0 c (λ k. rw (bit-zero k) refl)

@@ -11,3 +11,5 @@ pub mod Rechecked
 pub mod Stricken
 pub mod Answers
 pub mod Pairs
+pub mod Merging
+pub mod Kept
