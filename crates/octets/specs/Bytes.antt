@@ -1,4 +1,4 @@
--- No claim rests on this definition: a slice has bytes, and a law about any list of numbers asks that it has.
+-- Which lists of numbers are bytes: what a slice has is, and a claim or a law about any list of numbers asks that it is.
 use Prim.Native.Nat.{ℕ, _<_}
 use mathlib.Core.List.{List, [], _∷_}
 
