@@ -12,4 +12,5 @@ pub mod Stricken
 pub mod Answers
 pub mod Pairs
 pub mod Merging
+pub mod Reported
 pub mod Kept

@@ -180,3 +180,26 @@ stepped-valid s v e r h w z =
       summaries-formed = v .summaries-formed;
       held = m .1;
     }
+
+-- ---- at most eight are left, whatever the fix
+
+module _ (f : Fix) (ts : List HeldTransmission) (few : length ts ≤ maxTransmissions) where
+  opened-few : length (opened f ts .left) ≤ maxTransmissions
+  unfolding opened
+  opened-few = arranged-at-most (ts ++ (normalized (f ∷ []) ∷ []))
+
+  joined-few : (t : HeldTransmission) → length (joined f t ts .left) ≤ maxTransmissions
+  unfolding joined
+  joined-few t =
+      by (anyOf (isOf f) (heldIn t))
+      (λ e. rw e (rw (length-map ts (λ x. cond (tiedTo f x) (signIn f t) x)) few))
+      (λ e. rw e (arranged-at-most (inPlace f (withFix f t) ts)))
+
+  into-few : (us : List HeldTransmission) → length (mergedInto f ts us .left) ≤ maxTransmissions
+  into-few [] = opened-few
+  into-few (t ∷ []) = joined-few t
+  into-few (t ∷ (u ∷ us)) = opened-few
+
+  pub merged-few : length (merged f ts .left) ≤ maxTransmissions
+  unfolding merged
+  merged-few = into-few (filter (tiedTo f) ts)

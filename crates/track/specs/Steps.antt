@@ -5,7 +5,9 @@ use mathlib.Core.Bool.{true, cond, not, _&&_}
 use mathlib.Core.List.{List, [], List·Memᴰ}
 use lib.Dec.{leb}
 use lib.ListN.{length, getD, take, drop}
+use Rattle.octets.specs.Masks.{withBit}
 use Rattle.places.specs.Places.{holds, putPlace}
+use Rattle.models.specs.Identity.{citedInputs, identityOf}
 use Rattle.held.specs.Limits.{maxSummaries}
 use Rattle.shown.specs.Fix.{Fix, withSigners}
 use Rattle.tracked.specs.Layout.{transmissionSize}
@@ -58,3 +60,7 @@ withPair p s = withSummaries (putPlace pairSize (λ v. drop pairSize p) (take pa
 abbrev pub putPair : List ℕ → Track → Outcome
 putPair p s =
     cond (not (holds pairSize (take pairSize p) (s .summaries)) && leb maxSummaries (length (s .summaries))) (refused 5) (done 0 (withPair p s))
+
+-- the fix of a record that an engine reports, where these summaries are held
+abbrev pub reportedFix : ℕ → List ℕ → List (List ℕ) → Fix
+reportedFix e r ss = record { identity = identityOf ss r; recordBytes = r; inputs = citedInputs ss r; signers = withBit 0 e }

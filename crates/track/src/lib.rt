@@ -7,5 +7,6 @@ pub mod convictions;
 pub mod formed;
 pub mod layout;
 pub mod rechecks;
+pub mod reports;
 pub mod signatures;
 pub mod summaries;
