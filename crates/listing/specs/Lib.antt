@@ -1,2 +1,3 @@
--- The text of a track (Listing).
+-- The text of a track (Listing); how much room it takes (Widths).
 pub mod Listing
+pub mod Widths

@@ -31,8 +31,12 @@ unfoldable pub heldFrom : ℕ → List HeldTransmission → List ℕ
 heldFrom number [] = []
 heldFrom number (t ∷ ts) = heldText number t ++ heldFrom (suc number) ts
 
+-- "a line `contested=N`"
+unfoldable pub contestedLine : ℕ → List ℕ
+contestedLine n = ascii "contested=" ++ (decimal n ++ ascii "\n")
+
 unfoldable pub listingOf : Track → List ℕ
-listingOf s = (ascii "contested=" ++ (decimal (s .contested) ++ ascii "\n")) ++ heldFrom 1 (s .transmissions)
+listingOf s = contestedLine (s .contested) ++ heldFrom 1 (s .transmissions)
 
 -- "Track listing. 1; 10. Else as the board": its length; bytes past it are untouched
 unfoldable pub listTrack : List ℕ → List ℕ → After (List ℕ)
