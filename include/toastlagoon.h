@@ -27,13 +27,22 @@ extern "C" {
 
 #define TL_OK 0
 #define TL_MALFORMED_REGISTER 1 /* the memory is not a well-formed register */
+#define TL_MALFORMED_TRACK 1    /* the memory is not a well-formed track */
 #define TL_ENGINE_OVER_31 2
 #define TL_MALFORMED_RECORD 3
 #define TL_ENGINE_CONVICTED 4
-#define TL_FULL 5         /* not held yet, and there is no place left */
-#define TL_BAD_ITEMS 8    /* over 96 items, a malformed item, or two with one identity */
-#define TL_BAD_SUMMARY 9  /* a model over 63, or inputs that are not of 32 bytes */
-#define TL_OUTPUT_TOO_SMALL 10 /* a board's output of under TL_BOARD_SIZE bytes */
+#define TL_FULL 5               /* not held yet, and there is no place left */
+#define TL_MODEL_MISSING 6      /* a track has no summary of a model that the record cites */
+#define TL_MODEL_DISPUTED 7     /* a track's summaries of a cited model disagree, or are of another spec */
+#define TL_BAD_ITEMS 8          /* over 96 items, a malformed item, or two with one identity */
+#define TL_BAD_SUMMARY 9        /* a model over 63, or inputs that are not of 32 bytes */
+#define TL_OUTPUT_TOO_SMALL 10  /* an output of under TL_BOARD_SIZE bytes for a board, of under TL_LISTING_SIZE for a listing */
+
+/* What a report did to a track. */
+#define TL_CHANGED 20   /* the fix stands, or another fix is first in its transmission than before */
+#define TL_CONTESTED 21 /* a smaller fix disagrees with it, and it is kept among the refused */
+#define TL_DUPLICATE 22 /* its identity was held in the one transmission that it is tied to, and gained the signer */
+#define TL_DROPPED 23   /* it is not kept */
 
 /* ---- limits */
 
@@ -42,6 +51,9 @@ extern "C" {
 #define TL_MAX_ITEMS 96
 #define TL_MAX_RECORDS 96
 #define TL_MAX_SUMMARIES 256
+#define TL_MAX_TRANSMISSIONS 8 /* of a track, and of a board */
+#define TL_MAX_STANDING 5      /* fixes that stand in a transmission of a track */
+#define TL_MAX_REFUSED 4       /* refused fixes that a transmission of a track keeps */
 
 /* ---- sizes in bytes */
 
@@ -61,8 +73,12 @@ extern "C" {
 /* A register. A fresh one is all zeros. */
 #define TL_REGISTER_SIZE 30920
 
-/* What a board is written to: every board fits. */
+/* A track. A fresh one is all zeros. */
+#define TL_TRACK_SIZE 29104
+
+/* What a board, or a listing, is written to: every one fits. */
 #define TL_BOARD_SIZE 16384
+#define TL_LISTING_SIZE TL_BOARD_SIZE
 
 /* ---- the answer of a decision
  *
@@ -114,6 +130,27 @@ uint32_t tl_register_conviction(uint8_t *memory, size_t memory_len, uint32_t eng
  * that holds. A length is 0 or greater than every refusal's number. Bytes past the length, and all bytes of a refused call, stay as found.
  * Every board fits TL_BOARD_SIZE bytes. Registers that hold the same records, signers and summaries have the same board. */
 uint32_t tl_board(const uint8_t *memory, size_t memory_len, uint8_t *out, size_t out_len);
+
+/* A track is what the merge of sky-commons/tally holds of one aircraft, decided report by report: it depends on the order of the
+ * calls, as a register does not. */
+
+/* Reports a record for an engine into a track. Answers TL_CHANGED, TL_CONTESTED, TL_DUPLICATE or TL_DROPPED, or TL_MALFORMED_TRACK,
+ * TL_ENGINE_OVER_31, TL_MALFORMED_RECORD, TL_ENGINE_CONVICTED, TL_MODEL_MISSING, TL_MODEL_DISPUTED, the first that holds. */
+uint32_t tl_track_report(uint8_t *memory, size_t memory_len, uint32_t engine, const uint8_t *record, size_t record_len);
+
+/* Puts in what an engine says of a model, in the place of what it said before. Where the model is disputed now and was not, fixes whose
+ * models no longer say what they were checked under go. Answers TL_OK, or TL_MALFORMED_TRACK, TL_ENGINE_OVER_31, TL_BAD_SUMMARY,
+ * TL_ENGINE_CONVICTED, TL_FULL, the first that holds. */
+uint32_t tl_track_summary(uint8_t *memory, size_t memory_len, uint32_t engine, uint32_t model, uint16_t spec, const uint8_t *inputs,
+                          size_t inputs_len);
+
+/* Convicts an engine: its summaries and signatures go, and every transmission is decided again. Answers TL_OK, also for an engine that
+ * is convicted already, or TL_MALFORMED_TRACK, TL_ENGINE_OVER_31, the first that holds. */
+uint32_t tl_track_conviction(uint8_t *memory, size_t memory_len, uint32_t engine);
+
+/* Writes the listing of a track to the start of out and answers its length, or TL_MALFORMED_TRACK, TL_OUTPUT_TOO_SMALL, the first that
+ * holds. A length is greater than every refusal's number. Bytes past the length, and all bytes of a refused call, stay as found. */
+uint32_t tl_track_listing(const uint8_t *memory, size_t memory_len, uint8_t *out, size_t out_len);
 
 #ifdef __cplusplus
 }

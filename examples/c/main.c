@@ -1,4 +1,5 @@
-/* A hash, a decision over three fixes of one transmission, and reports into a register, called from C. */
+/* A hash, a decision over three fixes of one transmission, reports into a register, and the same three fixes in two orders into
+ * tracks, called from C. */
 #include <inttypes.h>
 #include <stdio.h>
 #include <string.h>
@@ -93,9 +94,46 @@ static void reports(void) {
     printf("board into too little: answer %" PRIu32 "\n", tl_board(memory, sizeof memory, out, 100));
 }
 
+static const char *told(uint32_t answer) {
+    switch (answer) {
+    case TL_CHANGED: return "changed";
+    case TL_CONTESTED: return "contested";
+    case TL_DUPLICATE: return "duplicate";
+    case TL_DROPPED: return "dropped";
+    default: return "refused";
+    }
+}
+
+/* Fix i has i + 1 receivers and lies i steps north: the first disagrees with the third, and the second with none. */
+static void track(const int order[3]) {
+    static uint8_t memory[TL_TRACK_SIZE], out[TL_LISTING_SIZE];
+    uint8_t r[TL_RECORD_SIZE];
+    memset(memory, 0, sizeof memory);
+    for (int i = 0; i < 3; i++) {
+        write_record(r, order[i] + 1, 2700 * order[i]);
+        uint32_t answer = tl_track_report(memory, sizeof memory, 1, r, sizeof r);
+        printf("track, fix %d: answer %" PRIu32 " (%s)\n", order[i] + 1, answer, told(answer));
+    }
+    uint32_t length = tl_track_listing(memory, sizeof memory, out, sizeof out);
+    printf("listing of %" PRIu32 " bytes:\n%.*s", length, (int)length, (const char *)out);
+}
+
+static void disputes(void) {
+    static uint8_t memory[TL_TRACK_SIZE];
+    uint8_t inputs[TL_INPUTS_SIZE] = {0};
+    printf("track, summary: answer %" PRIu32 "\n", tl_track_summary(memory, sizeof memory, 1, 5, 3, inputs, sizeof inputs));
+    printf("track, summary of model 64: answer %" PRIu32 "\n", tl_track_summary(memory, sizeof memory, 1, 64, 3, inputs, sizeof inputs));
+    printf("track, conviction: answer %" PRIu32 "\n", tl_track_conviction(memory, sizeof memory, 1));
+    printf("track, summary: answer %" PRIu32 "\n", tl_track_summary(memory, sizeof memory, 1, 5, 3, inputs, sizeof inputs));
+}
+
 int main(void) {
+    static const int smallest_first[3] = {0, 1, 2}, largest_first[3] = {2, 0, 1};
     hash();
     decide();
     reports();
+    track(smallest_first);
+    track(largest_first);
+    disputes();
     return 0;
 }

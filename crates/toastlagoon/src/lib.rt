@@ -12,6 +12,9 @@ ghost use Rattle.held.specs.After.{after};
 ghost use Rattle.register.specs.Register.{takeReport, takeSummary, takeConviction};
 ghost use Rattle.register.specs.Memory.{onMemory};
 ghost use Rattle.board.specs.Board.{drawBoard};
+ghost use Rattle.track.specs.Track.{trackReport, trackSummary, trackConviction};
+ghost use Rattle.track.specs.Memory as T;
+ghost use Rattle.listing.specs.Listing.{listTrack};
 ghost use Rattle.toastlagoon.specs.Border.{covarianceFrom, claimFrom};
 ghost use Rattle.toastlagoon.specs.Answer.{handOut};
 
@@ -172,4 +175,42 @@ pub extern "C" fn tl_board(memory: &[u8], out: &mut [u8]) -> u32
     ensures { λ a. ⌜ after a (now (out .exit)) ≡ drawBoard (now (memory .entry)) (now (out .entry)) ⌝ }
 {
     board::board(memory, out)
+}
+
+// Reports a record for an engine into a track.
+#[no_mangle]
+pub extern "C" fn tl_track_report(memory: &mut [u8], engine: u32, r: &[u8]) -> u32
+    ensures { λ a. ⌜ after a (now (memory .exit)) ≡ T.onMemory (trackReport engine (now (r .entry))) (now (memory .entry)) ⌝ }
+{
+    track::reports::report(memory, engine, r)
+}
+
+// Puts an engine's summary of a model into a track.
+#[no_mangle]
+pub extern "C" fn tl_track_summary(
+    memory: &mut [u8],
+    engine: u32,
+    model: u32,
+    spec: u16,
+    inputs: &[u8],
+) -> u32
+    ensures { λ a. ⌜ after a (now (memory .exit)) ≡ T.onMemory (trackSummary engine model spec (now (inputs .entry))) (now (memory .entry)) ⌝ }
+{
+    track::summaries::summary(memory, engine, model, spec, inputs)
+}
+
+// Convicts an engine in a track, and decides again what it signed.
+#[no_mangle]
+pub extern "C" fn tl_track_conviction(memory: &mut [u8], engine: u32) -> u32
+    ensures { λ a. ⌜ after a (now (memory .exit)) ≡ T.onMemory (trackConviction engine) (now (memory .entry)) ⌝ }
+{
+    track::convictions::conviction(memory, engine)
+}
+
+// The listing of a track into `out`: 1 or 10, or its length, which is 0 or greater than every refusal's number.
+#[no_mangle]
+pub extern "C" fn tl_track_listing(memory: &[u8], out: &mut [u8]) -> u32
+    ensures { λ a. ⌜ after a (now (out .exit)) ≡ listTrack (now (memory .entry)) (now (out .entry)) ⌝ }
+{
+    listing::listing(memory, out)
 }
