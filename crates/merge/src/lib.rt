@@ -200,7 +200,7 @@ fn join_identified(b: &mut [u8], f: &[u8]) -> Joint
     let id = tracked::identity(f);
     let mut ids = [0u8; IDS_SIZE];
     normalize::identities(b, &mut ids);
-    let n = tracked::fix_count(b) + tracked::refused_count(b);
+    let n = tracked::held_count(b);
     let found = find_identity(&ids, n as usize, &id);
     let Found::At(k) = found else {
         return Joint::Decided(normalize::join(b, f, &id, &ids));

@@ -44,7 +44,7 @@ pub fn identities(b: &[u8], ids: &mut [u8])
     requires { ⌜ P.heldCount (now b) * hashSize ≤ length (now ids) ⌝ }
     ensures { λ _. ⌜ now (ids .exit) ≡ W.idsOf (now (b .entry)) ++ drop (P.heldCount (now (b .entry)) * hashSize) (now (ids .entry)) ⌝ }
 {
-    let n = tracked::fix_count(b) + tracked::refused_count(b);
+    let n = tracked::held_count(b);
     let mut at = 0;
     let mut k: u8 = 0;
     while k < n {
@@ -258,7 +258,7 @@ fn gather_with(
     ensures { λ r. ⌜ W.Laid (now (items .exit)) (now (signers .exit)) r (N.distinct (W.signedWith (now (b .entry)) (B.fixIn (now (f .entry))))) ⌝ }
 {
     let c = tracked::fix_count(b);
-    let e = c + tracked::refused_count(b);
+    let e = tracked::held_count(b);
     let n = gather_held(items, signers, 0, b, ids, 0, c);
     let m = gather(items, signers, n, f, id);
     gather_held(items, signers, m, b, ids, c, e)
@@ -272,7 +272,7 @@ pub fn normalize(b: &mut [u8])
     let mut ids = identity_room();
     let mut items = item_room();
     let mut signers = [0u32; MAX_GATHERED];
-    let e = tracked::fix_count(b) + tracked::refused_count(b);
+    let e = tracked::held_count(b);
     identities(b, &mut ids);
     let n = gather_held(&mut items, &mut signers, 0, b, &ids, 0, e);
     settle(b, &items, &signers, n);
@@ -287,7 +287,7 @@ pub fn join(b: &mut [u8], f: &[u8], id: &[u8], ids: &[u8]) -> Joined
     let mut items = item_room();
     let mut signers = [0u32; MAX_GATHERED];
     let c = tracked::fix_count(b);
-    let e = c + tracked::refused_count(b);
+    let e = tracked::held_count(b);
     let n = gather_with(&mut items, &mut signers, b, f, id, ids);
     let kept = settle(b, &items, &signers, n);
     let end = n as usize * ITEM_SIZE;

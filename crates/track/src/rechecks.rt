@@ -58,7 +58,7 @@ fn has_stale(memory: &[u8], n: usize, at: usize) -> bool
     ensures { λ r. ⌜ r ≡ T.hasStale (places summarySize n (summaryTable (now (memory .entry)))) (transmissionIn (S.blockAt at (now (memory .entry)))) ⌝ }
 {
     let e = at + TRANSMISSION_SIZE;
-    let count = signatures::held_count(&memory[at..e]);
+    let count = tracked::held_count(&memory[at..e]);
     let mut k: u8 = 0;
     while k < count {
         if !stands_at(memory, n, at, k) {
@@ -96,7 +96,7 @@ fn silence(memory: &mut [u8], n: usize, at: usize)
     ensures { λ _. ⌜ S.Carries (S.blockAt at (now (memory .exit))) (heldCount (S.blockAt at (now (memory .entry)))) (map (S.silenced (places summarySize n (summaryTable (now (memory .entry))))) (heldIn (transmissionIn (S.blockAt at (now (memory .entry)))))) ⌝ }
 {
     let e = at + TRANSMISSION_SIZE;
-    let count = signatures::held_count(&memory[at..e]);
+    let count = tracked::held_count(&memory[at..e]);
     let mut k: u8 = 0;
     while k < count {
         if stands_at(memory, n, at, k) {

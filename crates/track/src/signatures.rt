@@ -11,14 +11,6 @@ ghost use Rattle.tracked.specs.Parts.{heldCount, Sound};
 ghost use Rattle.track.specs.Track.{unsigned};
 ghost use Rattle.track.specs.Steps.{heldFix, Carries};
 
-// How many fixes are held.
-pub fn held_count(b: &[u8]) -> u8
-    requires { ⌜ Sound (now b) ⌝ }
-    ensures { λ r. ⌜ r ≡ heldCount (now (b .entry)) ⌝ }
-{
-    tracked::fix_count(b) + tracked::refused_count(b)
-}
-
 // Puts signers into the held fix k.
 pub fn put_signers(b: &mut [u8], k: u8, signers: u32)
     requires { ⌜ Sound (now b) × (k < heldCount (now b)) ⌝ }
@@ -33,7 +25,7 @@ pub fn unsign(b: &mut [u8], engine: u32)
     requires { ⌜ Sound (now b) × (engine < 32) ⌝ }
     ensures { λ _. ⌜ Carries (now (b .exit)) (heldCount (now (b .entry))) (map (unsigned engine) (heldIn (transmissionIn (now (b .entry))))) ⌝ }
 {
-    let n = held_count(b);
+    let n = tracked::held_count(b);
     let mut k: u8 = 0;
     while k < n {
         let signers = tracked::signers(tracked::held(b, k));

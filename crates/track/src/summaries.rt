@@ -8,7 +8,7 @@ use models::layout::SUMMARY_SIZE;
 use models::states::ModelState;
 use places::Put;
 ghost use mathlib.Core.Path.{_≡_};
-ghost use mathlib.Core.Bool.{true};
+ghost use mathlib.Core.Bool.{true, not, _&&_};
 ghost use mathlib.Core.List.{_++_};
 ghost use Prim.Native.Nat.{_+_, _*_, _≤_};
 ghost use lib.ListN.{length, take, drop};
@@ -87,20 +87,27 @@ fn disputed_in(memory: &[u8], model: u8) -> bool
     )
 }
 
+// Whether summaries that were disputed or not have become so.
+fn becomes_disputed(was: bool, is: bool) -> bool
+    ensures { λ r. ⌜ r ≡ (not «was» && «is») ⌝ }
+{
+    if was {
+        return false;
+    }
+    is
+}
+
 // Puts a summary in, and checks the fixes again if its model is disputed now and was not.
 fn hold(memory: &mut [u8], model: u8, p: &[u8]) -> u32
     requires { ⌜ (wellFormed (now memory) ≡ true) × (length (now p) ≡ summarySize) × (summaryFormed (convictedIn (now memory)) (now p) ≡ true) ⌝ }
     ensures { λ a. ⌜ after a (now (memory .exit)) ≡ commit (now (memory .entry)) (holdPair model (now (p .entry)) (decode (now (memory .entry)))) ⌝ }
 {
-    let before = disputed_in(memory, model);
+    let was = disputed_in(memory, model);
     let a = put_pair(memory, p);
     if a != 0 {
         return a;
     }
-    if before {
-        return 0;
-    }
-    if !disputed_in(memory, model) {
+    if !becomes_disputed(was, disputed_in(memory, model)) {
         return 0;
     }
     rechecks::recheck(memory);

@@ -73,6 +73,14 @@ pub fn refused_count(b: &[u8]) -> u8
     b[layout::REFUSED_COUNT_AT]
 }
 
+// How many fixes are held: those that stand, and the refused.
+pub fn held_count(b: &[u8]) -> u8
+    requires { ⌜ P.Sound (now b) ⌝ }
+    ensures { λ r. ⌜ r ≡ P.heldCount (now (b .entry)) ⌝ }
+{
+    fix_count(b) + refused_count(b)
+}
+
 // The fix k of those that stand.
 pub fn fix_at(b: &[u8], k: u8) -> &[u8]
     requires { ⌜ length (now b) ≡ L.transmissionSize ⌝ }
@@ -125,7 +133,7 @@ pub fn ties(b: &[u8], r: &[u8]) -> bool
     requires { ⌜ wellFormed (now r) ≡ true ⌝ }
     ensures { λ x. ⌜ x ≡ anyOf (P.tiesTo (now (r .entry))) (P.heldPlaces (now (b .entry))) ⌝ }
 {
-    let n = fix_count(b) + refused_count(b);
+    let n = held_count(b);
     let mut k: u8 = 0;
     while k < n {
         if record::relations::tied(record_of(held(b, k)), r) {

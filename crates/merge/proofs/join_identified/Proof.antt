@@ -1,6 +1,6 @@
 -- `join_identified` meets its contract.
 use Prim.Native.Nat.{ℕ, _+_}
-use mathlib.Core.Path.{_≡_, sym, ap, ap₂, _∙_, subst}
+use mathlib.Core.Path.{_≡_, sym, ap, _∙_, subst}
 use mathlib.Core.List.{List, [], map}
 use native.Mathlib.Omega.{arith}
 use lib.Bits.{bitOr}
@@ -9,7 +9,7 @@ use Rattle.octets.specs.Words.{wordAt}
 use Rattle.octets.specs.Writes.{putWord}
 use Rattle.octets.proofs.Numbers.{all-bytes}
 use Rattle.tracked.specs.Layout.{signersAt}
-use Rattle.tracked.specs.Bytes.{identityIn, refusedCount}
+use Rattle.tracked.specs.Bytes.{identityIn}
 use Rattle.tracked.specs.Parts.{heldPlaces, heldCount, heldPlace}
 use Rattle.tracked.proofs.Holding.{held-length}
 use Rattle.normalize.specs.Working.{Listed}
@@ -25,9 +25,8 @@ use Rattle.merge.proofs.join_identified.Lts as lts
 use Rattle.merge.proofs.find_identity.Reads as find-identity-reads
 use Rattle.normalize.proofs.identities.Reads as identities-reads
 use Rattle.normalize.proofs.join.Reads as join-reads
-use Rattle.tracked.proofs.fix_count.Reads as fix-count-reads
+use Rattle.tracked.proofs.held_count.Reads as held-count-reads
 use Rattle.tracked.proofs.identity.Reads as identity-reads
-use Rattle.tracked.proofs.refused_count.Reads as refused-count-reads
 use Rattle.tracked.proofs.sign.Reads as sign-reads
 use Rattle.tracked.proofs.signers.Reads as signers-reads
 
@@ -40,14 +39,8 @@ slice-aggregate-identities c = search needs
 identities-requires : tie.Need-identities-requires
 identities-requires c κs = search needs
 
-fix-count-requires : tie.Need-fix-count-requires
-fix-count-requires c κs = search needs
-
-refused-count-requires : tie.Need-refused-count-requires
-refused-count-requires c κs = search needs
-
-add-n : tie.Need-add-n
-add-n c = search needs
+held-count-requires : tie.Need-held-count-requires
+held-count-requires c κs = search needs
 
 slice-aggregate-find-identity : tie.Need-slice-aggregate-find-identity
 slice-aggregate-find-identity c = search needs
@@ -76,7 +69,7 @@ slice-aggregate-join-2 c = search needs
 -- ---- where the identity was looked for
 
 abbrev beginning : tie.After-find-identity → tie.After-slice-known
-beginning o = o .before .before .before .before .before .before .before .before .before .before .before .before .before
+beginning o = o .before .before .before .before .before .before .before .before .before .before .before
 
 abbrev start : tie.After-find-identity → tie.Start
 start o = beginning o .before
@@ -89,7 +82,7 @@ module _ (o : tie.After-find-identity) where
   f = start o .args .f .now
 
   abbrev written : tie.After-identities
-  written = o .before .before .before .before .before .before .before .before
+  written = o .before .before .before .before .before .before
 
   abbrev ids : List ℕ
   ids = written .identities .last .1 .0
@@ -100,14 +93,8 @@ module _ (o : tie.After-find-identity) where
   listed-there : Listed b ids
   listed-there = listed b ids _ (written .identities .ensures)
 
-  counted : o .before .before .before .refused-count .result ≡ refusedCount b
-  counted = o .before .before .before .refused-count .ensures
-
   searched : First (isIdentity (identityIn f)) (map identityIn (heldPlaces b)) [] 0 (o .find-identity .result)
-  searched = rw (sym identified, sym (ids-places b ids listed-there), sum) (o .find-identity .ensures)
-    where
-      sum : heldCount b ≡ o .before .before .before .before .before .fix-count .result + o .before .before .before .refused-count .result
-      sum = sym (ap₂ _+_ (o .before .before .before .before .before .fix-count .ensures) counted)
+  searched = rw (sym identified, sym (ids-places b ids listed-there), sym (o .before .before .before .held-count .ensures)) (o .find-identity .ensures)
 
   among : length (map identityIn (heldPlaces b)) ≡ heldCount b
   among = length-map (heldPlaces b) identityIn ∙ held-length b
@@ -170,9 +157,7 @@ join-identified-spec =
     identity-requires
     slice-aggregate-identities
     identities-requires
-    fix-count-requires
-    refused-count-requires
-    add-n
+    held-count-requires
     slice-aggregate-find-identity
     cast-find-identity
     slice-aggregate-find-identity-2

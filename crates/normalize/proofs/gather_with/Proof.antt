@@ -5,7 +5,7 @@ use mathlib.Core.List.{List, [], _∷_}
 use native.Mathlib.Omega.{arith}
 use Rattle.shown.specs.Fix.{Fix}
 use Rattle.tracked.specs.Layout.{maxStanding}
-use Rattle.tracked.specs.Bytes.{fixIn, fixCount, refusedCount}
+use Rattle.tracked.specs.Bytes.{fixIn, fixCount}
 use Rattle.tracked.specs.Parts.{heldCount}
 use Rattle.normalize.specs.Normal as N
 use Rattle.normalize.specs.Normal.{gatherAll}
@@ -18,10 +18,10 @@ use Rattle.normalize.proofs.gather_with.Statement.{statement}
 use Rattle.normalize.proofs.gather_with.Tie as tie
 use Rattle.normalize.proofs.gather_with.Reads as reads
 use Rattle.normalize.proofs.gather_with.Lts as lts
+use Rattle.tracked.proofs.held_count.Reads as held-count-reads
 use Rattle.normalize.proofs.gather.Reads as gather-reads
 use Rattle.normalize.proofs.gather_held.Reads as gather-held-reads
 use Rattle.tracked.proofs.fix_count.Reads as fix-count-reads
-use Rattle.tracked.proofs.refused_count.Reads as refused-count-reads
 
 -- ---- those that stand
 
@@ -38,8 +38,8 @@ module _ (h : tie.After-gather-held) where
   counted : h .before .before .before .before .fix-count .result ≡ fixCount b
   counted = h .before .before .before .before .fix-count .ensures
 
-  counted-refused : h .before .before .before .refused-count .result ≡ refusedCount b
-  counted-refused = h .before .before .before .refused-count .ensures
+  counted-all : h .before .before .before .held-count .result ≡ heldCount b
+  counted-all = h .before .before .before .held-count .ensures
 
   abbrev stood : List Fix
   stood = gatherAll [] (signedIn b 0 (fixCount b))
@@ -73,11 +73,8 @@ module _ (g : tie.After-gather) where
 fix-count-requires : tie.Need-fix-count-requires
 fix-count-requires c κs = search needs
 
-refused-count-requires : tie.Need-refused-count-requires
-refused-count-requires c κs = search needs
-
-add-e : tie.Need-add-e
-add-e c = search needs
+held-count-requires : tie.Need-held-count-requires
+held-count-requires c κs = search needs
 
 gather-held-requires : tie.Need-gather-held-requires
 gather-held-requires c κs =
@@ -95,7 +92,7 @@ gather-held-requires-2 : tie.Need-gather-held-requires-2
 gather-held-requires-2 c κs =
     let g = c .before .before .before .before .before .before in
     let h = before g in
-    (laid-again (second g), (start h .pre .1 .0, (omega arith, omega (arith, counted h, counted-refused h), omega (arith, more g, counted-refused h, start h .pre .1 .0 .0 .few-refused))))
+    (laid-again (second g), (start h .pre .1 .0, (omega arith, omega (arith, counted h, counted-all h), omega (arith, more g, counted h, counted-all h, start h .pre .1 .0 .0 .few-refused))))
 
 same-length : tie.Need-same-length
 same-length c = search needs
@@ -110,8 +107,8 @@ returns c =
     let g = k .before .before .before .before .before .before .before in
     let h = before g in
     subst (λ (x : List Fix). Laid (k .gather-held2 .last .0) (k .gather-held2 .last .1 .0) (k .gather-held2 .result) x)
-    (ap (λ (x : List Fix). gatherAll x (signedIn (b h) (h .before .before .before .before .fix-count .result) (h .before .before .before .before .fix-count .result + h .before .before .before .refused-count .result))) (laid-reads (second g))
-    ∙ ap₂ (λ (m n : ℕ). gatherAll (N.gather (stood h) (f h)) (signedIn (b h) m (m + n))) (counted h) (counted-refused h)
+    (ap (λ (x : List Fix). gatherAll x (signedIn (b h) (h .before .before .before .before .fix-count .result) (h .before .before .before .held-count .result))) (laid-reads (second g))
+    ∙ ap₂ (λ (m n : ℕ). gatherAll (N.gather (stood h) (f h)) (signedIn (b h) m n)) (counted h) (counted-all h)
     ∙ sym (all-append [] (signedIn (b h) 0 (fixCount (b h))) (f h ∷ signedIn (b h) (fixCount (b h)) (heldCount (b h)))))
     (k .gather-held2 .ensures)
 
@@ -120,8 +117,7 @@ gather-with-spec =
     tie.close
     (tie.spec
     fix-count-requires
-    refused-count-requires
-    add-e
+    held-count-requires
     gather-held-requires
     gather-requires
     gather-held-requires-2

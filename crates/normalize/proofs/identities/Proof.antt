@@ -20,11 +20,10 @@ use Rattle.normalize.proofs.identities.Statement.{statement}
 use Rattle.normalize.proofs.identities.Tie as tie
 use Rattle.normalize.proofs.identities.Reads as reads
 use Rattle.normalize.proofs.identities.Lts as lts
+use Rattle.tracked.proofs.held_count.Reads as held-count-reads
 use Rattle.text.proofs.put_bytes.Reads as put-bytes-reads
-use Rattle.tracked.proofs.fix_count.Reads as fix-count-reads
 use Rattle.tracked.proofs.held.Reads as held-reads
 use Rattle.tracked.proofs.identity.Reads as identity-reads
-use Rattle.tracked.proofs.refused_count.Reads as refused-count-reads
 
 abbrev Inv-loop : tie.InvT-loop
 Inv-loop b ids₀ n at₀ k₀ ids at k = (k ≤ n) × (at ≡ k * hashSize) × Put ids₀ 0 (flat (map identityIn (take k (heldPlaces b)))) at ids
@@ -32,14 +31,8 @@ Inv-loop b ids₀ n at₀ k₀ ids at k = (k ≤ n) × (at ≡ k * hashSize) × 
 abbrev μ-loop : tie.MeasureT-loop
 μ-loop b ids₀ n at₀ k₀ ids at k = n - k
 
-fix-count-requires : tie.Need-fix-count-requires Inv-loop μ-loop
-fix-count-requires c κs = search needs
-
-refused-count-requires : tie.Need-refused-count-requires Inv-loop μ-loop
-refused-count-requires c κs = search needs
-
-add-n : tie.Need-add-n Inv-loop μ-loop
-add-n c = search needs
+held-count-requires : tie.Need-held-count-requires Inv-loop μ-loop
+held-count-requires c κs = search needs
 
 loop-holds : tie.Need-loop-holds Inv-loop μ-loop
 unfolding flat
@@ -47,13 +40,13 @@ loop-holds c = (omega arith, omega arith, put-none _ _)
 
 module _ (l : tie.At-loop Inv-loop μ-loop) where
   abbrev start : tie.Start Inv-loop μ-loop
-  start = l .before .before .before .before .before
+  start = l .before .before .before .before
 
   abbrev b : List ℕ
   b = start .args .b .now
 
-  counted : l .before .before .fix-count .result + l .before .refused-count .result ≡ heldCount b
-  counted = omega (arith, l .before .before .fix-count .ensures, l .before .refused-count .ensures)
+  counted : l .before .held-count .result ≡ heldCount b
+  counted = l .before .held-count .ensures
 
   long : length (l .loop .ids) ≡ length (start .args .ids .now)
   long = put-length (l .loop .inv .2)
@@ -109,9 +102,7 @@ identities-spec =
     (tie.spec
     Inv-loop
     μ-loop
-    fix-count-requires
-    refused-count-requires
-    add-n
+    held-count-requires
     loop-holds
     held-requires
     identity-requires

@@ -23,12 +23,12 @@ use Rattle.normalize.proofs.join.Statement.{statement}
 use Rattle.normalize.proofs.join.Tie as tie
 use Rattle.normalize.proofs.join.Reads as reads
 use Rattle.normalize.proofs.join.Lts as lts
+use Rattle.tracked.proofs.held_count.Reads as held-count-reads
 use Rattle.normalize.proofs.gather_with.Reads as gather-with-reads
 use Rattle.normalize.proofs.item_room.Reads as item-room-reads
 use Rattle.normalize.proofs.settle.Reads as settle-reads
 use Rattle.normalize.proofs.tell.Reads as tell-reads
 use Rattle.tracked.proofs.fix_count.Reads as fix-count-reads
-use Rattle.tracked.proofs.refused_count.Reads as refused-count-reads
 
 -- ---- the fixes are gathered
 
@@ -54,8 +54,8 @@ module _ (a : tie.After-gather-with) where
   counted : a .before .before .before .before .before .before .fix-count .result ≡ fixCount b
   counted = a .before .before .before .before .before .before .fix-count .ensures
 
-  counted-all : a .before .before .before .before .before .before .fix-count .result + a .before .before .before .before .refused-count .result ≡ heldCount b
-  counted-all = ap₂ _+_ counted (a .before .before .before .before .refused-count .ensures)
+  counted-all : a .before .before .before .before .held-count .result ≡ heldCount b
+  counted-all = a .before .before .before .before .held-count .ensures
 
   abbrev fs : List Fix
   fs = transmissionIn b .fixes ++ (f ∷ map fixOf (transmissionIn b .refused))
@@ -86,11 +86,8 @@ item-room-requires c κs = search needs
 fix-count-requires : tie.Need-fix-count-requires
 fix-count-requires c κs = search needs
 
-refused-count-requires : tie.Need-refused-count-requires
-refused-count-requires c κs = search needs
-
-add-e : tie.Need-add-e
-add-e c = search needs
+held-count-requires : tie.Need-held-count-requires
+held-count-requires c κs = search needs
 
 slice-aggregate-gather-with : tie.Need-slice-aggregate-gather-with
 slice-aggregate-gather-with c = search needs
@@ -140,7 +137,7 @@ returns c =
     let a = all k in (
       k .settle .ensures .0 ∙ ap (λ (x : List Fix). transmissionBytes (kept x)) (laid-reads (gathered a)) ∙ ap transmissionBytes (sym (normalized-is (fs a))),
       c .tell .ensures
-          ∙ ap (λ (x : List ℕ). told (items k) (k .settle .result) x (ids a) (a .before .before .before .before .before .before .fix-count .result) (a .before .before .before .before .before .before .fix-count .result + a .before .before .before .before .refused-count .result)) (start a .pre .1 .2)
+          ∙ ap (λ (x : List ℕ). told (items k) (k .settle .result) x (ids a) (a .before .before .before .before .before .before .fix-count .result) (a .before .before .before .before .held-count .result)) (start a .pre .1 .2)
           ∙ ap₂ (told (items k) (k .settle .result) (f a .identity) (ids a)) (counted a) (counted-all a)
           ∙ told-is (items k) (a .gather-with .last .1 .0) (k .settle .result) (b a) (ids a) (listed a) (f a) (start a .pre .0 .1)
           ∙ ap (did (f a) (transmissionIn (b a))) (is k),
@@ -152,8 +149,7 @@ join-spec =
     (tie.spec
     item-room-requires
     fix-count-requires
-    refused-count-requires
-    add-e
+    held-count-requires
     slice-aggregate-gather-with
     slice-aggregate-gather-with-2
     gather-with-requires

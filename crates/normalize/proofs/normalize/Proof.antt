@@ -1,5 +1,5 @@
 -- `normalize` meets its contract.
-use Prim.Native.Nat.{ℕ, _+_, _-_, _*_}
+use Prim.Native.Nat.{ℕ, _-_, _*_}
 use mathlib.Core.Path.{_≡_, refl, sym, ap, ap₂, _∙_, subst}
 use mathlib.Core.List.{List, []}
 use native.Mathlib.Omega.{arith}
@@ -21,19 +21,18 @@ use Rattle.normalize.proofs.normalize.Statement.{statement}
 use Rattle.normalize.proofs.normalize.Tie as tie
 use Rattle.normalize.proofs.normalize.Reads as reads
 use Rattle.normalize.proofs.normalize.Lts as lts
+use Rattle.tracked.proofs.held_count.Reads as held-count-reads
 use Rattle.normalize.proofs.gather_held.Reads as gather-held-reads
 use Rattle.normalize.proofs.identities.Reads as identities-reads
 use Rattle.normalize.proofs.identity_room.Reads as identity-room-reads
 use Rattle.normalize.proofs.item_room.Reads as item-room-reads
 use Rattle.normalize.proofs.settle.Reads as settle-reads
-use Rattle.tracked.proofs.fix_count.Reads as fix-count-reads
-use Rattle.tracked.proofs.refused_count.Reads as refused-count-reads
 
 -- ---- the identities are listed
 
 module _ (i : tie.After-ids3) where
   abbrev start : tie.Start
-  start = i .before .before .before .before .before .before .before .before .before .before .before .before .before .before .before
+  start = i .before .before .before .before .before .before .before .before .before .before .before .before .before
 
   abbrev b : List ℕ
   b = start .args .b .now
@@ -41,13 +40,13 @@ module _ (i : tie.After-ids3) where
   sound : Sound b
   sound = start .pre
 
-  counted : i .before .before .before .before .before .before .before .before .before .before .fix-count .result + i .before .before .before .before .before .before .before .before .refused-count .result ≡ heldCount b
-  counted = ap₂ _+_ (i .before .before .before .before .before .before .before .before .before .before .fix-count .ensures) (i .before .before .before .before .before .before .before .before .refused-count .ensures)
+  counted : i .before .before .before .before .before .before .before .before .held-count .result ≡ heldCount b
+  counted = i .before .before .before .before .before .before .before .before .held-count .ensures
 
-  empty : Laid (i .before .before .before .before .before .before .before .before .before .before .before .before .item-room .result) (replicate maxGathered 0) 0 []
+  empty : Laid (i .before .before .before .before .before .before .before .before .before .before .item-room .result) (replicate maxGathered 0) 0 []
   empty =
-      let l : length (i .before .before .before .before .before .before .before .before .before .before .before .before .item-room .result) ≡ maxGathered * itemSize = search needs in
-      laid-none (i .before .before .before .before .before .before .before .before .before .before .before .before .item-room .result) (replicate maxGathered 0) l refl
+      let l : length (i .before .before .before .before .before .before .before .before .before .before .item-room .result) ≡ maxGathered * itemSize = search needs in
+      laid-none (i .before .before .before .before .before .before .before .before .before .before .item-room .result) (replicate maxGathered 0) l refl
 
   are-listed : Listed b (i .before .before .before .before .before .identities .last .1 .0)
   are-listed = listed b (i .before .before .before .before .before .identities .last .1 .0) _ (i .before .before .before .before .before .identities .ensures)
@@ -74,14 +73,8 @@ identity-room-requires c κs = search needs
 item-room-requires : tie.Need-item-room-requires
 item-room-requires c κs = search needs
 
-fix-count-requires : tie.Need-fix-count-requires
-fix-count-requires c κs = search needs
-
-refused-count-requires : tie.Need-refused-count-requires
-refused-count-requires c κs = search needs
-
-add-e : tie.Need-add-e
-add-e c = search needs
+held-count-requires : tie.Need-held-count-requires
+held-count-requires c κs = search needs
 
 slice-aggregate-identities : tie.Need-slice-aggregate-identities
 slice-aggregate-identities c = search needs
@@ -126,9 +119,7 @@ normalize-spec =
     (tie.spec
     identity-room-requires
     item-room-requires
-    fix-count-requires
-    refused-count-requires
-    add-e
+    held-count-requires
     slice-aggregate-identities
     identities-requires
     slice-aggregate-gather-held

@@ -1,6 +1,6 @@
 -- Each way that a summary goes, and whether its model is disputed before and after.
 use Prim.Native.Nat.{ℕ}
-use mathlib.Core.Path.{_≡_, refl, sym, ap, _∙_}
+use mathlib.Core.Path.{_≡_, refl, sym, ap, ap₂, _∙_}
 use mathlib.Core.Bool.{Bool, true, false, not, _&&_}
 use mathlib.Core.List.{List}
 use borrow.Author.Tests.{not-true, not-false}
@@ -8,7 +8,7 @@ use Rattle.octets.specs.Bytes.{Bytes}
 use Rattle.octets.proofs.Numbers.{all-bytes}
 use Rattle.models.specs.Models.{stateOf}
 use Rattle.held.specs.Summaries.{summaryFormed}
-use Rattle.track.specs.Track.{Track, isDisputed, recheck}
+use Rattle.track.specs.Track.{Track, isDisputed, becomesDisputed, recheck}
 use Rattle.track.specs.Memory.{summariesIn, wellFormed, decode, encode}
 use Rattle.track.specs.Steps.{withPair}
 use Rattle.track.proofs.Opened.{opened}
@@ -61,16 +61,6 @@ module _ (a : tie.After-put-pair) where
     held : summariesIn x ≡ t .summaries
     held = ap summariesIn left ∙ summaries-back t valid
 
-neither : (u v : Bool) → u ≡ false → v ≡ true → (not u && v) ≡ true
-neither u v p q = rw (p, q) refl
-
-first : (u v : Bool) → u ≡ true → (not u && v) ≡ false
-first u v p = rw p refl
-
-second : (u v : Bool) → v ≡ false → (not u && v) ≡ false
-second true v p = refl
-second false v p = p
-
 disputed-in-requires : tie.Need-disputed-in-requires
 disputed-in-requires c κs = search needs
 
@@ -83,52 +73,54 @@ same-length c = search needs
 returns : tie.Need-returns
 returns c = let a = c .before .before .before in pair-refused (m a) (model a) (p a) (a .put-pair .result) (x a) (a .put-pair .ensures) (c .if1 .taken)
 
+disputed-in-requires-2 : tie.Need-disputed-in-requires-2
+disputed-in-requires-2 c κs =
+    let d = c .before in
+    let a = d .before .before .before in
+    is-track a (d .if1 .left)
+
+-- whether the model is disputed now, and was not
+module _ (k : tie.After-becomes-disputed) where
+  abbrev n : tie.After-disputed-in2
+  n = k .before
+
+  abbrev d : tie.Else1
+  d = n .before .before
+
+  abbrev a : tie.After-put-pair
+  a = d .before .before .before
+
+  becomes : k .becomes-disputed .result ≡ becomesDisputed (model a) (decode (m a) .summaries) (t a .summaries)
+  becomes =
+      k .becomes-disputed .ensures
+      ∙ ap₂ (λ (u v : Bool). not u && v) (was a) (n .disputed-in2 .ensures ∙ ap (λ (ss : List (List ℕ)). isDisputed (stateOf (model a) ss)) (held a (d .if1 .left)))
+
+becomes-disputed-requires : tie.Need-becomes-disputed-requires
+becomes-disputed-requires c κs = search needs
+
 same-length-2 : tie.Need-same-length-2
 same-length-2 c = search needs
 
 returns-2 : tie.Need-returns-2
 returns-2 c =
-    let d = c .before in
-    let a = d .before .before .before in
-    pair-plain (m a) (model a) (p a) (a .put-pair .result) (x a) (a .put-pair .ensures) (d .if1 .left) (first _ _ (sym (was a) ∙ c .if2 .taken))
+    let k = c .before in
+    let z = a k in
+    pair-plain (m z) (model z) (p z) (z .put-pair .result) (x z) (z .put-pair .ensures) (d k .if1 .left) (sym (becomes k) ∙ not-true _ (c .if2 .taken))
 
-disputed-in-requires-2 : tie.Need-disputed-in-requires-2
-disputed-in-requires-2 c κs =
-    let d = c .before .before in
-    let a = d .before .before .before in
-    is-track a (d .if1 .left)
+recheck-requires : tie.Need-recheck-requires
+recheck-requires c κs = let k = c .before .before in is-track (a k) (d k .if1 .left)
 
 same-length-3 : tie.Need-same-length-3
 same-length-3 c = search needs
 
 returns-3 : tie.Need-returns-3
 returns-3 c =
-    let n = c .before in
-    let d = n .before .before .before in
-    let a = d .before .before .before in
-    pair-plain (m a) (model a) (p a) (a .put-pair .result) (x a) (a .put-pair .ensures) (d .if1 .left)
-    (second (isDisputed (stateOf (model a) (decode (m a) .summaries))) _ (ap (λ (ss : List (List ℕ)). isDisputed (stateOf (model a) ss)) (sym (held a (d .if1 .left))) ∙ sym (n .disputed-in2 .ensures) ∙ not-true _ (c .if3 .taken)))
-
-recheck-requires : tie.Need-recheck-requires
-recheck-requires c κs =
-    let n = c .before .before in
-    let d = n .before .before .before in
-    let a = d .before .before .before in
-    is-track a (d .if1 .left)
-
-same-length-4 : tie.Need-same-length-4
-same-length-4 c = search needs
-
-returns-4 : tie.Need-returns-4
-returns-4 c =
     let g = c .before .before .before .before in
-    let n = g .before in
-    let d = n .before .before .before in
-    let a = d .before .before .before in
-    let z = d .if1 .left in
-    pair-rechecked (m a) (model a) (p a) (a .put-pair .result) (x a) (a .put-pair .ensures) z
-    (neither _ _ (sym (was a) ∙ n .before .before .if2 .left) (ap (λ (ss : List (List ℕ)). isDisputed (stateOf (model a) ss)) (sym (held a z)) ∙ sym (n .disputed-in2 .ensures) ∙ not-false _ (g .if3 .left))) _
-    (c .before .before .recheck .ensures ∙ ap (λ (l : List ℕ). encode (recheck (decode l))) (left a z) ∙ ap (λ (y : Track). encode (recheck y)) (decode-encode (t a) (valid a z)))
+    let k = g .before in
+    let z = a k in
+    let h = d k .if1 .left in
+    pair-rechecked (m z) (model z) (p z) (z .put-pair .result) (x z) (z .put-pair .ensures) h (sym (becomes k) ∙ not-false _ (g .if2 .left)) _
+    (c .before .before .recheck .ensures ∙ ap (λ (l : List ℕ). encode (recheck (decode l))) (left z h) ∙ ap (λ (y : Track). encode (recheck y)) (decode-encode (t z) (valid z h)))
 
 pub hold-spec : {M : Type 1} → statement M
 hold-spec =
@@ -138,11 +130,10 @@ hold-spec =
     put-pair-requires
     same-length
     returns
+    disputed-in-requires-2
+    becomes-disputed-requires
     same-length-2
     returns-2
-    disputed-in-requires-2
-    same-length-3
-    returns-3
     recheck-requires
-    same-length-4
-    returns-4)
+    same-length-3
+    returns-3)
