@@ -65,6 +65,26 @@ module _ (b : List ℕ) where
   pub none-held : (f : List ℕ) → anyOf (isIdentity (identityIn f)) (map identityIn hs) ≡ false → anyOf (isOf (fixIn f)) (heldIn (transmissionIn b)) ≡ false
   none-held f a = ap (anyOf (isOf (fixIn f))) (sym (held-are b)) ∙ sym (any-identity f hs) ∙ a
 
+-- as many identities as fixes, each that of its fix
+pub identities-count : (b : List ℕ) → length (map identityIn (heldPlaces b)) ≡ heldCount b
+identities-count b = length-map (heldPlaces b) identityIn ∙ held-length b
+
+at-identity : (l : List (List ℕ)) (i : ℕ) → i < length l → getD (map identityIn l) i [] ≡ identityIn (getD l i [])
+at-identity [] i w = absurd (omega arith)
+at-identity (x ∷ l) zero w = refl
+at-identity (x ∷ l) (suc i) w = at-identity l i (omega arith)
+
+pub identity-at : (b : List ℕ) (k : ℕ) → k < heldCount b → getD (map identityIn (heldPlaces b)) k [] ≡ identityIn (getD (heldPlaces b) k [])
+identity-at b k h = at-identity (heldPlaces b) k (rw (held-length b) h)
+
+pub identity-there : (b f : List ℕ) (k : ℕ) → k < heldCount b → identityIn (getD (heldPlaces b) k []) ≡ identityIn f
+    → isIdentity (identityIn f) (getD (map identityIn (heldPlaces b)) k []) ≡ true
+identity-there b f k h e = ap (isIdentity (identityIn f)) (identity-at b k h ∙ e) ∙ same-refl (identityIn f)
+
+-- where a held fix has the message, tags and inputs of f, it has its identity
+pub set-identity : (b f : List ℕ) → Sound b → (k : ℕ) → k < heldCount b → sameSet (getD (heldPlaces b) k []) f ≡ true → identityIn (getD (heldPlaces b) k []) ≡ identityIn f
+set-identity b f s k h e = same-identity (getD (heldPlaces b) k []) f (held-formed b s k h) e
+
 -- the first of the identities that is f's is that of the first held fix that has it
 pub first-held : (b f : List ℕ) (k : ℕ) → k < heldCount b → anyOf (isIdentity (identityIn f)) (take (k - 0) (drop 0 (map identityIn (heldPlaces b)))) ≡ false
     → isIdentity (identityIn f) (getD (map identityIn (heldPlaces b)) k []) ≡ true
@@ -73,7 +93,7 @@ first-held b f k h a e =
     let z : k - 0 ≡ k = omega arith in
     let n : anyOf (isIdentity (identityIn f)) (take k (map identityIn (heldPlaces b))) ≡ false = ap (λ (i : ℕ). anyOf (isIdentity (identityIn f)) (take i (map identityIn (heldPlaces b)))) (sym z) ∙ a in (
       ap (λ (l : List Fix). anyOf (isOf (fixIn f)) (take k l)) (sym (held-are b)) ∙ ap (anyOf (isOf (fixIn f))) (sym (take-map fixIn (heldPlaces b) k)) ∙ sym (any-identity b f (take k (heldPlaces b))) ∙ ap (anyOf (isIdentity (identityIn f))) (take-map identityIn (heldPlaces b) k) ∙ n,
-      ap (λ (l : List Fix). isOf (fixIn f) (getD l k noFix)) (sym (held-are b)) ∙ ap (isOf (fixIn f)) (at-fix (heldPlaces b) k (rw (held-length b) h)) ∙ ap (λ (x : List ℕ). same x (identityIn f)) (sym (at-identity (heldPlaces b) k (rw (held-length b) h))) ∙ e,
+      ap (λ (l : List Fix). isOf (fixIn f) (getD l k noFix)) (sym (held-are b)) ∙ ap (isOf (fixIn f)) (at-fix (heldPlaces b) k (rw (held-length b) h)) ∙ ap (λ (x : List ℕ). same x (identityIn f)) (sym (identity-at b k h)) ∙ e,
     )
   where
     take-map : {B : Type 0} (to : List ℕ → B) (l : List (List ℕ)) (i : ℕ) → map to (take i l) ≡ take i (map to l)
@@ -85,24 +105,6 @@ first-held b f k h a e =
     at-fix [] i w = absurd (omega arith)
     at-fix (x ∷ l) zero w = refl
     at-fix (x ∷ l) (suc i) w = at-fix l i (omega arith)
-
-    at-identity : (l : List (List ℕ)) (i : ℕ) → i < length l → getD (map identityIn l) i [] ≡ identityIn (getD l i [])
-    at-identity [] i w = absurd (omega arith)
-    at-identity (x ∷ l) zero w = refl
-    at-identity (x ∷ l) (suc i) w = at-identity l i (omega arith)
-
--- where the first held fix has the message, tags and inputs of f, it is the first of its identity
-pub set-held : (b f : List ℕ) → Sound b → 1 ≤ fixCount b → sameSet (getD (heldPlaces b) 0 []) f ≡ true
-    → (anyOf (isOf (fixIn f)) (take 0 (heldIn (transmissionIn b))) ≡ false) × (isOf (fixIn f) (getD (heldIn (transmissionIn b)) 0 noFix) ≡ true)
-unfolding anyOf
-set-held b f s h e =
-    let w = held-formed b s 0 (omega (arith, h)) in
-    let i = same-identity (getD (heldPlaces b) 0 []) f w e in
-    (refl, ap (λ (l : List Fix). isOf (fixIn f) (getD l 0 noFix)) (sym (held-are b)) ∙ first (heldPlaces b) (rw (held-length b) (omega (arith, h))) i)
-  where
-    first : (l : List (List ℕ)) → 0 < length l → identityIn (getD l 0 []) ≡ identityIn f → isOf (fixIn f) (getD (map fixIn l) 0 noFix) ≡ true
-    first [] g q = absurd (omega arith)
-    first (p ∷ l) g q = ap (λ (x : List ℕ). same x (identityIn f)) q ∙ same-refl (identityIn f)
 
 -- ---- a transmission in bytes is one that bytes can hold
 

@@ -51,6 +51,10 @@ firstHeld b = getD (heldPlaces b) 0 []
 abbrev pub keepsSet : List ℕ → List ℕ → Bool
 keepsSet f b = sameSet (firstHeld b) f
 
+-- a fix has the message, tags and inputs of f
+abbrev pub hasSet : List ℕ → List ℕ → Bool
+hasSet f p = sameSet p f
+
 -- the fix kept has an identity
 abbrev pub keepsIdentity : List ℕ → List ℕ → Bool
 keepsIdentity id b = same (identityIn (firstHeld b)) id

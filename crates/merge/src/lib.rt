@@ -8,13 +8,14 @@ ghost use mathlib.Core.Path.{_≡_};
 ghost use mathlib.Core.Bool.{true};
 ghost use mathlib.Core.List.{[], _∷_, map};
 ghost use Prim.Native.Nat.{_*_, _<_, _≤_};
-ghost use lib.ListN.{length};
+ghost use lib.ListN.{length, getD};
 ghost use Rattle.ranges.specs.Lists.{anyOf};
 ghost use Rattle.places.specs.Places.{places};
 ghost use Rattle.record.specs.Formed.{wellFormed};
 ghost use Rattle.items.specs.Layout.{hashSize};
 ghost use Rattle.tracked.specs.Layout.{fixSize};
 ghost use Rattle.tracked.specs.Bytes.{recordIn, fixIn, identityIn, transmissionIn, transmissionBytes};
+ghost use Rattle.tracked.specs.Parts.{heldPlaces, heldCount, Sound};
 ghost use Rattle.arrange.specs.Blocks.{blocks, Filled};
 ghost use Rattle.merge.specs.Merged.{opened, merged};
 ghost use Rattle.merge.specs.Searching as S;
@@ -191,6 +192,51 @@ fn find_identity(ids: &[u8], n: usize, id: &[u8]) -> Found
     Found::Nobody
 }
 
+// The first held fix that has the message, tags and inputs of f.
+fn find_set(b: &[u8], f: &[u8]) -> Found
+    requires { ⌜ Sound (now b) × (length (now f) ≡ fixSize) ⌝ }
+    ensures { λ r. ⌜ S.First (S.hasSet (now (f .entry))) (heldPlaces (now (b .entry))) [] 0 r ⌝ }
+{
+    let n = tracked::held_count(b);
+    let mut k: u8 = 0;
+    while k < n {
+        if tracked::same_set(tracked::held(b, k), f) {
+            return Found::At(k as usize);
+        }
+        k += 1;
+    }
+    Found::Nobody
+}
+
+// The first held fix that has the identity of f, which fix k has. Where that is the first of all, nothing is hashed.
+fn first_identified(b: &[u8], k: u8, f: &[u8]) -> u8
+    requires { ⌜ Sound (now b) × (k < heldCount (now b)) × (identityIn (getD (heldPlaces (now b)) k []) ≡ identityIn (now f)) ⌝ }
+    requires { ⌜ (length (now f) ≡ fixSize) × (wellFormed (recordIn (now f)) ≡ true) ⌝ }
+    ensures { λ r. ⌜ S.First (S.isIdentity (identityIn (now (f .entry)))) (map identityIn (heldPlaces (now (b .entry)))) [] 0 (Found.At r) ⌝ }
+{
+    if k == 0 {
+        return 0;
+    }
+    let id = tracked::identity(f);
+    let mut i: u8 = 0;
+    while i < k {
+        if octets::order::equal(&tracked::identity(tracked::held(b, i)), &id) {
+            return i;
+        }
+        i += 1;
+    }
+    k
+}
+
+// Adds the signers of f to the held fix k, the first that has its identity.
+fn sign_held(b: &mut [u8], k: u8, f: &[u8])
+    requires { ⌜ S.Steady (now b) × (length (now f) ≡ fixSize) ⌝ }
+    requires { ⌜ S.First (S.isIdentity (identityIn (now f))) (map identityIn (heldPlaces (now b))) [] 0 (Found.At k) ⌝ }
+    ensures { λ _. ⌜ S.JointAs (fixIn (now (f .entry))) (transmissionIn (now (b .entry))) Joint.Signed (now (b .exit)) ⌝ }
+{
+    tracked::sign(b, k, tracked::signers(f));
+}
+
 // A fix in the transmission that it is tied to, by the identities of all that are held.
 fn join_identified(b: &mut [u8], f: &[u8]) -> Joint
     requires { ⌜ S.Steady (now b) ⌝ }
@@ -205,21 +251,23 @@ fn join_identified(b: &mut [u8], f: &[u8]) -> Joint
     let Found::At(k) = found else {
         return Joint::Decided(normalize::join(b, f, &id, &ids));
     };
-    tracked::sign(b, k as u8, tracked::signers(f));
+    sign_held(b, k as u8, f);
     Joint::Signed
 }
 
-// A fix in the transmission that it is tied to. Where the fix kept has its message, tags and inputs, nothing is hashed.
+// A fix in the transmission that it is tied to. Where a held fix has its message, tags and inputs, only those before it are hashed.
 fn join_block(b: &mut [u8], f: &[u8]) -> Joint
     requires { ⌜ S.Steady (now b) ⌝ }
     requires { ⌜ (length (now f) ≡ fixSize) × (wellFormed (recordIn (now f)) ≡ true) ⌝ }
     ensures { λ r. ⌜ S.JointAs (fixIn (now (f .entry))) (transmissionIn (now (b .entry))) r (now (b .exit)) ⌝ }
 {
-    if tracked::same_set(tracked::held(b, 0), f) {
-        tracked::sign(b, 0, tracked::signers(f));
-        return Joint::Signed;
-    }
-    join_identified(b, f)
+    let found = find_set(b, f);
+    let Found::At(k) = found else {
+        return join_identified(b, f);
+    };
+    let i = first_identified(b, k as u8, f);
+    sign_held(b, i, f);
+    Joint::Signed
 }
 
 // What is answered of a fix that all were decided again with. Contested goes before Changed.

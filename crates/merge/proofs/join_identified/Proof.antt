@@ -1,22 +1,17 @@
 -- `join_identified` meets its contract.
-use Prim.Native.Nat.{ℕ, _+_}
-use mathlib.Core.Path.{_≡_, sym, ap, _∙_, subst}
+use Prim.Native.Nat.{ℕ}
+use mathlib.Core.Path.{_≡_, sym, _∙_, subst}
 use mathlib.Core.List.{List, [], map}
 use native.Mathlib.Omega.{arith}
-use lib.Bits.{bitOr}
 use lib.ListN.{length, length-map}
-use Rattle.octets.specs.Words.{wordAt}
-use Rattle.octets.specs.Writes.{putWord}
-use Rattle.octets.proofs.Numbers.{all-bytes}
-use Rattle.tracked.specs.Layout.{signersAt}
 use Rattle.tracked.specs.Bytes.{identityIn}
-use Rattle.tracked.specs.Parts.{heldPlaces, heldCount, heldPlace}
+use Rattle.tracked.specs.Parts.{heldPlaces, heldCount}
 use Rattle.tracked.proofs.Holding.{held-length}
 use Rattle.normalize.specs.Working.{Listed}
 use Rattle.normalize.proofs.Listing.{listed}
 use Rattle.merge.specs.declared.Found.the-variants.{At}
 use Rattle.merge.specs.Searching.{First, isIdentity}
-use Rattle.merge.proofs.Identified.{ids-places, none-held, first-held, some-held, signed-bytes}
+use Rattle.merge.proofs.Identified.{ids-places, none-held}
 use borrow.Author.Needs.{needs}
 use Rattle.merge.proofs.join_identified.Statement.{statement}
 use Rattle.merge.proofs.join_identified.Tie as tie
@@ -27,8 +22,6 @@ use Rattle.normalize.proofs.identities.Reads as identities-reads
 use Rattle.normalize.proofs.join.Reads as join-reads
 use Rattle.tracked.proofs.held_count.Reads as held-count-reads
 use Rattle.tracked.proofs.identity.Reads as identity-reads
-use Rattle.tracked.proofs.sign.Reads as sign-reads
-use Rattle.tracked.proofs.signers.Reads as signers-reads
 
 identity-requires : tie.Need-identity-requires
 identity-requires c κs = search needs
@@ -121,34 +114,17 @@ returns c =
     let a = subst (First (isIdentity (identityIn (s .args .f .now))) (map identityIn (heldPlaces (s .args .b .now))) [] 0) (e .enum-told .given .1) (searched o) in
     (none-held (s .args .b .now) (s .args .f .now) a, j .join .ensures .0, j .join .ensures .1)
 
-cast-sign : tie.Need-cast-sign
-cast-sign c = let k = c .before in let f = found k in let o = k .before .before .before in omega (arith, f .1, among o, start o .pre .0 .sound .few, start o .pre .0 .sound .few-refused)
+cast-sign-held : tie.Need-cast-sign-held
+cast-sign-held c = let k = c .before in let f = found k in let o = k .before .before .before in omega (arith, f .1, among o, start o .pre .0 .sound .few, start o .pre .0 .sound .few-refused)
 
-signers-requires : tie.Need-signers-requires
-signers-requires c κs = search needs
-
-sign-requires : tie.Need-sign-requires
-sign-requires c κs = let k = c .before .before in let o = k .before .before .before in (start o .pre .0 .sound, rw (among o) at (found k .1))
+sign-held-requires : tie.Need-sign-held-requires
+sign-held-requires c κs = let k = c .before in let o = k .before .before .before in ((start o .pre .0, start o .pre .1 .0), found k)
 
 same-length-2 : tie.Need-same-length-2
 same-length-2 c = search needs
 
 returns-2 : tie.Need-returns-2
-returns-2 c =
-    let g = c .before .before in
-    let k = g .before .before .before in
-    let o = k .before .before .before in
-    let s = start o in
-    let b = s .args .b .now in
-    let f = s .args .f .now in
-    let i = k .before .found .given .0 .0 in
-    let r = found k in
-    let l = rw (among o) at (r .1) in
-    let y = all-bytes b (λ x. beginning o .slice-known .given x .fits) in
-    let p = first-held b f i l (r .2) (r .3) in (
-      some-held b y (s .pre .0) f i l (p .0) (p .1),
-      g .sign .ensures ∙ ap (λ (x : ℕ). putWord 4 (heldPlace b i + signersAt) (bitOr (wordAt 4 (heldPlace b i + signersAt) b) x) b) (g .before .signers .ensures) ∙ signed-bytes b y (s .pre .0) f i l (p .0) (p .1),
-    )
+returns-2 c = c .before .before .sign-held .ensures
 
 pub join-identified-spec : {M : Type 1} → statement M
 join-identified-spec =
@@ -169,8 +145,7 @@ join-identified-spec =
     join-requires
     same-length
     returns
-    cast-sign
-    signers-requires
-    sign-requires
+    cast-sign-held
+    sign-held-requires
     same-length-2
     returns-2)
