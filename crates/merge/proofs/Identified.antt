@@ -18,7 +18,7 @@ use Rattle.octets.proofs.Numbers.{bytes-take, bytes-drop}
 use Rattle.ranges.specs.Lists.{anyOf}
 use Rattle.ranges.proofs.Bools.{by, or, clash}
 use Rattle.ranges.proofs.Lists.{any-map, any-of}
-use Rattle.places.specs.Places.{places, flat}
+use Rattle.places.specs.Places.{places, flat, allPlaces}
 use Rattle.places.proofs.Tables.{wide, length-places, places-flat, places-wide}
 use Rattle.places.proofs.Walks.{part-of}
 use Rattle.items.specs.Layout.{hashSize}
@@ -36,7 +36,8 @@ use Rattle.tracked.proofs.Sets.{same-identity}
 use Rattle.tracked.proofs.Encoding.{ValidFix, ValidRefused, Valid, bytes-of-places, wide-in}
 use Rattle.normalize.specs.Normal.{signedBy, signFirst}
 use Rattle.normalize.specs.Joining.{upholds}
-use Rattle.normalize.specs.Working.{Listed}
+use Rattle.normalize.specs.Working.{signedPlace, Listed}
+use Rattle.normalize.proofs.Listing.{all-identities}
 use Rattle.merge.specs.Merged.{signRefused, signIn}
 use Rattle.merge.specs.Searching.{isIdentity, Steady}
 use Rattle.merge.proofs.Signing.{noRefused, resigned, sign-standing, sign-refused, sign-first-at, sign-refused-at}
@@ -48,10 +49,10 @@ module _ (b : List ℕ) where
   abbrev hs : List (List ℕ)
   hs = heldPlaces b
 
-  pub ids-places : (ids : List ℕ) → Listed b ids → places hashSize (heldCount b) ids ≡ map identityIn hs
-  ids-places ids e =
+  pub ids-places : (ids : List ℕ) → Listed b ids → allPlaces signedPlace hs ≡ true → places hashSize (heldCount b) ids ≡ map identityIn hs
+  ids-places ids e a =
       let q : length (map identityIn hs) ≡ heldCount b = length-map hs identityIn ∙ held-length b in
-      ap₂ (λ (k : ℕ) (l : List ℕ). places hashSize k l) (sym q) (sym (take-append-drop (heldCount b * hashSize) ids) ∙ ap (λ (l : List ℕ). l ++ drop (heldCount b * hashSize) ids) e)
+      ap₂ (λ (k : ℕ) (l : List ℕ). places hashSize k l) (sym q) (sym (take-append-drop (heldCount b * hashSize) ids) ∙ ap (λ (l : List ℕ). l ++ drop (heldCount b * hashSize) ids) (e ∙ ap flat (all-identities hs a)))
       ∙ places-flat hashSize (map identityIn hs) (drop (heldCount b * hashSize) ids) (wides hs)
     where
       wides : (ps : List (List ℕ)) → wide hashSize (map identityIn ps)

@@ -1,24 +1,25 @@
 -- Laws of the fixes that a transmission holds, and of a list of their identities.
 use Prim.Native.Nat.{ℕ, zero, suc, _+_, _*_, _-_, _≤_, _<_}
 use mathlib.Core.Path.{_≡_, refl, sym, ap, ap₂, _∙_}
-use mathlib.Core.Bool.{Bool, true}
+use mathlib.Core.Bool.{Bool, true, not}
 use mathlib.Core.List.{List, [], _∷_, _++_, map, map-map, append-nil, List·Memᴰ, List·Memᴰ·head, List·Memᴰ·tail, List·Memᴰ·not-nil, List·Memᴰ·cases-cons, Memᴰ·of-map}
 use native.Mathlib.Omega.{arith}
 use native.Mathlib.Nat.{sub-zero}
 use native.Mathlib.Numerals.{add-one}
-use lib.ListN.{length, getD, take, drop, length-map, length-take}
+use lib.ListN.{length, getD, take, drop, replicate, length-map, length-take, length-replicate}
 use lib.Seq.{drop-cons, take-at, take-all, drop-at}
 use borrow.Author.Tests.{ne-eqb}
 use Rattle.places.specs.Places.{tableOf, allPlaces}
 use Rattle.places.proofs.Tables.{wide, flat-length, place-at, length-places}
 use Rattle.places.proofs.Walks.{part-in}
 use Rattle.ranges.specs.Lists.{filter}
-use Rattle.ranges.proofs.Bools.{or, and-left, and-right}
+use Rattle.ranges.proofs.Bools.{by, or, and-left, and-right}
 use Rattle.ranges.proofs.Lists.{filter-few}
 use Rattle.items.specs.Layout.{hashSize}
 use Rattle.models.specs.Identity.{setHash}
 use Rattle.models.proofs.Sets.{identity-length}
 use Rattle.shown.specs.Fix.{Fix}
+use Rattle.shown.proofs.Indexed.{at-in}
 use Rattle.tracked.specs.Layout.{fixSize, refusedSize}
 use Rattle.tracked.specs.Held.{fixOf, heldIn}
 use Rattle.tracked.specs.Bytes.{recordIn, signersIn, inputsIn, identityIn, fixIn, refusedIn, fixCount, refusedCount, fixTable, refusedTable, fixPlaces, refusedPlaces, transmissionIn}
@@ -26,7 +27,7 @@ use Rattle.tracked.specs.Parts.{heldPlaces, heldCount}
 use Rattle.tracked.proofs.Holding.{held-length, held-are, fix-of-more}
 use Rattle.keeping.proofs.Lowering.{take-in, drop-in}
 use Rattle.normalize.specs.Signed.{isSigned}
-use Rattle.normalize.specs.Working.{signedIn, signedWith, signedPlace, idsOf, Listed, idAt}
+use Rattle.normalize.specs.Working.{signedIn, signedWith, signedPlace, signedIdentity, idsOf, Listed, idAt}
 use Rattle.normalize.proofs.Laying.{map-same}
 
 filter-all : {A : Type 0} (test : A → Bool) (l : List A) → ((x : A) → List·Memᴰ x l → test x ≡ true) → filter test l ≡ l
@@ -118,18 +119,33 @@ module _ (b : List ℕ) where
 
 -- ---- the identities
 
+pub signed-width : (p : List ℕ) → length (signedIdentity p) ≡ hashSize
+signed-width p =
+    by (signedPlace p)
+    (λ e. rw e (identity-length (setHash (recordIn p)) (inputsIn p)))
+    (λ e. rw e (length-replicate {A = ℕ} hashSize 0))
+
+pub signed-is : (p : List ℕ) → signedPlace p ≡ true → signedIdentity p ≡ identityIn p
+signed-is p e = rw e refl
+
+pub unsigned-is : (p : List ℕ) → signersIn p ≡ 0 → signedIdentity p ≡ replicate hashSize 0
+unsigned-is p e = rw e refl
+
+pub signed-place : (p : List ℕ) → (signersIn p ≡ 0 → ⊥) → signedPlace p ≡ true
+signed-place p e = ap not (ne-eqb (signersIn p) 0 e)
+
 module _ (b : List ℕ) where
-  ids-wide : wide hashSize (map identityIn (heldPlaces b))
+  ids-wide : wide hashSize (map signedIdentity (heldPlaces b))
   ids-wide = go (heldPlaces b)
     where
-      go : (ps : List (List ℕ)) → wide hashSize (map identityIn ps)
+      go : (ps : List (List ℕ)) → wide hashSize (map signedIdentity ps)
       go [] = tt
-      go (p ∷ ps) = (identity-length (setHash (recordIn p)) (inputsIn p), go ps)
+      go (p ∷ ps) = (signed-width p, go ps)
 
   pub ids-length : length (idsOf b) ≡ heldCount b * hashSize
   ids-length =
-      flat-length hashSize (map identityIn (heldPlaces b)) ids-wide
-      ∙ ap (λ (n : ℕ). n * hashSize) (length-map (heldPlaces b) identityIn ∙ held-length b)
+      flat-length hashSize (map signedIdentity (heldPlaces b)) ids-wide
+      ∙ ap (λ (n : ℕ). n * hashSize) (length-map (heldPlaces b) signedIdentity ∙ held-length b)
 
   -- what `identities` leaves
   pub listed : (x y : List ℕ) → x ≡ idsOf b ++ y → Listed b x
@@ -141,22 +157,32 @@ module _ (b : List ℕ) where
         let e = sym (length-take (heldCount b * hashSize) ids) ∙ ap length w ∙ ids-length in
         omega arith
 
-    pub id-at : (k : ℕ) → k < heldCount b → idAt ids k ≡ identityIn (getD (heldPlaces b) k [])
+    pub id-at : (k : ℕ) → k < heldCount b → idAt ids k ≡ signedIdentity (getD (heldPlaces b) k [])
     id-at k h =
-        let ps = map identityIn (heldPlaces b) in
-        let n : length ps ≡ heldCount b = length-map (heldPlaces b) identityIn ∙ held-length b in
+        let ps = map signedIdentity (heldPlaces b) in
+        let n : length ps ≡ heldCount b = length-map (heldPlaces b) signedIdentity ∙ held-length b in
         sym (part-in hashSize (k * hashSize) (heldCount b * hashSize) ids (omega arith))
         ∙ ap (λ (x : List ℕ). take hashSize (drop (k * hashSize) x)) (w ∙ sym whole)
         ∙ place-at hashSize (length ps) ps k ids-wide (omega arith)
         ∙ map-at (heldPlaces b) k (omega (arith, held-length b))
       where
-        whole : tableOf hashSize (length (map identityIn (heldPlaces b))) (map identityIn (heldPlaces b)) ≡ idsOf b
+        whole : tableOf hashSize (length (map signedIdentity (heldPlaces b))) (map signedIdentity (heldPlaces b)) ≡ idsOf b
         whole =
-            let n = length (map identityIn (heldPlaces b)) in
+            let n = length (map signedIdentity (heldPlaces b)) in
             let z : n - n ≡ 0 = omega arith in
             rw z (append-nil (idsOf b))
 
-        map-at : (l : List (List ℕ)) (k : ℕ) → k < length l → getD (map identityIn l) k [] ≡ identityIn (getD l k [])
+        map-at : (l : List (List ℕ)) (k : ℕ) → k < length l → getD (map signedIdentity l) k [] ≡ signedIdentity (getD l k [])
         map-at [] k p = absurd (omega arith)
         map-at (x ∷ l) zero p = refl
         map-at (x ∷ l) (suc k) p = map-at l k (omega arith)
+
+    -- where all are signed
+    pub id-of : allPlaces signedPlace (heldPlaces b) ≡ true → (k : ℕ) → k < heldCount b → idAt ids k ≡ identityIn (getD (heldPlaces b) k [])
+    id-of a k h =
+        let p = getD (heldPlaces b) k [] in
+        id-at k h ∙ signed-is p (all-in signedPlace (heldPlaces b) p a (at-in [] (heldPlaces b) k (rw (held-length b) h)))
+
+-- the identities of places that are all signed
+pub all-identities : (ps : List (List ℕ)) → allPlaces signedPlace ps ≡ true → map signedIdentity ps ≡ map identityIn ps
+all-identities ps a = map-same signedIdentity identityIn ps (λ p m. signed-is p (all-in signedPlace ps p a m))

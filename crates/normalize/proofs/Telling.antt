@@ -1,13 +1,14 @@
 -- What the code tells of a fix that joined, by the items that are kept, is what it did.
 use Prim.Native.Nat.{ℕ, zero, suc, _+_, _-_, _≤_, _<_}
 use mathlib.Core.Path.{_≡_, refl, sym, ap, _∙_, subst}
-use mathlib.Core.Bool.{Bool, not}
+use mathlib.Core.Bool.{Bool, true, not}
 use mathlib.Core.List.{List, [], _∷_, map, map-map}
 use native.Mathlib.Omega.{arith}
 use lib.ListN.{length, getD, take, drop, length-map, List·getD-map}
 use lib.Seq.{drop-cons, getD-take}
 use Rattle.octets.specs.Order.{same}
 use Rattle.places.proofs.Tables.{length-places}
+use Rattle.places.specs.Places.{allPlaces}
 use Rattle.ranges.specs.Lists.{anyOf, filter, countFrom}
 use Rattle.ranges.proofs.Bools.{by}
 use Rattle.ranges.proofs.Lists.{any-map, any-same, filter-map, count-in}
@@ -23,8 +24,8 @@ use Rattle.keeping.specs.Working.{unread, Lies, lowestIn, Keeps, itemFix, itemR
 use Rattle.normalize.specs.Joining.{refuses, upholds, entered, leads, moved}
 use Rattle.normalize.specs.Did.{did}
 use Rattle.normalize.specs.Working as W
-use Rattle.normalize.specs.Working.{Listed, idAt, identified, isListed, refusedOf, standingIn, unlisted}
-use Rattle.normalize.proofs.Listing.{held-refused, id-at}
+use Rattle.normalize.specs.Working.{Listed, signedPlace, idAt, identified, isListed, refusedOf, standingIn, unlisted}
+use Rattle.normalize.proofs.Listing.{held-refused, id-of}
 
 -- ---- the items of refusals lie in s
 
@@ -60,13 +61,13 @@ module _ (s g : List ℕ) (k : Kept) where
   leads-is f [] = refl
   leads-is f (i ∷ l) = by (identified s (f .identity) i) (λ t. rw t refl) (λ t. rw t refl)
 
-  module _ (b ids : List ℕ) (w : Listed b ids) where
+  module _ (b ids : List ℕ) (w : Listed b ids) (a : allPlaces signedPlace (heldPlaces b) ≡ true) where
     -- the fix kept before is the first that is held
     pub moved-is : 1 ≤ fixCount b → moved (transmissionIn b .fixes) (keptIn s g k .fixes) ≡ not (anyOf (identified s (idAt ids 0)) (take 1 (standingIn k)))
     unfolding transmissionIn
     moved-is h =
         go (fixPlaces b) refl
-        ∙ ap (λ (x : List ℕ). not (anyOf (identified s x) (take 1 (standingIn k)))) (sym (id-at b ids w 0 (omega arith)))
+        ∙ ap (λ (x : List ℕ). not (anyOf (identified s x) (take 1 (standingIn k)))) (sym (id-of b ids w a 0 (omega arith)))
       where
         go : (ps : List (List ℕ)) → fixPlaces b ≡ ps
             → moved (map fixIn (fixPlaces b)) (map (itemFix s g) (standingIn k)) ≡ not (anyOf (identified s (identityIn (getD (heldPlaces b) 0 []))) (take 1 (standingIn k)))
@@ -95,7 +96,7 @@ module _ (s g : List ℕ) (k : Kept) where
         let test : List ℕ → Bool = λ p. same (identityIn p) x in
         let l = held-length b in
         any-same (λ j. same (idAt ids j) x) (λ j. test (getD (heldPlaces b) j [])) (countFrom c m)
-        (λ j i. let r = count-in c m j i in ap (λ (y : List ℕ). same y x) (id-at b ids w j (omega (arith, r .1))))
+        (λ j i. let r = count-in c m j i in ap (λ (y : List ℕ). same y x) (id-of b ids w a j (omega (arith, r .1))))
         ∙ sym (any-map (λ j. getD (heldPlaces b) j []) (λ j. test (getD (heldPlaces b) j [])) test (countFrom c m) (λ j i. refl))
         ∙ ap (anyOf test) (from (heldPlaces b) c m (omega arith) ∙ held-refused b)
         ∙ any-map (take fixSize) test test (refusedPlaces b) (λ p i. ap (λ (f : Fix). same (f .identity) x) (fix-of-more p))

@@ -1,9 +1,9 @@
 -- No claim rests on these definitions: they say how the code gathers the fixes of a transmission as items of a decision, and how it tells what a further fix did.
 use Prim.Native.Nat.{ℕ, _+_, _*_, _-_}
 use mathlib.Core.Path.{_≡_}
-use mathlib.Core.Bool.{Bool, not}
+use mathlib.Core.Bool.{Bool, not, cond}
 use mathlib.Core.List.{List, _∷_, _++_, map}
-use lib.ListN.{length, take, drop}
+use lib.ListN.{length, take, drop, replicate}
 use Rattle.octets.specs.Order.{same}
 use Rattle.places.specs.Places.{flat}
 use Rattle.ranges.specs.Lists.{anyOf, filter, sort, countFrom, upTo}
@@ -62,10 +62,14 @@ signedPlace p = isSigned (fixIn p)
 
 -- ---- their identities
 
-abbrev pub idsOf : List ℕ → List ℕ
-idsOf b = flat (map identityIn (heldPlaces b))
+-- of the fix at p, where it is signed; of any other none is worked out
+abbrev pub signedIdentity : List ℕ → List ℕ
+signedIdentity p = cond (signedPlace p) (identityIn p) (replicate hashSize 0)
 
--- ids begins with the identities of the fixes that b holds
+abbrev pub idsOf : List ℕ → List ℕ
+idsOf b = flat (map signedIdentity (heldPlaces b))
+
+-- ids begins with the identities of the fixes that b holds, where they are signed
 abbrev pub Listed : List ℕ → List ℕ → Type 0
 Listed b ids = take (heldCount b * hashSize) ids ≡ idsOf b
 

@@ -38,6 +38,17 @@ pub struct Joined {
     pub entered: u8,
 }
 
+// The identity of a fix that is signed. One that is not is never asked for.
+fn signed_identity(f: &[u8]) -> [u8; HASH_SIZE]
+    requires { ⌜ (length (now f) ≡ L.fixSize) × (wellFormed (B.recordIn (now f)) ≡ true) ⌝ }
+    ensures { λ r. ⌜ r ≡ W.signedIdentity (now (f .entry)) ⌝ }
+{
+    if tracked::signers(f) == 0 {
+        return [0u8; HASH_SIZE];
+    }
+    tracked::identity(f)
+}
+
 // The identities of the fixes that b holds, one after another.
 pub fn identities(b: &[u8], ids: &mut [u8])
     requires { ⌜ P.Sound (now b) ⌝ }
@@ -48,7 +59,7 @@ pub fn identities(b: &[u8], ids: &mut [u8])
     let mut at = 0;
     let mut k: u8 = 0;
     while k < n {
-        let id = tracked::identity(tracked::held(b, k));
+        let id = signed_identity(tracked::held(b, k));
         at = text::put_bytes(ids, at, &id);
         k += 1;
     }

@@ -87,7 +87,7 @@ module _ (o : tie.After-find-identity) where
   listed-there = listed b ids _ (written .identities .ensures)
 
   searched : First (isIdentity (identityIn f)) (map identityIn (heldPlaces b)) [] 0 (o .find-identity .result)
-  searched = rw (sym identified, sym (ids-places b ids listed-there), sym (o .before .before .before .held-count .ensures)) (o .find-identity .ensures)
+  searched = rw (sym identified, sym (ids-places b ids listed-there (start o .pre .0 .signed)), sym (o .before .before .before .held-count .ensures)) (o .find-identity .ensures)
 
   among : length (map identityIn (heldPlaces b)) ≡ heldCount b
   among = length-map (heldPlaces b) identityIn ∙ held-length b

@@ -5,14 +5,14 @@ use mathlib.Core.List.{List, []}
 use native.Mathlib.Omega.{arith}
 use lib.ListN.{getD}
 use Rattle.shown.specs.Fix.{Fix}
-use Rattle.tracked.specs.Bytes.{signersIn, identityIn, fixIn}
+use Rattle.tracked.specs.Bytes.{signersIn, fixIn}
 use Rattle.tracked.specs.Parts.{heldPlaces}
 use Rattle.normalize.specs.Normal as N
 use Rattle.normalize.specs.Normal.{gatherAll}
-use Rattle.normalize.specs.Working.{maxGathered, fixesIn, Laid, signedIn}
+use Rattle.normalize.specs.Working.{maxGathered, fixesIn, Laid, signedIn, signedIdentity}
 use Rattle.normalize.proofs.Distinct.{gather-few}
 use Rattle.normalize.proofs.Laying.{laid-reads, laid-again}
-use Rattle.normalize.proofs.Listing.{signed-miss, signed-hit, signed-end, ids-room, id-at}
+use Rattle.normalize.proofs.Listing.{signed-miss, signed-hit, signed-end, signed-is, signed-place, ids-room, id-at}
 use borrow.Author.Needs.{needs}
 use Rattle.normalize.proofs.gather_held.Statement.{statement}
 use Rattle.normalize.proofs.gather_held.Tie as tie
@@ -84,7 +84,9 @@ identity-at-requires c κs =
 
 gather-requires : tie.Need-gather-requires Inv-loop μ-loop
 gather-requires c κs =
-    let h = c .before .before .before .before .before in
+    let n = c .before .before .before in
+    let t = n .before in
+    let h = t .before in
     let l = h .before .before in
     let s = start l in
     let p = h .held .ensures in (
@@ -93,7 +95,7 @@ gather-requires c κs =
         omega (arith, l .loop .inv .1),
         p .1,
         p .2,
-        c .identity-at .ensures .0 ∙ id-at (b l) (s .args .ids .now) (s .pre .1 .0 .1) (k l) (omega (arith, s .pre .1 .1 .1)) ∙ ap identityIn (sym (p .0)),
+        c .identity-at .ensures .0 ∙ id-at (b l) (s .args .ids .now) (s .pre .1 .0 .1) (k l) (omega (arith, s .pre .1 .1 .1)) ∙ ap signedIdentity (sym (p .0)) ∙ signed-is (h .held .result .now) (signed-place (h .held .result .now) (λ q. n .if1 .left (t .signers .ensures ∙ q))),
       ),
     )
 

@@ -9,12 +9,11 @@ use Rattle.places.specs.Places.{flat}
 use Rattle.text.specs.Buffer.{Put}
 use Rattle.text.proofs.Writing.{put-put, put-as, put-none, put-length}
 use Rattle.items.specs.Layout.{hashSize}
-use Rattle.models.proofs.Sets.{identity-length}
-use Rattle.models.specs.Identity.{setHash}
-use Rattle.tracked.specs.Bytes.{recordIn, inputsIn, identityIn}
 use Rattle.tracked.specs.Parts.{heldPlaces, heldCount}
 use Rattle.tracked.proofs.Holding.{held-length}
 use Rattle.keeping.proofs.Tabled.{flat-next, put-front}
+use Rattle.normalize.specs.Working.{signedIdentity}
+use Rattle.normalize.proofs.Listing.{signed-width}
 use borrow.Author.Needs.{needs}
 use Rattle.normalize.proofs.identities.Statement.{statement}
 use Rattle.normalize.proofs.identities.Tie as tie
@@ -23,10 +22,10 @@ use Rattle.normalize.proofs.identities.Lts as lts
 use Rattle.tracked.proofs.held_count.Reads as held-count-reads
 use Rattle.text.proofs.put_bytes.Reads as put-bytes-reads
 use Rattle.tracked.proofs.held.Reads as held-reads
-use Rattle.tracked.proofs.identity.Reads as identity-reads
+use Rattle.normalize.proofs.signed_identity.Reads as signed-identity-reads
 
 abbrev Inv-loop : tie.InvT-loop
-Inv-loop b ids₀ n at₀ k₀ ids at k = (k ≤ n) × (at ≡ k * hashSize) × Put ids₀ 0 (flat (map identityIn (take k (heldPlaces b)))) at ids
+Inv-loop b ids₀ n at₀ k₀ ids at k = (k ≤ n) × (at ≡ k * hashSize) × Put ids₀ 0 (flat (map signedIdentity (take k (heldPlaces b)))) at ids
 
 abbrev μ-loop : tie.MeasureT-loop
 μ-loop b ids₀ n at₀ k₀ ids at k = n - k
@@ -54,8 +53,8 @@ module _ (l : tie.At-loop Inv-loop μ-loop) where
 held-requires : tie.Need-held-requires Inv-loop μ-loop
 held-requires c κs = (start (c .before) .pre .0, omega (arith, counted (c .before)))
 
-identity-requires : tie.Need-identity-requires Inv-loop μ-loop
-identity-requires c κs = search needs
+signed-identity-requires : tie.Need-signed-identity-requires Inv-loop μ-loop
+signed-identity-requires c κs = search needs
 
 slice-aggregate-put-bytes : tie.Need-slice-aggregate-put-bytes Inv-loop μ-loop
 slice-aggregate-put-bytes c = search needs
@@ -64,7 +63,7 @@ put-bytes-requires : tie.Need-put-bytes-requires Inv-loop μ-loop
 put-bytes-requires c κs =
     let i = c .before .before in
     let l = i .before .before .before in
-    omega (arith, long l, start l .pre .1, counted l, ap length (i .identity .ensures), identity-length (setHash (recordIn (i .before .held .result .now))) (inputsIn (i .before .held .result .now)))
+    omega (arith, long l, start l .pre .1, counted l, ap length (i .signed-identity .ensures), signed-width (i .before .held .result .now))
 
 add-k : tie.Need-add-k Inv-loop μ-loop
 add-k c = search needs
@@ -77,12 +76,12 @@ loop-again c =
     let p = c .before .before in
     let i = p .before .before .before in
     let l = i .before .before .before in
-    let e : i .identity .result ≡ identityIn (getD (heldPlaces (b l)) (l .loop .k) []) = i .identity .ensures ∙ ap identityIn (i .before .held .ensures .0) in
+    let e : i .signed-identity .result ≡ signedIdentity (getD (heldPlaces (b l)) (l .loop .k) []) = i .signed-identity .ensures ∙ ap signedIdentity (i .before .held .ensures .0) in
     let h : l .loop .k < length (heldPlaces (b l)) = omega (arith, held-length (b l), counted l) in
     let q = p .put-bytes .ensures in (
       omega arith,
-      omega (arith, q .next, ap length (i .identity .ensures), identity-length (setHash (recordIn (i .before .held .result .now))) (inputsIn (i .before .held .result .now))),
-      put-as (flat-next identityIn (heldPlaces (b l)) (l .loop .k) [] h) (put-put (l .loop .inv .2) (put-as e q)),
+      omega (arith, q .next, ap length (i .signed-identity .ensures), signed-width (i .before .held .result .now)),
+      put-as (flat-next signedIdentity (heldPlaces (b l)) (l .loop .k) [] h) (put-put (l .loop .inv .2) (put-as e q)),
     )
 
 same-length : tie.Need-same-length Inv-loop μ-loop
@@ -94,7 +93,7 @@ returns c =
     let e : l .loop .k ≡ heldCount (b l) = omega (arith, counted l) in
     let a : l .loop .at ≡ heldCount (b l) * hashSize = l .loop .inv .1 ∙ ap (λ (k : ℕ). k * hashSize) e in
     put-front (l .loop .inv .2) (omega (arith, start l .pre .1))
-    ∙ ap₂ (λ (x : List (List ℕ)) (k : ℕ). flat (map identityIn x) ++ drop k (start l .args .ids .now)) (take-all (l .loop .k) (heldPlaces (b l)) (omega (arith, held-length (b l)))) a
+    ∙ ap₂ (λ (x : List (List ℕ)) (k : ℕ). flat (map signedIdentity x) ++ drop k (start l .args .ids .now)) (take-all (l .loop .k) (heldPlaces (b l)) (omega (arith, held-length (b l)))) a
 
 pub identities-spec : {M : Type 1} → statement M
 identities-spec =
@@ -105,7 +104,7 @@ identities-spec =
     held-count-requires
     loop-holds
     held-requires
-    identity-requires
+    signed-identity-requires
     slice-aggregate-put-bytes
     put-bytes-requires
     add-k

@@ -139,7 +139,7 @@ returns c =
       c .tell .ensures
           ∙ ap (λ (x : List ℕ). told (items k) (k .settle .result) x (ids a) (a .before .before .before .before .before .before .fix-count .result) (a .before .before .before .before .held-count .result)) (start a .pre .1 .2)
           ∙ ap₂ (told (items k) (k .settle .result) (f a .identity) (ids a)) (counted a) (counted-all a)
-          ∙ told-is (items k) (a .gather-with .last .1 .0) (k .settle .result) (b a) (ids a) (listed a) (f a) (start a .pre .0 .1)
+          ∙ told-is (items k) (a .gather-with .last .1 .0) (k .settle .result) (b a) (ids a) (listed a) (start a .pre .0 .2) (f a) (start a .pre .0 .1)
           ∙ ap (did (f a) (transmissionIn (b a))) (is k),
     )
 
