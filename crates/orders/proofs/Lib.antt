@@ -1,0 +1,4 @@
+pub mod Taken
+pub mod Positions
+pub mod Rearranged
+pub mod Claimed
