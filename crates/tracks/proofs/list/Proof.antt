@@ -1,0 +1,69 @@
+-- `list` is safe.
+use mathlib.Core.Path.{sym}
+use lib.Seq.{length-take-le}
+use borrow.Author.Needs.{needs}
+use Rattle.tracks.proofs.list.Statement.{statement}
+use Rattle.tracks.proofs.list.Tie as tie
+use Rattle.tracks.proofs.list.Reads as reads
+use Rattle.tracks.proofs.list.Lts as lts
+use Rattle.listing.proofs.listing.Reads as listing-reads
+use Rattle.tracks.proofs.output_buffer.Reads as output-buffer-reads
+use Rattle.tracks.proofs.show_answer.Reads as show-answer-reads
+use Rattle.tracks.proofs.word.Reads as word-reads
+
+output-buffer-requires : tie.Need-output-buffer-requires
+output-buffer-requires c κs = search needs
+
+slice-aggregate-listing : tie.Need-slice-aggregate-listing
+slice-aggregate-listing c = search needs
+
+listing-requires : tie.Need-listing-requires
+listing-requires c κs = search needs
+
+show-answer-requires : tie.Need-show-answer-requires
+show-answer-requires c κs = search needs
+
+slice-aggregate-word : tie.Need-slice-aggregate-word
+slice-aggregate-word c = search needs
+
+word-requires : tie.Need-word-requires
+word-requires c κs = search needs
+
+returns : tie.Need-returns
+returns c = search needs
+
+cast-n : tie.Need-cast-n
+cast-n c = search needs
+
+returns-2 : tie.Need-returns-2
+returns-2 c = search needs
+
+array-share-prefix-out : tie.Need-array-share-prefix-out
+array-share-prefix-out c = search needs
+
+slice-aggregate-word-2 : tie.Need-slice-aggregate-word-2
+slice-aggregate-word-2 c = sym (length-take-le _ _ (array-share-prefix-out (c .before)))
+
+word-requires-2 : tie.Need-word-requires-2
+word-requires-2 c κs = search needs
+
+returns-3 : tie.Need-returns-3
+returns-3 c = search needs
+
+pub list-spec : {M : Type 1} → statement M
+list-spec =
+    tie.close
+    (tie.spec
+    output-buffer-requires
+    slice-aggregate-listing
+    listing-requires
+    show-answer-requires
+    slice-aggregate-word
+    word-requires
+    returns
+    cast-n
+    returns-2
+    array-share-prefix-out
+    slice-aggregate-word-2
+    word-requires-2
+    returns-3)
