@@ -112,20 +112,16 @@ fn output_buffer() -> [u8; LISTING_SIZE] {
 }
 
 // A listing, or the number that it is refused with.
-fn list(memory: &[u8]) -> bool {
+fn show_listing(memory: &[u8]) {
     let mut out = output_buffer();
     let answer = listing::listing(memory, &mut out);
     if answer <= GREATEST_REFUSAL {
         show_answer(answer);
         word(b"\n");
-        return true;
+        return;
     }
     let n = answer as usize;
-    if out.len() < n {
-        return false;
-    }
     word(&out[..n]);
-    true
 }
 
 // One call; false where it is cut short, or is of no kind.
@@ -140,7 +136,10 @@ fn call(memory: &mut [u8]) -> bool {
         0 => report(memory),
         1 => summary(memory),
         2 => conviction(memory),
-        3 => list(memory),
+        3 => {
+            show_listing(memory);
+            true
+        }
         _ => false,
     }
 }

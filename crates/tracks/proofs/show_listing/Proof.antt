@@ -1,11 +1,15 @@
--- `list` is safe.
-use mathlib.Core.Path.{sym}
+-- `show_listing` is safe.
+use mathlib.Core.Path.{_≡_, sym}
+use native.Mathlib.Omega.{arith}
+use lib.ListN.{length}
 use lib.Seq.{length-take-le}
+use Rattle.drawing.specs.Text.{boardSize}
 use borrow.Author.Needs.{needs}
-use Rattle.tracks.proofs.list.Statement.{statement}
-use Rattle.tracks.proofs.list.Tie as tie
-use Rattle.tracks.proofs.list.Reads as reads
-use Rattle.tracks.proofs.list.Lts as lts
+use Rattle.tracks.proofs.Listed.{listed-fits}
+use Rattle.tracks.proofs.show_listing.Statement.{statement}
+use Rattle.tracks.proofs.show_listing.Tie as tie
+use Rattle.tracks.proofs.show_listing.Reads as reads
+use Rattle.tracks.proofs.show_listing.Lts as lts
 use Rattle.listing.proofs.listing.Reads as listing-reads
 use Rattle.tracks.proofs.output_buffer.Reads as output-buffer-reads
 use Rattle.tracks.proofs.show_answer.Reads as show-answer-reads
@@ -35,11 +39,14 @@ returns c = search needs
 cast-n : tie.Need-cast-n
 cast-n c = search needs
 
-returns-2 : tie.Need-returns-2
-returns-2 c = search needs
-
 array-share-prefix-out : tie.Need-array-share-prefix-out
-array-share-prefix-out c = search needs
+array-share-prefix-out c =
+    let a = c .before .before in
+    let o = a .before .before .output-buffer .result in
+    let l : boardSize ≡ length o = search needs in
+    let k = a .listing .kept .1 .0 in
+    let f = listed-fits o (a .listing .last .1 .0) (a .listing .result) (omega (arith, l)) k _ (a .listing .ensures) in
+    omega (arith, f, k)
 
 slice-aggregate-word-2 : tie.Need-slice-aggregate-word-2
 slice-aggregate-word-2 c = sym (length-take-le _ _ (array-share-prefix-out (c .before)))
@@ -47,11 +54,11 @@ slice-aggregate-word-2 c = sym (length-take-le _ _ (array-share-prefix-out (c .b
 word-requires-2 : tie.Need-word-requires-2
 word-requires-2 c κs = search needs
 
-returns-3 : tie.Need-returns-3
-returns-3 c = search needs
+returns-2 : tie.Need-returns-2
+returns-2 c = search needs
 
-pub list-spec : {M : Type 1} → statement M
-list-spec =
+pub show-listing-spec : {M : Type 1} → statement M
+show-listing-spec =
     tie.close
     (tie.spec
     output-buffer-requires
@@ -62,8 +69,7 @@ list-spec =
     word-requires
     returns
     cast-n
-    returns-2
     array-share-prefix-out
     slice-aggregate-word-2
     word-requires-2
-    returns-3)
+    returns-2)
