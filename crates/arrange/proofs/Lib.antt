@@ -5,3 +5,4 @@ pub mod Settling
 pub mod Stable
 pub mod Admitting
 pub mod Values
+pub mod Claimed

@@ -149,7 +149,7 @@ take-in l zero x m = absurd (List·Memᴰ·not-nil m)
 take-in [] (suc k) x m = m
 take-in (y ∷ l) (suc k) x m = or (List·Memᴰ·cases-cons m) (λ e. List·Memᴰ·head e) (λ q. List·Memᴰ·tail (take-in l k x q))
 
-pub drop-in : (l : List (List ℕ)) (k : ℕ) (x : List ℕ) → List·Memᴰ x (drop k l) → List·Memᴰ x l
+pub drop-in : {A : Type 0} (l : List A) (k : ℕ) (x : A) → List·Memᴰ x (drop k l) → List·Memᴰ x l
 drop-in l zero x m = m
 drop-in [] (suc k) x m = m
 drop-in (y ∷ l) (suc k) x m = List·Memᴰ·tail (drop-in l k x m)

@@ -1,9 +1,9 @@
 -- Laws of a sort by an order in which two members may be equal: what is sorted may be sorted again, and what goes beyond a limit.
 use mathlib.Core.Path.{_≡_, refl, sym, ap, _∙_}
-use mathlib.Core.Bool.{Bool, true, false}
+use mathlib.Core.Bool.{Bool, true, false, not, _&&_}
 use mathlib.Core.List.{List, [], _∷_, _++_, List·Memᴰ, List·Memᴰ·head, List·Memᴰ·tail, List·Memᴰ·not-nil, List·Memᴰ·cases-cons}
-use Rattle.ranges.specs.Lists.{insert, sort}
-use Rattle.ranges.proofs.Bools.{by, or, clash, no-true}
+use Rattle.ranges.specs.Lists.{filter, insert, sort}
+use Rattle.ranges.proofs.Bools.{by, or, clash, no-true, and-left, not-t, not-f}
 use Rattle.ranges.proofs.Lists.{sort-in}
 use Rattle.ranges.proofs.Sorting.{insert-first}
 
@@ -124,3 +124,35 @@ module _ {A : Type 0} (before : A → A → Bool) (o : Weak before) where
   pub first-stays : (x : A) (l r : List A) → ((y : A) → List·Memᴰ y (l ++ r) → before y x ≡ false) → sort before ((x ∷ l) ++ r) ≡ x ∷ sort before (l ++ r)
   unfolding sort
   first-stays x l r g = insert-first before x (sort before (l ++ r)) (λ y m. g y (sort-in before (l ++ r) y m))
+
+  -- ---- those that are equal keep their order
+
+  abbrev pub equal : A → A → Bool
+  equal t u = not (before t u) && not (before u t)
+
+  -- what comes before one that is equal to t is not equal to t
+  not-equal : (t x y : A) → equal t x ≡ true → before y x ≡ true → equal t y ≡ false
+  not-equal t x y e b = let c = o .past y x t b (not-t (before t x) (and-left (not (before t x)) (not (before x t)) e)) in rw (asym y t c, c) refl
+
+  insert-equal : (t x : A) (l : List A) → filter (equal t) (insert before x l) ≡ filter (equal t) (x ∷ l)
+  unfolding filter
+  insert-equal t x [] = ap (filter (equal t)) (insert-none before x)
+  insert-equal t x (y ∷ l) =
+      by (before y x)
+      (λ b. ap (filter (equal t)) (insert-yes before x y l b)
+      ∙ by (equal t x)
+      (λ e. rw (not-equal t x y e b) (insert-equal t x l))
+      (λ e. by (equal t y)
+      (λ g. rw (g, e) (ap (λ (k : List A). y ∷ k) (insert-equal t x l ∙ passed e)))
+      (λ g. rw (g, e) (insert-equal t x l ∙ passed e))))
+      (λ b. ap (filter (equal t)) (insert-no before x y l b))
+    where
+      passed : equal t x ≡ false → filter (equal t) (x ∷ l) ≡ filter (equal t) l
+      passed e = rw e refl
+
+  pub sort-stable : (t : A) (l : List A) → filter (equal t) (sort before l) ≡ filter (equal t) l
+  unfolding filter sort
+  sort-stable t [] = refl
+  sort-stable t (x ∷ l) =
+      insert-equal t x (sort before l)
+      ∙ by (equal t x) (λ e. rw e (ap (λ (k : List A). x ∷ k) (sort-stable t l))) (λ e. rw e (sort-stable t l))
