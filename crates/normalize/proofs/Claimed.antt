@@ -30,22 +30,22 @@ use Rattle.normalize.specs.Claims.{SomeStand, FewKept, Differ, identityO
 use Rattle.normalize.proofs.Differing.{perm-differ, take-differ, both-differ, front-differ, back-differ, cross-differ}
 use Rattle.normalize.proofs.United.{Gathered, gathered-all, gathered-none}
 
-abbrev itemOf : Refused Fix → Fix
+abbrev pub itemOf : Refused Fix → Fix
 itemOf x = x .item
 
 -- ---- what is shown lists every fix once
 
-once : (ks : List Fix) → List·Permᴰ (listedIn (shown ks)) ks
+pub once : (ks : List Fix) → List·Permᴰ (listedIn (shown ks)) ks
 once ks = subst (λ (o : Transmission). List·Permᴰ (listedIn o) ks) (sym (shown-is-decided ks)) (listed-once fixRelations ks)
 
 module _ (fs : List Fix) where
   pub gathered : Gathered fs (distinct fs)
   gathered = gathered-all [] [] fs gathered-none
 
-  abbrev o : Transmission
+  abbrev pub o : Transmission
   o = shown (distinct fs)
 
-  abbrev lows : List (Refused Fix)
+  abbrev pub lows : List (Refused Fix)
   lows = take maxRefused (sort lowerRefused (o .refused))
 
   pub kept-are : heldIn (normalized fs) ≡ take maxStanding (o .ranked) ++ map itemOf lows

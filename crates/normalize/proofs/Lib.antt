@@ -1,4 +1,4 @@
--- Fixes gathered (Distinct, Laying, Listing), what is kept of them (Settling, Telling), claims (Differing, United, Claimed, Validity), and loops (Walking).
+-- Fixes gathered (Distinct, Laying, Listing), what is kept of them (Settling, Telling), claims (Differing, United, Claimed, Validity, Given), and loops (Walking).
 pub mod Distinct
 pub mod Laying
 pub mod Walking
@@ -9,3 +9,4 @@ pub mod Differing
 pub mod United
 pub mod Claimed
 pub mod Validity
+pub mod Given

@@ -143,7 +143,7 @@ module _ (fs : List Fix) where
   abbrev o : Transmission
   o = shown (distinct fs)
 
-  named : (y : Refused Fix) → List·Memᴰ y (o .refused) → D.Named fixRelations (distinct fs) y
+  pub named : (y : Refused Fix) → List·Memᴰ y (o .refused) → D.Named fixRelations (distinct fs) y
   named y m = refused-names fixRelations (distinct fs) y (subst (λ (x : Transmission). List·Memᴰ y (x .refused)) (shown-is-decided (distinct fs)) m)
 
   against-in : (y : Refused Fix) → D.Named fixRelations (distinct fs) y → List·Memᴰ (y .against) (distinct fs)
