@@ -6,3 +6,4 @@ pub mod Arranging
 pub mod Opening
 pub mod Identified
 pub mod Joining
+pub mod Claimed

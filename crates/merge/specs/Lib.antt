@@ -1,3 +1,4 @@
--- What a track does with a further fix (Merged); what the code finds in a table (Searching).
+-- What a track does with a further fix (Merged) and what is claimed of it (Claims); what the code finds in a table (Searching).
 pub mod Merged
+pub mod Claims
 pub mod Searching
