@@ -14,3 +14,4 @@ pub mod Pairs
 pub mod Merging
 pub mod Reported
 pub mod Kept
+pub mod Counted

@@ -1,13 +1,14 @@
--- What is claimed of every track in memory and of every call on it (document 01, 'The track and the session'). Bytes are what a memory has. proofs/Kept has a
--- theorem of each of these types.
-use Prim.Native.Nat.{ℕ}
+-- What is claimed of every track in memory and of every call on it (document 01, 'The track and the session'). Bytes are what a memory has. proofs/Kept
+-- and proofs/Counted have a theorem of each of these types.
+use Prim.Native.Nat.{ℕ, _+_, _%_, _^_}
 use mathlib.Core.Path.{_≡_}
 use mathlib.Core.Bool.{true, false}
 use mathlib.Core.List.{List}
 use Rattle.octets.specs.Bytes.{Bytes}
-use Rattle.track.specs.Track.{Track, Outcome, refused}
+use Rattle.merge.specs.Merged.{merged}
+use Rattle.track.specs.Track.{Track, Outcome, refused, done, fixFrom}
 use Rattle.track.specs.Memory.{wellFormed, decode, encode, onMemory}
-use Rattle.track.specs.Calls.{Call, act, leftBy}
+use Rattle.track.specs.Calls.{Call, report, summary, conviction, act, leftBy}
 
 -- a track in memory is the bytes of what it holds
 abbrev pub EncodeDecode : Type 0
@@ -27,3 +28,20 @@ RefusalLeaves = (f : Track → Outcome) (m : List ℕ) (n : ℕ) → f (decode m
 
 abbrev pub MalformedLeaves : Type 0
 MalformedLeaves = (f : Track → Outcome) (m : List ℕ) → wellFormed m ≡ false → onMemory f m .left ≡ m
+
+-- ---- the contested count
+
+-- "contested u64 (counted modulo 2^64)": a report that is not refused adds the fixes that entered a list of refused
+abbrev pub ReportCounts : Type 0
+ReportCounts = (e : ℕ) (r : List ℕ) (s t : Track) (n : ℕ) → act (report e r) s ≡ done n t
+    → t .contested ≡ (s .contested + merged (fixFrom e r s) (s .transmissions) .entered) % 2 ^ 64
+
+-- a call that is refused, a summary and a conviction leave the count
+abbrev pub RefusalCountsNone : Type 0
+RefusalCountsNone = (c : Call) (s : Track) (n : ℕ) → act c s ≡ refused n → leftBy s (act c s) .contested ≡ s .contested
+
+abbrev pub SummaryCountsNone : Type 0
+SummaryCountsNone = (e model spec : ℕ) (inputs : List ℕ) (s : Track) → leftBy s (act (summary e model spec inputs) s) .contested ≡ s .contested
+
+abbrev pub ConvictionCountsNone : Type 0
+ConvictionCountsNone = (e : ℕ) (s : Track) → leftBy s (act (conviction e) s) .contested ≡ s .contested
