@@ -35,7 +35,7 @@ use Rattle.track.proofs.Merging.{stepped-valid}
 -- ---- every call leaves a valid track
 
 -- one that is left is valid
-abbrev Sound : Outcome → Type 0
+abbrev pub Sound : Outcome → Type 0
 Sound (refused n) = Unit {0}
 Sound (done n t) = Valid t
 
@@ -77,7 +77,7 @@ summary-sound e model spec inputs s v =
     let l = eqb-true (length inputs) inputsSize (not-false (eqb (length inputs) inputsSize) (neither-right (ltb maxModel model) (not (eqb (length inputs) inputsSize)) b)) in
     rw (a, b, c) (hold-sound e model (summaryOf e model spec inputs) s v (summary-length e model spec inputs l) (rw (le-leb e maxEngine h, le-leb model maxModel g, c) refl)))))
 
-act-sound : (c : Call) (s : Track) → Valid s → Sound (act c s)
+pub act-sound : (c : Call) (s : Track) → Valid s → Sound (act c s)
 act-sound (report e r) s v = report-sound e r s v
 act-sound (summary e model spec inputs) s v = summary-sound e model spec inputs s v
 act-sound (conviction e) s v = by (ltb maxEngine e) (λ a. rw a tt) (λ a. rw a (recheck-valid (strikeEngine e s) (strike-valid s v e (ltb-false maxEngine e a))))

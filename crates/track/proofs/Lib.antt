@@ -15,3 +15,4 @@ pub mod Merging
 pub mod Reported
 pub mod Kept
 pub mod Counted
+pub mod Ordered

@@ -1,7 +1,8 @@
 -- The calls of a track (document 01, 'Answers and refusals, operation by operation'), and the track that a call leaves.
 use Prim.Native.Nat.{ℕ}
-use mathlib.Core.List.{List}
+use mathlib.Core.List.{List, [], _∷_}
 use Rattle.track.specs.Track.{Track, Outcome, refused, done, trackReport, trackSummary, trackConviction}
+use Rattle.track.specs.Memory.{onMemory}
 
 -- report(engine, record), summary(engine, model, spec, inputs), conviction(engine)
 pub data Call : Type 0 where
@@ -18,3 +19,8 @@ act (conviction e) = trackConviction e
 abbrev pub leftBy : Track → Outcome → Track
 leftBy s (refused n) = s
 leftBy s (done n t) = t
+
+-- the bytes after the calls of a list, first to last
+unfoldable pub runs : List ℕ → List Call → List ℕ
+runs m [] = m
+runs m (c ∷ cs) = runs (onMemory (act c) m .left) cs

@@ -1,14 +1,20 @@
--- What is claimed of every track in memory and of every call on it (document 01, 'The track and the session'). Bytes are what a memory has. proofs/Kept
--- and proofs/Counted have a theorem of each of these types.
-use Prim.Native.Nat.{ℕ, _+_, _%_, _^_}
+-- What is claimed of every track in memory and of every call on it (document 01, 'The track and the session'). Bytes are what a memory has. proofs/Kept,
+-- proofs/Counted and proofs/Ordered have a theorem of each of these types.
+use Prim.Native.Nat.{ℕ, _+_, _%_, _^_, _≤_}
 use mathlib.Core.Path.{_≡_}
 use mathlib.Core.Bool.{true, false}
-use mathlib.Core.List.{List}
+use mathlib.Core.List.{List, List·Memᴰ}
+use lib.ListN.{length}
 use Rattle.octets.specs.Bytes.{Bytes}
+use Rattle.shown.specs.Fix.{Fix}
+use Rattle.shown.specs.Ages.{older}
+use Rattle.tracked.specs.Held.{HeldTransmission}
+use Rattle.arrange.specs.Claims.{InOrder}
 use Rattle.merge.specs.Merged.{merged}
 use Rattle.track.specs.Track.{Track, Outcome, refused, done, fixFrom}
-use Rattle.track.specs.Memory.{wellFormed, decode, encode, onMemory}
-use Rattle.track.specs.Calls.{Call, report, summary, conviction, act, leftBy}
+use Rattle.track.specs.Served.{keptOf, served}
+use Rattle.track.specs.Memory.{wellFormed, decode, encode, fresh, onMemory}
+use Rattle.track.specs.Calls.{Call, report, summary, conviction, act, leftBy, runs}
 
 -- a track in memory is the bytes of what it holds
 abbrev pub EncodeDecode : Type 0
@@ -45,3 +51,21 @@ SummaryCountsNone = (e model spec : ℕ) (inputs : List ℕ) (s : Track) → lef
 
 abbrev pub ConvictionCountsNone : Type 0
 ConvictionCountsNone = (e : ℕ) (s : Track) → leftBy s (act (conviction e) s) .contested ≡ s .contested
+
+-- ---- the order of the transmissions, and the fix that is served
+
+abbrev pub StaysInOrder : Type 0
+StaysInOrder = (c : Call) (s : Track) → InOrder (s .transmissions) → InOrder (leftBy s (act c s) .transmissions)
+
+-- so every track that is reached from a fresh one is in order
+abbrev pub ReachedInOrder : Type 0
+ReachedInOrder = (cs : List Call) → (wellFormed (runs fresh cs) ≡ true) × InOrder (decode (runs fresh cs) .transmissions)
+
+-- a track in order that has a transmission serves one fix
+abbrev pub OneServed : Type 0
+OneServed = (s : Track) → InOrder (s .transmissions) → 1 ≤ length (s .transmissions) → length (served s) ≡ 1
+
+-- and that is the latest: the fix kept of no transmission is younger
+abbrev pub LatestServed : Type 0
+LatestServed = (s : Track) → InOrder (s .transmissions)
+    → (t : HeldTransmission) (f g : Fix) → List·Memᴰ f (served s) → List·Memᴰ t (s .transmissions) → List·Memᴰ g (keptOf t) → older f g ≡ false
