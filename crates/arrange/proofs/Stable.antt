@@ -3,7 +3,7 @@ use mathlib.Core.Path.{_≡_, refl, sym, ap, _∙_}
 use mathlib.Core.Bool.{Bool, true, false, not, _&&_}
 use mathlib.Core.List.{List, [], _∷_, _++_, List·Memᴰ, List·Memᴰ·head, List·Memᴰ·tail, List·Memᴰ·not-nil, List·Memᴰ·cases-cons}
 use Rattle.ranges.specs.Lists.{filter, insert, sort}
-use Rattle.ranges.proofs.Bools.{by, or, clash, no-true, and-left, not-t, not-f}
+use Rattle.ranges.proofs.Bools.{by, or, clash, no-true, and-left, not-t}
 use Rattle.ranges.proofs.Lists.{sort-in}
 use Rattle.ranges.proofs.Sorting.{insert-first}
 

@@ -1,6 +1,6 @@
 -- What is claimed of the order of a track's transmissions (document 01, 'The track and the session'), whatever transmissions are given. proofs/Claimed has a
 -- theorem of each of these types.
-use Prim.Native.Nat.{ℕ, _≤_, min}
+use Prim.Native.Nat.{_≤_, min}
 use mathlib.Core.Path.{_≡_}
 use mathlib.Core.Bool.{Bool, true, false, not, _&&_}
 use mathlib.Core.List.{List, [], _∷_, _++_, List·Memᴰ, List·Permᴰ}

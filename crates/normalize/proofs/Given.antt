@@ -1,8 +1,7 @@
 -- The claims of specs/Claims about what becomes of each fix that is given.
-use Prim.Native.Nat.{ℕ}
-use mathlib.Core.Path.{_≡_, refl, sym, ap, ap₂, _∙_, subst}
-use mathlib.Core.Bool.{true, false, false≢true}
-use mathlib.Core.List.{List, [], _∷_, _++_, map, map-append, append-assoc, List·Memᴰ, Memᴰ·of-map, List·Permᴰ, List·Permᴰ·cons, List·Permᴰ·trans, Permᴰ·refl, Permᴰ·symm, Permᴰ·append-left, Permᴰ·append-right, Permᴰ·middle}
+use mathlib.Core.Path.{_≡_, refl, sym, ap, _∙_, subst}
+use mathlib.Core.Bool.{false≢true}
+use mathlib.Core.List.{List, [], _∷_, _++_, map, map-append, append-assoc, List·Memᴰ, Memᴰ·of-map, List·Permᴰ, List·Permᴰ·cons, List·Permᴰ·trans, Permᴰ·refl, Permᴰ·symm, Permᴰ·append-left, Permᴰ·middle}
 use lib.Ieee.{binary64, toBits}
 use lib.ListN.{take, drop, take-append-drop}
 use Rattle.ranges.specs.Lists.{sort}
@@ -14,9 +13,8 @@ use Rattle.shown.specs.Fix.{Fix, withSigners}
 use Rattle.shown.specs.Shown.{agreement, disagrees}
 use Rattle.shown.specs.Claims.{fixRelations}
 use Rattle.tracked.specs.Layout.{maxStanding, maxRefused}
-use Rattle.tracked.specs.Held.{RefusedFix, heldIn}
 use Rattle.normalize.specs.Normal.{signedBy, distinct, refusedFix, lowerRefused, normalized}
-use Rattle.normalize.specs.Claims.{OneOfEach, forgottenOf, EachOnce, KeptAsGiven, Against, RefusedAgainst}
+use Rattle.normalize.specs.Claims.{OneOfEach, EachOnce, KeptAsGiven, Against, RefusedAgainst}
 use Rattle.normalize.proofs.Claimed.{itemOf, once, gathered, o, lows, kept-are, low-in, kept-in}
 use Rattle.normalize.proofs.Validity.{all-distinct, named}
 

@@ -1,7 +1,7 @@
 -- The claims about the contested count.
 use Prim.Native.Nat.{ℕ, _+_, _%_, _^_}
-use mathlib.Core.Path.{_≡_, refl, sym, ap, _∙_, subst}
-use mathlib.Core.Bool.{true, false, not, _&&_, _||_}
+use mathlib.Core.Path.{_≡_, refl, ap, _∙_, subst}
+use mathlib.Core.Bool.{not, _&&_, _||_}
 use mathlib.Core.List.{List}
 use lib.Dec.{ltb, leb, eqb}
 use lib.ListN.{length, take}
@@ -17,9 +17,9 @@ use Rattle.models.specs.Missing.{citesMissing}
 use Rattle.held.specs.Limits.{maxEngine, maxSummaries}
 use Rattle.merge.specs.Merged.{merged}
 use Rattle.track.specs.Layout.{pairSize}
-use Rattle.track.specs.Track.{Track, Outcome, refused, done, fixFrom, stepped, trackReport, hasStale, recheck, becomesDisputed, putSummary, holdPair, trackSummary, strikeEngine, trackConviction}
+use Rattle.track.specs.Track.{Track, Outcome, refused, done, fixFrom, stepped, trackReport, hasStale, recheck, becomesDisputed, putSummary, trackSummary, strikeEngine, trackConviction}
 use Rattle.track.specs.Steps.{withPair}
-use Rattle.track.specs.Calls.{act, leftBy}
+use Rattle.track.specs.Calls.{leftBy}
 use Rattle.track.specs.Claims.{ReportCounts, RefusalCountsNone, SummaryCountsNone, ConvictionCountsNone}
 
 -- ---- what holds of the track that an operation leaves, if it leaves one
