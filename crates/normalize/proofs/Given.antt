@@ -14,7 +14,7 @@ use Rattle.shown.specs.Shown.{agreement, disagrees}
 use Rattle.shown.specs.Claims.{fixRelations}
 use Rattle.tracked.specs.Layout.{maxStanding, maxRefused}
 use Rattle.normalize.specs.Normal.{signedBy, distinct, refusedFix, lowerRefused, normalized}
-use Rattle.normalize.specs.Claims.{OneOfEach, EachOnce, KeptAsGiven, Against, RefusedAgainst}
+use Rattle.normalize.specs.Claims.{OneOfEach, NoneLost, KeptAsGiven, Against, RefusedAgainst}
 use Rattle.normalize.proofs.Claimed.{itemOf, once, gathered, o, lows, kept-are, low-in, kept-in}
 use Rattle.normalize.proofs.Validity.{all-distinct, named}
 
@@ -62,8 +62,8 @@ module _ (fs : List Fix) where
       rw (← append-assoc best behind (o fs .dominated ++ (low ++ high)), take-append-drop maxStanding (o fs .ranked))
       (List·Permᴰ·trans (Permᴰ·append-left (o fs .ranked) (Permᴰ·append-left (o fs .dominated) all-refused)) (once (distinct fs)))
 
-pub each-once : EachOnce
-each-once fs = rw (kept-are fs) (List·Permᴰ·trans (parts fs) (listed fs))
+pub none-lost : NoneLost
+none-lost fs = rw (kept-are fs) (List·Permᴰ·trans (parts fs) (listed fs))
 
 -- ---- as they were given
 

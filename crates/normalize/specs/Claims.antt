@@ -53,8 +53,8 @@ forgottenOf fs =
     drop maxStanding (o .ranked) ++ (o .dominated ++ map (λ x. x .item) (drop maxRefused (sort lowerRefused (o .refused))))
 
 -- those kept and those forgotten are together all of them in another order
-abbrev pub EachOnce : Type 0
-EachOnce = (fs : List Fix) → List·Permᴰ (heldIn (normalized fs) ++ forgottenOf fs) (distinct fs)
+abbrev pub NoneLost : Type 0
+NoneLost = (fs : List Fix) → List·Permᴰ (heldIn (normalized fs) ++ forgottenOf fs) (distinct fs)
 
 -- a fix that is kept is one that was given, but for its signers
 abbrev pub KeptAsGiven : Type 0

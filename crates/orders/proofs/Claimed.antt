@@ -3,10 +3,9 @@ use Prim.Native.Nat.{ℕ}
 use mathlib.Core.Path.{_≡_, refl, ap, _∙_}
 use mathlib.Core.List.{List, List·Permᴰ, List·Permᴰ·cons, List·Permᴰ·swap, List·Permᴰ·trans}
 use native.Mathlib.Omega.{arith}
-use Rattle.track.specs.Memory as T
 use Rattle.track.specs.Memory.{decode}
 use Rattle.board.proofs.WholeLists.{whole-lists}
-use Rattle.orders.specs.Claims.{trackRuns, growing, largestFirst, OrderFreeBoard, OrderMatters}
+use Rattle.orders.specs.Claims.{trackBytes, growing, largestFirst, OrderFreeBoard, OrderMatters}
 use Rattle.orders.proofs.Positions.{position-9}
 use Rattle.orders.proofs.Rearranged.{same-remains, few-always-fit}
 
@@ -18,10 +17,10 @@ zero-is-not-one : (n : ℕ) → n ≡ 0 → n ≡ 1 → ⊥
 zero-is-not-one n p q = omega arith
 
 -- one has contested a fix, the other has not
-tracks-differ : trackRuns T.fresh growing ≡ trackRuns T.fresh largestFirst → ⊥
+tracks-differ : trackBytes growing ≡ trackBytes largestFirst → ⊥
 tracks-differ e =
     let c : List ℕ → ℕ = λ m. decode m .contested in
-    zero-is-not-one (c (trackRuns T.fresh growing)) (position-9 .none-contested) (ap c e ∙ position-9 .one-contested)
+    zero-is-not-one (c (trackBytes growing)) (position-9 .none-contested) (ap c e ∙ position-9 .one-contested)
 
 board-in-any-order : OrderFreeBoard
 board-in-any-order north south p f g = whole-lists .same-in-both-rooms north south f g (same-remains p)

@@ -2,7 +2,7 @@
 use Prim.Native.Nat.{ℕ, _+_, _%_, _^_}
 use mathlib.Core.Path.{_≡_, refl, sym, ap, _∙_, subst}
 use mathlib.Core.Bool.{true, false}
-use mathlib.Core.List.{List, [], _∷_, _++_, List·Memᴰ·not-nil}
+use mathlib.Core.List.{List, [], _∷_, _++_, flatMap, List·Memᴰ·not-nil}
 use native.Mathlib.Omega.{arith}
 use lib.ListN.{replicate, replicate-append-replicate}
 use Rattle.octets.specs.Words.{word, wordBytes}
@@ -21,12 +21,15 @@ use Rattle.decision.specs.Positions.{S, M, L}
 use Rattle.shown.specs.Fix.{Fix}
 use Rattle.tracked.specs.Held.{HeldTransmission}
 use Rattle.merge.specs.Merged.{Step, numberOf, merged}
+use Rattle.merge.specs.declared.Merged.the-variants.{Changed}
 use Rattle.track.specs.Layout.{summariesAt, transmissionsSize}
 use Rattle.track.specs.Track.{Track, done, fixFrom, trackReport}
+use Rattle.track.specs.Calls.{runs}
 use Rattle.track.specs.Memory.{fresh, decode, encode, commit, onMemory}
 use Rattle.track.proofs.Valid.{Valid, decode-encode, on-encode}
 use Rattle.track.proofs.Merging.{stepped-valid}
-use Rattle.orders.specs.Claims.{trackRuns, trackAnswers, trackAfter, serves, growing, largestFirst, Position9}
+use Rattle.track.proofs.Ordered.{fresh-is, start-valid}
+use Rattle.orders.specs.Claims.{trackBytes, trackAnswers, trackAfter, serves, growing, largestFirst, Position9}
 use Rattle.orders.proofs.Taken.{idS, idM, idL, noInputs, is-idS, is-idM, is-idL, none-cited, fixWith, fixS, fixM, fixL, alone, refusing, first-s, then-m, then-l, first-l, then-s, last-m}
 
 -- a track without summaries and convictions
@@ -116,29 +119,8 @@ module _ {r : List ℕ} {f : Fix} (k : Known r f) (n : ℕ) (ts : List HeldTrans
 
 -- ---- fresh bytes
 
-abbrev zeros : ℕ → List ℕ
-zeros n = replicate n 0
-
-fresh-is : encode (holding 0 []) ≡ fresh
-unfolding encode flat wordBytes
-fresh-is =
-    ap (λ (t : List ℕ). zeros summariesAt ++ t) (replicate-append-replicate summariesSize transmissionsSize 0)
-    ∙ replicate-append-replicate summariesAt (summariesSize + transmissionsSize) 0
-
 after-none : Holds fresh (holding 0 [])
-after-none = record {
-  is = sym fresh-is;
-  valid = record {
-    small = omega arith;
-    counted = omega arith;
-    few-summaries = omega arith;
-    few = omega arith;
-    summaries-wide = tt;
-    summaries-ascend = unfold ascending in refl;
-    summaries-formed = unfold allPlaces in refl;
-    held = λ t m. absurd (List·Memᴰ·not-nil m);
-  };
-}
+after-none = record { is = sym fresh-is; valid = start-valid }
 
 -- ---- the two orders
 
@@ -151,8 +133,8 @@ after-s = left known-s 0 [] first-s after-none
 after-s-m : Holds (onMemory (trackReport 1 M) (onMemory (trackReport 1 S) fresh .left) .left) (holding 0 (one (alone fixM)))
 after-s-m = left known-m 0 (one (alone fixS)) then-m after-s
 
-after-growing : Holds (trackRuns fresh growing) (holding 0 (one (alone fixL)))
-unfolding trackRuns
+after-growing : Holds (trackBytes growing) (holding 0 (one (alone fixL)))
+unfolding runs
 after-growing = left known-l 0 (one (alone fixM)) then-l after-s-m
 
 after-l : Holds (onMemory (trackReport 1 L) fresh .left) (holding 0 (one (alone fixL)))
@@ -161,13 +143,13 @@ after-l = left known-l 0 [] first-l after-none
 after-l-s : Holds (onMemory (trackReport 1 S) (onMemory (trackReport 1 L) fresh .left) .left) (holding 1 (one (refusing fixS)))
 after-l-s = left known-s 0 (one (alone fixL)) then-s after-l
 
-after-largest-first : Holds (trackRuns fresh largestFirst) (holding 1 (one (refusing fixM)))
-unfolding trackRuns
+after-largest-first : Holds (trackBytes largestFirst) (holding 1 (one (refusing fixM)))
+unfolding runs
 after-largest-first = left known-m 1 (one (refusing fixS)) last-m after-l-s
 
 -- ---- what is answered, and what is left
 
-growing-answers : trackAnswers fresh growing ≡ 20 ∷ 20 ∷ 20 ∷ []
+growing-answers : trackAnswers fresh growing ≡ numberOf Changed ∷ numberOf Changed ∷ numberOf Changed ∷ []
 unfolding trackAnswers
 growing-answers = λ i.
     answered known-s 0 [] first-s after-none i
@@ -175,7 +157,7 @@ growing-answers = λ i.
     ∷ answered known-l 0 (one (alone fixM)) then-l after-s-m i
     ∷ []
 
-largest-first-answers : trackAnswers fresh largestFirst ≡ 20 ∷ 20 ∷ 20 ∷ []
+largest-first-answers : trackAnswers fresh largestFirst ≡ numberOf Changed ∷ numberOf Changed ∷ numberOf Changed ∷ []
 unfolding trackAnswers
 largest-first-answers = λ i.
     answered known-l 0 [] first-l after-none i
@@ -194,8 +176,8 @@ largest-first-leaves = decoded after-largest-first
 
 pub position-9 : Position9
 position-9 = record {
-  serves-l = ap serves growing-leaves;
-  serves-m = ap serves largest-first-leaves;
+  serves-l = ap serves growing-leaves ∙ unfold flatMap in refl;
+  serves-m = ap serves largest-first-leaves ∙ unfold flatMap in refl;
   none-contested = ap (λ (t : Track). t .contested) growing-leaves;
   one-contested = ap (λ (t : Track). t .contested) largest-first-leaves;
   growing-answers = growing-answers;

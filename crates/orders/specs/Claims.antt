@@ -4,17 +4,16 @@
 use Prim.Native.Nat.{ℕ, _≤_}
 use mathlib.Core.Path.{_≡_}
 use mathlib.Core.Bool.{true}
-use mathlib.Core.List.{List, [], _∷_, List·Permᴰ}
-use mathlib.Core.Option.{Option, none, some}
+use mathlib.Core.List.{List, [], _∷_, map, List·Permᴰ}
 use lib.ListN.{length}
-use Rattle.ranges.specs.Lists.{lastOf}
 use Rattle.decision.specs.Positions.{S, M, L}
 use Rattle.register.specs.Layout.{maxRecords}
 use Rattle.register.specs.Calls.{Call, report, summary, conviction, noneFull}
 use Rattle.register.specs.Memory as R
-use Rattle.shown.specs.Fix.{Fix}
-use Rattle.tracked.specs.Held.{HeldTransmission}
+use Rattle.merge.specs.Merged.{numberOf}
+use Rattle.merge.specs.declared.Merged.the-variants.{Changed}
 use Rattle.track.specs.Track.{Track}
+use Rattle.track.specs.Served.{served}
 use Rattle.track.specs.Memory as T
 use Rattle.track.specs.Calls as C
 use Rattle.board.specs.Claims.{SameInBothRooms}
@@ -27,34 +26,22 @@ onTrack (report e r) = C.report e r
 onTrack (summary e model spec inputs) = C.summary e model spec inputs
 onTrack (conviction e) = C.conviction e
 
--- the bytes of a track after the calls of a list, first to last
-unfoldable pub trackRuns : List ℕ → List Call → List ℕ
-trackRuns m [] = m
-trackRuns m (c ∷ cs) = trackRuns (T.onMemory (C.act (onTrack c)) m .left) cs
+-- the bytes of a fresh track after the calls of a list
+abbrev pub trackBytes : List Call → List ℕ
+trackBytes cs = C.runs T.fresh (map onTrack cs)
 
--- what each of them is answered
+-- the track that they are
+abbrev pub trackAfter : List Call → Track
+trackAfter cs = T.decode (trackBytes cs)
+
+-- what each call is answered, first to last
 unfoldable pub trackAnswers : List ℕ → List Call → List ℕ
 trackAnswers m [] = []
 trackAnswers m (c ∷ cs) = T.onMemory (C.act (onTrack c)) m .answer ∷ trackAnswers (T.onMemory (C.act (onTrack c)) m .left) cs
 
--- what a fresh track holds after them
-abbrev pub trackAfter : List Call → Track
-trackAfter cs = T.decode (trackRuns T.fresh cs)
-
--- ---- what a track serves
-
--- the record of the first fix
-abbrev pub firstRecord : List Fix → Option (List ℕ)
-firstRecord [] = none
-firstRecord (f ∷ fs) = some (f .recordBytes)
-
-abbrev pub firstKept : List HeldTransmission → Option (List ℕ)
-firstKept [] = none
-firstKept (t ∷ ts) = firstRecord (t .fixes)
-
--- the fix kept of the latest transmission, which comes last (the Rust's `Track::current`)
-abbrev pub serves : Track → Option (List ℕ)
-serves s = firstKept (lastOf 1 (s .transmissions))
+-- the record of the fix that a track serves, if it serves one
+abbrev pub serves : Track → List (List ℕ)
+serves s = map (λ f. f .recordBytes) (served s)
 
 -- ---- three nested fixes of one transmission, reported by one engine in two orders
 
@@ -66,14 +53,14 @@ largestFirst = report 1 L ∷ report 1 S ∷ report 1 M ∷ []
 
 -- "9: a track taking S, M, L serves L; taking L, S, M it serves M."
 pub record Position9 : Type 0 where
-  pub serves-l : serves (trackAfter growing) ≡ some L
-  pub serves-m : serves (trackAfter largestFirst) ≡ some M
+  pub serves-l : serves (trackAfter growing) ≡ L ∷ []
+  pub serves-m : serves (trackAfter largestFirst) ≡ M ∷ []
   -- in the second order L was refused, against an S that is no longer held
   pub none-contested : trackAfter growing .contested ≡ 0
   pub one-contested : trackAfter largestFirst .contested ≡ 1
   -- the answers do not tell: each is Changed
-  pub growing-answers : trackAnswers T.fresh growing ≡ 20 ∷ 20 ∷ 20 ∷ []
-  pub largest-first-answers : trackAnswers T.fresh largestFirst ≡ 20 ∷ 20 ∷ 20 ∷ []
+  pub growing-answers : trackAnswers T.fresh growing ≡ numberOf Changed ∷ numberOf Changed ∷ numberOf Changed ∷ []
+  pub largest-first-answers : trackAnswers T.fresh largestFirst ≡ numberOf Changed ∷ numberOf Changed ∷ numberOf Changed ∷ []
 
 -- ---- the claim
 
@@ -90,7 +77,7 @@ pub record OrderMatters : Type 0 where
   pub position-9 : Position9
   -- the two lists are one list in two orders; the tracks differ, and the boards do not
   pub one-list : List·Permᴰ growing largestFirst
-  pub tracks-differ : trackRuns T.fresh growing ≡ trackRuns T.fresh largestFirst → ⊥
+  pub tracks-differ : trackBytes growing ≡ trackBytes largestFirst → ⊥
   pub boards-agree : SameInBothRooms growing largestFirst
   -- the boards do not, whatever the list
   pub board-in-any-order : OrderFreeBoard

@@ -54,18 +54,18 @@ stays-in-order c s w = left-after Ordered s (act c s) w (act-leaves c s w)
 
 -- ---- tracks that are reached
 
-start : Track
+abbrev pub start : Track
 start = record { convicted = 0; contested = 0; summaries = []; transmissions = [] }
 
 -- fresh bytes are those of the empty track
-fresh-is : encode start ≡ fresh
-unfolding encode flat wordBytes start
+pub fresh-is : encode start ≡ fresh
+unfolding encode flat wordBytes
 fresh-is =
     ap (λ (t : List ℕ). replicate summariesAt 0 ++ t) (replicate-append-replicate summariesSize transmissionsSize 0)
     ∙ replicate-append-replicate summariesAt (summariesSize + transmissionsSize) 0
 
-start-valid : Valid start
-unfolding start ascending allPlaces
+pub start-valid : Valid start
+unfolding ascending allPlaces
 start-valid = record {
   small = omega arith;
   counted = omega arith;
@@ -100,7 +100,6 @@ runs-reach [] m x = x
 runs-reach (c ∷ cs) m x = runs-reach cs (onMemory (act c) m .left) (call-reaches c m x)
 
 fresh-reached : Reached fresh
-unfolding start
 fresh-reached = record { track = start; valid = start-valid; order = none; is = sym fresh-is }
 
 pub reached-in-order : ReachedInOrder
