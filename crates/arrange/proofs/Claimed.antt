@@ -12,7 +12,7 @@ use Rattle.ranges.proofs.Orders.{perm-length}
 use Rattle.shown.specs.Fix.{Fix}
 use Rattle.shown.specs.Ages.{older, olderFirst}
 use Rattle.shown.proofs.Ages.{older-irrefl, older-trans, older-past}
-use Rattle.shown.proofs.Indexed.{at}
+use Rattle.shown.specs.Items.{at}
 use Rattle.tracked.specs.Held.{HeldTransmission}
 use Rattle.arrange.specs.Arranged.{maxTransmissions, isSome, hasFix, olderThan, arranged}
 use Rattle.arrange.specs.Claims.{InOrder, none, next, ArrangedInOrder, alike, Forgotten, LatestLeft, FewAllLeft, OrderStays}

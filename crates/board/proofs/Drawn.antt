@@ -35,7 +35,8 @@ use Rattle.shown.specs.Fix.{Fix}
 use Rattle.fixes.specs.Fixes.{fixesOf}
 use Rattle.fixes.proofs.Soundness.{record-formed}
 use Rattle.fixes.proofs.Distinct.{identities-differ}
-use Rattle.shown.proofs.Indexed.{noFix, at, at-in, Apart}
+use Rattle.shown.specs.Items.{noFix, at, Apart, unjudged, itemsFor, Formed, AllFormed}
+use Rattle.shown.proofs.Indexed.{at-in}
 use Rattle.fixes.proofs.Encoded.{bytesOf, AllFit, fit-formed, identity-is, record-is, inputs-are, signers-are, all-apart}
 use Rattle.links.specs.Links.{linkAt}
 use Rattle.links.specs.Walk as W
@@ -48,15 +49,13 @@ use Rattle.shown.specs.Shown.{Transmission, shown}
 use Rattle.shown.specs.Ages as A
 use Rattle.shown.specs.Ages.{olderFirst}
 use Rattle.transmissions.specs.Picture.{olderThan, latestOf, maxShown}
-use Rattle.shown.specs.Items.{unjudged}
 use Rattle.transmissions.specs.Members.{itemsOf, belongs, membersOf, nth, outcomeOf, leading, leaderOf, leadersOf, headsOf, every}
 use Rattle.transmissions.specs.Latest.{laterFix, later}
 use Rattle.transmissions.proofs.Items.{members-below, members-length, members-good}
 use Rattle.transmissions.proofs.Gathering.{nth-is}
 use Rattle.transmissions.proofs.Ages.{later-total}
 use Rattle.transmissions.proofs.Selection.{older, Marked, latest-is, lastOf-map}
-use Rattle.shown.specs.Items.{itemsFor}
-use Rattle.shown.proofs.Itemized.{Formed, AllFormed, shown-of-items}
+use Rattle.shown.proofs.Itemized.{shown-of-items}
 use Rattle.drawing.specs.Lines.{line, refusedLine}
 use Rattle.drawing.specs.Text.{refusedText, textOf, textFrom, boardText}
 use Rattle.drawing.specs.Drawing.{linesOf, refusedLines, decidedText, transmissionText, drawFrom, shownOf, drawTable}

@@ -48,9 +48,3 @@ module _ (s : Register) (v : Valid s) where
 -- of a register in memory
 pub fits-board : (m : List ℕ) → Bytes m → wellFormed m ≡ true → length (boardIn (decode m)) ≤ boardSize
 fits-board m b w = fits (decode m) (decode-valid m (opened m w) b)
-
--- a text that was written at the start of a buffer
-pub put-written : (l l′ t : List ℕ) (r : ℕ) → Put l 0 t r l′ → length t ≤ length l → after r l′ ≡ writeText t l
-put-written l l′ t r p h =
-    let e : 0 + length t ≡ length t = omega arith in
-    ap₂ (λ (k : ℕ) (x : List ℕ). after k x) (p .next ∙ e) (put-whole p (omega arith) ∙ ap (λ (k : ℕ). t ++ drop k l) e)

@@ -23,7 +23,8 @@ use Rattle.decision.specs.Claims.{listedIn}
 use Rattle.decision.proofs.Laws.{Sound, listed-once, some-ranked}
 use Rattle.shown.specs.Fix.{Fix}
 use Rattle.fixes.specs.Fixes.{fixesOf}
-use Rattle.shown.proofs.Indexed.{noFix, at, in-at, Apart}
+use Rattle.shown.specs.Items.{noFix, at, Apart}
+use Rattle.shown.proofs.Indexed.{in-at}
 use Rattle.fixes.proofs.Encoded.{all-apart}
 use Rattle.links.specs.Transmissions.{transmissionOf, leads, isFirst, transmissionsOf}
 use Rattle.links.specs.Claims.{Partition}

@@ -32,8 +32,8 @@ use Rattle.fixes.proofs.Distinct.{identities-differ}
 use Rattle.ranges.specs.Lists.{filter}
 use Rattle.shown.specs.Fix.{Fix}
 use Rattle.fixes.specs.Fixes.{recordIn, fixOf, unite, enter, enterAll, fixesOf}
-use Rattle.shown.proofs.Itemized.{Formed}
-use Rattle.shown.proofs.Indexed.{noFix, at, at-in, Apart}
+use Rattle.shown.specs.Items.{Formed, noFix, at, Apart}
+use Rattle.shown.proofs.Indexed.{at-in}
 
 -- the bytes of a fix
 abbrev pub bytesOf : Fix → List ℕ

@@ -16,7 +16,7 @@ use Rattle.octets.specs.Masks.{bit, withBit, withoutBit}
 use Rattle.octets.specs.Order.{same}
 use Rattle.octets.specs.Words.{word, wordBytes, wordAt}
 use Rattle.octets.proofs.Comparison.{same-refl, same-eq}
-use Rattle.octets.proofs.Lookup.{bit-set, bit-clear, bit-zero, bit-and, bit-ext, with-lt, without-le}
+use Rattle.octets.proofs.Lookup.{bit-set, bit-clear, bit-zero, bit-and, bit-ext, with-lt, without-le, bit-or}
 use Rattle.octets.proofs.Numbers.{length-word-bytes, word-of-bytes, bytes-word-bytes, bytes-of-word, bytes-take, bytes-drop, word-lt}
 use Rattle.places.specs.Places.{places, allPlaces}
 use Rattle.places.proofs.Keeping.{changed}
@@ -32,20 +32,6 @@ apart m c k h = sym (bit-and m c k) ∙ ap (λ (n : ℕ). bit n k) (eqb-true (bi
 
 pub disjoint : (m c : ℕ) → ((k : ℕ) → (bit m k && bit c k) ≡ false) → eqb (bitAnd m c) 0 ≡ true
 disjoint m c h = eq-eqb (bitAnd m c) 0 (bit-ext (bitAnd m c) 0 (λ k. bit-and m c k ∙ h k ∙ sym (bit-zero k)))
-
-max-either : (a b : ℕ) → a < 2 → b < 2 → eqb (max a b) 1 ≡ (eqb a 1 || eqb b 1)
-max-either zero zero h k = refl
-max-either zero (suc zero) h k = refl
-max-either (suc zero) zero h k = refl
-max-either (suc zero) (suc zero) h k = refl
-max-either zero (suc (suc b)) h k = absurd (omega arith)
-max-either (suc zero) (suc (suc b)) h k = absurd (omega arith)
-max-either (suc (suc a)) b h k = absurd (omega arith)
-
-bit-or : (a b k : ℕ) → bit (bitOr a b) k ≡ (bit a k || bit b k)
-unfolding bit
-bit-or a b zero = let p : bitOr a b % 2 ≡ max (a % 2) (b % 2) = omega (arith, or-step a b) in rw p (max-either (a % 2) (b % 2) (omega arith) (omega arith))
-bit-or a b (suc k) = let p : bitOr a b / 2 ≡ bitOr (a / 2) (b / 2) = omega (arith, or-step a b) in rw p (bit-or (a / 2) (b / 2) k)
 
 pub or-apart : (m n c : ℕ) → eqb (bitAnd m c) 0 ≡ true → eqb (bitAnd n c) 0 ≡ true → eqb (bitAnd (bitOr m n) c) 0 ≡ true
 or-apart m n c h g = disjoint (bitOr m n) c (λ k. rw (bit-or m n k) (one (bit m k) (bit n k) (bit c k) (apart m c k h) (apart n c k g)))

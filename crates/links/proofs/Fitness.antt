@@ -20,7 +20,7 @@ use Rattle.fixes.specs.Gathered.{slotFormed, Gathered}
 use Rattle.fixes.specs.Representatives.{representatives}
 use Rattle.shown.specs.Fix.{Fix}
 use Rattle.fixes.proofs.Soundness.{gathered-long, record-formed, representatives-gathered}
-use Rattle.shown.proofs.Indexed.{at}
+use Rattle.shown.specs.Items.{at}
 use Rattle.fixes.proofs.Encoded.{bytesOf, AllFit, table, record-is}
 use Rattle.links.specs.Links.{linkAt, Sound}
 use Rattle.links.specs.Transmissions.{recordsLink, linked}

@@ -21,7 +21,8 @@ use Rattle.links.proofs.Chains as C
 use Rattle.ranges.specs.Lists.{anyOf, filter}
 use Rattle.shown.specs.Fix.{Fix}
 use Rattle.links.specs.Transmissions.{linked, Chain, here, more, reach, transmissionOf, leads, isFirst, transmissionsOf}
-use Rattle.shown.proofs.Indexed.{noFix, at, at-in, in-at, Apart}
+use Rattle.shown.specs.Items.{noFix, at, Apart}
+use Rattle.shown.proofs.Indexed.{at-in, in-at}
 use Rattle.ranges.proofs.Lists.{filter-in, filter-of}
 use Rattle.links.proofs.Reaching.{SelfLinked, transmission-is}
 

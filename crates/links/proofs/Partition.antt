@@ -13,7 +13,8 @@ use Rattle.links.proofs.Symmetry.{linked-turned}
 use Rattle.links.proofs.Transmissions as X
 use Rattle.shown.specs.Fix.{Fix}
 use Rattle.links.specs.Transmissions.{linked, Chain, transmissionOf, transmissionsOf}
-use Rattle.shown.proofs.Indexed.{noFix, at, at-in, in-at, Apart}
+use Rattle.shown.specs.Items.{noFix, at, Apart}
+use Rattle.shown.proofs.Indexed.{at-in, in-at}
 use Rattle.links.proofs.Reaching.{SelfLinked, transmission-is}
 use Rattle.links.proofs.Indexed.{transmission-at, transmissions-are}
 use Rattle.links.specs.Claims.{Partition}

@@ -75,9 +75,4 @@ fix-lies b k h f = sym (part-of L.fixSize (k * L.fixSize) L.fixesSize L.fixesAt 
 pub refused-lies : (b : List ℕ) (k : ℕ) → k < refusedCount b → take L.refusedSize (drop (refusedPlace k) b) ≡ getD (refusedPlaces b) k []
 refused-lies b k h = ap (take L.refusedSize) (sym (drop-drop (k * L.refusedSize) L.refusedAt b)) ∙ sym (place-of L.refusedSize (refusedCount b) k (refusedTable b) h)
 
--- ---- a text that was written at the start of a buffer
-
-pub put-written : (l l′ t : List ℕ) (r : ℕ) → Put l 0 t r l′ → length t ≤ length l → after r l′ ≡ writeText t l
-put-written l l′ t r p h =
-    let e : 0 + length t ≡ length t = omega arith in
-    ap₂ (λ (k : ℕ) (x : List ℕ). after k x) (p .next ∙ e) (put-whole p (omega arith) ∙ ap (λ (k : ℕ). t ++ drop k l) e)
+-- --

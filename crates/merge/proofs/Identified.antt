@@ -26,7 +26,8 @@ use Rattle.items.proofs.Pairing.{taken}
 use Rattle.models.specs.Identity.{setHash}
 use Rattle.models.proofs.Sets.{identity-length}
 use Rattle.shown.specs.Fix.{Fix, withSigners}
-use Rattle.shown.proofs.Indexed.{noFix, at-in}
+use Rattle.shown.specs.Items.{noFix}
+use Rattle.shown.proofs.Indexed.{at-in}
 use Rattle.tracked.specs.Layout as L
 use Rattle.tracked.specs.Held.{RefusedFix, HeldTransmission, fixOf, heldIn, isOf}
 use Rattle.tracked.specs.Bytes.{recordIn, signersIn, inputsIn, identityIn, fixIn, refusedIn, fixCount, refusedCount, fixTable, refusedTable, fixPlaces, refusedPlaces, transmissionIn, transmissionBytes}

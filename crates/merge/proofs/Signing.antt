@@ -20,7 +20,8 @@ use Rattle.places.proofs.Tables.{wide}
 use Rattle.places.proofs.Walks.{part-of}
 use Rattle.record.specs.Layout.{recordSize}
 use Rattle.shown.specs.Fix.{Fix, withSigners}
-use Rattle.shown.proofs.Indexed.{noFix, at-in}
+use Rattle.shown.specs.Items.{noFix}
+use Rattle.shown.proofs.Indexed.{at-in}
 use Rattle.tracked.specs.Layout as L
 use Rattle.tracked.specs.Held.{RefusedFix, HeldTransmission, isOf}
 use Rattle.tracked.specs.Bytes.{fixBytes, refusedBytes, transmissionBytes}

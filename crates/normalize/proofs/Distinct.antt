@@ -15,8 +15,8 @@ use Rattle.ranges.specs.Lists.{anyOf}
 use Rattle.ranges.proofs.Bools.{by, or, clash}
 use Rattle.ranges.proofs.Lists.{any-no}
 use Rattle.shown.specs.Fix.{Fix}
-use Rattle.shown.proofs.Indexed.{noFix, at, at-in, Apart}
-use Rattle.shown.proofs.Itemized.{Formed, AllFormed}
+use Rattle.shown.specs.Items.{noFix, at, Apart, Formed, AllFormed}
+use Rattle.shown.proofs.Indexed.{at-in}
 use Rattle.tracked.specs.Held.{isOf}
 use Rattle.normalize.specs.Normal.{signedBy, signFirst, gather, gatherAll}
 use Rattle.normalize.specs.Working.{signersOf}

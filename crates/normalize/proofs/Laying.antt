@@ -23,9 +23,9 @@ use Rattle.record.specs.Layout.{recordSize}
 use Rattle.items.specs.Layout.{itemSize, hashSize, itemInputsAt, itemIdentityAt}
 use Rattle.items.specs.Items.{itemRecord, itemInputs, itemIdentity}
 use Rattle.shown.specs.Fix.{Fix}
-use Rattle.shown.specs.Items.{itemBytes, itemsFor}
-use Rattle.shown.proofs.Indexed.{noFix, at, at-in, in-at}
-use Rattle.shown.proofs.Itemized.{Formed, item-length, record-at, inputs-at, identity-at}
+use Rattle.shown.specs.Items.{itemBytes, itemsFor, noFix, at, Formed}
+use Rattle.shown.proofs.Indexed.{at-in, in-at}
+use Rattle.shown.proofs.Itemized.{item-length, record-at, inputs-at, identity-at}
 use Rattle.shown.proofs.Accepted.{items-length}
 use Rattle.record.specs.Formed.{wellFormed}
 use Rattle.models.specs.Identity.{setHash}

@@ -17,9 +17,8 @@ use Rattle.decision.specs.Related.{itemRelations}
 use Rattle.decision.specs.Answer.{refusal, bad, outcome}
 use Rattle.decision.proofs.Carried.{carriedRefusal, carriedOutcome}
 use Rattle.shown.specs.Fix.{Fix}
-use Rattle.shown.specs.Items.{itemsFor}
+use Rattle.shown.specs.Items.{itemsFor, at}
 use Rattle.shown.specs.Shown.{Transmission, shown}
-use Rattle.shown.proofs.Indexed.{at}
 use Rattle.shown.proofs.Itemized.{shown-of-items}
 use Rattle.shown.proofs.Accepted.{items-length, items-count, items-good}
 use Rattle.tracked.specs.Layout.{maxStanding, maxRefused}

@@ -9,6 +9,7 @@ use lib.Bits.{bitOr, or-step}
 use lib.Dec.{eqb}
 use Rattle.octets.specs.Order.{same}
 use Rattle.octets.specs.Masks.{bit}
+use Rattle.octets.proofs.Lookup.{bit-or}
 use Rattle.octets.proofs.Comparison.{same-refl, same-eq, not-same}
 use Rattle.ranges.specs.Lists.{anyOf}
 use Rattle.ranges.proofs.Bools.{by, or, clash, no-true, and-left, or-left, or-right}
@@ -19,22 +20,6 @@ use Rattle.normalize.specs.Normal.{signedBy, signFirst, gather, gatherAl
 use Rattle.normalize.specs.Claims.{Differ, none, next, identityOf}
 use Rattle.normalize.proofs.Distinct.{sign-keeps, gather-held, gather-new}
 use Rattle.normalize.proofs.Differing.{both-differ}
-
--- ---- a bit of two masks together
-
-max-either : (a b : ℕ) → a < 2 → b < 2 → eqb (max a b) 1 ≡ (eqb a 1 || eqb b 1)
-max-either zero zero h k = refl
-max-either zero (suc zero) h k = refl
-max-either (suc zero) zero h k = refl
-max-either (suc zero) (suc zero) h k = refl
-max-either zero (suc (suc b)) h k = absurd (omega arith)
-max-either (suc zero) (suc (suc b)) h k = absurd (omega arith)
-max-either (suc (suc a)) b h k = absurd (omega arith)
-
-bit-or : (a b k : ℕ) → bit (bitOr a b) k ≡ (bit a k || bit b k)
-unfolding bit
-bit-or a b zero = let p : bitOr a b % 2 ≡ max (a % 2) (b % 2) = omega (arith, or-step a b) in rw p (max-either (a % 2) (b % 2) (omega arith) (omega arith))
-bit-or a b (suc k) = let p : bitOr a b / 2 ≡ bitOr (a / 2) (b / 2) = omega (arith, or-step a b) in rw p (bit-or (a / 2) (b / 2) k)
 
 -- ---- identities
 

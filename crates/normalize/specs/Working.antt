@@ -11,10 +11,8 @@ use Rattle.items.specs.Layout.{itemSize, hashSize}
 use Rattle.items.specs.Items.{itemIdentity}
 use Rattle.decision.specs.declared.Refusal.{Refusal}
 use Rattle.shown.specs.Fix.{Fix}
-use Rattle.shown.specs.Items.{itemsFor}
+use Rattle.shown.specs.Items.{itemsFor, Apart, AllFormed}
 use Rattle.shown.specs.Shown.{shown}
-use Rattle.shown.proofs.Indexed.{Apart}
-use Rattle.shown.proofs.Itemized.{AllFormed}
 use Rattle.tracked.specs.Layout.{maxStanding, maxRefused}
 use Rattle.tracked.specs.Held.{HeldTransmission}
 use Rattle.tracked.specs.Bytes.{identityIn, fixIn, fixCount}

@@ -77,6 +77,20 @@ unfolding bit
 bit-and a b zero = let p : bitAnd a b % 2 ≡ min (a % 2) (b % 2) = omega (arith, and-step a b) in rw p (min-both (a % 2) (b % 2) (omega arith) (omega arith))
 bit-and a b (suc k) = let p : bitAnd a b / 2 ≡ bitAnd (a / 2) (b / 2) = omega (arith, and-step a b) in rw p (bit-and (a / 2) (b / 2) k)
 
+max-either : (a b : ℕ) → a < 2 → b < 2 → eqb (max a b) 1 ≡ (eqb a 1 || eqb b 1)
+max-either zero zero h k = refl
+max-either zero (suc zero) h k = refl
+max-either (suc zero) zero h k = refl
+max-either (suc zero) (suc zero) h k = refl
+max-either zero (suc (suc b)) h k = absurd (omega arith)
+max-either (suc zero) (suc (suc b)) h k = absurd (omega arith)
+max-either (suc (suc a)) b h k = absurd (omega arith)
+
+pub bit-or : (a b k : ℕ) → bit (bitOr a b) k ≡ (bit a k || bit b k)
+unfolding bit
+bit-or a b zero = let p : bitOr a b % 2 ≡ max (a % 2) (b % 2) = omega (arith, or-step a b) in rw p (max-either (a % 2) (b % 2) (omega arith) (omega arith))
+bit-or a b (suc k) = let p : bitOr a b / 2 ≡ bitOr (a / 2) (b / 2) = omega (arith, or-step a b) in rw p (bit-or (a / 2) (b / 2) k)
+
 -- ---- a number is its bits
 
 none : (t : ℕ) → ((k : ℕ) → bit t k ≡ false) → t ≡ 0

@@ -17,9 +17,9 @@ use Rattle.decision.specs.Related.{itemRelations}
 use Rattle.decision.specs.Answer.{badAt, bad, decision, decided}
 use Rattle.decision.proofs.Decided.{decided-is}
 use Rattle.shown.specs.Fix.{Fix}
-use Rattle.shown.specs.Items.{itemBytes, itemsFor}
-use Rattle.shown.proofs.Indexed.{noFix, at, at-in, Apart}
-use Rattle.shown.proofs.Itemized.{AllFormed, wide-items, record-at, identity-at}
+use Rattle.shown.specs.Items.{itemBytes, itemsFor, noFix, at, Apart, AllFormed}
+use Rattle.shown.proofs.Indexed.{at-in}
+use Rattle.shown.proofs.Itemized.{wide-items, record-at, identity-at}
 
 module _ (gs : List Fix) (w : AllFormed gs) where
   abbrev s : List ℕ

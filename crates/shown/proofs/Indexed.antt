@@ -19,14 +19,3 @@ module _ {A : Type 0} (d : A) where
       or (List·Memᴰ·cases-cons m)
       (λ e. (0, omega arith, sym e))
       (λ k. let r = in-at l x k in let b = r .1 in (suc (r .0), omega arith, r .2))
-
--- what an index past the end of a list gives: no law reads it
-abbrev pub noFix : Fix
-noFix = record { identity = []; recordBytes = []; inputs = []; signers = 0 }
-
-abbrev pub at : List Fix → ℕ → Fix
-at fs i = getD fs i noFix
-
--- no two fixes of a list have one identity
-abbrev pub Apart : List Fix → Type 0
-Apart fs = (i j : ℕ) → i < length fs → j < length fs → at fs i .identity ≡ at fs j .identity → i ≡ j

@@ -23,20 +23,11 @@ use Rattle.decision.specs.Standing.{decide}
 use Rattle.decision.specs.Related as R
 use Rattle.decision.proofs.Carried.{Alike, carriedOutcome, carried}
 use Rattle.shown.specs.Fix.{Fix}
-use Rattle.shown.proofs.Indexed.{noFix, at, at-in}
-use Rattle.shown.specs.Items.{unjudged, itemBytes, itemsFor}
+use Rattle.shown.specs.Items.{noFix, at, unjudged, itemBytes, itemsFor}
+use Rattle.shown.proofs.Indexed.{at-in}
 use Rattle.shown.specs.Shown.{shown}
 use Rattle.shown.specs.Claims.{fixRelations}
 use Rattle.shown.proofs.Plainly.{shown-is-decided}
-
--- a fix as a decision takes it
-pub record Formed (f : Fix) : Type 0 where
-  pub key : length (f .identity) ≡ hashSize
-  pub form : wellFormed (f .recordBytes) ≡ true
-  pub cited : length (f .inputs) ≡ hashSize
-
-abbrev pub AllFormed : List Fix → Type 0
-AllFormed fs = (f : Fix) → List·Memᴰ f fs → Formed f
 
 -- ---- the fields of an item
 

@@ -33,7 +33,7 @@ use Rattle.tracked.specs.Layout as L
 use Rattle.tracked.specs.Held.{RefusedFix, HeldTransmission, fixOf, heldIn}
 use Rattle.tracked.specs.Bytes.{recordIn, signersIn, inputsIn, fixIn, fixBytes, refusedIn, refusedBytes, fixCount, refusedCount, fixTable, refusedTable, fixPlaces, refusedPlaces, filledBy, transmissionFormed, transmissionIn, transmissionBytes}
 use Rattle.tracked.specs.Parts.{heldPlaces, recordFormed, Sound}
-use Rattle.tracked.proofs.Encoding.{ValidFix, ValidRefused, Valid, Bounded, Canonical, fix-length, refused-length, fix-count-back, refused-count-back}
+use Rattle.tracked.proofs.Encoding.{ValidFix, ValidRefused, Valid, Bounded, Canonical, fix-length, refused-length, fix-count-back, refused-count-back, bytes-of-places, wide-in}
 
 -- ---- places that all pass a test
 
@@ -70,16 +70,6 @@ mem-map g (y ∷ l) i = or (List·Memᴰ·cases-cons i) (λ e. List·Memᴰ·hea
 pub wide-map : {A : Type 0} (w : ℕ) (to : A → List ℕ) (l : List A) → ((x : A) → List·Memᴰ x l → length (to x) ≡ w) → wide w (map to l)
 wide-map w to [] e = tt
 wide-map w to (x ∷ l) e = (e x (List·Memᴰ·head refl), wide-map w to l (λ y m. e y (List·Memᴰ·tail m)))
-
--- a place of a table
-pub place-bytes : (w n : ℕ) (t : List ℕ) → Bytes t → (p : List ℕ) → List·Memᴰ p (places w n t) → Bytes p
-unfolding places
-place-bytes w zero t b p m = absurd (List·Memᴰ·not-nil m)
-place-bytes w (suc n) t b p m = or (List·Memᴰ·cases-cons m) (λ e. rw e (bytes-take w t b)) (λ k. place-bytes w n (drop w t) (bytes-drop w t b) p k)
-
-pub wide-in : (w : ℕ) (ps : List (List ℕ)) → wide w ps → (p : List ℕ) → List·Memᴰ p ps → length p ≡ w
-wide-in w [] h p m = absurd (List·Memᴰ·not-nil m)
-wide-in w (q ∷ ps) h p m = or (List·Memᴰ·cases-cons m) (λ e. rw e (h .0)) (λ k. wide-in w ps (h .1) p k)
 
 -- ---- a fix that a track may hold where the engines c are convicted
 
@@ -220,10 +210,10 @@ module _ (c : ℕ) (b : List ℕ) (o : Parts c b) (size : length b ≡ L.transmi
     canonical = record { bytes = bytes; size = size; few = o .few; few-refused = o .few-refused; zeros = o .zeros; zeros-refused = o .zeros-refused }
 
     fix-bytes : (p : List ℕ) → List·Memᴰ p (fixPlaces b) → Bytes p
-    fix-bytes p m = place-bytes L.fixSize (fixCount b) (fixTable b) (bytes-take L.fixesSize (drop L.fixesAt b) (bytes-drop L.fixesAt b bytes)) p m
+    fix-bytes p m = bytes-of-places L.fixSize (fixCount b) (fixTable b) (bytes-take L.fixesSize (drop L.fixesAt b) (bytes-drop L.fixesAt b bytes)) p m
 
     refused-bytes : (p : List ℕ) → List·Memᴰ p (refusedPlaces b) → Bytes p
-    refused-bytes p m = place-bytes L.refusedSize (refusedCount b) (refusedTable b) (bytes-drop L.refusedAt b bytes) p m
+    refused-bytes p m = bytes-of-places L.refusedSize (refusedCount b) (refusedTable b) (bytes-drop L.refusedAt b bytes) p m
 
     -- what the bytes hold is what a track may hold
     pub block-held : Held c (transmissionIn b)

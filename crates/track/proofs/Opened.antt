@@ -25,7 +25,7 @@ use Rattle.tracked.specs.Layout.{transmissionSize}
 use Rattle.tracked.specs.Held.{HeldTransmission}
 use Rattle.tracked.specs.Bytes.{transmissionFormed, transmissionIn, transmissionBytes}
 use Rattle.tracked.specs.Parts.{Sound}
-use Rattle.tracked.proofs.Encoding.{Canonical}
+use Rattle.tracked.proofs.Encoding.{Canonical, bytes-of-places, wide-in}
 use Rattle.tracked.proofs.Encoding as E
 use Rattle.arrange.specs.Arranged.{maxTransmissions}
 use Rattle.arrange.specs.Blocks.{Filled}
@@ -33,7 +33,7 @@ use Rattle.track.specs.Layout.{pairSize, summaryCountAt, transmissionCou
 use Rattle.track.specs.Memory.{convictedIn, summaryCount, transmissionCount, contestedIn, summaryTable, transmissionTable, summariesIn, transmissionPlaces, wellFormed, decode, encode}
 use Rattle.track.specs.Steps.{blockAt}
 use Rattle.track.proofs.Frames.{frame, frame-same}
-use Rattle.track.proofs.Blocks.{passes, place-bytes, wide-in, of-map, Held, Parts, parts, sound, canonical, block-held}
+use Rattle.track.proofs.Blocks.{passes, of-map, Held, Parts, parts, sound, canonical, block-held}
 
 pub record Opened (m : List ℕ) : Type 0 where
   pub size : length m ≡ trackSize
@@ -120,7 +120,7 @@ module _ (m : List ℕ) (o : Opened m) where
 
   module _ (bytes : Bytes m) where
     pub block-bytes : (b : List ℕ) → List·Memᴰ b (transmissionPlaces m) → Bytes b
-    block-bytes = place-bytes transmissionSize (transmissionCount m) (transmissionTable m) (bytes-drop transmissionsAt m bytes)
+    block-bytes = bytes-of-places transmissionSize (transmissionCount m) (transmissionTable m) (bytes-drop transmissionsAt m bytes)
 
     pub block-canonical : (b : List ℕ) → List·Memᴰ b (transmissionPlaces m) → Canonical b
     block-canonical b i = canonical (convictedIn m) b (block-parts b i) (block-size b i) (block-bytes b i)

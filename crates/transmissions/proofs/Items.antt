@@ -16,7 +16,7 @@ use Rattle.ranges.proofs.Range.{collect-in, collect-ascends}
 use Rattle.items.specs.Layout.{maxItems, itemSize, hashSize, itemIdentityAt}
 use Rattle.items.specs.Items as I
 use Rattle.fixes.specs.Layout.{maxFixes, fixSize, fixRecordAt, fixInputsAt, fixRecord, fixInputs, fixIdentity}
-use Rattle.fixes.proofs.Parts.{taken}
+use Rattle.items.proofs.Pairing.{taken}
 use Rattle.decision.specs.Answer.{badAt, bad, indices}
 use Rattle.decision.proofs.Alone.{first-alone}
 use Rattle.shown.specs.Items.{unjudged}

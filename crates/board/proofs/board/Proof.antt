@@ -11,7 +11,8 @@ use Rattle.octets.specs.Bytes.{Bytes}
 use Rattle.octets.proofs.Numbers.{all-bytes}
 use Rattle.register.specs.Memory.{wellFormed}
 use Rattle.board.specs.Board.{drawBoard}
-use Rattle.board.proofs.Fitting.{fits-board, put-written}
+use Rattle.held.proofs.Writing.{put-written}
+use Rattle.board.proofs.Fitting.{fits-board}
 use borrow.Author.Needs.{needs}
 use Rattle.board.proofs.board.Statement.{statement}
 use Rattle.board.proofs.board.Tie as tie

@@ -8,7 +8,7 @@ use borrow.Author.Tests.{lt-ltb, le-ltb}
 use Rattle.ranges.proofs.Bools.{not-t, not-false-t}
 use Rattle.track.specs.Memory.{wellFormed}
 use Rattle.listing.specs.Listing.{listTrack}
-use Rattle.listing.proofs.Texts.{put-written}
+use Rattle.held.proofs.Writing.{put-written}
 use borrow.Author.Needs.{needs}
 use Rattle.listing.proofs.listing.Statement.{statement}
 use Rattle.listing.proofs.listing.Tie as tie

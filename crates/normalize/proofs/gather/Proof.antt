@@ -9,8 +9,7 @@ use Rattle.items.specs.Layout.{hashSize}
 use Rattle.models.specs.Identity.{setHash}
 use Rattle.models.proofs.Sets.{identity-length}
 use Rattle.text.proofs.Writing.{put-as}
-use Rattle.shown.specs.Items.{itemFrom}
-use Rattle.shown.proofs.Itemized.{Formed}
+use Rattle.shown.specs.Items.{itemFrom, Formed}
 use Rattle.tracked.specs.Bytes.{recordIn, inputsIn, identityIn, fixIn}
 use Rattle.normalize.specs.Working.{Laid, fixesIn, identified}
 use Rattle.normalize.proofs.Laying.{formed-in, signed, placed}
