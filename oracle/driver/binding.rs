@@ -105,36 +105,51 @@ unsafe extern "C" {
         inputs_len: usize,
     ) -> u32;
     fn tl_track_conviction(memory: *mut u8, len: usize, engine: u32) -> u32;
+    fn tl_track_listing(memory: *const u8, len: usize, out: *mut u8, out_len: usize) -> u32;
 }
+
+/// The track's calls, each with the number that it answers. Without a track in the library nobody may call them.
+pub const TRACK: bool = cfg!(has_track);
 
 #[cfg(has_track)]
 pub mod track {
-    use oracle::track::Answer;
-
-    /// The numbers of the four answers that 01 gives none.
-    const CHANGED: u32 = 16;
-    const CONTESTED: u32 = 17;
-    const DUPLICATE: u32 = 18;
-    const DROPPED: u32 = 19;
-
-    pub fn report(m: &mut [u8], engine: u32, record: &[u8]) -> Answer {
-        match unsafe { super::tl_track_report(m.as_mut_ptr(), m.len(), engine, record.as_ptr(), record.len()) } {
-            CHANGED => Answer::Changed,
-            CONTESTED => Answer::Contested,
-            DUPLICATE => Answer::Duplicate,
-            DROPPED => Answer::Dropped,
-            number => Answer::Number(number as u8),
-        }
+    #[inline(always)]
+    pub fn report(m: &mut [u8], engine: u32, record: &[u8]) -> u32 {
+        unsafe { super::tl_track_report(m.as_mut_ptr(), m.len(), engine, record.as_ptr(), record.len()) }
     }
 
-    pub fn summary(m: &mut [u8], engine: u32, model: u32, spec: u16, inputs: &[u8]) -> Answer {
-        let told =
-            unsafe { super::tl_track_summary(m.as_mut_ptr(), m.len(), engine, model, spec, inputs.as_ptr(), inputs.len()) };
-        Answer::Number(told as u8)
+    #[inline(always)]
+    pub fn summary(m: &mut [u8], engine: u32, model: u32, spec: u16, inputs: &[u8]) -> u32 {
+        unsafe { super::tl_track_summary(m.as_mut_ptr(), m.len(), engine, model, spec, inputs.as_ptr(), inputs.len()) }
     }
 
-    pub fn convict(m: &mut [u8], engine: u32) -> Answer {
-        Answer::Number(unsafe { super::tl_track_conviction(m.as_mut_ptr(), m.len(), engine) } as u8)
+    #[inline(always)]
+    pub fn convict(m: &mut [u8], engine: u32) -> u32 {
+        unsafe { super::tl_track_conviction(m.as_mut_ptr(), m.len(), engine) }
+    }
+
+    #[inline(always)]
+    pub fn listing(m: &[u8], out: &mut [u8]) -> usize {
+        unsafe { super::tl_track_listing(m.as_ptr(), m.len(), out.as_mut_ptr(), out.len()) as usize }
+    }
+}
+
+#[cfg(not(has_track))]
+pub mod track {
+    pub fn report(m: &mut [u8], engine: u32, record: &[u8]) -> u32 {
+        unreachable!("{} {engine} {}", m.len(), record.len())
+    }
+
+    pub fn summary(m: &mut [u8], engine: u32, model: u32, spec: u16, inputs: &[u8]) -> u32 {
+        unreachable!("{} {engine} {model} {spec} {}", m.len(), inputs.len())
+    }
+
+    pub fn convict(m: &mut [u8], engine: u32) -> u32 {
+        unreachable!("{} {engine}", m.len())
+    }
+
+    pub fn listing(m: &[u8], out: &mut [u8]) -> usize {
+        unreachable!("{} {}", m.len(), out.len())
     }
 }
 

@@ -87,7 +87,7 @@ fn doubtful(random: &mut Random) -> [f64; 6] {
     [x(), x(), x(), x(), x(), x()]
 }
 
-fn covariance(random: &mut Random) -> [f64; 6] {
+pub fn covariance(random: &mut Random) -> [f64; 6] {
     match random.below(8) {
         0 => [0.0; 6].map(|_: f64| pattern(random)),
         1 => {

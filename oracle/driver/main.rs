@@ -2,6 +2,8 @@
 //! smallest input that it finds.
 
 mod binding;
+mod calls;
+mod cases;
 mod claims;
 mod kinds;
 mod lists;
@@ -195,14 +197,15 @@ fn compare_hash(random: &mut Random, times: u64) {
 fn main() {
     let mut words = std::env::args().skip(1);
     let mut number = |otherwise: u64| words.next().map_or(otherwise, |w| w.parse().expect("a number"));
-    let (pairs, lists, others, calls, seed) = (number(1_000_000), number(200_000), number(200_000), number(200_000), number(1));
+    let (pairs, lists, others) = (number(1_000_000), number(200_000), number(200_000));
+    let (calls, tracks, seed) = (number(200_000), number(1_000_000), number(1));
     let mut random = Random(seed);
     compare_hash(&mut random, others / 10);
     compare_root(&mut random, others);
     compare_sigma(&mut random, others);
     compare_agreement(&mut random, pairs);
     compare_decide(&mut random, lists);
-    tracks::compare(&mut random, lists / 10);
+    tracks::compare(&mut random, tracks);
     #[cfg(has_register)]
     registers::compare(&mut random, calls);
     #[cfg(not(has_register))]

@@ -1,188 +1,108 @@
-//! Lists of track calls on the Rust: what it answers, whether each state keeps 01's rules for a track, and, where the library has a
-//! track, whether it answers and holds the same.
+//! Lists of track calls on a fresh track, on the library and on the Rust: each answer, all bytes after each call, and the listing.
 
+use crate::binding;
+use crate::calls::{self, Call};
+use crate::cases::{self, Counts, Seen};
 use crate::random::Random;
+use oracle::formed::formed;
 use oracle::track::{Answer, SIZE, Track};
-use oracle::{Record, hex};
-use std::collections::BTreeMap;
 
-#[derive(Clone, Debug)]
-enum Call {
-    Report { engine: u8, record: Vec<u8> },
-    Summary { engine: u8, model: u8, spec: u16, first: u8 },
-    Convict { engine: u8 },
+/// A listing's output has to be so large.
+pub const ROOM: usize = 16_384;
+
+/// One track twice: as the library holds it and as the Rust does, with room for what is compared.
+pub struct Both {
+    pub rust: Track,
+    pub ours: Vec<u8>,
+    pub before: Vec<u8>,
+    pub after: Vec<u8>,
+    text: Vec<u8>,
 }
 
-/// What a list is made of: tags, places and times to choose from, and how often engines are convicted.
-struct Style {
-    tags: u64,
-    steps: u64,
-    times: u64,
-    models: u64,
-    convictions: u64,
-}
-
-fn record(random: &mut Random, style: &Style) -> Vec<u8> {
-    let mut tags: Vec<u64> = (1..=style.tags).filter(|_| random.one_in(2)).collect();
-    if tags.is_empty() {
-        tags.push(1 + random.below(style.tags));
+impl Both {
+    pub fn fresh() -> Self {
+        let bytes = || vec![0u8; SIZE];
+        Self { rust: Track::default(), ours: bytes(), before: bytes(), after: bytes(), text: vec![0; ROOM] }
     }
-    tags.truncate(16);
-    let all = ((1u32 << tags.len()) - 1) as u16;
-    let models = if style.models == 0 { 0 } else { random.below(3) };
-    let one = Record {
-        time: random.below(style.times),
-        lat: 2_700 * random.below(style.steps) as i32,
-        lon: 0,
-        height: if random.one_in(8) { None } else { Some(1_500) },
-        message: vec![0x8d, 0, 0, 0, 0, 0, u8::from(random.one_in(6))],
-        used: if random.one_in(2) { all } else { random.next() as u16 & all },
-        tags,
-        models: (0..models).map(|_| random.below(style.models) as u8).collect(),
-        spec: u16::from(random.one_in(30)),
-        covariance: if random.one_in(10) { [0.0; 6] } else { [100.0, 0.0, 0.0, 100.0, 0.0, 100.0] },
-    };
-    one.write().to_vec()
-}
 
-fn call(random: &mut Random, style: &Style) -> Call {
-    let engine = random.below(5) as u8;
-    match random.below(style.convictions) {
-        0 => Call::Convict { engine: random.below(30) as u8 },
-        1..=4 if style.models > 0 => {
-            let first = u8::from(random.one_in(6));
-            Call::Summary { engine, model: random.below(style.models) as u8, spec: u16::from(random.one_in(30)), first }
+    pub fn begin(&mut self, rust: Track, bytes: &[u8]) {
+        self.rust = rust;
+        self.ours.copy_from_slice(bytes);
+        self.after.copy_from_slice(bytes);
+    }
+
+    /// One call on both; what differs, in words.
+    pub fn call(&mut self, call: &Call) -> Result<Answer, String> {
+        std::mem::swap(&mut self.before, &mut self.after);
+        let told = call.on_rust(&mut self.rust);
+        self.rust.write(&mut self.after);
+        if !binding::TRACK {
+            return Ok(told);
         }
-        _ => Call::Report { engine, record: record(random, style) },
+        let ours = call.on_library(&mut self.ours);
+        if ours != told.number() || self.ours != self.after {
+            let at = self.ours.iter().zip(&self.after).position(|(a, b)| a != b);
+            return Err(format!("library {ours}, Rust {told}; first other byte {at:?}"));
+        }
+        Ok(told)
+    }
+
+    /// Both listings; the Rust has none, so its state is written by the oracle.
+    pub fn listing(&mut self, counts: &mut Counts) -> Result<(), String> {
+        let expected = self.rust.listing();
+        let lines = expected.bytes().filter(|&b| b == b'\n').count();
+        *counts.entry(listed(lines)).or_default() += 1;
+        if !binding::TRACK {
+            return Ok(());
+        }
+        let paint = (lines % 251) as u8;
+        self.text.fill(paint);
+        let length = binding::track::listing(&self.ours, &mut self.text);
+        let same = length == expected.len() && self.text[..length] == *expected.as_bytes();
+        if same && self.text[length..].iter().all(|&b| b == paint) {
+            return Ok(());
+        }
+        let ours = String::from_utf8_lossy(self.text.get(..length).unwrap_or_default());
+        Err(format!("listings differ: library {length}\n{ours}\nexpected {}\n{expected}", expected.len()))
     }
 }
 
-fn inputs(first: u8) -> [u8; 32] {
-    let mut inputs = [0; 32];
-    inputs[0] = first;
-    inputs
-}
-
-fn answer(track: &mut Track, call: &Call) -> Answer {
-    match call {
-        Call::Report { engine, record } => track.report(*engine, record),
-        Call::Summary { engine, model, spec, first } => Answer::Number(track.summary(*engine, *model, *spec, &inputs(*first))),
-        Call::Convict { engine } => Answer::Number(track.convict(*engine)),
+fn listed(lines: usize) -> &'static str {
+    match lines {
+        1 => "listings of one line",
+        2..=9 => "listings of 2 to 9 lines",
+        10..=29 => "listings of 10 to 29 lines",
+        _ => "listings of 30 lines or more",
     }
 }
 
-fn zero(b: &[u8]) -> bool {
-    b.iter().all(|&x| x == 0)
-}
-
-/// 01's rules for a track's bytes.
-fn formed(b: &[u8]) -> bool {
-    let convicted = u32::from_le_bytes(b[..4].try_into().unwrap());
-    let summaries = usize::from(u16::from_le_bytes([b[4], b[5]]));
-    let places: Vec<&[u8]> = b[16..16 + 36 * summaries].chunks_exact(36).collect();
-    let fix = |f: &[u8]| {
-        let signers = u32::from_le_bytes(f[222..226].try_into().unwrap());
-        Record::read(&f[..222]).is_some() && signers != 0 && signers & convicted == 0
-    };
-    let transmission = |t: usize| {
-        let one = &b[9_232 + 2_484 * t..][..2_484];
-        let (fixes, refused) = (usize::from(one[0]), usize::from(one[1]));
-        (1..=5).contains(&fixes)
-            && refused <= 4
-            && (0..fixes).all(|k| fix(&one[2 + 258 * k..]))
-            && (0..refused).all(|k| fix(&one[1_292 + 298 * k..]))
-            && zero(&one[2 + 258 * fixes..1_292])
-            && zero(&one[1_292 + 298 * refused..])
-    };
-    let count = usize::from(b[6]);
-    b.len() == SIZE
-        && summaries <= 256
-        && count <= 8
-        && b[7] == 0
-        && places.iter().all(|s| s[0] <= 31 && s[1] <= 63 && convicted >> s[0] & 1 == 0)
-        && places.windows(2).all(|w| w[0][..2] < w[1][..2])
-        && zero(&b[16 + 36 * summaries..9_232])
-        && (0..count).all(transmission)
-        && zero(&b[9_232 + 2_484 * count..])
-}
-
-/// Runs a list; the first call after which something is wrong, in words.
-fn run(calls: &[Call], counts: &mut BTreeMap<String, u64>) -> Option<String> {
-    let mut track = Track::default();
-    #[cfg(has_track)]
-    let mut memory = vec![0u8; SIZE];
+/// Runs a list; what is wrong first, in words.
+fn run(calls: &[Call], both: &mut Both, counts: &mut Counts) -> Result<(), String> {
+    both.begin(Track::default(), &[0; SIZE]);
     for (n, call) in calls.iter().enumerate() {
-        let told = answer(&mut track, call);
-        let what = match call {
-            Call::Report { .. } => "report",
-            Call::Summary { .. } => "summary",
-            Call::Convict { .. } => "conviction",
-        };
-        *counts.entry(format!("{what} answered {told}")).or_default() += 1;
-        let state = track.bytes();
-        if !formed(&state) {
-            return Some(format!("call {n}: the Rust's state breaks 01's rules"));
-        }
-        #[cfg(has_track)]
-        {
-            use crate::binding::track as ours;
-            let x = match call {
-                Call::Report { engine, record } => ours::report(&mut memory, (*engine).into(), record),
-                Call::Summary { engine, model, spec, first } => {
-                    ours::summary(&mut memory, (*engine).into(), (*model).into(), *spec, &inputs(*first))
-                }
-                Call::Convict { engine } => ours::convict(&mut memory, (*engine).into()),
-            };
-            if x != told || memory != state {
-                let at = memory.iter().zip(&state).position(|(a, b)| a != b);
-                return Some(format!("call {n}: library {x}, Rust {told}; first other byte {at:?}"));
-            }
+        let told = both.call(call).map_err(|words| format!("call {n}: {words}"))?;
+        Seen { before: &both.before, after: &both.after, counts }.call(call, told);
+        if n % 16 == 7 || n + 1 == calls.len() {
+            both.listing(counts).map_err(|words| format!("after call {n}: {words}"))?;
         }
     }
-    for (fixes, refused) in track.counts() {
-        *counts.entry(format!("transmissions of {fixes} fixes in the end")).or_default() += 1;
-        *counts.entry(format!("transmissions of {refused} refused in the end")).or_default() += 1;
-    }
-    None
-}
-
-/// Drops calls while something is still wrong.
-fn shrink(mut calls: Vec<Call>) -> Vec<Call> {
-    let mut at = 0;
-    while at < calls.len() {
-        let mut fewer = calls.clone();
-        fewer.remove(at);
-        if run(&fewer, &mut BTreeMap::new()).is_some() { calls = fewer } else { at += 1 }
-    }
-    calls
+    if formed(&both.after) { Ok(()) } else { Err("the Rust's state breaks 01's rules".to_string()) }
 }
 
 pub fn compare(random: &mut Random, lists: u64) {
-    let mut counts = BTreeMap::new();
+    let (mut both, mut counts, mut made) = (Both::fresh(), Counts::new(), 0);
     for _ in 0..lists {
-        let style = Style {
-            tags: random.pick(&[3, 5, 8, 14]),
-            steps: random.pick(&[1, 3, 3]),
-            times: random.pick(&[1, 4, 1000]),
-            models: random.pick(&[0, 2, 3]),
-            convictions: random.pick(&[20, 40, 200]),
-        };
-        let calls: Vec<Call> = (0..random.pick(&[6, 20, 60])).map(|_| call(random, &style)).collect();
-        if run(&calls, &mut counts).is_some() {
-            let least = shrink(calls);
-            println!("DIFFERENT: track, {}", run(&least, &mut BTreeMap::new()).unwrap());
-            for call in &least {
-                match call {
-                    Call::Report { engine, record } => println!("  report {engine} {}", hex::write(record)),
-                    other => println!("  {other:?}"),
-                }
-            }
+        let calls = calls::list(random);
+        made += calls.len();
+        if run(&calls, &mut both, &mut counts).is_err() {
+            let wrong = |calls: &[Call]| run(calls, &mut Both::fresh(), &mut Counts::new()).is_err();
+            let least = calls::shrink(calls, &wrong);
+            let words = run(&least, &mut Both::fresh(), &mut Counts::new()).unwrap_err();
+            println!("DIFFERENT: track, {words}");
+            least.iter().for_each(|call| println!("  {call}"));
             std::process::exit(1);
         }
     }
-    let beside = if cfg!(has_track) { "library and Rust alike" } else { "the Rust alone (not in the library)" };
-    println!("track: {lists} lists, {beside}");
-    for (what, times) in &counts {
-        println!("  {times:>9}  {what}");
-    }
+    println!("track: {lists} lists of {made} calls from a fresh track, {}", crate::beside(binding::TRACK));
+    cases::print(&counts);
 }

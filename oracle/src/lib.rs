@@ -1,7 +1,9 @@
 //! The oracle: the Rust's agreement, decide and track behind the layouts of document 01.
 
 pub mod decide;
+pub mod formed;
 pub mod hex;
+pub mod lines;
 pub mod record;
 pub mod track;
 

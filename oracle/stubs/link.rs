@@ -60,4 +60,49 @@ impl Merge {
         }
         all
     }
+
+    /// How many summaries are held.
+    pub fn summary_count(&self) -> usize {
+        self.models.values().map(BTreeMap::len).sum()
+    }
+
+    /// Whether an engine's summary of a model is held.
+    pub fn has_said(&self, engine: PublicKey, id: &Hash) -> bool {
+        self.models.get(id).is_some_and(|summaries| summaries.contains_key(&engine))
+    }
+
+    /// A merge that holds just this of one aircraft, whether or not calls lead to it.
+    pub fn holding(
+        faulted: &[PublicKey],
+        summaries: &[(PublicKey, Hash, u16, Hash)],
+        contested: u64,
+        held: Vec<Transmission>,
+    ) -> Self {
+        let mut merge = Self::new(Settings::default());
+        for engine in faulted {
+            merge.faulted.insert_active(*engine, ());
+        }
+        for (engine, id, spec, inputs) in summaries {
+            let mut all = merge.models.remove(id).unwrap_or_default();
+            all.insert(*engine, Model { spec: *spec, inputs: *inputs });
+            merge.models.insert_active(*id, all);
+        }
+        merge.contested = contested;
+        if !held.is_empty() {
+            merge.tracks.insert_active(0, Track { address: 0, transmissions: held });
+        }
+        merge
+    }
+
+    /// The same merge once more; none of its parts is shared.
+    pub fn copied(&self) -> Self {
+        Self {
+            settings: self.settings,
+            tracks: self.tracks.clone(),
+            models: self.models.clone(),
+            pending: self.pending.clone(),
+            faulted: self.faulted.clone(),
+            contested: self.contested,
+        }
+    }
 }

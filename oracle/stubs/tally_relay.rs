@@ -3,6 +3,7 @@
 pub mod bounded {
     use std::collections::BTreeMap;
 
+    #[derive(Clone)]
     pub struct Bounded<K, V>(BTreeMap<K, V>);
 
     impl<K: Ord, V> Bounded<K, V> {

@@ -2,6 +2,7 @@
 
 use crate::register::Register;
 use oracle::decide::Decision;
+use oracle::lines::{self, Said};
 use oracle::{Record, blake2s256};
 
 pub const ROOM: usize = 16_384;
@@ -104,23 +105,10 @@ fn decided(fixes: &[Fix], one: &[usize]) -> Decision {
     oracle::decide::decide(&items).expect("items that can be decided")
 }
 
-/// Whole metres, half away from zero.
-pub fn metres(height: i32) -> i64 {
-    let mm = i64::from(height);
-    (mm.abs() + 500) / 1000 * mm.signum()
-}
-
 fn line(role: &str, fix: &Fix) -> String {
     let r = &fix.record;
-    let height = r.height.map_or("none".to_string(), |h| metres(h).to_string());
-    format!(
-        "role={role} time={} lat={} lon={} height={height} weight={} signers={:08x}",
-        r.time,
-        r.lat,
-        r.lon,
-        r.used.count_ones(),
-        fix.signers
-    )
+    let said = Said { time: r.time, lat: r.lat, lon: r.lon, height: r.height, weight: r.weight(), signers: fix.signers };
+    lines::line(role, &said)
 }
 
 /// The board of a well-formed register.
@@ -137,7 +125,7 @@ pub fn text(register: &Register) -> String {
     for (n, (one, d)) in decisions.iter().skip(skipped).enumerate() {
         let fix = |at: u8| &fixes[one[usize::from(at)]];
         let counts = (d.ranked.len(), d.dominated.len(), d.refusals.len());
-        out += &format!("transmission={} ranked={} dominated={} refused={}\n", n + 1, counts.0, counts.1, counts.2);
+        out += &lines::header(n + 1, counts.0, counts.1, counts.2);
         for &at in &d.ranked {
             out += &format!("{}\n", line("ranked", fix(at)));
         }

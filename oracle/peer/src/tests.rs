@@ -1,9 +1,10 @@
 //! What the peer must do on the sessions that document 01, or a reading of it, settles.
 
-use crate::board::{self, metres};
+use crate::board;
 use crate::cases::*;
 use crate::register::{self, Register, SIZE};
 use crate::session::session;
+use oracle::lines::metres;
 
 /// What comes after the answers.
 fn board_of(input: &str) -> String {

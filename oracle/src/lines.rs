@@ -1,0 +1,28 @@
+//! The lines of document 01's board, which a listing has too.
+
+/// Whole metres, half away from zero.
+pub fn metres(height: i32) -> i64 {
+    let mm = i64::from(height);
+    (mm.abs() + 500) / 1000 * mm.signum()
+}
+
+/// What a line says of a fix.
+pub struct Said {
+    pub time: u64,
+    pub lat: i32,
+    pub lon: i32,
+    pub height: Option<i32>,
+    pub weight: u64,
+    pub signers: u32,
+}
+
+/// A fix's line without its end, which a refused one has yet to get its chi-square before.
+pub fn line(role: &str, said: &Said) -> String {
+    let Said { time, lat, lon, weight, signers, .. } = said;
+    let height = said.height.map_or("none".to_string(), |h| metres(h).to_string());
+    format!("role={role} time={time} lat={lat} lon={lon} height={height} weight={weight} signers={signers:08x}")
+}
+
+pub fn header(number: usize, ranked: usize, dominated: usize, refused: usize) -> String {
+    format!("transmission={number} ranked={ranked} dominated={dominated} refused={refused}\n")
+}
