@@ -2,8 +2,13 @@
 
 #[path = "../oracle/driver/binding.rs"]
 mod binding;
+#[path = "../oracle/driver/calls.rs"]
+mod calls;
+#[path = "../oracle/driver/claims.rs"]
+mod claims;
 #[path = "../oracle/driver/random.rs"]
 mod random;
+mod tracks;
 
 use oracle::decide::{SIZE, candidates};
 use oracle::{Claim, Record};
@@ -278,22 +283,35 @@ fn board(transmissions: u64) {
     line(&format!("board, 96 records in {transmissions} transmissions"), "the peer", 1.0, has, &mut ours, &mut theirs);
 }
 
-fn main() {
-    let mut random = Random(7);
-    println!("Nanoseconds are the least of {ROUNDS} batches; the last column is the median of the batches' own ratios.\n");
-    println!("| what | against | ours, ns | theirs, ns | ours / theirs | median |");
-    println!("|---|---|---|---|---|---|");
+/// All but the track's.
+fn others(random: &mut Random) {
     for length in [86, 144, 4096] {
-        hash(&mut random, length);
+        hash(random, length);
     }
-    root(&mut random);
-    agreement(&mut random);
+    root(random);
+    agreement(random);
     for n in [1, 2, 4, 10, 32, 96] {
-        decide(&mut random, n);
+        decide(random, n);
     }
     register(false);
     register(true);
     for transmissions in [1, 8, 96] {
         board(transmissions);
     }
+}
+
+fn main() {
+    let mut random = Random(7);
+    let words: Vec<String> = std::env::args().skip(1).collect();
+    if let [alone, name, times] = words.as_slice() {
+        assert_eq!(alone, "alone");
+        return tracks::alone(name, times.parse().expect("a number"), &mut random);
+    }
+    println!("Nanoseconds are the least of {ROUNDS} batches; the last column is the median of the batches' own ratios.\n");
+    println!("| what | against | ours, ns | theirs, ns | ours / theirs | median |");
+    println!("|---|---|---|---|---|---|");
+    if words.is_empty() {
+        others(&mut random);
+    }
+    tracks::run(&mut random);
 }
