@@ -122,14 +122,15 @@ fn style(random: &mut Random) -> Style {
 }
 
 /// A list as it grows: what its calls have said so far, so that most reports cite what a track knows.
-struct Growing {
+pub struct Growing {
     style: Style,
-    calls: Vec<Call>,
-    said: BTreeMap<(u8, u8), (u16, u8)>,
-    convicted: u32,
+    pub calls: Vec<Call>,
+    /// By engine and model: the spec and the first byte of the inputs.
+    pub said: BTreeMap<(u8, u8), (u16, u8)>,
+    pub convicted: u32,
 }
 
-fn inputs(first: u8) -> Vec<u8> {
+pub fn inputs(first: u8) -> Vec<u8> {
     let mut inputs = vec![0; 32];
     inputs[0] = first;
     inputs
@@ -172,8 +173,12 @@ fn covariance(random: &mut Random, style: &Style) -> [f64; 6] {
 }
 
 impl Growing {
+    pub fn new(random: &mut Random) -> Self {
+        Self { style: style(random), calls: Vec::new(), said: BTreeMap::new(), convicted: 0 }
+    }
+
     /// One that is not convicted, but for one in sixteen.
-    fn engine(&self, random: &mut Random) -> u8 {
+    pub fn engine(&self, random: &mut Random) -> u8 {
         let mut engine = random.below(self.style.engines) as u8;
         for _ in 0..8 {
             if self.convicted >> engine & 1 == 0 || random.one_in(16) {
@@ -226,7 +231,7 @@ impl Growing {
         }
     }
 
-    fn record(&self, random: &mut Random) -> Record {
+    pub fn record(&self, random: &mut Random) -> Record {
         let style = &self.style;
         let tags = tags(random, style.shape);
         let all = ((1u32 << tags.len()) - 1) as u16;
@@ -252,7 +257,7 @@ impl Growing {
     }
 
     /// An earlier record once more: the same, at another place or time, or with another covariance.
-    fn repeated(&self, random: &mut Random) -> Option<Vec<u8>> {
+    pub fn repeated(&self, random: &mut Random) -> Option<Vec<u8>> {
         let past = |call: &Call| if let Call::Report { record, .. } = call { Some(record.clone()) } else { None };
         let all: Vec<Vec<u8>> = self.calls.iter().rev().take(12).filter_map(past).collect();
         let bytes = all.get(random.below(12) as usize % all.len().max(1))?.clone();
@@ -266,7 +271,7 @@ impl Growing {
         Some(record.write().to_vec())
     }
 
-    fn report(&self, random: &mut Random) -> Call {
+    pub fn report(&self, random: &mut Random) -> Call {
         let again = if random.one_in(self.style.repeats) { self.repeated(random) } else { None };
         let mut record = again.unwrap_or_else(|| self.record(random).write().to_vec());
         if random.one_in(600) {
@@ -280,9 +285,9 @@ impl Growing {
     }
 
     /// Mostly what others say of the model too; now and then something else, which disputes it or changes it.
-    fn summary(&mut self, random: &mut Random, first: bool) -> Call {
+    pub fn summary(&mut self, random: &mut Random, first: bool) -> Call {
         let engine = if random.one_in(2_000) { 32 } else { self.engine(random) };
-        let model = if random.one_in(2_000) { 64 } else { random.below(self.style.models) as u8 };
+        let model = if random.one_in(2_000) { 64 } else { random.below(self.style.models.max(1)) as u8 };
         let usual = (u16::from(model % 8 == 7), model);
         let (spec, said) = match random.below(if first { 40 } else { 8 }) {
             0 => (usual.0, model.wrapping_add(1)),
@@ -300,7 +305,7 @@ impl Growing {
     }
 
     /// An engine that calls, one that is convicted already, or one that nobody heard of.
-    fn conviction(&mut self, random: &mut Random) -> Call {
+    pub fn conviction(&mut self, random: &mut Random) -> Call {
         let engine = match random.below(4) {
             0 => 31 - random.below(4) as u8,
             1 if self.convicted != 0 => self.convicted.trailing_zeros() as u8,
@@ -341,14 +346,13 @@ fn full(random: &mut Random, growing: &mut Growing) {
 
 /// A list of calls: mostly short, one in a hundred long, one in some thousands with a full table of summaries.
 pub fn list(random: &mut Random) -> Vec<Call> {
-    let style = style(random);
+    let mut growing = Growing::new(random);
     let length = match random.below(100) {
         0 => 100 + random.below(100),
         1..=9 => 25 + random.below(36),
         10..=39 => 9 + random.below(16),
         _ => 2 + random.below(7),
     };
-    let mut growing = Growing { style, calls: Vec::new(), said: BTreeMap::new(), convicted: 0 };
     if random.one_in(4_000) {
         full(random, &mut growing);
     }

@@ -6,6 +6,7 @@ mod calls;
 mod cases;
 mod claims;
 mod kinds;
+mod lent;
 mod lists;
 mod random;
 #[cfg(has_register)]
@@ -206,6 +207,7 @@ fn main() {
     compare_agreement(&mut random, pairs);
     compare_decide(&mut random, lists);
     tracks::compare(&mut random, tracks);
+    lent::compare(&mut random, tracks / 5);
     #[cfg(has_register)]
     registers::compare(&mut random, calls);
     #[cfg(not(has_register))]
