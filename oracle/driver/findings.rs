@@ -1,12 +1,15 @@
-//! Runs the Rust on the smallest inputs where its own comments, or a paper, say something else. Each finding prints what was seen;
-//! the run fails where that is not what docs/DIFFERENCES.md says.
+//! Runs the Rust on the smallest inputs where its own comments, or a paper, say something else, and the library's track on those that
+//! concern a track. Each finding prints what was seen; the run fails where that is not what docs/DIFFERENCES.md says.
 //!
 //! `fix(tags, step)` has message 8d000000000000, time 1000, latitude `step`, longitude 0, height 1500 mm, all tags used, no
 //! models, spec 0, covariance diag(100, 100, 100). Steps 0, 2700 and 5400 are 0, about 30 and about 60 m north: neighbours agree,
 //! the ends do not. S = fix({1}, 0), M = fix({1,2}, 2700), L = fix({1,2,3}, 5400).
 
+#[path = "binding.rs"]
+mod binding;
+
 use oracle::decide::{Decision, SIZE, decide};
-use oracle::track::Track;
+use oracle::track::{SIZE as TRACK_SIZE, Track};
 use oracle::{Claim, Record};
 
 fn fix(tags: &[u64], step: i32) -> Record {
@@ -44,8 +47,7 @@ fn short(b: &[u8]) -> String {
 }
 
 /// What a track holds: `contested | transmission; ...`, a transmission being its fixes, then `refused` ones.
-fn view(track: &Track) -> String {
-    let b = track.bytes();
+fn view(b: &[u8]) -> String {
     let mut parts = Vec::new();
     for t in 0..usize::from(b[6]) {
         let at = 9_232 + 2_484 * t;
@@ -56,29 +58,89 @@ fn view(track: &Track) -> String {
             some => format!("{} refused {}", fixes.join(" "), some.join(" ")),
         });
     }
-    format!("contested={} [{}]", track.contested(), parts.join("; "))
+    format!("contested={} [{}]", contested(b), parts.join("; "))
+}
+
+fn contested(b: &[u8]) -> u64 {
+    u64::from_le_bytes(b[8..16].try_into().unwrap())
+}
+
+/// The answer by its name.
+fn name(number: u32) -> String {
+    match number {
+        20 => "Changed".to_string(),
+        21 => "Contested".to_string(),
+        22 => "Duplicate".to_string(),
+        23 => "Dropped".to_string(),
+        other => other.to_string(),
+    }
+}
+
+/// Whose track is run.
+#[derive(Clone, Copy, PartialEq, Eq)]
+enum Whose {
+    Rust,
+    Ours,
+}
+
+enum Held {
+    Rust(Box<Track>),
+    Ours(Vec<u8>),
+}
+
+impl Held {
+    fn fresh(whose: Whose) -> Self {
+        match whose {
+            Whose::Rust => Self::Rust(Box::default()),
+            Whose::Ours => Self::Ours(vec![0; TRACK_SIZE]),
+        }
+    }
+
+    fn bytes(&self) -> Vec<u8> {
+        match self {
+            Self::Rust(track) => track.bytes(),
+            Self::Ours(bytes) => bytes.clone(),
+        }
+    }
+
+    fn report(&mut self, engine: u8, record: &[u8]) -> u32 {
+        match self {
+            Self::Rust(track) => track.report(engine, record).number(),
+            Self::Ours(bytes) => binding::track::report(bytes, engine.into(), record),
+        }
+    }
+
+    fn summary(&mut self, engine: u8, model: u8, inputs: &[u8]) -> u32 {
+        match self {
+            Self::Rust(track) => track.summary(engine, model, 0, inputs).into(),
+            Self::Ours(bytes) => binding::track::summary(bytes, engine.into(), model.into(), 0, inputs),
+        }
+    }
+
+    fn convict(&mut self, engine: u8) -> u32 {
+        match self {
+            Self::Rust(track) => track.convict(engine).into(),
+            Self::Ours(bytes) => binding::track::convict(bytes, engine.into()),
+        }
+    }
 }
 
 struct Session {
-    track: Track,
+    track: Held,
     answers: Vec<String>,
 }
 
 impl Session {
-    fn new() -> Self {
-        Self { track: Track::default(), answers: Vec::new() }
-    }
-
     fn report(&mut self, engine: u8, record: &Record) -> &mut Self {
         let told = self.track.report(engine, &record.write());
-        self.answers.push(told.to_string());
+        self.answers.push(name(told));
         self
     }
 
     fn summary(&mut self, engine: u8, model: u8, first: u8) -> &mut Self {
         let mut inputs = [0u8; 32];
         inputs[0] = first;
-        assert_eq!(self.track.summary(engine, model, 0, &inputs), 0);
+        assert_eq!(self.track.summary(engine, model, &inputs), 0);
         self
     }
 
@@ -88,23 +150,33 @@ impl Session {
     }
 
     fn told(&self) -> String {
-        format!("{} {}", self.answers.join(","), view(&self.track))
+        format!("{} {}", self.answers.join(","), view(&self.track.bytes()))
     }
-}
 
-fn reports(records: &[Record]) -> Session {
-    let mut session = Session::new();
-    for record in records {
-        session.report(1, record);
+    fn transmissions(&self) -> u8 {
+        self.track.bytes()[6]
     }
-    session
 }
 
 struct Findings {
+    whose: Whose,
     wrong: u32,
 }
 
 impl Findings {
+    /// A fresh track of the one that is run.
+    fn session(&self) -> Session {
+        Session { track: Held::fresh(self.whose), answers: Vec::new() }
+    }
+
+    fn reports(&self, records: &[Record]) -> Session {
+        let mut session = self.session();
+        for record in records {
+            session.report(1, record);
+        }
+        session
+    }
+
     fn see(&mut self, what: &str, seen: String, expected: &str) {
         let ok = seen == expected;
         self.wrong += u32::from(!ok);
@@ -116,70 +188,70 @@ impl Findings {
 }
 
 fn order(f: &mut Findings) {
-    f.see("R-01 reports S M L", reports(&[s(), m(), l()]).told(), "Changed,Changed,Changed contested=0 [{1,2,3}@5400]");
+    f.see("R-01 reports S M L", f.reports(&[s(), m(), l()]).told(), "Changed,Changed,Changed contested=0 [{1,2,3}@5400]");
     f.see(
         "R-01 reports L S M",
-        reports(&[l(), s(), m()]).told(),
+        f.reports(&[l(), s(), m()]).told(),
         "Changed,Changed,Changed contested=1 [{1,2}@2700 refused {1,2,3}@5400]",
     );
     f.see(
         "R-02 reports S M L S",
-        reports(&[s(), m(), l(), s()]).told(),
+        f.reports(&[s(), m(), l(), s()]).told(),
         "Changed,Changed,Changed,Changed contested=1 [{1}@0 refused {1,2,3}@5400]",
     );
     f.see(
         "R-02 reports S M L S M",
-        reports(&[s(), m(), l(), s(), m()]).told(),
+        f.reports(&[s(), m(), l(), s(), m()]).told(),
         "Changed,Changed,Changed,Changed,Changed contested=1 [{1,2}@2700 refused {1,2,3}@5400]",
     );
-    let mut first = Session::new();
+    let mut first = f.session();
     first.report(1, &fix(&[1], 0)).report(2, &fix(&[1], 2700));
     f.see("R-03 {1}@0 by engine 1, {1}@2700 by engine 2", first.told(), "Changed,Duplicate contested=0 [{1}@0]");
     let signers = first.track.bytes()[9_232 + 2 + 222];
     f.see("R-03 signers of {1}@0", format!("{signers:b}"), "110");
-    let mut other = Session::new();
+    let mut other = f.session();
     other.report(2, &fix(&[1], 2700)).report(1, &fix(&[1], 0));
     f.see("R-03 the other order", other.told(), "Changed,Duplicate contested=0 [{1}@2700]");
 }
 
 fn convictions(f: &mut Findings) {
-    let mut session = reports(&[l(), s(), m()]);
+    let mut session = f.reports(&[l(), s(), m()]);
     session.convict(30);
     f.see(
         "R-04 reports L S M by engine 1, convict 30, who signed nothing",
         session.told(),
         "Changed,Changed,Changed contested=1 [{1,2,3}@5400]",
     );
-    let mut late = Session::new();
+    let mut late = f.session();
     late.report(1, &fix(&[1], 0)).report(2, &fix(&[1, 2], 0)).convict(2);
     f.see("R-05 {1} by engine 1, {1,2} by engine 2, convict 2", late.told(), "Changed,Changed contested=0 []");
-    let mut early = Session::new();
+    let mut early = f.session();
     early.convict(2).report(1, &fix(&[1], 0)).report(2, &fix(&[1, 2], 0));
     f.see("R-05 convict 2 first", early.told(), "Changed,4 contested=0 [{1}@0]");
     let cites = Record { models: vec![5], ..fix(&[1], 0) };
-    let mut dispute = Session::new();
+    let mut dispute = f.session();
     dispute.summary(1, 5, 1).report(1, &cites).summary(2, 5, 2).convict(2);
     f.see("R-06 summary(1, 5, X), report citing 5, summary(2, 5, Y), convict 2", dispute.told(), "Changed contested=0 []");
-    let mut settled = Session::new();
+    let mut settled = f.session();
     settled.summary(1, 5, 1).summary(2, 5, 2).convict(2).report(1, &cites);
     f.see("R-06 the dispute settled before the report", settled.told(), "Changed contested=0 [{1}@0]");
 }
 
 fn ties(f: &mut Findings) {
     let (one, two, both) = (fix(&[1], 0), fix(&[2], 0), fix(&[1, 2], 0));
-    let joined = reports(&[both.clone(), one.clone(), two.clone()]);
+    let joined = f.reports(&[both.clone(), one.clone(), two.clone()]);
     f.see("R-07 {1,2} {1} {2}", joined.told(), "Changed,Dropped,Dropped contested=0 [{1,2}@0]");
-    let apart = reports(&[one.clone(), two.clone(), both.clone()]);
-    f.see("R-07 {1} {2} {1,2}: transmissions", format!("{}", apart.track.counts().len()), "3");
-    let again = reports(&[one.clone(), two.clone(), both.clone(), both.clone()]);
-    f.see("R-07 {1,2} once more", format!("{} {}", again.answers[3], again.track.counts().len()), "Changed 4");
+    let apart = f.reports(&[one.clone(), two.clone(), both.clone()]);
+    f.see("R-07 {1} {2} {1,2}: transmissions", apart.transmissions().to_string(), "3");
+    let again = f.reports(&[one.clone(), two.clone(), both.clone(), both.clone()]);
+    f.see("R-07 {1,2} once more", format!("{} {}", again.answers[3], again.transmissions()), "Changed 4");
     let mut many = vec![one, two];
     many.extend(std::iter::repeat_n(both.clone(), 10));
-    let many = reports(&many);
-    let held = view(&many.track);
+    let many = f.reports(&many);
+    let held = view(&many.track.bytes());
     f.see("R-07 {1} {2}, then {1,2} ten times: copies of {1,2} held", held.matches("{1,2}").count().to_string(), "8");
     let at = |record: Record, time: u64| Record { time, ..record };
-    let mut pushed = Session::new();
+    let mut pushed = f.session();
     pushed.report(1, &at(fix(&[1], 0), 5)).report(1, &at(fix(&[2], 0), 5)).report(1, &at(both.clone(), 9));
     for tag in 10..15 {
         pushed.report(1, &at(fix(&[tag], 0), 6));
@@ -196,7 +268,7 @@ fn ties(f: &mut Findings) {
 
 fn dropped(f: &mut Findings) {
     let second = Record { models: vec![5], used: 1, ..fix(&[1, 3], 5400) };
-    let mut session = Session::new();
+    let mut session = f.session();
     session.summary(1, 5, 1).report(1, &fix(&[1, 2], 0)).report(1, &second);
     f.see("R-09 {1,2}@0, {1,3}@5400 citing 5", session.told(), "Changed,Changed contested=0 [{1,2}@0 {1,3}@5400]");
     session.report(1, &fix(&[1], 0));
@@ -206,23 +278,28 @@ fn dropped(f: &mut Findings) {
     session.report(1, &fix(&[1], 0));
     f.see("R-09 {1}@0 again", session.told(), "Changed,Changed,Dropped,Dropped contested=2 [{1,2}@0 refused {1,3}@5400]");
     let zero = |tags: &[u64]| Record { covariance: [0.0; 6], ..fix(tags, 0) };
-    let mut cut = Session::new();
+    let mut cut = f.session();
     cut.report(1, &zero(&[1]));
     for _ in 0..2 {
         for tag in 10..16 {
             cut.report(1, &zero(&[1, tag]));
         }
     }
-    println!("R-10 {{1}} and six supersets {{1,10}}..{{1,15}} with zero covariance, all reported twice\n    {}", cut.told());
-    let refused = cut.track.counts()[0].1;
-    let contested = cut.answers.iter().filter(|a| *a == "Contested").count();
+    f.see(
+        "R-10 {1} and six supersets {1,10}..{1,15} with zero covariance, all reported twice",
+        cut.told(),
+        "Changed,Contested,Contested,Contested,Contested,Contested,Contested,Duplicate,Duplicate,Dropped,Dropped,Duplicate,Duplicate \
+         contested=6 [{1}@0 refused {1,10}@0 {1,14}@0 {1,11}@0 {1,15}@0]",
+    );
+    let refused = cut.track.bytes()[9_232 + 1];
+    let entered = cut.answers.iter().filter(|a| *a == "Contested").count();
     let gone = cut.answers.iter().filter(|a| *a == "Dropped").count();
     f.see("R-10 refused held; some of the six are Dropped, none of those held is", format!("{refused} {}", gone > 0), "4 true");
-    f.see("R-10 contested counts entries into the list", format!("{}", cut.track.contested() == contested as u64), "true");
+    f.see("R-10 contested counts entries into the list", format!("{}", contested(&cut.track.bytes()) == entered as u64), "true");
 }
 
 fn models(f: &mut Findings) {
-    let mut untouched = reports(&[l(), s(), m()]);
+    let mut untouched = f.reports(&[l(), s(), m()]);
     untouched.summary(2, 7, 1).summary(3, 7, 2);
     f.see(
         "R-11 reports L S M, then a dispute about a model that nothing cites",
@@ -230,7 +307,7 @@ fn models(f: &mut Findings) {
         "Changed,Changed,Changed contested=1 [{1,2}@2700 refused {1,2,3}@5400]",
     );
     let old = Record { models: vec![7], time: 1, ..fix(&[50], 0) };
-    let mut flipped = Session::new();
+    let mut flipped = f.session();
     flipped.summary(2, 7, 1).report(1, &old).report(1, &l()).report(1, &s()).report(1, &m()).summary(3, 7, 2);
     f.see(
         "R-11 the same where an old fix of another transmission cites it",
@@ -238,20 +315,28 @@ fn models(f: &mut Findings) {
         "Changed,Changed,Changed,Changed contested=1 [{1,2,3}@5400]",
     );
     let cites = Record { models: vec![5], ..fix(&[1], 0) };
-    let mut changed = Session::new();
+    let mut changed = f.session();
     changed.summary(1, 5, 1).report(1, &cites).summary(1, 5, 2);
     f.see("R-12 a model changed by its only signer", changed.told(), "Changed contested=0 [{1}@0]");
     changed.report(1, &cites);
     f.see("R-12 the same record again", changed.told(), "Changed,Changed contested=0 [{1}@0 {1}@0]");
     changed.convict(30);
     f.see("R-12 convict a bystander", changed.told(), "Changed,Changed contested=0 [{1}@0]");
-    let mut other = Session::new();
+    let mut other = f.session();
     other.summary(1, 5, 1).report(1, &cites).summary(1, 5, 2).summary(2, 9, 1).summary(3, 9, 2);
     f.see(
         "R-12 a dispute about a model that nothing cites, in the place of the conviction",
         other.told(),
         "Changed contested=0 []",
     );
+}
+
+/// Models in any order, and twice.
+fn citations(f: &mut Findings) {
+    let cites = |models: &[u8]| Record { models: models.to_vec(), ..fix(&[1], 0) };
+    let mut session = f.session();
+    session.summary(1, 5, 1).summary(1, 6, 2).report(1, &cites(&[6, 5])).report(1, &cites(&[5, 6])).report(1, &cites(&[5, 5]));
+    f.see("R-18 models [6,5], [5,6] and [5,5]", session.answers.join(","), "Changed,Changed,Changed");
 }
 
 fn flat(variance: f64) -> [f64; 6] {
@@ -321,10 +406,6 @@ fn decisions(f: &mut Findings) {
         line(told),
         "ranked=0,1 dominated=none refused=none",
     );
-    let cites = |models: &[u8]| Record { models: models.to_vec(), ..fix(&[1], 0) };
-    let mut session = Session::new();
-    session.summary(1, 5, 1).summary(1, 6, 2).report(1, &cites(&[6, 5])).report(1, &cites(&[5, 6])).report(1, &cites(&[5, 5]));
-    f.see("R-18 models [6,5], [5,6] and [5,5]", session.answers.join(","), "Changed,Changed,Changed");
     let mut orders = std::collections::BTreeSet::new();
     let set = [fix(&[1], 0), fix(&[2], 0), fix(&[1, 2, 3], 5400)];
     for p in [[0, 1, 2], [0, 2, 1], [1, 0, 2], [1, 2, 0], [2, 0, 1], [2, 1, 0]] {
@@ -335,15 +416,29 @@ fn decisions(f: &mut Findings) {
     f.see("R-19 {1}, {2} and {1,2,3} disagreeing with both, in all six orders: who is named", format!("{orders:?}"), "{[0]}");
 }
 
+/// What concerns a track, on the one that is run.
+fn tracks(f: &mut Findings) {
+    order(f);
+    convictions(f);
+    ties(f);
+    dropped(f);
+    models(f);
+    citations(f);
+}
+
 fn main() {
-    let mut f = Findings { wrong: 0 };
-    order(&mut f);
-    convictions(&mut f);
-    ties(&mut f);
-    dropped(&mut f);
-    models(&mut f);
+    println!("The Rust:");
+    let mut f = Findings { whose: Whose::Rust, wrong: 0 };
+    tracks(&mut f);
     agreements(&mut f);
     decisions(&mut f);
+    if binding::TRACK {
+        println!("The library's track:");
+        f.whose = Whose::Ours;
+        tracks(&mut f);
+    } else {
+        println!("The library's track: not in the library");
+    }
     println!("findings: {} not as docs/DIFFERENCES.md says", f.wrong);
     std::process::exit(i32::from(f.wrong > 0));
 }
