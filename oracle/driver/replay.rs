@@ -1,6 +1,12 @@
-//! Writes the replayed list: a sample of the Rust's answers that covers every branch, for a program that has no Rust at hand.
-//! README.md has the two formats.
+//! Writes the replayed lists: a sample of the Rust's answers that covers every branch, for programs that have no Rust at hand.
+//! README.md has the formats.
 
+#[path = "binding.rs"]
+mod binding;
+#[path = "calls.rs"]
+mod calls;
+#[path = "cases.rs"]
+mod cases;
 #[path = "claims.rs"]
 mod claims;
 #[path = "kinds.rs"]
@@ -9,6 +15,8 @@ mod kinds;
 mod lists;
 #[path = "random.rs"]
 mod random;
+#[path = "samples.rs"]
+mod samples;
 
 use oracle::Claim;
 use oracle::decide::{SIZE, decide, items};
@@ -135,5 +143,10 @@ fn main() -> std::io::Result<()> {
     std::fs::write(format!("{folder}/agreement.bin"), bytes)?;
     let (bytes, kept, count) = decisions(&mut random);
     print(&format!("decide.bin: {count} cases, {} bytes", bytes.len()), &kept);
-    std::fs::write(format!("{folder}/decide.bin"), bytes)
+    std::fs::write(format!("{folder}/decide.bin"), bytes)?;
+    let (bytes, text, shown) = samples::tracks(&mut Random(20));
+    println!("tracks.bin: {} bytes, tracks.out: {} bytes; the lists that show", bytes.len(), text.len());
+    cases::print(&shown);
+    std::fs::write(format!("{folder}/tracks.bin"), bytes)?;
+    std::fs::write(format!("{folder}/tracks.out"), text)
 }
