@@ -92,8 +92,69 @@ static void write_register(void) {
     }
 }
 
+/* A track of 8 transmissions of 5 fixes that stand and 4 refused, and the one that a call is made on. */
+static uint8_t full[TL_TRACK_SIZE], track[TL_TRACK_SIZE];
+
+/* The k-th fix of a transmission: five have a tag of their own, the others are larger than the first and lie too far from it. */
+static void write_fix(uint8_t r[TL_RECORD_SIZE], int transmission, int k) {
+    int refused = k >= TL_MAX_STANDING, tags = refused ? 3 : 2;
+    uint64_t base = 1000u * (uint64_t)transmission;
+    write_record(r, tags - 1);
+    put(r, 8, 1000 + (uint64_t)transmission);
+    put(r + 8, 4, refused ? 5400 : 0);
+    put(r + 39, 8, base + 1);
+    put(r + 47, 8, base + (refused ? 10 : 10 + (uint64_t)k));
+    if (refused) put(r + 55, 8, base + 20 + (uint64_t)k);
+    r[167] = 1;
+    r[168] = 5;
+}
+
+static uint32_t say(uint8_t *memory, uint32_t engine, uint8_t first) {
+    uint8_t inputs[32] = {first};
+    return tl_track_summary(memory, TL_TRACK_SIZE, engine, 5, 0, inputs, sizeof inputs);
+}
+
+static void write_track(void) {
+    uint8_t r[TL_RECORD_SIZE];
+    if (say(full, 1, 1) != TL_OK) exit(1);
+    for (int t = 0; t < TL_MAX_TRANSMISSIONS; t++) {
+        for (int k = 0; k < TL_MAX_STANDING + TL_MAX_REFUSED; k++) {
+            write_fix(r, t, k);
+            if (tl_track_report(full, sizeof full, 2, r, sizeof r) < TL_CHANGED) exit(1);
+        }
+        const uint8_t *block = full + 9232 + 2484 * t;
+        if (block[0] != TL_MAX_STANDING || block[1] != TL_MAX_REFUSED) exit(1);
+    }
+}
+
+static void join(void) {
+    uint8_t r[TL_RECORD_SIZE];
+    memcpy(track, full, sizeof track);
+    write_fix(r, 0, 0);
+    put(r + 47, 8, 30);
+    tl_track_report(track, sizeof track, 2, r, sizeof r);
+}
+
+static void conviction(void) {
+    memcpy(track, full, sizeof track);
+    tl_track_conviction(track, sizeof track, 30);
+}
+
+static void dispute(void) {
+    memcpy(track, full, sizeof track);
+    say(track, 3, 2);
+}
+
+static void listing(void) { tl_track_listing(full, sizeof full, out, sizeof out); }
+
+static void row(const char *what, void (*call)(void)) {
+    printf("| %s | %zu |\n", what, depth(call) - depth(nothing));
+}
+
 static void line(const char *what, const char *of, void (*call)(void)) {
-    printf("| %s, %d %s | %zu |\n", what, count, of, depth(call) - depth(nothing));
+    char all[64];
+    snprintf(all, sizeof all, "%s, %d %s", what, count, of);
+    row(all, call);
 }
 
 int main(void) {
@@ -109,5 +170,10 @@ int main(void) {
         write_register();
         line("board", "records", board);
     }
+    write_track();
+    row("track report that joins 9 fixes, 72 held", join);
+    row("track conviction, 72 fixes held", conviction);
+    row("track summary that disputes, 72 fixes held", dispute);
+    row("track listing, 72 fixes held", listing);
     return 0;
 }
