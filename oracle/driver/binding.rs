@@ -194,7 +194,7 @@ pub fn blake2s256(input: &[u8]) -> Option<[u8; 32]> {
         let mut out = [0u8; 32];
         // The input is read within its length; 32 bytes are written.
         unsafe { tl_blake2s256(input.as_ptr(), input.len(), out.as_mut_ptr()) };
-        return Some(out);
+        Some(out)
     }
     #[cfg(not(has_tl_blake2s256))]
     {
@@ -257,7 +257,7 @@ pub fn agreement(a: &Claim, b: &Claim) -> Option<(f64, f64)> {
                 &mut limit,
             );
         }
-        return Some((chi2, limit));
+        Some((chi2, limit))
     }
     #[cfg(not(has_tl_agreement))]
     {

@@ -352,7 +352,7 @@ fn agreements(f: &mut Findings) {
     let equal = (0..17).map(|k| flat(f64::from_bits(first + k))).find(|c| oracle::agreement(&here(*c), &there(100)).0 == limit);
     f.see("R-13 a chi-square equal to 16.266 can be reached", equal.is_some().to_string(), "true");
     if let Some(c) = equal {
-        println!("    lat 0 and lat 100, diag of {:016x}: chi2={limit}, agrees {}", c[0].to_bits(), limit <= limit);
+        println!("    lat 0 and lat 100, diag of {:016x}: chi2={limit}", c[0].to_bits());
         let list = [(fix(&[1], 0), c), (fix(&[1, 2], 100), c)].map(|(r, c)| Record { covariance: c, height: Some(0), ..r });
         let told = decide(&items(&list, |_, _| {})).unwrap();
         f.see("R-13 decided", told.line(), "ranked=1 dominated=0 refused=none");

@@ -8,9 +8,9 @@ fn failing_diagonal(c: &[f64; 6], n: usize) -> Option<usize> {
     let terms = [[c[0], c[1], c[2]], [c[1], c[3], c[4]], [c[2], c[4], c[5]]];
     (1..=n).find(|&k| {
         let mut matrix = solver::linalg::Matrix::zeros(k);
-        for row in 0..k {
-            for column in 0..k {
-                matrix.set(row, column, terms[row][column]);
+        for (row, values) in terms.iter().enumerate().take(k) {
+            for (column, value) in values.iter().enumerate().take(k) {
+                matrix.set(row, column, *value);
             }
         }
         matrix.cholesky().is_none()
@@ -40,7 +40,7 @@ pub fn kind(a: &Claim, chi2: f64, limit: f64, three: bool) -> &'static str {
 
 /// Which of 8's reasons a list has.
 pub fn refusal_kind(bytes: &[u8]) -> &'static str {
-    if bytes.len() % SIZE != 0 {
+    if !bytes.len().is_multiple_of(SIZE) {
         return "8: not whole items";
     }
     if bytes.len() / SIZE > 96 {

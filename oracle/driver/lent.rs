@@ -10,13 +10,16 @@ use oracle::formed::formed;
 use oracle::track::{FIX, FIXES_AT, REFUSED, REFUSED_AT, SIZE, SUMMARIES_AT, SUMMARY, TRANSMISSION, TRANSMISSIONS_AT, Track};
 use oracle::{Record, hex};
 
+/// The fixes of a transmission, and the refused.
+type Parts = (Vec<Vec<u8>>, Vec<Vec<u8>>);
+
 /// The parts of a track, so that some can be left out again.
 #[derive(Clone, Default)]
 struct Lent {
     convicted: u32,
     contested: u64,
     summaries: Vec<Vec<u8>>,
-    transmissions: Vec<(Vec<Vec<u8>>, Vec<Vec<u8>>)>,
+    transmissions: Vec<Parts>,
 }
 
 impl Lent {
@@ -190,12 +193,12 @@ fn call(random: &mut Random, growing: &mut Growing) -> Call {
 fn features(lent: &Lent, counts: &mut Counts) {
     let mut add = |what: &'static str, so: bool| *counts.entry(what).or_default() += u64::from(so);
     let set = |fix: &Vec<u8>| (fix[21..37].to_vec(), fix[39..167].to_vec(), fix[226..258].to_vec());
-    let twice = |one: &(Vec<Vec<u8>>, Vec<Vec<u8>>)| {
+    let twice = |one: &Parts| {
         let mut sets: Vec<_> = one.0.iter().chain(&one.1).map(set).collect();
         sets.sort();
         sets.windows(2).any(|two| two[0] == two[1])
     };
-    let time = |one: &(Vec<Vec<u8>>, Vec<Vec<u8>>)| u64::from_le_bytes(one.0[0][..8].try_into().unwrap());
+    let time = |one: &Parts| u64::from_le_bytes(one.0[0][..8].try_into().unwrap());
     let nan = |place: &Vec<u8>| f64::from_le_bytes(place[290..298].try_into().unwrap()).is_nan();
     let all = &lent.transmissions;
     add("lent: one identity twice in a transmission", all.iter().any(twice));

@@ -135,15 +135,15 @@ fn run(size: usize, calls: &[Call], counts: &mut Counts) -> Option<String> {
         }
         *counts.entry(format!("{kind} answered {x}")).or_default() += 1;
         #[cfg(has_board)]
-        if n % 8 == 0 || n + 1 == calls.len() || back.is_some() {
-            if let Some(words) = compare_boards(&a, &b, n, counts) {
-                return Some(words);
-            }
+        if (n % 8 == 0 || n + 1 == calls.len() || back.is_some())
+            && let Some(words) = compare_boards(&a, &b, n, counts)
+        {
+            return Some(words);
         }
-        if kind != "spoiling" {
-            if let (Some((at, byte)), 1) = (back.take(), x) {
-                (a[at], b[at]) = (byte, byte);
-            }
+        if kind != "spoiling"
+            && let (Some((at, byte)), 1) = (back.take(), x)
+        {
+            (a[at], b[at]) = (byte, byte);
         }
     }
     None

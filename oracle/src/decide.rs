@@ -110,7 +110,7 @@ pub struct Decision {
 
 /// The items, or nothing where 01 refuses with 8.
 pub fn items(bytes: &[u8]) -> Option<Vec<Item>> {
-    if bytes.len() % SIZE != 0 || bytes.len() / SIZE > MOST {
+    if !bytes.len().is_multiple_of(SIZE) || bytes.len() / SIZE > MOST {
         return None;
     }
     let items: Vec<Item> = bytes.chunks_exact(SIZE).map(Item::read).collect::<Option<_>>()?;
