@@ -320,9 +320,34 @@ fn other_lengths(bytes: &[u8], call: &Call) -> Result<(), String> {
     Ok(())
 }
 
+/// Numbers and outputs that are refused, also where they are one that is taken, modulo 256.
+fn other_arguments(bytes: &[u8], counts: &mut Counts) -> Result<(), String> {
+    if !binding::TRACK {
+        return Ok(());
+    }
+    *counts.entry("tracks called with engines over 31, models over 63 and outputs too small").or_default() += 1;
+    let (mut memory, record, text) = (bytes.to_vec(), [0u8; 222], [0u8; 32]);
+    let mut told = Vec::new();
+    for number in [256, 287, u32::MAX] {
+        told.push((binding::track::report(&mut memory, number, &record), 2));
+        told.push((binding::track::convict(&mut memory, number), 2));
+        told.push((binding::track::summary(&mut memory, number, 64, 0, &[]), 2));
+        told.push((binding::track::summary(&mut memory, 0, number, 0, &text), 9));
+    }
+    for length in [0, 12, ROOM - 1] {
+        let mut out = vec![7u8; length];
+        told.push((binding::track::listing(&memory, &mut out) as u32, if out.iter().all(|&b| b == 7) { 10 } else { 0 }));
+        told.push((binding::track::listing(&memory[1..], &mut out) as u32, 1));
+    }
+    let fine = memory == bytes && told.iter().all(|(a, b)| a == b);
+    if fine { Ok(()) } else { Err(format!("answers and what was due {told:?}, bytes alike: {}", memory == bytes)) }
+}
+
 fn check_damage(random: &mut Random, lent: &Lent, call: &Call, both: &mut Both, counts: &mut Counts) {
     let mut bytes = lent.bytes();
-    let found = other_lengths(&bytes, call).and_then(|()| damaged(random, &mut bytes, call, both, counts));
+    let found = other_lengths(&bytes, call)
+        .and_then(|()| other_arguments(&bytes, counts))
+        .and_then(|()| damaged(random, &mut bytes, call, both, counts));
     if let Err(words) = found {
         println!("DIFFERENT: lent track, {words}\n  track {}\n  {call}", hex::write(&bytes));
         std::process::exit(1);
