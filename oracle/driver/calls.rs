@@ -73,9 +73,20 @@ enum Times {
     Any,
 }
 
+/// How long the messages of a list's records are.
+#[derive(Clone, Copy, PartialEq)]
+enum Length {
+    Seven,
+    Fourteen,
+    /// Some of 7 bytes, and some of the same with seven zeros behind them.
+    Either,
+}
+
 /// What the records, summaries and engines of a list are chosen from.
 struct Style {
     shape: Shape,
+    /// What is added to each tag.
+    base: u64,
     times: Times,
     /// Latitude and longitude of the first place, and how many places 30 m apart there are.
     lat: i32,
@@ -84,8 +95,8 @@ struct Style {
     /// One record in so many has a covariance of zeros, one in so many any covariance at all.
     zeros: u64,
     odd: u64,
-    /// Messages are of 14 bytes, and so many differ.
-    long: bool,
+    /// How long messages are, and how many differ.
+    length: Length,
     messages: u64,
     engines: u64,
     models: u64,
@@ -105,13 +116,14 @@ fn style(random: &mut Random) -> Style {
     let star = matches!(shape, Shape::Star(_));
     Style {
         shape,
+        base: random.pick(&[0, 0, 0, 0xfffe, 1 << 40, (1 << 63) - 5, u64::MAX - 200_000]),
         times: random.pick(&[Times::Below(1), Times::Below(3), Times::Below(1_000), Times::Later, Times::Earlier, Times::Any]),
         lat: random.pick(&[0, 0, 500_000_000, 449_999_000, -450_000_000, 900_000_000, i32::MAX, i32::MIN]),
         lon: random.pick(&[0, 0, 100_000_000, 1_800_000_000, -1_350_000_000]),
         steps: random.pick(&[1, 2, 3, 3, 4]),
         zeros: if star { random.pick(&[1, 2, 3]) } else { random.pick(&[4, 12, 100]) },
         odd: random.pick(&[6, 30, 200]),
-        long: random.one_in(4),
+        length: random.pick(&[Length::Seven, Length::Seven, Length::Seven, Length::Seven, Length::Fourteen, Length::Either]),
         messages: random.pick(&[1, 1, 1, 2]),
         engines: random.pick(&[2, 3, 5, 32]),
         models: random.pick(&[0, 1, 2, 3, 64]),
@@ -233,11 +245,15 @@ impl Growing {
 
     pub fn record(&self, random: &mut Random) -> Record {
         let style = &self.style;
-        let tags = tags(random, style.shape);
+        let tags: Vec<u64> = tags(random, style.shape).iter().map(|tag| style.base + tag).collect();
         let all = ((1u32 << tags.len()) - 1) as u16;
         let (models, spec) = self.cited(random);
-        let mut message = vec![0x8d; if style.long { 14 } else { 7 }];
-        message[6] = random.below(style.messages) as u8;
+        let mut message = vec![0x8d, 1, 2, 3, 4, 5, random.below(style.messages) as u8];
+        match style.length {
+            Length::Seven => {}
+            Length::Fourteen => message.extend_from_slice(&[7, 8, 9, 10, 11, 12, 13]),
+            Length::Either => message.extend_from_slice(if random.one_in(2) { &[0; 7] } else { &[] }),
+        }
         Record {
             time: self.time(random),
             lat: style.lat.wrapping_add(2_700 * random.below(style.steps) as i32),
