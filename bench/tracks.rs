@@ -182,6 +182,20 @@ fn mix(random: &mut Random) -> Vec<Row> {
     (0..400).map(|_| Row::new("calls of the comparison's lists", &[], calls::list(random))).collect()
 }
 
+/// An aircraft as three engines hear it: each of 24 transmissions is reported by all of them, and once more by all when two further
+/// receptions have come, which agree.
+fn usual() -> Row {
+    let mut calls = vec![summary(1, 7), summary(2, 7), summary(3, 7)];
+    for t in 0..24 {
+        for own in [&[10, 11][..], &[10, 11, 12, 13][..]] {
+            for engine in 1..=3 {
+                calls.push(report(&record(&set(t, own), own.len() as i32 / 4, 1_000 + t), engine));
+            }
+        }
+    }
+    Row::new("calls of three engines that hear 24 transmissions", &[], calls)
+}
+
 /// Nanoseconds that the clock itself takes.
 fn clock() -> f64 {
     let times = 100_000;
@@ -332,12 +346,14 @@ pub fn run(random: &mut Random) {
     read_through(clock);
     listing("listing, one fix held", &held(1, 1), clock);
     listing("listing, 72 fixes held", &held(8, 9), clock);
+    time(std::slice::from_ref(&usual()), clock);
     time(&mix(random), clock);
 }
 
 /// Our side alone of the row that has this in its name, so many times: for a profile.
 pub fn alone(name: &str, times: u64, random: &mut Random) {
     let mut all = rows();
+    all.push(usual());
     all.push(Row::new("listing, 72 fixes held", &held(8, 9), Vec::new()));
     if "mix" == name {
         all = mix(random);
