@@ -48,20 +48,20 @@ static void put_double(uint8_t *at, double x) {
 
 /* The i-th of nested fixes: it has i % 16 + 1 tags, and lies so far north that some disagree with others. */
 static void write_record(uint8_t r[TL_RECORD_SIZE], int i) {
-    int tags = i % 16 + 1;
+    int tags = i % TL_MAX_TAGS + 1;
     memset(r, 0, TL_RECORD_SIZE);
-    put(r, 8, 1000);
-    put(r + 8, 4, 2700u * (uint32_t)i);
-    r[16] = 1;
-    put(r + 17, 4, 1500);
-    r[21] = 7;
-    r[22] = 0x8d;
-    r[36] = (uint8_t)tags;
-    put(r + 37, 2, (1u << tags) - 1);
-    for (int k = 0; k < tags; k++) put(r + 39 + 8 * k, 8, (uint64_t)k + 1);
-    put_double(r + 174, 100.0);
-    put_double(r + 174 + 24, 100.0);
-    put_double(r + 174 + 40, 100.0);
+    put(r + TL_RECORD_TIME_AT, 8, 1000);
+    put(r + TL_RECORD_LAT_AT, 4, 2700u * (uint32_t)i);
+    r[TL_RECORD_HAS_HEIGHT_AT] = 1;
+    put(r + TL_RECORD_HEIGHT_AT, 4, 1500);
+    r[TL_RECORD_MESSAGE_LENGTH_AT] = TL_SHORT_MESSAGE;
+    r[TL_RECORD_MESSAGE_AT] = 0x8d;
+    r[TL_RECORD_TAG_COUNT_AT] = (uint8_t)tags;
+    put(r + TL_RECORD_USED_AT, 2, (1u << tags) - 1);
+    for (int k = 0; k < tags; k++) put(r + TL_RECORD_TAGS_AT + TL_TAG_SIZE * k, TL_TAG_SIZE, (uint64_t)k + 1);
+    put_double(r + TL_RECORD_XX_AT, 100.0);
+    put_double(r + TL_RECORD_YY_AT, 100.0);
+    put_double(r + TL_RECORD_ZZ_AT, 100.0);
 }
 
 static uint8_t items[TL_MAX_ITEMS * TL_ITEM_SIZE], answer[TL_ANSWER_SIZE];
@@ -77,9 +77,9 @@ static void board(void) { tl_board(memory, sizeof memory, out, sizeof out); }
 static void write_items(void) {
     for (int i = 0; i < TL_MAX_ITEMS; i++) {
         uint8_t *item = items + i * TL_ITEM_SIZE;
-        write_record(item, i);
-        item[254] = (uint8_t)i;
-        item[294] = 1;
+        write_record(item + TL_ITEM_RECORD_AT, i);
+        item[TL_ITEM_IDENTITY_AT] = (uint8_t)i;
+        item[TL_ITEM_CONSISTENT_AT] = 1;
     }
 }
 

@@ -1,4 +1,4 @@
-/* A hash, a decision over three fixes of one transmission, reports into a register, and the same three fixes in two orders into
+/* The sizes of the layouts, a hash, a decision over three fixes of one transmission, reports into a register, and the same three fixes in two orders into
  * tracks, called from C. */
 #include <inttypes.h>
 #include <stdio.h>
@@ -6,7 +6,8 @@
 
 #include "toastlagoon.h"
 
-_Static_assert(TL_ANSWER_SIZE == 1251, "the answer's parts fill it");
+/* What the program chooses. The layouts, the limits and the answers have names in the header. */
+enum { STEP = 2700, FIXES = 3, TIME = 1000, HEIGHT = 1500, MODEL = 5, SPEC = 3, TOO_LITTLE = 100 };
 
 static void put(uint8_t *at, int bytes, uint64_t value) {
     for (int i = 0; i < bytes; i++) at[i] = (uint8_t)(value >> (8 * i));
@@ -27,26 +28,39 @@ static void put_double(uint8_t *at, double x) {
 /* A fix heard by the receivers 1 to `tags`, `lat` 1e-7 degree north of the equator, with a deviation of 10 m on each axis. */
 static void write_record(uint8_t r[TL_RECORD_SIZE], int tags, int32_t lat) {
     memset(r, 0, TL_RECORD_SIZE);
-    put(r, 8, 1000);
-    put(r + 8, 4, (uint32_t)lat);
-    r[16] = 1;
-    put(r + 17, 4, 1500);
-    r[21] = 7;
-    r[22] = 0x8d;
-    r[36] = (uint8_t)tags;
-    put(r + 37, 2, (1u << tags) - 1);
-    for (int i = 0; i < tags; i++) put(r + 39 + 8 * i, 8, (uint64_t)i + 1);
-    put_double(r + 174, 100.0);
-    put_double(r + 174 + 24, 100.0);
-    put_double(r + 174 + 40, 100.0);
+    put(r + TL_RECORD_TIME_AT, 8, TIME);
+    put(r + TL_RECORD_LAT_AT, 4, (uint32_t)lat);
+    r[TL_RECORD_HAS_HEIGHT_AT] = 1;
+    put(r + TL_RECORD_HEIGHT_AT, 4, HEIGHT);
+    r[TL_RECORD_MESSAGE_LENGTH_AT] = TL_SHORT_MESSAGE;
+    r[TL_RECORD_MESSAGE_AT] = 0x8d;
+    r[TL_RECORD_TAG_COUNT_AT] = (uint8_t)tags;
+    put(r + TL_RECORD_USED_AT, 2, (1u << tags) - 1);
+    for (int i = 0; i < tags; i++) put(r + TL_RECORD_TAGS_AT + TL_TAG_SIZE * i, TL_TAG_SIZE, (uint64_t)i + 1);
+    put_double(r + TL_RECORD_XX_AT, 100.0);
+    put_double(r + TL_RECORD_YY_AT, 100.0);
+    put_double(r + TL_RECORD_ZZ_AT, 100.0);
 }
 
 /* The same as an item of a decision: consistent, not preferred, unjudged, of no standing. */
 static void write_item(uint8_t item[TL_ITEM_SIZE], int tags, int32_t lat) {
     memset(item, 0, TL_ITEM_SIZE);
-    write_record(item, tags, lat);
-    item[254] = (uint8_t)tags;
-    item[294] = 1;
+    write_record(item + TL_ITEM_RECORD_AT, tags, lat);
+    item[TL_ITEM_IDENTITY_AT] = (uint8_t)tags;
+    item[TL_ITEM_CONSISTENT_AT] = 1;
+    item[TL_ITEM_VERIFIED_AT] = TL_UNJUDGED;
+}
+
+static void show(const char *what, uint32_t answer) { printf("%s: answer %" PRIu32 " (%s)\n", what, answer, tl_answer_name(answer)); }
+
+static void show_text(const char *what, uint32_t length, const uint8_t *text) {
+    printf("%s of %" PRIu32 " bytes:\n%.*s", what, length, (int)length, (const char *)text);
+}
+
+static void sizes(void) {
+    printf("header %s (%d): record %d, summary %d, register %d, item %d, answer %d, fix %d, refused %d, transmission %d, track %d\n",
+           TL_VERSION_TEXT, TL_VERSION, TL_RECORD_SIZE, TL_SUMMARY_SIZE, TL_REGISTER_SIZE, TL_ITEM_SIZE, TL_ANSWER_SIZE, TL_FIX_SIZE,
+           TL_REFUSED_SIZE, TL_TRANSMISSION_SIZE, TL_TRACK_SIZE);
 }
 
 static void show_indices(const char *name, const uint8_t *list) {
@@ -63,72 +77,75 @@ static void hash(void) {
 }
 
 static void decide(void) {
-    uint8_t items[3 * TL_ITEM_SIZE], answer[TL_ANSWER_SIZE];
-    for (int i = 0; i < 3; i++) write_item(items + i * TL_ITEM_SIZE, i + 1, 2700 * i);
+    uint8_t items[FIXES * TL_ITEM_SIZE], answer[TL_ANSWER_SIZE];
+    for (int i = 0; i < FIXES; i++) write_item(items + i * TL_ITEM_SIZE, i + 1, STEP * i);
     printf("decide three fixes: answer %" PRIu32, tl_decide(items, sizeof items, answer));
     show_indices("ranked", answer + TL_RANKED_AT);
     show_indices("dominated", answer + TL_DOMINATED_AT);
     for (int i = 0; i < answer[TL_REFUSALS_AT]; i++) {
         const uint8_t *r = answer + TL_REFUSALS_AT + 1 + i * TL_REFUSAL_SIZE;
-        printf(" %s %d against %d chi-square %016" PRIx64, r[2] ? "superseded" : "contested", r[0], r[1], get(r + 3, 8));
+        printf(" %s %d against %d chi-square %016" PRIx64, r[TL_REFUSAL_SUPERSEDED_AT] ? "superseded" : "contested", r[TL_REFUSAL_INDEX_AT],
+               r[TL_REFUSAL_AGAINST_AT], get(r + TL_REFUSAL_CHI2_AT, TL_F64_SIZE));
     }
-    printf("\ndecide half an item: answer %" PRIu32 "\n", tl_decide(items, TL_ITEM_SIZE / 2, answer));
+    printf("\n");
+    /* An item that is not consistent refuses nobody: the first here, so that the third stands. */
+    items[TL_ITEM_CONSISTENT_AT] = 0;
+    printf("the first not consistent: answer %" PRIu32, tl_decide(items, sizeof items, answer));
+    show_indices("ranked", answer + TL_RANKED_AT);
+    show_indices("dominated", answer + TL_DOMINATED_AT);
+    printf(" refusals %d\n", answer[TL_REFUSALS_AT]);
+    show("decide half an item", tl_decide(items, TL_ITEM_SIZE / 2, answer));
+    memset(items, 0, sizeof items);
+    show("decide an item of zeros", tl_decide(items, TL_ITEM_SIZE, answer));
+    /* No items: the length is 0, and the pointer is still a valid one. */
+    show("decide nothing", tl_decide(items, 0, answer));
 }
 
 static void reports(void) {
-    static uint8_t memory[TL_REGISTER_SIZE];
+    static uint8_t memory[TL_REGISTER_SIZE], out[TL_BOARD_SIZE];
     uint8_t r[TL_RECORD_SIZE];
-    write_record(r, 2, 2700);
-    printf("report by engine 4: answer %" PRIu32 "\n", tl_register_report(memory, sizeof memory, 4, r, sizeof r));
-    printf("report by engine 7: answer %" PRIu32 "\n", tl_register_report(memory, sizeof memory, 7, r, sizeof r));
-    printf("report by engine 32: answer %" PRIu32 "\n", tl_register_report(memory, sizeof memory, 32, r, sizeof r));
-    printf("conviction of engine 4: answer %" PRIu32 "\n", tl_register_conviction(memory, sizeof memory, 4));
-    printf("report by engine 4: answer %" PRIu32 "\n", tl_register_report(memory, sizeof memory, 4, r, sizeof r));
-    /* A register begins with the convicted engines; its records, each with its signers after it, come after the summaries. */
-    const uint8_t *place = memory + 8 + TL_MAX_SUMMARIES * 36;
-    printf("convicted %08" PRIx64 ", %" PRIu64 " record, signers %08" PRIx64 "\n", get(memory, 4), get(memory + 6, 2),
-           get(place + TL_RECORD_SIZE, 4));
-    static uint8_t out[TL_BOARD_SIZE];
-    uint32_t length = tl_board(memory, sizeof memory, out, sizeof out);
-    printf("board of %" PRIu32 " bytes:\n%.*s", length, (int)length, (const char *)out);
-    printf("board into too little: answer %" PRIu32 "\n", tl_board(memory, sizeof memory, out, 100));
-}
-
-static const char *told(uint32_t answer) {
-    switch (answer) {
-    case TL_CHANGED: return "changed";
-    case TL_CONTESTED: return "contested";
-    case TL_DUPLICATE: return "duplicate";
-    case TL_DROPPED: return "dropped";
-    default: return "refused";
-    }
+    write_record(r, 2, STEP);
+    show("report by engine 4", tl_register_report(memory, sizeof memory, 4, r, sizeof r));
+    show("report by engine 7", tl_register_report(memory, sizeof memory, 7, r, sizeof r));
+    show("report by engine 32", tl_register_report(memory, sizeof memory, TL_MAX_ENGINE + 1, r, sizeof r));
+    show("conviction of engine 4", tl_register_conviction(memory, sizeof memory, 4));
+    show("report by engine 4", tl_register_report(memory, sizeof memory, 4, r, sizeof r));
+    const uint8_t *first = memory + TL_REGISTER_RECORDS_AT;
+    printf("convicted %08" PRIx64 ", %" PRIu64 " record, signers %08" PRIx64 "\n", get(memory + TL_REGISTER_CONVICTED_AT, 4),
+           get(memory + TL_REGISTER_RECORD_COUNT_AT, 2), get(first + TL_HELD_SIGNERS_AT, TL_SIGNERS_SIZE));
+    show_text("board", tl_board(memory, sizeof memory, out, sizeof out), out);
+    show("board into too little", tl_board(memory, sizeof memory, out, TOO_LITTLE));
 }
 
 /* Fix i has i + 1 receivers and lies i steps north: the first disagrees with the third, and the second with none. */
-static void track(const int order[3]) {
+static void track(const int order[FIXES]) {
     static uint8_t memory[TL_TRACK_SIZE], out[TL_LISTING_SIZE];
     uint8_t r[TL_RECORD_SIZE];
     memset(memory, 0, sizeof memory);
-    for (int i = 0; i < 3; i++) {
-        write_record(r, order[i] + 1, 2700 * order[i]);
+    for (int i = 0; i < FIXES; i++) {
+        write_record(r, order[i] + 1, STEP * order[i]);
         uint32_t answer = tl_track_report(memory, sizeof memory, 1, r, sizeof r);
-        printf("track, fix %d: answer %" PRIu32 " (%s)\n", order[i] + 1, answer, told(answer));
+        printf("track, fix %d: answer %" PRIu32 " (%s)\n", order[i] + 1, answer, tl_answer_name(answer));
     }
-    uint32_t length = tl_track_listing(memory, sizeof memory, out, sizeof out);
-    printf("listing of %" PRIu32 " bytes:\n%.*s", length, (int)length, (const char *)out);
+    const uint8_t *last = memory + TL_TRACK_TRANSMISSIONS_AT + (memory[TL_TRACK_TRANSMISSION_COUNT_AT] - 1) * TL_TRANSMISSION_SIZE;
+    const uint8_t *served = last + TL_TRANSMISSION_FIXES_AT + TL_FIX_RECORD_AT;
+    printf("contested %" PRIu64 ", served %" PRIu64 " north, %d refused\n", get(memory + TL_TRACK_CONTESTED_AT, 8),
+           get(served + TL_RECORD_LAT_AT, 4), last[TL_TRANSMISSION_REFUSED_COUNT_AT]);
+    show_text("listing", tl_track_listing(memory, sizeof memory, out, sizeof out), out);
 }
 
 static void disputes(void) {
     static uint8_t memory[TL_TRACK_SIZE];
     uint8_t inputs[TL_INPUTS_SIZE] = {0};
-    printf("track, summary: answer %" PRIu32 "\n", tl_track_summary(memory, sizeof memory, 1, 5, 3, inputs, sizeof inputs));
-    printf("track, summary of model 64: answer %" PRIu32 "\n", tl_track_summary(memory, sizeof memory, 1, 64, 3, inputs, sizeof inputs));
-    printf("track, conviction: answer %" PRIu32 "\n", tl_track_conviction(memory, sizeof memory, 1));
-    printf("track, summary: answer %" PRIu32 "\n", tl_track_summary(memory, sizeof memory, 1, 5, 3, inputs, sizeof inputs));
+    show("track, summary", tl_track_summary(memory, sizeof memory, 1, MODEL, SPEC, inputs, sizeof inputs));
+    show("track, summary of model 64", tl_track_summary(memory, sizeof memory, 1, TL_MAX_MODEL + 1, SPEC, inputs, sizeof inputs));
+    show("track, conviction", tl_track_conviction(memory, sizeof memory, 1));
+    show("track, summary", tl_track_summary(memory, sizeof memory, 1, MODEL, SPEC, inputs, sizeof inputs));
 }
 
 int main(void) {
-    static const int smallest_first[3] = {0, 1, 2}, largest_first[3] = {2, 0, 1};
+    static const int smallest_first[FIXES] = {0, 1, 2}, largest_first[FIXES] = {2, 0, 1};
+    sizes();
     hash();
     decide();
     reports();
