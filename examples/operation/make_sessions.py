@@ -1,0 +1,66 @@
+"""Writes the sessions of this folder. docs/OPERATION.md says what each of them shows.
+
+    python3 examples/operation/make_sessions.py
+"""
+import os
+
+HERE = os.path.dirname(os.path.abspath(__file__))
+T = 1731679200 * 10**9
+HUNDRED, ZERO = "4059000000000000", "0" * 16
+COV = HUNDRED + 2 * ZERO + HUNDRED + ZERO + HUNDRED
+END = 2**64 - 1
+
+
+def report(engine, time, lat=481370000, message="8d3c6dd0000000", tags=(101,), models="none", spec=0):
+    fields = [
+        ("op", "report"), ("engine", engine), ("time", time), ("lat", lat), ("lon", 115820000), ("height", 312400), ("message", message),
+        ("tags", ",".join(map(str, tags))), ("used", 2 ** len(tags) - 1), ("models", models), ("spec", spec), ("cov", COV),
+    ]
+    return "".join(f"{k}={v}\n" for k, v in fields)
+
+
+def summary(engine, model, inputs, spec=1):
+    return f"op=summary\nengine={engine}\nmodel={model}\nspec={spec}\ninputs={inputs * 32}\n"
+
+
+def convict(engine):
+    return f"op=convict\nengine={engine}\n"
+
+
+def write(name, *calls):
+    with open(os.path.join(HERE, name + ".session"), "w") as f:
+        f.write("".join(calls))
+
+
+# 97 transmissions, half a second apart, of one engine: one more than a register has places for.
+flight = [report(1, T + i * 500000000, 481370000 + 1800 * i, f"8d3c6dd00000{i:02x}") for i in range(97)]
+write("full-north", *flight)
+write("full-south", *reversed(flight))
+
+# The same message by the same receivers, a thousandth of a degree apart. The later time has the lesser lowest byte.
+write("signers", report(1, T + 255, 481370000), report(2, T + 256, 481380000))
+
+# A record that cites model 5, before anybody has said what model 5 is; and after.
+waiting = [report(1, T, models="5", spec=1), report(2, T + 1, 481380000, "8d3c6dd0000001")]
+write("missing", *waiting)
+write("stated", *waiting, summary(1, 5, "00"))
+
+# Two engines agree on model 5, a third says something else; that it corrects itself does not help.
+agreed = [summary(1, 5, "00"), summary(2, 5, "00"), report(1, T, models="5", spec=1), report(2, T, 481371000, tags=(101, 102), models="5", spec=1)]
+dispute = [summary(3, 5, "ff"), summary(3, 5, "00")]
+write("agreed", *agreed)
+write("disputed", *agreed, *dispute)
+write("settled", *agreed, *dispute, convict(3))
+
+# One fix of now, and eight of the end of time by an engine with a broken clock; then that engine is convicted.
+broken = [report(3, END - i, message=f"8d3c6dd00000{i + 1:02x}") for i in range(8)]
+write("clocks", report(1, T), *broken)
+write("clocks-settled", report(1, T), *broken, convict(3))
+
+# Two fixes of one transmission, 100 ns apart, that disagree. One room's window begins before both, the other's between them.
+small, large = report(1, T, 481370000), report(2, T + 100, 481375400, tags=(101, 102))
+write("cut-north", small, large)
+write("cut-south", large)
+
+# A conviction of an engine that reported nothing.
+write("bystander", *agreed, convict(9))
