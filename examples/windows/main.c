@@ -4,7 +4,8 @@
  * A window is cut by the transmit time in the record, which is the same in both rooms, and not by arrival, which is not. Summaries and
  * convictions have no transmit time: each is given to every window's register, those that are open and those that are opened later.
  *
- * The same reports are then cut by arrival, and not cut at all: both go wrong. */
+ * The same reports are then given in three ways that go wrong: without telling later windows of the conviction, cut by arrival, and not
+ * cut at all. */
 #include <inttypes.h>
 #include <stdio.h>
 #include <stdlib.h>
@@ -45,14 +46,16 @@ struct room {
     uint8_t registers[WINDOWS][TL_REGISTER_SIZE];
     bool open[WINDOWS];
     bool summarized, convicted; /* what a window that is opened later has to be told */
+    bool forgets;               /* and is not told of the conviction */
     int answers[TL_DROPPED + 1];
-    int liar_before, liar_after, open_then;
+    int open_then, liar_before, liar_after;
 };
 
 static struct room rooms[ROOMS] = {{.name = "north", .summaries_at = 0}, {.name = "south", .summaries_at = 1000}};
 
-enum cut { BY_TRANSMIT_TIME, BY_ARRIVAL, NOT_AT_ALL };
-static const char *const cuts[] = {"cut by transmit time", "cut by arrival", "not cut"};
+enum way { BY_TRANSMIT_TIME, FORGETTING, BY_ARRIVAL, NOT_CUT, WAYS };
+static const char *const ways[WAYS] = {"cut by transmit time", "cut by transmit time, later windows are not told of the conviction",
+                                       "cut by arrival", "not cut"};
 
 enum kind { HEARD, READING, LINK, LATE, COPY };
 
@@ -159,7 +162,7 @@ static uint8_t *opened(struct room *room, uint64_t window) {
         room->open[window] = true;
         memset(memory, 0, TL_REGISTER_SIZE);
         if (room->summarized) tell_summaries(memory);
-        if (room->convicted) tell_conviction(memory);
+        if (room->convicted && !room->forgets) tell_conviction(memory);
     }
     return memory;
 }
@@ -197,12 +200,9 @@ static void convict(struct room *room) {
     room->liar_after = liar_shown(room);
 }
 
-static uint64_t window_of(const struct arrival *a, enum cut cut) {
-    switch (cut) {
-    case BY_TRANSMIT_TIME: return (transmit_time(a->transmission, a->engine) - START) / WINDOW;
-    case BY_ARRIVAL: return (a->at - START) / WINDOW;
-    default: return 0;
-    }
+static uint64_t window_of(const struct arrival *a, enum way way) {
+    if (way == NOT_CUT) return 0;
+    return ((way == BY_ARRIVAL ? a->at : transmit_time(a->transmission, a->engine)) - START) / WINDOW;
 }
 
 static void begin(struct room *room) {
@@ -213,9 +213,10 @@ static void begin(struct room *room) {
     room->open_then = 0;
 }
 
-static void run(struct room *room, enum cut cut) {
+static void run(struct room *room, enum way way) {
     uint8_t r[TL_RECORD_SIZE];
     begin(room);
+    room->forgets = way == FORGETTING;
     for (int i = 0; i < room->count; i++) {
         const struct arrival *a = &room->arrivals[i];
         if (i == room->summaries_at) {
@@ -223,7 +224,7 @@ static void run(struct room *room, enum cut cut) {
             tell_all(room, tell_summaries);
         }
         if (i == room->conviction_at) convict(room);
-        uint8_t *memory = opened(room, window_of(a, cut));
+        uint8_t *memory = opened(room, window_of(a, way));
         write_record(r, a->transmission, a->engine);
         room->answers[tl_register_report(memory, TL_REGISTER_SIZE, engines[a->engine].number, r, sizeof r)]++;
     }
@@ -243,8 +244,8 @@ static void print_answers(const struct room *room) {
 }
 
 static void print_conviction(const struct room *room) {
-    printf("%s: of %d open windows engine 7 was on %d boards before its conviction, on %d after\n", room->name, room->open_then,
-           room->liar_before, room->liar_after);
+    printf("%s: of %d open windows engine 7 was on %d boards before its conviction, on %d after, and of all windows on %d in the end\n",
+           room->name, room->open_then, room->liar_before, room->liar_after, liar_shown(room));
 }
 
 /* Compares the rooms window by window: the boards, and the registers but for the convicted engines, with which they begin. */
@@ -272,12 +273,12 @@ static void compare(void) {
 int main(void) {
     for (int i = 0; i < ROOMS; i++) make_arrivals(&rooms[i], i);
     for (int i = 0; i < ROOMS; i++) print_arrivals(&rooms[i]);
-    for (int cut = BY_TRANSMIT_TIME; cut <= NOT_AT_ALL; cut++) {
-        printf("\n%s\n", cuts[cut]);
+    for (int way = 0; way < WAYS; way++) {
+        printf("\n%s\n", ways[way]);
         for (int i = 0; i < ROOMS; i++) {
-            run(&rooms[i], (enum cut)cut);
+            run(&rooms[i], (enum way)way);
             print_answers(&rooms[i]);
-            if (cut == BY_TRANSMIT_TIME) print_conviction(&rooms[i]);
+            if (way <= FORGETTING) print_conviction(&rooms[i]);
         }
         compare();
     }

@@ -43,17 +43,22 @@ def arrivals(room):
     return sorted(got), copies, late
 
 
-def run(room, got, window_of):
-    """What each window holds in the end, how many reports had each answer, and the windows open at the conviction, with and without
-    the convicted engine."""
-    held, answers, convicted, seen = {}, {0: 0, 4: 0, 5: 0}, False, None
+def with_liar(held):
+    return sum(any(e == LIAR for _, e in w) for w in held.values())
+
+
+def run(room, got, window_of, forgets):
+    """What each window holds in the end, how many reports had each answer, and at the conviction how many windows are open and how many
+    of them hold a record of the convicted engine."""
+    held, answers, convicted, told, seen = {}, {0: 0, 4: 0, 5: 0}, False, set(), None
     for i, (at, t, e) in enumerate(got):
         if i == len(got) // 2 + 200 * room:
             convicted = True
-            seen = len(held), sum(any(e == LIAR for _, e in w) for w in held.values())
+            seen, told = (len(held), with_liar(held)), set(held)
             held = {k: {r for r in w if r[1] != LIAR} for k, w in held.items()}
-        window = held.setdefault(window_of(at, t, e), set())
-        if convicted and e == LIAR:
+        number = window_of(at, t, e)
+        window = held.setdefault(number, set())
+        if convicted and e == LIAR and (number in told or not forgets):
             answers[4] += 1
         elif (t, e) not in window and len(window) == PLACES:
             answers[5] += 1
@@ -65,24 +70,32 @@ def run(room, got, window_of):
 
 WORDS = {0: "done", 4: "engine convicted", 5: "full"}
 NAMES = ["north", "south"]
-CUTS = [
-    ("cut by transmit time", lambda at, t, e: (time_of(t, e) - START) // WINDOW),
-    ("cut by arrival", lambda at, t, e: (at - START) // WINDOW),
-    ("not cut", lambda at, t, e: 0),
+
+
+def by_transmit_time(at, t, e):
+    return (time_of(t, e) - START) // WINDOW
+
+
+WAYS = [
+    ("cut by transmit time", by_transmit_time, False),
+    ("cut by transmit time, later windows are not told of the conviction", by_transmit_time, True),
+    ("cut by arrival", lambda at, t, e: (at - START) // WINDOW, False),
+    ("not cut", lambda at, t, e: 0, False),
 ]
 
 feeds = [arrivals(r) for r in range(ROOMS)]
 for name, (got, copies, late) in zip(NAMES, feeds):
     print(f"{name}: {len(got)} reports, {copies} of them copies, {late} after the end of their window")
-for cut, window_of in CUTS:
-    print(f"\n{cut}")
+for way, window_of, forgets in WAYS:
+    print(f"\n{way}")
     both = []
     for r in range(ROOMS):
-        held, answers, (windows, shown) = run(r, feeds[r][0], window_of)
+        held, answers, (windows, shown) = run(r, feeds[r][0], window_of, forgets)
         both.append(held)
         print(f"{NAMES[r]}: {len(feeds[r][0])} reports" + "".join(f", {n} answered {a} ({WORDS[a]})" for a, n in answers.items() if n))
-        if cut == CUTS[0][0]:
-            print(f"{NAMES[r]}: of {windows} open windows engine 7 was on {shown} boards before its conviction, on 0 after")
+        if window_of == by_transmit_time:
+            line = f"{NAMES[r]}: of {windows} open windows engine 7 was on {shown} boards before its conviction, on 0 after"
+            print(line + f", and of all windows on {with_liar(held)} in the end")
     north, south = both
     names = sorted(north.keys() | south.keys())
     same = sum(north.get(w) == south.get(w) for w in names)
