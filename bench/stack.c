@@ -102,11 +102,11 @@ static void write_fix(uint8_t r[TL_RECORD_SIZE], int transmission, int k) {
     write_record(r, tags - 1);
     put(r, 8, 1000 + (uint64_t)transmission);
     put(r + 8, 4, refused ? 5400 : 0);
-    put(r + 39, 8, base + 1);
-    put(r + 47, 8, base + (refused ? 10 : 10 + (uint64_t)k));
-    if (refused) put(r + 55, 8, base + 20 + (uint64_t)k);
-    r[167] = 1;
-    r[168] = 5;
+    put(r + TL_RECORD_TAGS_AT, TL_TAG_SIZE, base + 1);
+    put(r + TL_RECORD_TAGS_AT + TL_TAG_SIZE, TL_TAG_SIZE, base + (refused ? 10 : 10 + (uint64_t)k));
+    if (refused) put(r + TL_RECORD_TAGS_AT + 2 * TL_TAG_SIZE, TL_TAG_SIZE, base + 20 + (uint64_t)k);
+    r[TL_RECORD_MODEL_COUNT_AT] = 1;
+    r[TL_RECORD_MODELS_AT] = 5;
 }
 
 static uint32_t say(uint8_t *memory, uint32_t engine, uint8_t first) {
@@ -122,7 +122,7 @@ static void write_track(void) {
             write_fix(r, t, k);
             if (tl_track_report(full, sizeof full, 2, r, sizeof r) < TL_CHANGED) exit(1);
         }
-        const uint8_t *block = full + 9232 + 2484 * t;
+        const uint8_t *block = full + TL_TRACK_TRANSMISSIONS_AT + TL_TRANSMISSION_SIZE * t;
         if (block[0] != TL_MAX_STANDING || block[1] != TL_MAX_REFUSED) exit(1);
     }
 }
@@ -131,7 +131,7 @@ static void join(void) {
     uint8_t r[TL_RECORD_SIZE];
     memcpy(track, full, sizeof track);
     write_fix(r, 0, 0);
-    put(r + 47, 8, 30);
+    put(r + TL_RECORD_TAGS_AT + TL_TAG_SIZE, TL_TAG_SIZE, 30);
     tl_track_report(track, sizeof track, 2, r, sizeof r);
 }
 
