@@ -5,7 +5,6 @@ use mathlib.Core.List.{List, [], _∷_, List·Memᴰ, List·Memᴰ·head, List·
 use native.Mathlib.Omega.{arith}
 use lib.ListN.{length, getD}
 use Rattle.ranges.proofs.Bools.{or}
-use Rattle.shown.specs.Fix.{Fix}
 
 module _ {A : Type 0} (d : A) where
   pub at-in : (l : List A) (i : ℕ) → i < length l → List·Memᴰ (getD l i d) l

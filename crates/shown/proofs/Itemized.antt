@@ -1,17 +1,16 @@
 -- What is shown of fixes is what is decided of their items, by their indices.
-use Prim.Native.Nat.{ℕ, zero, suc, _+_, _*_, _-_, _/_, _≤_, _<_}
+use Prim.Native.Nat.{ℕ, zero, suc, _+_, _*_, _-_, _<_}
 use mathlib.Core.Path.{_≡_, refl, sym, ap, _∙_}
 use mathlib.Core.Bool.{true, false}
-use mathlib.Core.List.{List, [], _∷_, _++_, map, append-nil, List·Memᴰ, List·Memᴰ·head, List·Memᴰ·tail}
+use mathlib.Core.List.{List, [], _∷_, _++_, map, append-nil, List·Memᴰ·head, List·Memᴰ·tail}
 use native.Mathlib.Omega.{arith}
 use lib.ListN.{length, getD, take, drop, length-append, length-map}
 use lib.Seq.{take-at, drop-at, drop-drop, take-take, getD-take, getD-drop}
 use Rattle.octets.specs.Words.{word}
-use Rattle.places.specs.Places.{flat, tableOf}
+use Rattle.places.specs.Places.{tableOf}
 use Rattle.places.proofs.Tables.{wide, place-at}
 use Rattle.places.proofs.Walks.{part-of}
 use Rattle.record.specs.Layout.{recordSize}
-use Rattle.record.specs.Formed.{wellFormed}
 use Rattle.record.proofs.Parts.{formed}
 use Rattle.ranges.specs.Lists.{upTo}
 use Rattle.ranges.proofs.Lists.{up-in, by-places}
@@ -23,7 +22,7 @@ use Rattle.decision.specs.Standing.{decide}
 use Rattle.decision.specs.Related as R
 use Rattle.decision.proofs.Carried.{Alike, carriedOutcome, carried}
 use Rattle.shown.specs.Fix.{Fix}
-use Rattle.shown.specs.Items.{noFix, at, unjudged, itemBytes, itemsFor}
+use Rattle.shown.specs.Items.{noFix, at, unjudged, itemBytes, itemsFor, Formed, AllFormed}
 use Rattle.shown.proofs.Indexed.{at-in}
 use Rattle.shown.specs.Shown.{shown}
 use Rattle.shown.specs.Claims.{fixRelations}
