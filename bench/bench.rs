@@ -305,7 +305,7 @@ fn main() {
     let words: Vec<String> = std::env::args().skip(1).collect();
     if let [alone, name, times] = words.as_slice() {
         assert_eq!(alone, "alone");
-        return tracks::alone(name, times.parse().expect("a number"), &mut random);
+        return tracks::alone(name, times.parse().expect("a number"));
     }
     println!("Nanoseconds are the least of {ROUNDS} batches; the last column is the median of the batches' own ratios.\n");
     println!("| what | against | ours, ns | theirs, ns | ours / theirs | median |");
@@ -313,5 +313,5 @@ fn main() {
     if words.is_empty() {
         others(&mut random);
     }
-    tracks::run(&mut random);
+    tracks::run();
 }

@@ -177,9 +177,10 @@ fn others() -> Vec<Row> {
     ]
 }
 
-/// The comparison's own lists, each from a fresh track.
-fn mix(random: &mut Random) -> Vec<Row> {
-    (0..400).map(|_| Row::new("calls of the comparison's lists", &[], calls::list(random))).collect()
+/// The comparison's own lists, each from a fresh track; the same in each run.
+fn mix() -> Vec<Row> {
+    let mut random = Random(1);
+    (0..400).map(|_| Row::new("calls of the comparison's lists", &[], calls::list(&mut random))).collect()
 }
 
 /// An aircraft as three engines hear it: each of 24 transmissions is reported by all of them, and once more by all when two further
@@ -335,7 +336,7 @@ fn rows() -> Vec<Row> {
     all
 }
 
-pub fn run(random: &mut Random) {
+pub fn run() {
     if !binding::TRACK {
         return println!("| track | the Rust | not in the library | - | - | - |");
     }
@@ -347,16 +348,16 @@ pub fn run(random: &mut Random) {
     listing("listing, one fix held", &held(1, 1), clock);
     listing("listing, 72 fixes held", &held(8, 9), clock);
     time(std::slice::from_ref(&usual()), clock);
-    time(&mix(random), clock);
+    time(&mix(), clock);
 }
 
 /// Our side alone of the row that has this in its name, so many times: for a profile.
-pub fn alone(name: &str, times: u64, random: &mut Random) {
+pub fn alone(name: &str, times: u64) {
     let mut all = rows();
     all.push(usual());
     all.push(Row::new("listing, 72 fixes held", &held(8, 9), Vec::new()));
     if "mix" == name {
-        all = mix(random);
+        all = mix();
     }
     let mut memory = vec![0u8; SIZE];
     let mut out = vec![0u8; 16_384];
