@@ -3,10 +3,9 @@ use Prim.Native.Nat.{ℕ, _+_, _*_, _-_, _≤_, _<_}
 use mathlib.Core.Path.{_≡_, refl, sym, ap, ap₂, _∙_}
 use mathlib.Core.List.{List, _++_, append-assoc, append-nil}
 use native.Mathlib.Omega.{arith}
-use lib.ListN.{length, take, drop, replicate, length-append, length-take, length-drop, drop-of-length-le}
+use lib.ListN.{length, take, drop, replicate, length-append, length-take, length-drop, length-replicate, drop-of-length-le}
 use lib.Seq.{take-at, drop-at, drop-drop}
 use borrow.Rule.Slice.PartMut.{putMid}
-use Rattle.octets.proofs.Moves.{tail-back}
 use Rattle.text.specs.Buffer.{Put}
 use Rattle.text.proofs.Writing.{put-whole}
 
@@ -36,14 +35,18 @@ module _ (T t : List ℕ) (from a m : ℕ) (low : a ≤ from) (within : from + m
       let b : drop (a + m + length x) t ≡ drop (a + m + length x) T = sym (drop-drop (length x) (a + m) t) ∙ ap (drop (length x)) behind ∙ drop-drop (length x) (a + m) T in
       ap₂ (λ (u v : List ℕ). u ++ (x ++ v)) in-front b ∙ append-assoc (take a T) (take m (drop from T)) (x ++ drop (a + m + length x) T)
 
-  -- all behind them cleared
-  pub cleared-behind : (y : List ℕ) → y ≡ replicate (length (take (length t - (a + m)) (drop (a + m) t))) 0
-      → putMid (a + m) (length t - (a + m)) t y ≡ take a T ++ (take m (drop from T) ++ replicate (length T - (a + m)) 0)
-  cleared-behind y e =
-      let n : length (take (length t - (a + m)) (drop (a + m) t)) ≡ length T - (a + m) = simp (length-take, length-drop) (omega (arith, moved-length)) in
-      tail-back t y (a + m)
-      ∙ ap₂ (λ (u v : List ℕ). u ++ v) in-front (e ∙ ap (λ (k : ℕ). replicate k 0) n)
-      ∙ append-assoc (take a T) (take m (drop from T)) (replicate (length T - (a + m)) 0)
+  -- the w bytes behind them cleared
+  pub cleared-behind : (w : ℕ) → a + m + w ≤ length T → (y : List ℕ) → y ≡ replicate (length (take (a + m + w - (a + m)) (drop (a + m) t))) 0
+      → putMid (a + m) (a + m + w - (a + m)) t y ≡ take a T ++ (take m (drop from T) ++ (replicate w 0 ++ drop (a + m + w) T))
+  cleared-behind w h y e =
+      let z : a + m + w - (a + m) ≡ w = omega arith in
+      let n : length (take (a + m + w - (a + m)) (drop (a + m) t)) ≡ w = simp (length-take, length-drop) (omega (arith, moved-length)) in
+      let zeros : List ℕ = replicate w 0 in
+      let l : length zeros ≡ w = length-replicate {A = ℕ} w 0 in
+      ap₂ (λ (k : ℕ) (x : List ℕ). take (a + m) t ++ (x ++ drop k (drop (a + m) t))) (z ∙ sym l) (e ∙ ap (λ (k : ℕ). replicate k 0) n)
+      ∙ ap (λ (x : List ℕ). take (a + m) t ++ (zeros ++ x)) (drop-drop (length zeros) (a + m) t)
+      ∙ put-behind zeros
+      ∙ ap (λ (k : ℕ). take a T ++ (take m (drop from T) ++ (zeros ++ drop (a + m + k) T))) l
 
 -- all of a buffer written
 pub put-all : {z x b : List ℕ} {r : ℕ} → Put z 0 b r x → length z ≡ length b → x ≡ b

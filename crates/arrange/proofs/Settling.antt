@@ -166,11 +166,11 @@ module _ (bs : List (List ℕ)) (t : List ℕ) (n i : ℕ) (s : AllSound bs) (fe
   pub among : i < length bs
   among = rw q h
 
-  pub removed-table : take (i * transmissionSize) t ++ (take ((n - (i + 1)) * transmissionSize) (drop ((i + 1) * transmissionSize) t) ++ replicate (length t - (n - 1) * transmissionSize) 0) ≡ blockTable (without i bs)
+  pub removed-table : take (i * transmissionSize) t ++ (take ((n - (i + 1)) * transmissionSize) (drop ((i + 1) * transmissionSize) t) ++ (replicate transmissionSize 0 ++ drop (n * transmissionSize) t)) ≡ blockTable (without i bs)
   removed-table = rw (is, sym q) (remove-table transmissionSize maxTransmissions bs (all-wide bs s) (rw q few) i among)
 
   pub removed-bytes : hasFixIn (getD bs i []) ≡ false
-      → take (i * transmissionSize) t ++ (take ((n - (i + 1)) * transmissionSize) (drop ((i + 1) * transmissionSize) t) ++ replicate (length t - (n - 1) * transmissionSize) 0)
+      → take (i * transmissionSize) t ++ (take ((n - (i + 1)) * transmissionSize) (drop ((i + 1) * transmissionSize) t) ++ (replicate transmissionSize 0 ++ drop (n * transmissionSize) t))
       ≡ blockTable (settled i bs)
   removed-bytes e = removed-table ∙ ap blockTable (taken-out bs i among e)
 

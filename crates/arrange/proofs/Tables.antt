@@ -3,9 +3,9 @@ use Prim.Native.Nat.{ℕ, zero, suc, _+_, _*_, _-_, _≤_, _<_}
 use mathlib.Core.Path.{_≡_, refl, sym, ap, ap₂, _∙_}
 use mathlib.Core.List.{List, [], _∷_, _++_, append-assoc}
 use native.Mathlib.Omega.{arith}
-use native.Mathlib.Nat.{add-mul, suc-mul, mul-le-mul-right}
+use native.Mathlib.Nat.{add-comm, add-mul, suc-mul, mul-le-mul-right}
 use native.Mathlib.Numerals.{add-one}
-use lib.ListN.{length, getD, take, drop, replicate, length-append, length-take, length-drop, length-replicate, take-append-drop}
+use lib.ListN.{length, getD, take, drop, replicate, length-append, length-take, length-drop, length-replicate, take-append-drop, replicate-append-replicate}
 use lib.Seq.{take-at, drop-at, drop-drop}
 use Rattle.places.specs.Places.{flat, tableOf}
 use Rattle.places.proofs.Tables.{wide, flat-append, flat-length, wide-take, wide-drop, place-at, table-length}
@@ -60,14 +60,18 @@ turn-table w cap ps h i j l m =
 
 -- place i taken out, and zeros behind the others
 pub remove-table : (w cap : ℕ) (ps : List (List ℕ)) → wide w ps → length ps ≤ cap → (i : ℕ) → i < length ps
-    → take (i * w) (tableOf w cap ps) ++ (take ((length ps - (i + 1)) * w) (drop ((i + 1) * w) (tableOf w cap ps)) ++ replicate (length (tableOf w cap ps) - (length ps - 1) * w) 0)
+    → take (i * w) (tableOf w cap ps) ++ (take ((length ps - (i + 1)) * w) (drop ((i + 1) * w) (tableOf w cap ps)) ++ (replicate w 0 ++ drop (length ps * w) (tableOf w cap ps)))
     ≡ tableOf w cap (without i ps)
 remove-table w cap ps h f i l =
     let a = take i ps in
     let b = take (length ps - (i + 1)) (drop (i + 1) ps) in
     let e : b ≡ drop (i + 1) ps = all (drop (i + 1) ps) (length ps - (i + 1)) (rw length-drop (omega arith)) in
     let n : length (without i ps) ≡ length ps - 1 = simp (length-append, length-take, length-drop) (omega arith) in
-    let r : length (tableOf w cap ps) - (length ps - 1) * w ≡ (cap - (length ps - 1)) * w = ap (λ (x : ℕ). x - (length ps - 1) * w) (table-length w cap ps h f) ∙ less cap (length ps - 1) (omega arith) in
+    let k = (cap - length ps) * w in
+    let g : cap - (length ps - 1) ≡ suc (cap - length ps) = omega arith in
+    let c : (cap - (length ps - 1)) * w ≡ w + k = ap (λ (x : ℕ). x * w) g ∙ suc-mul (cap - length ps) w ∙ add-comm k w in
+    let r : replicate w 0 ++ drop (length ps * w) (tableOf w cap ps) ≡ replicate ((cap - (length ps - 1)) * w) 0
+    = ap (λ (x : List ℕ). replicate w 0 ++ x) (drop-at (flat ps) (replicate k 0) (length ps * w) (flat-length w ps h)) ∙ replicate-append-replicate w k 0 ∙ ap (λ (x : ℕ). replicate x 0) (sym c) in
     rw (front w cap ps h i (omega arith), middle w cap ps h (i + 1) (length ps - (i + 1)) (omega arith), r, n, e)
     (sym (ap (λ (x : List ℕ). x ++ replicate ((cap - (length ps - 1)) * w) 0) (flat-append a (drop (i + 1) ps)) ∙ append-assoc (flat a) (flat (drop (i + 1) ps)) (replicate ((cap - (length ps - 1)) * w) 0)))
   where
@@ -76,6 +80,3 @@ remove-table w cap ps h f i l =
     all [] (suc k) p = refl
     all (q ∷ qs) zero p = absurd (omega arith)
     all (q ∷ qs) (suc k) p = ap (λ (x : List (List ℕ)). q ∷ x) (all qs k (omega arith))
-
-    less : (a b : ℕ) → b ≤ a → a * w - b * w ≡ (a - b) * w
-    less a b g = let e : a ≡ (a - b) + b = omega arith in let s : a * w ≡ (a - b) * w + b * w = ap (λ (x : ℕ). x * w) e ∙ add-mul (a - b) b w in omega arith

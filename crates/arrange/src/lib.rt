@@ -97,7 +97,7 @@ fn turn(t: &mut [u8], i: usize, j: usize)
 // Takes transmission i out of n.
 fn remove(t: &mut [u8], n: usize, i: usize)
     requires { ⌜ (i < n) × (n * transmissionSize ≤ length (now t)) ⌝ }
-    ensures { λ _. ⌜ now (t .exit) ≡ take (i * transmissionSize) (now (t .entry)) ++ (take ((n - (i + 1)) * transmissionSize) (drop ((i + 1) * transmissionSize) (now (t .entry))) ++ replicate (length (now (t .entry)) - (n - 1) * transmissionSize) 0) ⌝ }
+    ensures { λ _. ⌜ now (t .exit) ≡ take (i * transmissionSize) (now (t .entry)) ++ (take ((n - (i + 1)) * transmissionSize) (drop ((i + 1) * transmissionSize) (now (t .entry))) ++ (replicate transmissionSize 0 ++ drop (n * transmissionSize) (now (t .entry)))) ⌝ }
 {
     octets::runs::copy_down(
         t,
@@ -105,8 +105,9 @@ fn remove(t: &mut [u8], n: usize, i: usize)
         i * TRANSMISSION_SIZE,
         (n - (i + 1)) * TRANSMISSION_SIZE,
     );
-    let end = (n - 1) * TRANSMISSION_SIZE;
-    octets::runs::clear(&mut t[end..]);
+    let last = (n - 1) * TRANSMISSION_SIZE;
+    let end = last + TRANSMISSION_SIZE;
+    octets::runs::clear(&mut t[last..end]);
 }
 
 // Puts transmission i into the order of those behind it, or takes it out where it has no fix. Returns how many are left.

@@ -1,8 +1,9 @@
 -- `remove` meets its contract.
-use Prim.Native.Nat.{_+_, _*_, _-_}
-use mathlib.Core.Path.{_≡_, refl, sym, ap, _∙_}
+use Prim.Native.Nat.{ℕ, _+_, _*_, _-_}
+use mathlib.Core.Path.{_≡_, ap, _∙_}
+use mathlib.Core.List.{_++_}
 use native.Mathlib.Omega.{arith}
-use lib.ListN.{length}
+use lib.ListN.{take, drop, replicate}
 use Rattle.tracked.specs.Layout.{transmissionSize}
 use Rattle.arrange.proofs.Moving.{cleared-behind}
 use borrow.Author.Needs.{needs}
@@ -34,11 +35,14 @@ mul-copy-down-3 c = search needs
 copy-down-requires : tie.Need-copy-down-requires
 copy-down-requires c κs = search needs
 
-sub-end : tie.Need-sub-end
-sub-end c = search needs
+sub-last : tie.Need-sub-last
+sub-last c = search needs
 
-mul-end : tie.Need-mul-end
-mul-end c = search needs
+mul-last : tie.Need-mul-last
+mul-last c = search needs
+
+add-end : tie.Need-add-end
+add-end c = search needs
 
 sub-clear : tie.Need-sub-clear
 sub-clear c = search needs
@@ -62,9 +66,12 @@ returns c =
     let i = s .args .i in
     let n = s .args .n in
     let w = transmissionSize in
-    let e : (n - 1) * w ≡ i * w + (n - (i + 1)) * w = omega arith in
-    rw e (cleared-behind (s .args .t .now) (down .copy-down .last .0) ((i + 1) * w) (i * w) ((n - (i + 1)) * w) (omega arith) (omega arith) (down .copy-down .ensures)
+    let m = (n - (i + 1)) * w in
+    let e : (n - 1) * w ≡ i * w + m = omega arith in
+    let g : i * w + m + w ≡ n * w = omega arith in
+    rw e (cleared-behind (s .args .t .now) (down .copy-down .last .0) ((i + 1) * w) (i * w) m (omega arith) (omega arith) (down .copy-down .ensures) w (omega arith)
     (c .before .before .clear .last .0) (rw e at (c .before .before .clear .ensures)))
+    ∙ ap (λ (k : ℕ). take (i * w) (s .args .t .now) ++ (take m (drop ((i + 1) * w) (s .args .t .now)) ++ (replicate w 0 ++ drop k (s .args .t .now)))) g
 
 pub remove-spec : {M : Type 1} → statement M
 remove-spec =
@@ -77,8 +84,9 @@ remove-spec =
     sub-copy-down
     mul-copy-down-3
     copy-down-requires
-    sub-end
-    mul-end
+    sub-last
+    mul-last
+    add-end
     sub-clear
     part-clear-start
     part-clear-end
