@@ -166,8 +166,8 @@ fn admit_full(t: &mut [u8], n: usize, b: &[u8]) -> usize
     append(t, n - 1, b)
 }
 
-// Takes a further transmission in among n, and returns how many there are then. Beyond eight the oldest goes.
-pub fn admit(t: &mut [u8], n: usize, b: &[u8]) -> usize
+// Takes a further transmission in among n, which are brought into their order first: the oldest of them may have to go.
+fn admit_arranged(t: &mut [u8], n: usize, b: &[u8]) -> usize
     requires { ⌜ B.Filled (now t) n × Sound (now b) × (1 ≤ fixCount (now b)) ⌝ }
     ensures { λ r. ⌜ r ≡ length (B.admitted (B.blocks n (now (t .entry))) (now (b .entry))) ⌝ }
     ensures { λ _. ⌜ now (t .exit) ≡ B.blockTable (B.admitted (B.blocks n (now (t .entry))) (now (b .entry))) ⌝ }
@@ -177,4 +177,16 @@ pub fn admit(t: &mut [u8], n: usize, b: &[u8]) -> usize
         return append(t, m, b);
     }
     admit_full(t, m, b)
+}
+
+// Takes a further transmission in among n, and returns how many there are then. Beyond eight the oldest goes.
+pub fn admit(t: &mut [u8], n: usize, b: &[u8]) -> usize
+    requires { ⌜ B.Filled (now t) n × Sound (now b) × (1 ≤ fixCount (now b)) ⌝ }
+    ensures { λ r. ⌜ r ≡ length (B.admitted (B.blocks n (now (t .entry))) (now (b .entry))) ⌝ }
+    ensures { λ _. ⌜ now (t .exit) ≡ B.blockTable (B.admitted (B.blocks n (now (t .entry))) (now (b .entry))) ⌝ }
+{
+    if n < MAX_TRANSMISSIONS {
+        return append(t, n, b);
+    }
+    admit_arranged(t, n, b)
 }
