@@ -12,6 +12,7 @@ use Rattle.session.proofs.main.Reads as reads
 use Rattle.session.proofs.main.Lts as lts
 use Rattle.io.proofs.read_full.Reads as read-full-reads
 use Rattle.io.proofs.write_all.Reads as write-all-reads
+use Rattle.session.proofs.explain.Reads as explain-reads
 use Rattle.session.proofs.input_buffer.Reads as input-buffer-reads
 use Rattle.session.proofs.output_buffer.Reads as output-buffer-reads
 use Rattle.sessions.proofs.run.Reads as run-reads
@@ -50,8 +51,23 @@ slice-aggregate-write-all c = sym (length-take-le _ _ (array-share-prefix-out (c
 write-all-requires : tie.Need-write-all-requires
 write-all-requires c κs = search needs
 
+array-read-if1 : tie.Need-array-read-if1
+array-read-if1 c = search needs
+
+array-share-prefix-input-2 : tie.Need-array-share-prefix-input-2
+array-share-prefix-input-2 c = search needs
+
+slice-aggregate-explain : tie.Need-slice-aggregate-explain
+slice-aggregate-explain c = search needs
+
+explain-requires : tie.Need-explain-requires
+explain-requires c κs = search needs
+
 returns : tie.Need-returns
 returns c = search needs
+
+returns-2 : tie.Need-returns-2
+returns-2 c = search needs
 
 pub main-spec : {M : Type 1} → statement M
 main-spec =
@@ -67,4 +83,9 @@ main-spec =
     array-share-prefix-out
     slice-aggregate-write-all
     write-all-requires
-    returns)
+    array-read-if1
+    array-share-prefix-input-2
+    slice-aggregate-explain
+    explain-requires
+    returns
+    returns-2)
