@@ -88,13 +88,13 @@ fn disputed_in(memory: &[u8], model: u8) -> bool
 }
 
 // Whether summaries that were disputed or not have become so.
-fn becomes_disputed(was: bool, is: bool) -> bool
-    ensures { λ r. ⌜ r ≡ (not «was» && «is») ⌝ }
+fn becomes_disputed(was: bool, disputed_now: bool) -> bool
+    ensures { λ r. ⌜ r ≡ (not «was» && «disputed_now») ⌝ }
 {
     if was {
         return false;
     }
-    is
+    disputed_now
 }
 
 // Puts a summary in, and checks the fixes again if its model is disputed now and was not.
