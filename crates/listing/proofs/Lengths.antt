@@ -26,9 +26,9 @@ use Rattle.tracked.specs.Parts.{Sound}
 use Rattle.drawing.specs.Lines.{header, whereWhen, heightText, fixText, line, refusedLine}
 use Rattle.drawing.specs.Text.{rankedText}
 use Rattle.arrange.specs.Arranged.{maxTransmissions}
-use Rattle.track.specs.Track.{Track}
-use Rattle.track.specs.Memory.{transmissionPlaces, decode}
-use Rattle.track.proofs.Opened.{opened, block-sound, transmissions-length}
+use Rattle.stored.specs.Track.{Track}
+use Rattle.stored.specs.Memory.{transmissionPlaces, decode}
+use Rattle.stored.proofs.Opened.{opened, block-sound, transmissions-length}
 use Rattle.listing.specs.Listing.{canonicalBits, refusedText, heldText, heldFrom, contestedLine, listingOf}
 use Rattle.listing.specs.Claims.{widestFirst, widestHeader, widestRanked, widestRefused, shortest, longestHeld, longest, LengthNumbers, ListingLength}
 

@@ -8,7 +8,7 @@ use lib.ListN.{length}
 use Rattle.octets.specs.Ascii.{ascii}
 use Rattle.tracked.specs.Layout.{maxStanding, maxRefused}
 use Rattle.arrange.specs.Arranged.{maxTransmissions}
-use Rattle.track.specs.Memory.{wellFormed, decode}
+use Rattle.stored.specs.Memory.{wellFormed, decode}
 use Rattle.listing.specs.Listing.{listingOf}
 
 -- ---- the widest text of each kind, in which every number takes as many digits as it can

@@ -11,8 +11,8 @@ use Rattle.held.specs.After.{After, after, writeText}
 use Rattle.tracked.specs.Held.{RefusedFix, HeldTransmission}
 use Rattle.drawing.specs.Lines.{header, refusedLine}
 use Rattle.drawing.specs.Text.{rankedText, boardSize}
-use Rattle.track.specs.Track.{Track}
-use Rattle.track.specs.Memory.{wellFormed, decode}
+use Rattle.stored.specs.Track.{Track}
+use Rattle.stored.specs.Memory.{wellFormed, decode}
 
 -- "a NaN chi-square, wherever it is stored or written, is 7ff8000000000000"
 abbrev pub canonicalBits : ℕ → ℕ

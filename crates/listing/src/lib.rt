@@ -12,7 +12,7 @@ ghost use Rattle.tracked.specs.Parts.{Sound};
 ghost use Rattle.arrange.specs.Blocks.{blocks, Filled};
 ghost use Rattle.drawing.specs.Text.{rankedText, boardSize};
 ghost use Rattle.drawing.specs.Widths.{refusedWidth};
-ghost use Rattle.track.specs.Memory.{wellFormed, decode};
+ghost use Rattle.stored.specs.Memory.{wellFormed, decode};
 ghost use Rattle.listing.specs.Listing as T;
 ghost use Rattle.listing.specs.Widths.{contestedWidth, heldWidth};
 
@@ -120,17 +120,17 @@ fn write(memory: &[u8], out: &mut [u8]) -> usize
     requires { ⌜ boardSize ≤ length (now out) ⌝ }
     ensures { λ x. ⌜ (x ≤ boardSize) × Put (now (out .entry)) 0 (T.listingOf (decode (now (memory .entry)))) x (now (out .exit)) ⌝ }
 {
-    let contested = octets::words::u64_at(memory, track::layout::CONTESTED_AT);
-    let n = memory[track::layout::TRANSMISSION_COUNT_AT];
+    let contested = octets::words::u64_at(memory, stored::layout::CONTESTED_AT);
+    let n = memory[stored::layout::TRANSMISSION_COUNT_AT];
     let a = put_contested(out, contested);
-    put_all(out, a, &memory[track::layout::TRANSMISSIONS_AT..], n)
+    put_all(out, a, &memory[stored::layout::TRANSMISSIONS_AT..], n)
 }
 
 // The listing of a track: 1 or 10, or its length.
 pub fn listing(memory: &[u8], out: &mut [u8]) -> u32
     ensures { λ a. ⌜ after a (now (out .exit)) ≡ T.listTrack (now (memory .entry)) (now (out .entry)) ⌝ }
 {
-    if !track::formed::well_formed(memory) {
+    if !stored::formed::well_formed(memory) {
         return 1;
     }
     if out.len() < LISTING_SIZE {

@@ -3,7 +3,7 @@ use Prim.Native.Nat.{ℕ}
 use mathlib.Core.Path.{_≡_, refl, ap, _∙_}
 use mathlib.Core.List.{List, List·Permᴰ, List·Permᴰ·cons, List·Permᴰ·swap, List·Permᴰ·trans}
 use native.Mathlib.Omega.{arith}
-use Rattle.track.specs.Memory.{decode}
+use Rattle.stored.specs.Memory.{decode}
 use Rattle.board.proofs.WholeLists.{whole-lists}
 use Rattle.orders.specs.Claims.{trackBytes, growing, largestFirst, OrderFreeBoard, OrderMatters}
 use Rattle.orders.proofs.Positions.{position-9}

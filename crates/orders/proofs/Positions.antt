@@ -22,11 +22,12 @@ use Rattle.shown.specs.Fix.{Fix}
 use Rattle.tracked.specs.Held.{HeldTransmission}
 use Rattle.merge.specs.Merged.{Step, numberOf, merged}
 use Rattle.merge.specs.declared.Merged.the-variants.{Changed}
-use Rattle.track.specs.Layout.{summariesAt, transmissionsSize}
-use Rattle.track.specs.Track.{Track, done, fixFrom, trackReport}
+use Rattle.stored.specs.Layout.{summariesAt, transmissionsSize}
+use Rattle.stored.specs.Track.{Track, done}
+use Rattle.stored.specs.Memory.{fresh, decode, encode, commit, onMemory}
+use Rattle.stored.proofs.Valid.{Valid, decode-encode, on-encode}
+use Rattle.track.specs.Track.{fixFrom, trackReport}
 use Rattle.track.specs.Calls.{runs}
-use Rattle.track.specs.Memory.{fresh, decode, encode, commit, onMemory}
-use Rattle.track.proofs.Valid.{Valid, decode-encode, on-encode}
 use Rattle.track.proofs.Merging.{stepped-valid}
 use Rattle.track.proofs.Ordered.{fresh-is, start-valid}
 use Rattle.orders.specs.Claims.{trackBytes, trackAnswers, trackAfter, serves, growing, largestFirst, Position9}

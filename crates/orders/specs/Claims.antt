@@ -12,9 +12,9 @@ use Rattle.register.specs.Calls.{Call, report, summary, conviction, noneFull}
 use Rattle.register.specs.Memory as R
 use Rattle.merge.specs.Merged.{numberOf}
 use Rattle.merge.specs.declared.Merged.the-variants.{Changed}
-use Rattle.track.specs.Track.{Track}
+use Rattle.stored.specs.Track.{Track}
+use Rattle.stored.specs.Memory as T
 use Rattle.track.specs.Served.{served}
-use Rattle.track.specs.Memory as T
 use Rattle.track.specs.Calls as C
 use Rattle.board.specs.Claims.{SameInBothRooms}
 

@@ -12,8 +12,10 @@ use Rattle.models.specs.Summary.{summaryOf, inputsSize}
 use Rattle.models.specs.Missing.{citesMissing}
 use Rattle.held.specs.After.{After, after}
 use Rattle.held.specs.Limits.{maxEngine}
-use Rattle.track.specs.Track.{Track, Outcome, refused, done, takeCited, trackReport, holdPair, trackSummary, recheck, strikeEngine, trackConviction}
-use Rattle.track.specs.Memory.{wellFormed, convictedIn, summariesIn, decode, encode, commit, onMemory}
+use Rattle.stored.specs.Track.{Track, Outcome, refused, done}
+use Rattle.stored.specs.Memory.{wellFormed, convictedIn, summariesIn, decode, encode, commit, onMemory}
+use Rattle.recheck.specs.Recheck.{recheck, strikeEngine}
+use Rattle.track.specs.Track.{takeCited, trackReport, holdPair, trackSummary, trackConviction}
 
 module _ (f : Track → Outcome) (m : List ℕ) where
   pub no-track : wellFormed m ≡ false → after 1 m ≡ onMemory f m

@@ -16,9 +16,11 @@ use Rattle.models.specs.Models.{counts}
 use Rattle.models.specs.Missing.{citesMissing}
 use Rattle.held.specs.Limits.{maxEngine, maxSummaries}
 use Rattle.merge.specs.Merged.{merged}
-use Rattle.track.specs.Layout.{pairSize}
-use Rattle.track.specs.Track.{Track, Outcome, refused, done, fixFrom, stepped, trackReport, hasStale, recheck, becomesDisputed, putSummary, trackSummary, strikeEngine, trackConviction}
-use Rattle.track.specs.Steps.{withPair}
+use Rattle.stored.specs.Layout.{pairSize}
+use Rattle.stored.specs.Track.{Track, Outcome, refused, done}
+use Rattle.stored.specs.Steps.{withPair}
+use Rattle.recheck.specs.Recheck.{hasStale, recheck, strikeEngine}
+use Rattle.track.specs.Track.{fixFrom, stepped, trackReport, becomesDisputed, putSummary, trackSummary, trackConviction}
 use Rattle.track.specs.Calls.{leftBy}
 use Rattle.track.specs.Claims.{ReportCounts, RefusalCountsNone, SummaryCountsNone, ConvictionCountsNone}
 

@@ -19,17 +19,19 @@ use Rattle.held.specs.Limits.{maxEngine, maxSummaries}
 use Rattle.held.specs.Summaries.{summaryFormed}
 use Rattle.held.proofs.Summarized.{summary-length}
 use Rattle.merge.specs.Merged.{merged}
-use Rattle.track.specs.Layout.{pairSize}
-use Rattle.track.specs.Track.{Track, Outcome, refused, done, fixFrom, stepped, takeCited, trackReport, recheck, becomesDisputed, holdPair, trackSummary, strikeEngine, trackConviction}
-use Rattle.track.specs.Memory.{wellFormed, decode, encode, commit, onMemory}
-use Rattle.track.specs.Steps.{withPair}
+use Rattle.stored.specs.Layout.{pairSize}
+use Rattle.stored.specs.Track.{Track, Outcome, refused, done}
+use Rattle.stored.specs.Memory.{wellFormed, decode, encode, commit, onMemory}
+use Rattle.stored.specs.Steps.{withPair}
+use Rattle.stored.proofs.Opened as O
+use Rattle.stored.proofs.Opened.{opened}
+use Rattle.stored.proofs.Valid.{Valid, decode-valid, formed-encode, decode-encode}
+use Rattle.stored.proofs.Pairs.{pair-valid}
+use Rattle.recheck.specs.Recheck.{recheck, strikeEngine}
+use Rattle.recheck.proofs.Renewing.{recheck-valid, strike-valid}
+use Rattle.track.specs.Track.{fixFrom, stepped, takeCited, trackReport, becomesDisputed, holdPair, trackSummary, trackConviction}
 use Rattle.track.specs.Calls.{Call, report, summary, conviction, act, leftBy}
 use Rattle.track.specs.Claims.{EncodeDecode, LeavesTrack, HoldsLeft, RefusalLeaves, MalformedLeaves}
-use Rattle.track.proofs.Opened as O
-use Rattle.track.proofs.Opened.{opened}
-use Rattle.track.proofs.Valid.{Valid, decode-valid, formed-encode, decode-encode}
-use Rattle.track.proofs.Renewing.{recheck-valid, strike-valid}
-use Rattle.track.proofs.Pairs.{pair-valid}
 use Rattle.track.proofs.Merging.{stepped-valid}
 
 -- ---- every call leaves a valid track

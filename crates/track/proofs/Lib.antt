@@ -1,16 +1,5 @@
-pub mod Frames
-pub mod Blocks
-pub mod Opened
-pub mod Valid
-pub mod Changing
-pub mod Resigning
-pub mod Standing
-pub mod Renewing
-pub mod Rearranging
-pub mod Rechecked
-pub mod Stricken
 pub mod Answers
-pub mod Pairs
+pub mod Holding
 pub mod Merging
 pub mod Reported
 pub mod Kept

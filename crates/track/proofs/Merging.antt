@@ -26,10 +26,11 @@ use Rattle.normalize.specs.Joining.{withFix, upholds}
 use Rattle.normalize.proofs.Distinct.{sign-length}
 use Rattle.arrange.specs.Arranged.{maxTransmissions, arranged}
 use Rattle.merge.specs.Merged.{Step, opened, inPlace, signRefused, signIn, joined, mergedInto, merged}
-use Rattle.track.specs.Track.{Track, fixFrom, stepped}
-use Rattle.track.proofs.Blocks.{Upheld, Kept, Held, of-map}
-use Rattle.track.proofs.Renewing.{Fit, normalized-kept, held-fit, arranged-held, arranged-at-most}
-use Rattle.track.proofs.Valid.{Valid}
+use Rattle.stored.specs.Track.{Track}
+use Rattle.stored.proofs.Blocks.{Upheld, Kept, Held, of-map}
+use Rattle.stored.proofs.Valid.{Valid}
+use Rattle.recheck.proofs.Renewing.{Fit, normalized-kept, held-fit, arranged-held, arranged-at-most}
+use Rattle.track.specs.Track.{fixFrom, stepped}
 
 -- ---- a fix that gains signers
 

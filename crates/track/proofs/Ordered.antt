@@ -21,13 +21,15 @@ use Rattle.arrange.specs.Claims.{InOrder, none, next}
 use Rattle.arrange.proofs.Settling.{drop-in}
 use Rattle.arrange.proofs.Claimed.{arranged-in-order}
 use Rattle.merge.proofs.Claimed.{order-kept}
-use Rattle.track.specs.Layout.{summariesAt, transmissionsSize}
-use Rattle.track.specs.Track.{Track, Outcome, refused, done, fixFrom, hasStale, recheck, strikeEngine}
+use Rattle.stored.specs.Layout.{summariesAt, transmissionsSize}
+use Rattle.stored.specs.Track.{Track, Outcome, refused, done}
+use Rattle.stored.specs.Memory.{encode, fresh, commit, onMemory}
+use Rattle.stored.proofs.Valid.{Valid, formed-encode, decode-encode, on-encode}
+use Rattle.recheck.specs.Recheck.{hasStale, recheck, strikeEngine}
+use Rattle.track.specs.Track.{fixFrom}
 use Rattle.track.specs.Served.{keptOf}
-use Rattle.track.specs.Memory.{encode, fresh, commit, onMemory}
 use Rattle.track.specs.Calls.{Call, report, summary, conviction, act, runs}
 use Rattle.track.specs.Claims.{StaysInOrder, ReachedInOrder, OneServed, LatestServed}
-use Rattle.track.proofs.Valid.{Valid, formed-encode, decode-encode, on-encode}
 use Rattle.track.proofs.Kept.{Sound, act-sound}
 use Rattle.track.proofs.Counted.{Leaves, report-leaves, summary-leaves, conviction-leaves, left-after}
 

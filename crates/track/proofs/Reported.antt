@@ -35,14 +35,15 @@ use Rattle.arrange.specs.Arranged.{maxTransmissions}
 use Rattle.arrange.specs.Blocks.{blocks, blockTable}
 use Rattle.merge.specs.Merged.{Step, numberOf, merged}
 use Rattle.merge.specs.Searching.{Steady, Ready}
-use Rattle.track.specs.Layout.{transmissionCountAt, contestedAt, transmissionsAt}
-use Rattle.track.specs.Track.{fixFrom, stepped, takeCited, refused, done}
-use Rattle.track.specs.Memory.{convictedIn, summaryCount, transmissionCount, contestedIn, summaryTable, transmissionTable, summariesIn, transmissionPlaces, decode, encode, commit}
+use Rattle.stored.specs.Layout.{transmissionCountAt, contestedAt, transmissionsAt}
+use Rattle.stored.specs.Track.{refused, done}
+use Rattle.stored.specs.Memory.{convictedIn, summaryCount, transmissionCount, contestedIn, summaryTable, transmissionTable, summariesIn, transmissionPlaces, decode, encode, commit}
+use Rattle.stored.proofs.Frames.{frame, read-contested, set-transmission-count, put-contested, frame-transmissions-back}
+use Rattle.stored.proofs.Opened.{Opened, summaries-length, summaries-are, summary-bytes-length, framed, filled, block-parts, block-sound, block-canonical, transmissions-length}
+use Rattle.stored.proofs.Blocks.{all-pass}
+use Rattle.recheck.proofs.Rearranging.{all-signed}
+use Rattle.track.specs.Track.{fixFrom, stepped, takeCited}
 use Rattle.track.specs.Steps.{reportedFix}
-use Rattle.track.proofs.Frames.{frame, read-contested, set-transmission-count, put-contested, frame-transmissions-back}
-use Rattle.track.proofs.Opened.{Opened, summaries-length, summaries-are, summary-bytes-length, framed, filled, block-parts, block-sound, block-canonical, transmissions-length}
-use Rattle.track.proofs.Blocks.{all-pass}
-use Rattle.track.proofs.Rearranging.{all-signed}
 use Rattle.track.proofs.Merging.{merged-few}
 
 -- ---- the bytes of the fix

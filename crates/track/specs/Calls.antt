@@ -1,8 +1,9 @@
 -- The calls of a track (document 01, 'Answers and refusals, operation by operation'), and the track that a call leaves.
 use Prim.Native.Nat.{ℕ}
 use mathlib.Core.List.{List, [], _∷_}
-use Rattle.track.specs.Track.{Track, Outcome, refused, done, trackReport, trackSummary, trackConviction}
-use Rattle.track.specs.Memory.{onMemory}
+use Rattle.stored.specs.Track.{Track, Outcome, refused, done}
+use Rattle.stored.specs.Memory.{onMemory}
+use Rattle.track.specs.Track.{trackReport, trackSummary, trackConviction}
 
 -- report(engine, record), summary(engine, model, spec, inputs), conviction(engine)
 pub data Call : Type 0 where

@@ -11,9 +11,10 @@ use Rattle.shown.specs.Ages.{older}
 use Rattle.tracked.specs.Held.{HeldTransmission}
 use Rattle.arrange.specs.Claims.{InOrder}
 use Rattle.merge.specs.Merged.{merged}
-use Rattle.track.specs.Track.{Track, Outcome, refused, done, fixFrom}
+use Rattle.stored.specs.Track.{Track, Outcome, refused, done}
+use Rattle.stored.specs.Memory.{wellFormed, decode, encode, fresh, onMemory}
+use Rattle.track.specs.Track.{fixFrom}
 use Rattle.track.specs.Served.{keptOf, served}
-use Rattle.track.specs.Memory.{wellFormed, decode, encode, fresh, onMemory}
 use Rattle.track.specs.Calls.{Call, report, summary, conviction, act, leftBy, runs}
 
 -- a track in memory is the bytes of what it holds

@@ -4,7 +4,7 @@ use lib.ListN.{take}
 use Rattle.ranges.specs.Lists.{lastOf}
 use Rattle.shown.specs.Fix.{Fix}
 use Rattle.tracked.specs.Held.{HeldTransmission}
-use Rattle.track.specs.Track.{Track}
+use Rattle.stored.specs.Track.{Track}
 
 -- the fix kept of a transmission, if it has one
 abbrev pub keptOf : HeldTransmission → List Fix

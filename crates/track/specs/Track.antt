@@ -1,48 +1,24 @@
--- What a track holds, and what its operations do to it (document 01, 'Answers and refusals, operation by operation' and 'The track and the session'; the Rust's
+-- What the operations of a track do to it (document 01, 'Answers and refusals, operation by operation' and 'The track and the session'; the Rust's
 -- `model`, `convict`, `recheck` and what stands above `merge`).
 use Prim.Native.Nat.{ℕ, _+_, _%_, _^_}
 use mathlib.Core.Bool.{Bool, true, false, cond, not, _&&_, _||_}
-use mathlib.Core.List.{List, [], _∷_, map}
+use mathlib.Core.List.{List}
 use lib.Dec.{ltb, leb, eqb}
 use lib.ListN.{length, take, drop}
-use Rattle.octets.specs.Masks.{bit, withBit, withoutBit}
-use Rattle.octets.specs.Order.{same}
-use Rattle.ranges.specs.Lists.{anyOf, filter}
-use Rattle.places.specs.Places.{holds, putPlace, keepPlaces}
+use Rattle.octets.specs.Masks.{bit, withBit}
+use Rattle.places.specs.Places.{holds, putPlace}
 use Rattle.record.specs.Layout.{maxModel}
 use Rattle.record.specs.Formed.{wellFormed}
-use Rattle.models.specs.Summary.{summarySize, inputsSize, summaryOf}
+use Rattle.models.specs.Summary.{inputsSize, summaryOf}
 use Rattle.models.specs.Models.{State, missing, agreed, disputed, stateOf, counts}
 use Rattle.models.specs.Missing.{citesMissing}
 use Rattle.models.specs.Identity.{citedInputs, identityOf}
 use Rattle.held.specs.Limits.{maxEngine, maxSummaries}
-use Rattle.held.specs.Summaries.{isOfAnother, noValue}
-use Rattle.shown.specs.Fix.{Fix, withSigners}
-use Rattle.tracked.specs.Held.{HeldTransmission, heldIn}
-use Rattle.normalize.specs.Normal.{normalized}
-use Rattle.normalize.specs.Signed.{isSigned}
-use Rattle.arrange.specs.Arranged.{arranged}
+use Rattle.shown.specs.Fix.{Fix}
 use Rattle.merge.specs.Merged.{Step, numberOf, merged}
-use Rattle.track.specs.Layout.{pairSize}
-
--- The convicted engines, bit n for engine n; how many fixes entered a list of refused; the summaries, each its 36 bytes, one for each engine and model, in
--- ascending order; the transmissions.
-pub record Track : Type 0 where
-  pub convicted : ℕ
-  pub contested : ℕ
-  pub summaries : List (List ℕ)
-  pub transmissions : List HeldTransmission
-
--- an operation is refused with a number, or it answers one and leaves a track
-pub data Outcome : Type 0 where
-  refused : ℕ → Outcome
-  done : ℕ → Track → Outcome
-
-abbrev pub withTransmissions : List HeldTransmission → Track → Track
-withTransmissions ts s = record { convicted = s .convicted; contested = s .contested; summaries = s .summaries; transmissions = ts }
-
-abbrev pub withSummaries : List (List ℕ) → Track → Track
-withSummaries ss s = record { convicted = s .convicted; contested = s .contested; summaries = ss; transmissions = s .transmissions }
+use Rattle.stored.specs.Layout.{pairSize}
+use Rattle.stored.specs.Track.{Track, Outcome, refused, done, withSummaries}
+use Rattle.recheck.specs.Recheck.{recheck, strikeEngine}
 
 -- ---- report
 
@@ -67,27 +43,6 @@ trackReport e r s =
     (cond (not (wellFormed r)) (refused 3)
     (cond (bit (s .convicted) e) (refused 4)
     (cond (citesMissing (s .summaries) r) (refused 6) (takeCited e r s))))
-
--- ---- the Rust's `recheck`
-
--- the models of a fix still say what it was checked under
-abbrev pub stands : List (List ℕ) → Fix → Bool
-stands ss f = counts ss (f .recordBytes) && same (citedInputs ss (f .recordBytes)) (f .inputs)
-
--- some held fix does not stand
-abbrev pub hasStale : List (List ℕ) → HeldTransmission → Bool
-hasStale ss t = anyOf (λ f. not (stands ss f)) (heldIn t)
-
--- the fixes that stand, decided again
-abbrev pub standing : List (List ℕ) → HeldTransmission → HeldTransmission
-standing ss t = normalized (filter (stands ss) (heldIn t))
-
--- where some fix of the track does not stand, every transmission is decided again without those
-unfoldable pub recheck : Track → Track
-recheck s =
-    cond (anyOf (hasStale (s .summaries)) (s .transmissions))
-    (withTransmissions (arranged (map (standing (s .summaries)) (s .transmissions))) s)
-    s
 
 -- ---- summary
 
@@ -119,23 +74,6 @@ trackSummary e model spec inputs s =
     (cond (bit (s .convicted) e) (refused 4) (holdPair model (summaryOf e model spec inputs) s)))
 
 -- ---- conviction
-
--- without an engine's signature
-abbrev pub unsigned : ℕ → Fix → Fix
-unsigned e f = withSigners (withoutBit (f .signers) e) f
-
--- the fixes that others signed, decided again
-abbrev pub withoutEngine : ℕ → HeldTransmission → HeldTransmission
-withoutEngine e t = normalized (filter isSigned (map (unsigned e) (heldIn t)))
-
-unfoldable pub strikeEngine : ℕ → Track → Track
-strikeEngine e s =
-    record {
-      convicted = withBit (s .convicted) e;
-      contested = s .contested;
-      summaries = keepPlaces summarySize (isOfAnother e) noValue (s .summaries);
-      transmissions = arranged (map (withoutEngine e) (s .transmissions));
-    }
 
 -- "2. Else 0."; "a repeated conviction" rechecks too
 abbrev pub trackConviction : ℕ → Track → Outcome

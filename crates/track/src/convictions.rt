@@ -1,92 +1,12 @@
 // A conviction in a track.
-use crate::formed;
-use crate::layout;
-use crate::rechecks;
-use crate::signatures;
 use held::layout::MAX_ENGINE;
-use tracked::layout::TRANSMISSION_SIZE;
+use recheck::rechecks;
+use recheck::strikes;
+use stored::formed;
 ghost use mathlib.Core.Path.{_≡_};
-ghost use mathlib.Core.Bool.{true};
-ghost use mathlib.Core.List.{map, _++_};
-ghost use Prim.Native.Nat.{_<_, _≤_};
-ghost use lib.ListN.{length, take, set};
-ghost use Rattle.octets.specs.Writes.{putWord};
 ghost use Rattle.held.specs.After.{after};
-ghost use Rattle.tracked.specs.Bytes.{transmissionIn, transmissionBytes};
-ghost use Rattle.tracked.specs.Parts.{Sound};
-ghost use Rattle.arrange.specs.Arranged.{arranged};
-ghost use Rattle.arrange.specs.Blocks.{blockTable};
-ghost use Rattle.track.specs.Layout as L;
-ghost use Rattle.track.specs.Track.{withoutEngine, strikeEngine, trackConviction};
-ghost use Rattle.track.specs.Memory.{transmissionPlaces, wellFormed, decode, encode, onMemory};
-ghost use Rattle.track.specs.Steps.{withoutBytes};
-
-// Decides a transmission again, without an engine.
-fn strike_fixes(b: &mut [u8], engine: u32)
-    requires { ⌜ Sound (now b) × (engine < 32) ⌝ }
-    ensures { λ _. ⌜ now (b .exit) ≡ withoutBytes engine (now (b .entry)) ⌝ }
-{
-    signatures::unsign(b, engine);
-    normalize::normalize(b);
-}
-
-// Decides every transmission of a track again, without an engine.
-fn strike_all(memory: &mut [u8], engine: u32)
-    requires { ⌜ (wellFormed (now memory) ≡ true) × (engine < 32) ⌝ }
-    ensures { λ _. ⌜ now (memory .exit) ≡ take L.transmissionsAt (now (memory .entry)) ++ blockTable (map (withoutBytes engine) (transmissionPlaces (now (memory .entry)))) ⌝ }
-{
-    let count = memory[layout::TRANSMISSION_COUNT_AT] as usize;
-    let mut i = 0;
-    let mut at = layout::TRANSMISSIONS_AT;
-    while i < count {
-        let e = at + TRANSMISSION_SIZE;
-        strike_fixes(&mut memory[at..e], engine);
-        at = e;
-        i += 1;
-    }
-}
-
-// Brings them into their order, and returns how many are left.
-fn strike_transmissions(memory: &mut [u8], engine: u32) -> usize
-    requires { ⌜ (wellFormed (now memory) ≡ true) × (engine < 32) ⌝ }
-    ensures { λ r. ⌜ r ≡ length (arranged (map (withoutEngine engine) (map transmissionIn (transmissionPlaces (now (memory .entry)))))) ⌝ }
-    ensures { λ _. ⌜ now (memory .exit) ≡ take L.transmissionsAt (now (memory .entry)) ++ blockTable (map transmissionBytes (arranged (map (withoutEngine engine) (map transmissionIn (transmissionPlaces (now (memory .entry))))))) ⌝ }
-{
-    let count = memory[layout::TRANSMISSION_COUNT_AT] as usize;
-    strike_all(memory, engine);
-    arrange::arrange(&mut memory[layout::TRANSMISSIONS_AT..], count)
-}
-
-// Writes the convicted engines and both counts.
-fn put_header(memory: &mut [u8], convicted: u32, summaries: u16, transmissions: u8)
-    requires { ⌜ L.summariesAt ≤ length (now memory) ⌝ }
-    ensures { λ _. ⌜ now (memory .exit) ≡ set (putWord 2 L.summaryCountAt summaries (putWord 4 L.convictedAt convicted (now (memory .entry)))) L.transmissionCountAt transmissions ⌝ }
-{
-    octets::words::put_u32(memory, layout::CONVICTED_AT, convicted);
-    octets::words::put_u16(memory, layout::SUMMARY_COUNT_AT, summaries);
-    memory[layout::TRANSMISSION_COUNT_AT] = transmissions;
-}
-
-// Strikes an engine from a track.
-fn strike(memory: &mut [u8], engine: u32)
-    requires { ⌜ (wellFormed (now memory) ≡ true) × (engine < 32) ⌝ }
-    ensures { λ _. ⌜ now (memory .exit) ≡ encode (strikeEngine engine (decode (now (memory .entry)))) ⌝ }
-{
-    let convicted = octets::words::u32_at(memory, layout::CONVICTED_AT);
-    let n = octets::words::u16_at(memory, layout::SUMMARY_COUNT_AT) as usize;
-    let left = strike_transmissions(memory, engine);
-    let summaries = held::strikes::strike_summaries(
-        &mut memory[layout::SUMMARIES_AT..layout::TRANSMISSIONS_AT],
-        n,
-        engine as u8,
-    );
-    put_header(
-        memory,
-        octets::masks::with_u32(convicted, engine),
-        summaries as u16,
-        left as u8,
-    );
-}
+ghost use Rattle.stored.specs.Memory.{onMemory};
+ghost use Rattle.track.specs.Track.{trackConviction};
 
 // Convicts an engine. A repeated conviction checks the fixes again too.
 pub fn conviction(memory: &mut [u8], engine: u32) -> u32
@@ -98,7 +18,7 @@ pub fn conviction(memory: &mut [u8], engine: u32) -> u32
     if MAX_ENGINE < engine {
         return 2;
     }
-    strike(memory, engine);
+    strikes::strike(memory, engine);
     rechecks::recheck(memory);
     0
 }

@@ -4,9 +4,5 @@
 // report, summary and conviction take any numbers and any slices, and answer with document 01's
 // numbers; a refusal changes no byte.
 pub mod convictions;
-pub mod formed;
-pub mod layout;
-pub mod rechecks;
 pub mod reports;
-pub mod signatures;
 pub mod summaries;

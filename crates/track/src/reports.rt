@@ -1,8 +1,8 @@
 // A report into a track.
-use crate::formed;
-use crate::layout;
 use held::layout::MAX_ENGINE;
 use merge::Merged;
+use stored::formed;
+use stored::layout;
 use tracked::layout::FIX_SIZE;
 use tracked::layout::INPUTS_AT;
 use tracked::layout::SIGNERS_AT;
@@ -20,9 +20,9 @@ ghost use Rattle.models.specs.Missing.{citesMissing};
 ghost use Rattle.held.specs.After.{after};
 ghost use Rattle.merge.specs.Merged.{numberOf};
 ghost use Rattle.tracked.specs.Bytes.{fixBytes};
-ghost use Rattle.track.specs.Layout as L;
+ghost use Rattle.stored.specs.Layout as L;
+ghost use Rattle.stored.specs.Memory.{summariesIn, wellFormed, decode, commit, onMemory};
 ghost use Rattle.track.specs.Track.{takeCited, trackReport};
-ghost use Rattle.track.specs.Memory.{summariesIn, wellFormed, decode, commit, onMemory};
 ghost use Rattle.track.specs.Steps.{reportedFix};
 
 // The number of an answer.

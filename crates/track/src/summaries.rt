@@ -1,25 +1,20 @@
 // A summary into a track.
-use crate::formed;
-use crate::layout;
-use crate::rechecks;
 use held::layout::MAX_ENGINE;
-use held::layout::MAX_SUMMARIES;
-use models::layout::SUMMARY_SIZE;
 use models::states::ModelState;
-use places::Put;
+use recheck::rechecks;
+use stored::formed;
+use stored::layout;
 ghost use mathlib.Core.Path.{_≡_};
 ghost use mathlib.Core.Bool.{true, not, _&&_};
-ghost use mathlib.Core.List.{_++_};
-ghost use Prim.Native.Nat.{_+_, _*_, _≤_};
-ghost use lib.ListN.{length, take, drop};
+ghost use Prim.Native.Nat.{_*_, _≤_};
+ghost use lib.ListN.{length};
 ghost use Rattle.places.specs.Places.{places};
 ghost use Rattle.models.specs.Summary.{summarySize};
 ghost use Rattle.models.specs.Models.{stateOf};
 ghost use Rattle.held.specs.After.{after};
 ghost use Rattle.held.specs.Summaries.{summaryFormed};
+ghost use Rattle.stored.specs.Memory.{convictedIn, summariesIn, wellFormed, decode, commit, onMemory};
 ghost use Rattle.track.specs.Track.{isDisputed, holdPair, trackSummary};
-ghost use Rattle.track.specs.Memory.{convictedIn, summariesIn, wellFormed, decode, commit, onMemory};
-ghost use Rattle.track.specs.Steps.{putPair};
 
 // Whether a model's summaries are disputed.
 fn is_disputed(table: &[u8], n: usize, model: u8) -> bool
@@ -30,47 +25,6 @@ fn is_disputed(table: &[u8], n: usize, model: u8) -> bool
         ModelState::Missing => false,
         ModelState::Agreed(_) => false,
         ModelState::Disputed => true,
-    }
-}
-
-// Puts a summary in the place of summary i.
-fn put_summary(t: &mut [u8], i: usize, p: &[u8])
-    requires { ⌜ (length (now p) ≡ summarySize) × (i * summarySize + summarySize ≤ length (now t)) ⌝ }
-    ensures { λ _. ⌜ now (t .exit) ≡ take (i * summarySize) (now (t .entry)) ++ (now (p .entry) ++ drop summarySize (drop (i * summarySize) (now (t .entry)))) ⌝ }
-{
-    let at = i * SUMMARY_SIZE;
-    let e = at + SUMMARY_SIZE;
-    bytes::copy(p, &mut t[at..e]);
-}
-
-// Puts a summary in by its engine and model, in the place of the one that is held of them.
-fn put_pair(memory: &mut [u8], p: &[u8]) -> u32
-    requires { ⌜ (wellFormed (now memory) ≡ true) × (length (now p) ≡ summarySize) ⌝ }
-    ensures { λ a. ⌜ after a (now (memory .exit)) ≡ commit (now (memory .entry)) (putPair (now (p .entry)) (decode (now (memory .entry)))) ⌝ }
-{
-    let n = octets::words::u16_at(memory, layout::SUMMARY_COUNT_AT);
-    let tried = places::put_by_key(
-        &mut memory[layout::SUMMARIES_AT..layout::TRANSMISSIONS_AT],
-        n as usize,
-        MAX_SUMMARIES,
-        SUMMARY_SIZE,
-        layout::PAIR_SIZE,
-        p,
-    );
-    match tried {
-        Put::Held(i) => {
-            put_summary(
-                &mut memory[layout::SUMMARIES_AT..layout::TRANSMISSIONS_AT],
-                i,
-                p,
-            );
-            0
-        }
-        Put::Full => 5,
-        Put::New => {
-            octets::words::put_u16(memory, layout::SUMMARY_COUNT_AT, n + 1);
-            0
-        }
     }
 }
 
@@ -103,7 +57,7 @@ fn hold(memory: &mut [u8], model: u8, p: &[u8]) -> u32
     ensures { λ a. ⌜ after a (now (memory .exit)) ≡ commit (now (memory .entry)) (holdPair model (now (p .entry)) (decode (now (memory .entry)))) ⌝ }
 {
     let was = disputed_in(memory, model);
-    let a = put_pair(memory, p);
+    let a = stored::summaries::put_pair(memory, p);
     if a != 0 {
         return a;
     }

@@ -8,7 +8,7 @@ use lib.ListN.{length, drop, length-append}
 use Rattle.ranges.proofs.Bools.{by}
 use Rattle.held.specs.After.{After, after, writeText}
 use Rattle.drawing.specs.Text.{boardSize}
-use Rattle.track.specs.Memory.{wellFormed, decode}
+use Rattle.stored.specs.Memory.{wellFormed, decode}
 use Rattle.listing.specs.Listing.{listingOf, listTrack}
 
 module _ (o o′ : List ℕ) (a : ℕ) (room : boardSize ≤ length o) (size : length o′ ≡ length o) where

@@ -13,7 +13,7 @@ use models::layout::MODEL_AT;
 use models::layout::SPEC_AT;
 use models::layout::SUMMARY_SIZE;
 use record::layout::RECORD_SIZE;
-use track::layout::TRACK_SIZE;
+use stored::layout::TRACK_SIZE;
 
 // More lists than these are not read.
 const MAX_LISTS: u32 = 65536;

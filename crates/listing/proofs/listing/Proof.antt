@@ -6,7 +6,7 @@ use mathlib.Core.List.{List}
 use native.Mathlib.Omega.{arith}
 use borrow.Author.Tests.{lt-ltb, le-ltb}
 use Rattle.ranges.proofs.Bools.{not-t, not-false-t}
-use Rattle.track.specs.Memory.{wellFormed}
+use Rattle.stored.specs.Memory.{wellFormed}
 use Rattle.listing.specs.Listing.{listTrack}
 use Rattle.held.proofs.Writing.{put-written}
 use borrow.Author.Needs.{needs}
@@ -15,7 +15,7 @@ use Rattle.listing.proofs.listing.Tie as tie
 use Rattle.listing.proofs.listing.Reads as reads
 use Rattle.listing.proofs.listing.Lts as lts
 use Rattle.listing.proofs.write.Reads as write-reads
-use Rattle.track.proofs.formed.well_formed.Reads as well-formed-reads
+use Rattle.stored.proofs.formed.well_formed.Reads as well-formed-reads
 
 -- the track is well-formed
 module _ (a : tie.Else1) where

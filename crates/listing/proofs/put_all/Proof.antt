@@ -13,7 +13,7 @@ use Rattle.tracked.specs.Layout.{transmissionSize}
 use Rattle.tracked.specs.Bytes.{transmissionIn}
 use Rattle.tracked.specs.Parts.{Sound}
 use Rattle.arrange.specs.Blocks.{blocks}
-use Rattle.track.proofs.Opened.{mem-at}
+use Rattle.stored.proofs.Opened.{mem-at}
 use Rattle.listing.specs.Listing.{heldText, heldFrom}
 use Rattle.listing.specs.Widths.{heldWidth}
 use Rattle.listing.proofs.Texts.{held-more}

@@ -8,9 +8,9 @@ use Rattle.octets.proofs.Moves.{tail-lent}
 use Rattle.text.proofs.Writing.{put-put, put-as, put-length}
 use Rattle.tracked.specs.Bytes.{transmissionIn}
 use Rattle.arrange.specs.Blocks.{blocks, Filled}
-use Rattle.track.specs.Layout.{transmissionsAt}
-use Rattle.track.specs.Memory.{transmissionCount, decode}
-use Rattle.track.proofs.Opened.{Opened, opened, filled}
+use Rattle.stored.specs.Layout.{transmissionsAt}
+use Rattle.stored.specs.Memory.{transmissionCount, decode}
+use Rattle.stored.proofs.Opened.{Opened, opened, filled}
 use Rattle.listing.specs.Listing.{contestedLine, heldFrom, listingOf}
 use borrow.Author.Needs.{needs}
 use Rattle.listing.proofs.write.Statement.{statement}

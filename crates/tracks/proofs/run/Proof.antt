@@ -3,7 +3,7 @@ use Prim.Native.Nat.{_-_, _≤_}
 use mathlib.Core.Path.{_≡_, sym, _∙_}
 use native.Mathlib.Omega.{arith}
 use lib.ListN.{length}
-use Rattle.track.specs.Layout.{trackSize}
+use Rattle.stored.specs.Layout.{trackSize}
 use borrow.Author.Needs.{needs}
 use Rattle.tracks.proofs.run.Statement.{statement}
 use Rattle.tracks.proofs.run.Tie as tie

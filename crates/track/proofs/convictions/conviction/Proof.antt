@@ -8,11 +8,13 @@ use borrow.Author.Tests.{not-true, not-false}
 use Rattle.octets.specs.Bytes.{Bytes}
 use Rattle.octets.proofs.Numbers.{all-bytes}
 use Rattle.held.specs.Limits.{maxEngine}
-use Rattle.track.specs.Track.{Track, recheck, strikeEngine, trackConviction}
-use Rattle.track.specs.Memory.{wellFormed, decode, encode}
-use Rattle.track.proofs.Opened.{opened}
-use Rattle.track.proofs.Valid.{Valid, decode-valid, formed-encode, decode-encode}
-use Rattle.track.proofs.Renewing.{strike-valid}
+use Rattle.stored.specs.Track.{Track}
+use Rattle.stored.specs.Memory.{wellFormed, decode, encode}
+use Rattle.stored.proofs.Opened.{opened}
+use Rattle.stored.proofs.Valid.{Valid, decode-valid, formed-encode, decode-encode}
+use Rattle.recheck.specs.Recheck.{recheck, strikeEngine}
+use Rattle.recheck.proofs.Renewing.{strike-valid}
+use Rattle.track.specs.Track.{trackConviction}
 use Rattle.track.proofs.Answers.{no-track, refuses, leaves, conviction-2, conviction-0}
 use borrow.Author.Needs.{needs}
 use Rattle.track.proofs.convictions.conviction.Statement.{statement}

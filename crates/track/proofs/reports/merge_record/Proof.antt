@@ -13,10 +13,10 @@ use Rattle.models.specs.Summary.{summarySize}
 use Rattle.held.specs.Limits.{maxEngine}
 use Rattle.tracked.specs.Bytes.{fixBytes}
 use Rattle.merge.specs.Merged.{numberOf}
-use Rattle.track.specs.Layout.{transmissionCountAt, transmissionsAt, trackSize}
-use Rattle.track.specs.Memory.{summaryCount, summaryTable, summariesIn, transmissionCount}
+use Rattle.stored.specs.Layout.{transmissionCountAt, transmissionsAt, trackSize}
+use Rattle.stored.specs.Memory.{summaryCount, summaryTable, summariesIn, transmissionCount}
+use Rattle.stored.proofs.Opened.{Opened, opened, summary-bytes-length}
 use Rattle.track.specs.Steps.{reportedFix}
-use Rattle.track.proofs.Opened.{Opened, opened, summary-bytes-length}
 use Rattle.track.proofs.Reported.{new-size, new-formed, report-ready, step-few, stepped-is}
 use borrow.Author.Needs.{needs}
 use Rattle.track.proofs.reports.merge_record.Statement.{statement}

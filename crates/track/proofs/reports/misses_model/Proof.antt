@@ -5,8 +5,8 @@ use native.Mathlib.Omega.{arith}
 use Rattle.places.specs.Places.{places}
 use Rattle.models.specs.Summary.{summarySize}
 use Rattle.models.specs.Missing.{citesMissing}
-use Rattle.track.specs.Memory.{summaryTable}
-use Rattle.track.proofs.Opened.{opened, summary-bytes-length}
+use Rattle.stored.specs.Memory.{summaryTable}
+use Rattle.stored.proofs.Opened.{opened, summary-bytes-length}
 use borrow.Author.Needs.{needs}
 use Rattle.track.proofs.reports.misses_model.Statement.{statement}
 use Rattle.track.proofs.reports.misses_model.Tie as tie

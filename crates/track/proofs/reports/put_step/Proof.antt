@@ -4,7 +4,7 @@ use mathlib.Core.Path.{ap, _∙_}
 use mathlib.Core.List.{List}
 use lib.ListN.{set, length-set}
 use Rattle.octets.specs.Writes.{putWord}
-use Rattle.track.specs.Layout.{transmissionCountAt, contestedAt}
+use Rattle.stored.specs.Layout.{transmissionCountAt, contestedAt}
 use borrow.Author.Needs.{needs}
 use Rattle.track.proofs.reports.put_step.Statement.{statement}
 use Rattle.track.proofs.reports.put_step.Tie as tie

@@ -10,9 +10,10 @@ use Rattle.record.specs.Formed as R
 use Rattle.models.specs.Missing.{citesMissing}
 use Rattle.held.specs.After.{after}
 use Rattle.held.specs.Limits.{maxEngine}
-use Rattle.track.specs.Track.{Track, Outcome, refused, trackReport}
-use Rattle.track.specs.Memory.{wellFormed, decode, commit, onMemory}
-use Rattle.track.proofs.Opened.{opened}
+use Rattle.stored.specs.Track.{Track, Outcome, refused}
+use Rattle.stored.specs.Memory.{wellFormed, decode, commit, onMemory}
+use Rattle.stored.proofs.Opened.{opened}
+use Rattle.track.specs.Track.{trackReport}
 use Rattle.track.proofs.Answers.{no-track, on-track, refuses, report-2, report-3, report-4, report-6, report-rest, decoded-convicted, decoded-summaries}
 use borrow.Author.Needs.{needs}
 use Rattle.track.proofs.reports.report.Statement.{statement}

@@ -7,8 +7,8 @@ use borrow.Author.Tests.{not-true, not-false}
 use Rattle.places.specs.Places.{places}
 use Rattle.models.specs.Summary.{summarySize}
 use Rattle.models.specs.Models.{counts}
-use Rattle.track.specs.Memory.{summaryTable, summariesIn}
-use Rattle.track.proofs.Opened.{opened, summary-bytes-length}
+use Rattle.stored.specs.Memory.{summaryTable, summariesIn}
+use Rattle.stored.proofs.Opened.{opened, summary-bytes-length}
 use Rattle.track.proofs.Reported.{not-counted}
 use borrow.Author.Needs.{needs}
 use Rattle.track.proofs.reports.take_cited.Statement.{statement}

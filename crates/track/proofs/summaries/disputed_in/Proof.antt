@@ -5,9 +5,9 @@ use native.Mathlib.Omega.{arith}
 use Rattle.places.specs.Places.{places}
 use Rattle.models.specs.Summary.{summarySize}
 use Rattle.models.specs.Models.{stateOf}
+use Rattle.stored.specs.Memory.{summaryTable}
+use Rattle.stored.proofs.Opened.{opened, summary-bytes-length}
 use Rattle.track.specs.Track.{isDisputed}
-use Rattle.track.specs.Memory.{summaryTable}
-use Rattle.track.proofs.Opened.{opened, summary-bytes-length}
 use borrow.Author.Needs.{needs}
 use Rattle.track.proofs.summaries.disputed_in.Statement.{statement}
 use Rattle.track.proofs.summaries.disputed_in.Tie as tie

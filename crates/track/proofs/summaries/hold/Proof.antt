@@ -8,13 +8,16 @@ use Rattle.octets.specs.Bytes.{Bytes}
 use Rattle.octets.proofs.Numbers.{all-bytes}
 use Rattle.models.specs.Models.{stateOf}
 use Rattle.held.specs.Summaries.{summaryFormed}
-use Rattle.track.specs.Track.{Track, isDisputed, becomesDisputed, recheck}
-use Rattle.track.specs.Memory.{summariesIn, wellFormed, decode, encode}
-use Rattle.track.specs.Steps.{withPair}
-use Rattle.track.proofs.Opened.{opened}
-use Rattle.track.proofs.Valid.{Valid, decode-valid, formed-encode, decode-encode, summaries-back}
+use Rattle.stored.specs.Track.{Track}
+use Rattle.stored.specs.Memory.{summariesIn, wellFormed, decode, encode}
+use Rattle.stored.specs.Steps.{withPair}
+use Rattle.stored.proofs.Opened.{opened}
+use Rattle.stored.proofs.Valid.{Valid, decode-valid, formed-encode, decode-encode, summaries-back}
+use Rattle.stored.proofs.Pairs.{pair-valid}
+use Rattle.recheck.specs.Recheck.{recheck}
+use Rattle.track.specs.Track.{isDisputed, becomesDisputed}
 use Rattle.track.proofs.Answers.{decoded-convicted, decoded-summaries}
-use Rattle.track.proofs.Pairs.{pair-refused, pair-room, pair-left, pair-plain, pair-rechecked, pair-valid}
+use Rattle.track.proofs.Holding.{pair-refused, pair-room, pair-left, pair-plain, pair-rechecked}
 use borrow.Author.Needs.{needs}
 use Rattle.track.proofs.summaries.hold.Statement.{statement}
 use Rattle.track.proofs.summaries.hold.Tie as tie

@@ -14,9 +14,10 @@ use Rattle.record.specs.Layout.{maxModel}
 use Rattle.held.specs.After.{after}
 use Rattle.held.specs.Summaries.{summaryFormed}
 use Rattle.held.specs.Limits.{maxEngine}
-use Rattle.track.specs.Track.{Track, Outcome, refused, trackSummary, holdPair}
-use Rattle.track.specs.Memory.{convictedIn, wellFormed, decode, commit, onMemory}
-use Rattle.track.proofs.Opened.{opened}
+use Rattle.stored.specs.Track.{Track, Outcome, refused}
+use Rattle.stored.specs.Memory.{convictedIn, wellFormed, decode, commit, onMemory}
+use Rattle.stored.proofs.Opened.{opened}
+use Rattle.track.specs.Track.{trackSummary, holdPair}
 use Rattle.track.proofs.Answers.{no-track, on-track, refuses, summary-2, summary-9-model, summary-9-inputs, summary-4, summary-rest, decoded-convicted}
 use borrow.Author.Needs.{needs}
 use Rattle.track.proofs.summaries.summary.Statement.{statement}

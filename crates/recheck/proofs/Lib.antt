@@ -1,0 +1,5 @@
+pub mod Standing
+pub mod Renewing
+pub mod Rearranging
+pub mod Rechecked
+pub mod Stricken

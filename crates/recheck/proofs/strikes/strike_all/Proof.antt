@@ -1,0 +1,133 @@
+-- Each turn decides one transmission again.
+use Prim.Native.Nat.{ℕ, _+_, _*_, _-_, _≤_, _<_}
+use mathlib.Core.Path.{_≡_, refl, sym, ap, _∙_}
+use mathlib.Core.List.{List, [], _++_, List·Memᴰ}
+use native.Mathlib.Omega.{arith}
+use lib.ListN.{length, getD, take, drop}
+use Rattle.octets.specs.Bytes.{Bytes}
+use Rattle.octets.proofs.Numbers.{all-bytes}
+use Rattle.tracked.specs.Layout.{transmissionSize}
+use Rattle.stored.specs.Layout.{transmissionCountAt, transmissionsAt, trackSize}
+use Rattle.stored.specs.Memory.{transmissionPlaces}
+use Rattle.stored.specs.Steps.{blockAt}
+use Rattle.stored.proofs.Opened.{Opened, opened, transmissions-length, transmissions-wide, transmissions-are, block-sound, mem-at, placeAt}
+use Rattle.recheck.specs.Steps.{withoutBytes}
+use Rattle.recheck.proofs.Standing.{lent-block}
+use Rattle.recheck.proofs.Rearranging.{Rewritten, rewritten-none, rewritten-size, rewritten-block, rewritten-next, rewritten-all, front-size, few-places, put-lent, without-size}
+use borrow.Author.Needs.{needs}
+use Rattle.recheck.proofs.strikes.strike_all.Statement.{statement}
+use Rattle.recheck.proofs.strikes.strike_all.Tie as tie
+
+abbrev Inv-loop : tie.InvT-loop
+Inv-loop memory₀ engine count i₀ at₀ memory i at = (at ≡ placeAt i) × Rewritten (withoutBytes engine) (take transmissionsAt memory₀) (transmissionPlaces memory₀) i memory
+
+abbrev μ-loop : tie.MeasureT-loop
+μ-loop memory₀ engine count i₀ at₀ memory i at = count - i
+
+-- the memory, and what it shows
+module _ (a : tie.At-loop Inv-loop μ-loop) where
+  abbrev s : tie.Start Inv-loop μ-loop
+  s = a .before .before .before
+
+  abbrev m : List ℕ
+  m = s .args .memory .now
+
+  o : Opened m
+  o = opened m (s .pre .0)
+
+  bytes : Bytes m
+  bytes = all-bytes m (λ i. a .before .before .slice-known .given i .fits)
+
+  wide-each : (b : List ℕ) → List·Memᴰ b (transmissionPlaces m) → length (withoutBytes (s .args .engine) b) ≡ transmissionSize
+  wide-each b i = without-size m o b i bytes (s .args .engine)
+
+  size : length (a .loop .memory) ≡ trackSize
+  size = rewritten-size (a .loop .inv .1) (front-size m o) (transmissions-wide m o) (few-places m o) wide-each
+
+-- a turn, on transmission i
+module _ (b : tie.In-loop Inv-loop μ-loop) where
+  abbrev a : tie.At-loop Inv-loop μ-loop
+  a = b .before
+
+  among : a .loop .i < length (transmissionPlaces (m a))
+  among = rw (transmissions-length (m a) (o a)) (b .loop-test .taken)
+
+  lies : placeAt (a .loop .i) + transmissionSize ≤ length (a .loop .memory)
+  lies = rw (size a) (omega (arith, b .loop-test .taken, o a .few))
+
+  one : List·Memᴰ (getD (transmissionPlaces (m a)) (a .loop .i) []) (transmissionPlaces (m a))
+  one = mem-at (transmissionPlaces (m a)) (a .loop .i) [] among
+
+  at-block : blockAt (a .loop .at) (a .loop .memory) ≡ getD (transmissionPlaces (m a)) (a .loop .i) []
+  at-block =
+      ap (λ (k : ℕ). blockAt k (a .loop .memory)) (a .loop .inv .0)
+      ∙ rewritten-block (a .loop .inv .1) (front-size (m a) (o a)) (transmissions-wide (m a) (o a)) (few-places (m a) (o a)) (wide-each a) among
+
+slice-read-count : tie.Need-slice-read-count Inv-loop μ-loop
+slice-read-count c = let s = c .before .before in omega (arith, opened (s .args .memory .now) (s .pre .0) .size)
+
+cast-count : tie.Need-cast-count Inv-loop μ-loop
+cast-count c = omega (arith, c .slice-known2 .given transmissionCountAt)
+
+loop-holds : tie.Need-loop-holds Inv-loop μ-loop
+loop-holds c = let s = c .before .before in (refl, rewritten-none _ _ (s .args .memory .now) (transmissions-are (s .args .memory .now) (opened (s .args .memory .now) (s .pre .0))))
+
+add-e : tie.Need-add-e Inv-loop μ-loop
+add-e c = omega (arith, lies c, c .before .loop .inv .0, size (c .before))
+
+sub-strike-fixes : tie.Need-sub-strike-fixes Inv-loop μ-loop
+sub-strike-fixes c = omega arith
+
+part-strike-fixes-start : tie.Need-part-strike-fixes-start Inv-loop μ-loop
+part-strike-fixes-start c = omega arith
+
+part-strike-fixes-end : tie.Need-part-strike-fixes-end Inv-loop μ-loop
+part-strike-fixes-end c = omega (arith, lies c, c .before .loop .inv .0)
+
+strike-fixes-requires : tie.Need-strike-fixes-requires Inv-loop μ-loop
+strike-fixes-requires c κs =
+    let b = c .before in
+    let a = b .before in
+    (rw (lent-block (a .loop .at) (a .loop .memory), at-block b) (block-sound (m a) (o a) _ (one b)), s a .pre .1)
+
+add-i : tie.Need-add-i Inv-loop μ-loop
+add-i c = let b = c .before .before .before .before in omega (arith, b .loop-test .taken, o (b .before) .few)
+
+loop-less : tie.Need-loop-less Inv-loop μ-loop
+loop-less c = omega arith
+
+loop-again : tie.Need-loop-again Inv-loop μ-loop
+loop-again c =
+    let d = c .before .before in
+    let b = d .before .before in
+    let a = b .before in (
+      omega (arith, a .loop .inv .0),
+      rewritten-next (a .loop .inv .1) (front-size (m a) (o a)) (transmissions-wide (m a) (o a)) (few-places (m a) (o a)) (wide-each a) (among b) _
+          (put-lent (withoutBytes (s a .args .engine)) (a .loop .at) (placeAt (a .loop .i)) (a .loop .memory) (d .strike-fixes .last .0) _ (a .loop .inv .0) (d .strike-fixes .ensures) refl),
+    )
+
+same-length : tie.Need-same-length Inv-loop μ-loop
+same-length c = let a = c .before in size a ∙ sym (o a .size)
+
+returns : tie.Need-returns Inv-loop μ-loop
+returns c = let a = c .before in rewritten-all (a .loop .inv .1) (front-size (m a) (o a)) (transmissions-wide (m a) (o a)) (few-places (m a) (o a)) (wide-each a) (rw (transmissions-length (m a) (o a)) (c .loop-test .left))
+
+pub strike-all-spec : {M : Type 1} → statement M
+strike-all-spec =
+    tie.close
+    (tie.spec
+    Inv-loop
+    μ-loop
+    slice-read-count
+    cast-count
+    loop-holds
+    add-e
+    sub-strike-fixes
+    part-strike-fixes-start
+    part-strike-fixes-end
+    strike-fixes-requires
+    add-i
+    loop-less
+    loop-again
+    same-length
+    returns)

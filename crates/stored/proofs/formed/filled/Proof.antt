@@ -1,0 +1,48 @@
+-- The places, then what is behind them.
+use Prim.Native.Nat.{_*_}
+use mathlib.Core.Path.{refl, sym, ap, _∙_}
+use borrow.Author.Tests.{not-true, not-false}
+use Rattle.octets.specs.Runs.{allZero}
+use Rattle.octets.proofs.Moves.{tail-lent}
+use borrow.Author.Needs.{needs}
+use Rattle.stored.proofs.formed.filled.Statement.{statement}
+use Rattle.stored.proofs.formed.filled.Tie as tie
+
+places-formed-requires : tie.Need-places-formed-requires
+places-formed-requires c κs = search needs
+
+returns : tie.Need-returns
+returns c = sym (rw (sym (c .before .places-formed .ensures) ∙ not-true _ (c .if1 .taken)) refl)
+
+mul-used : tie.Need-mul-used
+mul-used c = search needs
+
+sub-is-zero : tie.Need-sub-is-zero
+sub-is-zero c = search needs
+
+part-is-zero-start : tie.Need-part-is-zero-start
+part-is-zero-start c = search needs
+
+part-is-zero-end : tie.Need-part-is-zero-end
+part-is-zero-end c = search needs
+
+is-zero-requires : tie.Need-is-zero-requires
+is-zero-requires c κs = search needs
+
+returns-2 : tie.Need-returns-2
+returns-2 c =
+    let a = c .before .before .before .before .before .args in
+    c .is-zero .ensures ∙ ap allZero (tail-lent (a .t .now) (a .n * a .w)) ∙ sym (rw (sym (c .before .before .before .places-formed .ensures) ∙ not-false _ (c .before .before .if1 .left)) refl)
+
+pub filled-spec : {M : Type 1} → statement M
+filled-spec =
+    tie.close
+    (tie.spec
+    places-formed-requires
+    returns
+    mul-used
+    sub-is-zero
+    part-is-zero-start
+    part-is-zero-end
+    is-zero-requires
+    returns-2)
