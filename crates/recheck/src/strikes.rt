@@ -1,4 +1,5 @@
 // An engine struck from a track.
+use crate::rechecks;
 use stored::layout;
 use stored::signatures;
 use tracked::layout::TRANSMISSION_SIZE;
@@ -16,7 +17,7 @@ ghost use Rattle.arrange.specs.Blocks.{blockTable};
 ghost use Rattle.stored.specs.Layout as L;
 ghost use Rattle.stored.specs.Memory.{transmissionPlaces, wellFormed, decode, encode};
 ghost use Rattle.stored.specs.Steps.{Carries};
-ghost use Rattle.recheck.specs.Recheck.{unsigned, withoutEngine, strikeEngine};
+ghost use Rattle.recheck.specs.Recheck.{recheck, unsigned, withoutEngine, strikeEngine};
 ghost use Rattle.recheck.specs.Steps.{withoutBytes};
 
 // Takes an engine's signature off every held fix.
@@ -80,7 +81,7 @@ fn put_header(memory: &mut [u8], convicted: u32, summaries: u16, transmissions: 
 }
 
 // Strikes an engine from a track.
-pub fn strike(memory: &mut [u8], engine: u32)
+fn strike(memory: &mut [u8], engine: u32)
     requires { ⌜ (wellFormed (now memory) ≡ true) × (engine < 32) ⌝ }
     ensures { λ _. ⌜ now (memory .exit) ≡ encode (strikeEngine engine (decode (now (memory .entry)))) ⌝ }
 {
@@ -98,4 +99,13 @@ pub fn strike(memory: &mut [u8], engine: u32)
         summaries as u16,
         left as u8,
     );
+}
+
+// Strikes an engine from a track, and checks the fixes again.
+pub fn convict(memory: &mut [u8], engine: u32)
+    requires { ⌜ (wellFormed (now memory) ≡ true) × (engine < 32) ⌝ }
+    ensures { λ _. ⌜ now (memory .exit) ≡ encode (recheck (strikeEngine engine (decode (now (memory .entry))))) ⌝ }
+{
+    strike(memory, engine);
+    rechecks::recheck(memory);
 }

@@ -1,6 +1,5 @@
 // A conviction in a track.
 use held::layout::MAX_ENGINE;
-use recheck::rechecks;
 use recheck::strikes;
 use stored::formed;
 ghost use mathlib.Core.Path.{_≡_};
@@ -18,7 +17,6 @@ pub fn conviction(memory: &mut [u8], engine: u32) -> u32
     if MAX_ENGINE < engine {
         return 2;
     }
-    strikes::strike(memory, engine);
-    rechecks::recheck(memory);
+    strikes::convict(memory, engine);
     0
 }
