@@ -21,12 +21,12 @@ use Rattle.ranges.specs.Tables.{marked, itself}
 use Rattle.ranges.proofs.Range.{filt-ext, filt-at, filt-mem, collect-filt, collect-few, collect-in, collect-all, padded-length}
 use Rattle.ranges.proofs.Bools.{by, or, clash}
 use Rattle.items.specs.Layout.{maxItems, itemSize}
+use Rattle.rule.specs.Standing.{Relations, replaces, isSuperseded, opposes, isContested, isRefused, isCovered, replaced, opposed, refusalOf, decide}
+use Rattle.rule.specs.Outcome.{Refused, Outcome}
+use Rattle.rule.specs.Related as R
 use Rattle.decision.specs.declared.Refusal.{Refusal}
 use Rattle.decision.specs.declared.Decision.{Decision}
-use Rattle.decision.specs.Standing.{Relations, replaces, isSuperseded, opposes, isContested, isRefused, isCovered, replaced, opposed, refusalOf, decide}
-use Rattle.decision.specs.Outcome.{Refused, Outcome}
 use Rattle.decision.proofs.Decided.{lawful}
-use Rattle.decision.specs.Related as R
 use Rattle.decision.specs.Answer.{bad, outcome, decision, decided, indices, refusal, refusals, noRefusal}
 use Rattle.decision.proofs.Carried.{carriedRefusal, carriedOutcome}
 use Rattle.fixes.specs.Layout.{maxFixes, fixSize, fixRecord, fixSigners}

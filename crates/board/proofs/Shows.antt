@@ -17,8 +17,8 @@ use Rattle.ranges.proofs.Orders.{perm-mem}
 use Rattle.ranges.proofs.Sorting as S
 use Rattle.ranges.proofs.Sorting.{sort-ascends}
 use Rattle.ranges.proofs.Bools.{by, or, and-left}
-use Rattle.decision.specs.Standing.{decide}
-use Rattle.decision.specs.Outcome.{Outcome}
+use Rattle.rule.specs.Standing.{decide}
+use Rattle.rule.specs.Outcome.{Outcome}
 use Rattle.decision.specs.Claims.{listedIn}
 use Rattle.decision.proofs.Laws.{Sound, listed-once, some-ranked}
 use Rattle.shown.specs.Fix.{Fix}

@@ -10,10 +10,10 @@ use Rattle.ranges.proofs.Bools.{by}
 use Rattle.ranges.proofs.Lists.{count-length, up-in}
 use Rattle.ranges.proofs.Orders.{perm-length, perm-mem}
 use Rattle.items.specs.Layout.{itemSize}
-use Rattle.decision.specs.Outcome.{Refused, Outcome}
+use Rattle.rule.specs.Outcome.{Refused, Outcome}
 use Rattle.decision.specs.Answer.{bad, outcome, decided, decision, refusedDecision, indices, refusals}
 use Rattle.decision.specs.Claims.{listedIn}
-use Rattle.decision.specs.Rule.{plainly}
+use Rattle.decision.specs.Working.{plainly}
 use Rattle.decision.proofs.Decided.{decided-is, lawful}
 
 -- three lists that are at most one item, of which the first is empty only without items

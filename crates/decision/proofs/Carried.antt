@@ -6,8 +6,8 @@ use mathlib.Core.List.{List, [], _∷_, _++_, map, flatMap, List·Memᴰ, List·
 use Rattle.ranges.proofs.Bools.{by}
 use Rattle.ranges.specs.Lists.{filter, sort, foremost}
 use Rattle.ranges.proofs.Lists.{any-map, filter-map, filter-in, sort-map, foremost-map, foremost-in}
-use Rattle.decision.specs.Standing.{Relations, supersedes, replaces, isSuperseded, opposes, isContested, isRefused, isCovered, replaced, opposed, refusalOf, decide}
-use Rattle.decision.specs.Outcome.{Refused, Outcome}
+use Rattle.rule.specs.Standing.{Relations, supersedes, replaces, isSuperseded, opposes, isContested, isRefused, isCovered, replaced, opposed, refusalOf, decide}
+use Rattle.rule.specs.Outcome.{Refused, Outcome}
 
 -- members of l relate as what h makes of them
 pub record Alike {A B : Type 0} (a : Relations A) (b : Relations B) (h : A → B) (l : List A) : Type 0 where

@@ -9,8 +9,8 @@ use Rattle.ranges.proofs.Bools.{by}
 use Rattle.ranges.proofs.Lists.{count-length}
 use Rattle.ranges.proofs.Orders.{perm-length}
 use Rattle.items.specs.Layout.{itemSize}
+use Rattle.rule.specs.Outcome.{Outcome}
 use Rattle.decision.specs.declared.Decision.{Decision}
-use Rattle.decision.specs.Outcome.{Outcome}
 use Rattle.decision.specs.Answer.{bad, outcome, decided, decision, refusedDecision, indices, refusals}
 use Rattle.decision.specs.Claims.{listedIn}
 use Rattle.decision.proofs.Decided.{decided-is, lawful}

@@ -14,9 +14,9 @@ use Rattle.octets.specs.Words.{word}
 use Rattle.record.specs.Layout.{recordSize}
 use Rattle.items.specs.Layout.{hashSize, itemInputsAt, itemIdentityAt, standingAt, consistentAt, preferredAt, verifiedAt, itemSize}
 use Rattle.items.specs.Items.{itemRecord, itemInputs, itemIdentity, itemStanding, itemConsistent, itemPreferred, itemVerified, verifiedCase, subsetAt, agreementAt, disagreesAt, withinAt, lowerAt, aheadAt, aheadByStanding, aheadByWeight}
-use Rattle.decision.specs.Standing.{decide}
-use Rattle.decision.specs.Outcome.{Refused, Outcome}
-use Rattle.decision.specs.Related.{itemRelations}
+use Rattle.rule.specs.Standing.{decide}
+use Rattle.rule.specs.Outcome.{Refused, Outcome}
+use Rattle.rule.specs.Related.{itemRelations}
 use Rattle.decision.specs.Answer.{bad, outcome, decided, decision}
 use Rattle.decision.specs.Claims.{EachOnce, Names, contest, succession, DecisionsLawful, itemCount, itemAt, Reordered, SameDecision, OrderFree}
 use Rattle.decision.proofs.Carried.{Alike, carried, carriedOutcome}

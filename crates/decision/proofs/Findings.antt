@@ -10,18 +10,18 @@ use Rattle.ranges.proofs.Bools.{by}
 use Rattle.ranges.specs.Lists.{filter, countFrom, upTo}
 use Rattle.ranges.proofs.Searches.{flat-more}
 use Rattle.items.specs.Layout.{itemSize}
+use Rattle.rule.specs.declared.Choice.the-variants.{Nobody, Item}
+use Rattle.rule.specs.Outcome as O
+use Rattle.rule.specs.Standing as S
+use Rattle.rule.specs.Standing.{Relations, replaces, isSuperseded, opposes, isContested, isRefused, replaced, opposed, refusalOf}
+use Rattle.rule.specs.Related.{itemRelations}
+use Rattle.rule.specs.Choosing.{choose}
+use Rattle.rule.proofs.Choosing.{chose-none, chose-item}
 use Rattle.decision.specs.declared.Refusal.{Refusal}
-use Rattle.decision.specs.declared.Choice.the-variants.{Nobody, Item}
 use Rattle.decision.specs.declared.Finding.{Finding}
 use Rattle.decision.specs.declared.Finding.the-variants.{Unrefused, Refused}
-use Rattle.decision.specs.Outcome as O
-use Rattle.decision.specs.Standing as S
-use Rattle.decision.specs.Standing.{Relations, replaces, isSuperseded, opposes, isContested, isRefused, replaced, opposed, refusalOf}
-use Rattle.decision.specs.Related.{itemRelations}
 use Rattle.decision.specs.Answer.{refusal, noRefusal, outcome}
-use Rattle.decision.specs.Choosing.{choose}
-use Rattle.decision.specs.Rule.{finding}
-use Rattle.decision.proofs.Choosing.{chose-none, chose-item}
+use Rattle.decision.specs.Working.{finding}
 use Rattle.decision.proofs.Laws.{refused-one, refused-none}
 use Rattle.decision.proofs.Passed.{outcome-is}
 

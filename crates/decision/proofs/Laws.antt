@@ -14,8 +14,8 @@ use Rattle.ranges.specs.Lists.{anyOf, filter, foremost}
 use Rattle.ranges.proofs.Orders.{perm-mem}
 use Rattle.ranges.proofs.Lists.{any-in, any-of, any-perm, any-same, filter-in, filter-of, filter-some, filter-same, filter-perm, sort-perm, foremost-in, flat-in, flat-same, flat-perm}
 use Rattle.ranges.proofs.Sorting.{Strict, strict-sub, foremost-perm, sort-same}
-use Rattle.decision.specs.Standing.{Relations, supersedes, replaces, isSuperseded, opposes, isContested, isRefused, isCovered, replaced, opposed, refusalOf, decide}
-use Rattle.decision.specs.Outcome.{Refused}
+use Rattle.rule.specs.Standing.{Relations, supersedes, replaces, isSuperseded, opposes, isContested, isRefused, isCovered, replaced, opposed, refusalOf, decide}
+use Rattle.rule.specs.Outcome.{Refused}
 use Rattle.decision.specs.Claims.{listedIn}
 
 total : (a b : ℕ) → (a ≤ b) ⊎ (b ≤ a)

@@ -1,6 +1,5 @@
 pub mod Carried
 pub mod Laws
-pub mod Choosing
 pub mod Ranking
 pub mod Arrays
 pub mod Passed

@@ -14,8 +14,8 @@ use Rattle.record.specs.Formed.{wellFormed}
 use Rattle.items.specs.Layout.{maxItems, itemSize}
 use Rattle.items.specs.Items.{itemRecord, sameIdentity}
 use Rattle.items.specs.Pairs.{Whole}
-use Rattle.decision.specs.Standing.{decide}
-use Rattle.decision.specs.Related.{itemRelations}
+use Rattle.rule.specs.Standing.{decide}
+use Rattle.rule.specs.Related.{itemRelations}
 use Rattle.decision.specs.Answer.{badAt, bad, outcome}
 
 -- they are not too many

@@ -19,7 +19,7 @@ use Rattle.record.specs.Relations.{subset, allIn, member}
 use Rattle.ranges.specs.Lists.{anyOf, filter, insert, sort, foremost, countFrom}
 use Rattle.items.specs.Items.{disagreesAt, withinAt, subsetAt, agreementAt, aheadAt, aheadByStanding, aheadByWeight}
 use Rattle.items.specs.Claimed.{claimOf}
-use Rattle.decision.specs.Standing.{supersedes, isSuperseded, isContested, isRefused, isCovered, refusalOf, decide}
+use Rattle.rule.specs.Standing.{supersedes, isSuperseded, isContested, isRefused, isCovered, refusalOf, decide}
 use Rattle.decision.specs.Answer.{decided, decision, bad, badAt, indices, refusals}
 use Rattle.decision.specs.Claims.{OnlyTheEndsDisagree, Position3}
 

@@ -18,9 +18,9 @@ use Rattle.ranges.proofs.Lists.{filter-in, filter-of, filter-same, sort-perm, u
 use Rattle.ranges.proofs.Sorting.{Strict, strict-sub, sort-first}
 use Rattle.ranges.proofs.Searches.{filter-range, filter-up, holds-none, holds-more}
 use Rattle.items.specs.Layout.{maxItems}
-use Rattle.decision.specs.declared.Choice.the-variants.{Nobody, Item}
-use Rattle.decision.specs.Choosing.{choose}
-use Rattle.decision.proofs.Choosing.{chose-none, chose-among, chose-first}
+use Rattle.rule.specs.declared.Choice.the-variants.{Nobody, Item}
+use Rattle.rule.specs.Choosing.{choose}
+use Rattle.rule.proofs.Choosing.{chose-none, chose-among, chose-first}
 
 unmarked : (m : List Bool) (b i : ℕ) → b < length m → marked (set m b false) i ≡ without (marked m) b i
 unmarked m b i h =

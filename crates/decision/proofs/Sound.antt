@@ -21,7 +21,7 @@ use Rattle.ranges.proofs.Sorting.{Strict, Apart, single, also}
 use Rattle.arithmetic.specs.Agree.{agreesOf}
 use Rattle.items.specs.Items.{itemRecord, itemIdentity, itemStanding, itemWeight, itemConsistent, itemPreferred, subsetAt, agreementAt, disagreesAt, withinAt, sameInputs, sameIdentity, lowerAt, aheadByWeight, aheadByStanding, aheadAt}
 use Rattle.items.specs.Claimed.{moreFirst}
-use Rattle.decision.specs.Related.{itemRelations}
+use Rattle.rule.specs.Related.{itemRelations}
 use Rattle.decision.specs.Answer.{badAt}
 use Rattle.decision.proofs.Laws.{Sound}
 

@@ -10,13 +10,13 @@ use Rattle.ranges.specs.Lists.{anyOf, upTo}
 use Rattle.record.specs.Formed.{wellFormed}
 use Rattle.items.specs.Layout.{maxItems, itemSize}
 use Rattle.items.specs.Items.{itemRecord, sameIdentity}
+use Rattle.rule.specs.Standing.{decide}
+use Rattle.rule.specs.Outcome.{Refused, Outcome}
+use Rattle.rule.specs.Related.{itemRelations}
 use Rattle.decision.specs.declared.Refusal.{Refusal}
 use Rattle.decision.specs.declared.Refusals.{Refusals}
 use Rattle.decision.specs.declared.Indices.{Indices}
 use Rattle.decision.specs.declared.Decision.{Decision}
-use Rattle.decision.specs.Standing.{decide}
-use Rattle.decision.specs.Outcome.{Refused, Outcome}
-use Rattle.decision.specs.Related.{itemRelations}
 
 -- item i is malformed, or has the identity of one before it
 unfoldable pub badAt : List ℕ → ℕ → Bool

@@ -10,9 +10,9 @@ use Rattle.arithmetic.specs.Agree.{agreementOf, agreesOf}
 use Rattle.items.specs.Layout.{itemSize}
 use Rattle.items.specs.Items.{itemConsistent, subsetAt, agreementAt, outstandsAt, aheadAt, itemVerified, isPassed}
 use Rattle.items.specs.Claimed.{claimOf}
-use Rattle.decision.specs.Standing.{Relations, isSuperseded, decide}
-use Rattle.decision.specs.Outcome.{Refused, Outcome}
-use Rattle.decision.specs.Related.{itemRelations}
+use Rattle.rule.specs.Standing.{Relations, isSuperseded, decide}
+use Rattle.rule.specs.Outcome.{Refused, Outcome}
+use Rattle.rule.specs.Related.{itemRelations}
 use Rattle.decision.specs.Answer.{bad, outcome, decided, indices, refusals}
 use Rattle.decision.specs.Positions.{item, S, M, L}
 

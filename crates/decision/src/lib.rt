@@ -1,7 +1,7 @@
 // Which of one transmission's fixes stand, in rank, which are dominated, and which are refused, and against whom.
 //
-// The work is done by `rule`, over tables that `items::pairs` fills. `decide` takes any bytes; `settled` is for callers who lend
-// the tables.
+// The work is done by the crate `rule`, over tables that `items::pairs` fills, and by `parts`. `decide` takes any bytes; `settled`
+// is for callers who lend the tables.
 use items::layout::ITEM_SIZE;
 use items::layout::MAX_ITEMS;
 ghost use mathlib.Core.Path.{_≡_};
@@ -13,10 +13,10 @@ ghost use Rattle.arithmetic.specs.Stages.{preparedSize};
 ghost use Rattle.items.specs.Layout.{itemSize, maxItems};
 ghost use Rattle.items.specs.Items.{sameIdentity};
 ghost use Rattle.items.specs.Pairs.{stride};
-ghost use Rattle.decision.specs.Rule.{few, plainly};
 ghost use Rattle.decision.specs.Answer.{badAt, bad, outcome, decision, decided};
+ghost use Rattle.decision.specs.Working.{few, plainly};
 
-mod rule;
+mod parts;
 pub mod settled;
 
 // Up to this many items have small tables, which cost little to clear.
@@ -63,23 +63,10 @@ pub struct Decision {
     pub refusals: Refusals,
 }
 
-// Of each item, whether it takes the place of another, whether another takes its place, and whether it is refused.
-pub struct Marks {
-    pub superseding: [bool; MAX_ITEMS],
-    pub superseded: [bool; MAX_ITEMS],
-    pub refused: [bool; MAX_ITEMS],
-}
-
 // Whether an item is refused, and how.
 pub enum Finding {
     Unrefused,
     Refused(Refusal),
-}
-
-// What a search for the first of some items finds.
-pub enum Choice {
-    Nobody,
-    Item(u8),
 }
 
 // Whether item i has the identity of one before it.

@@ -2,11 +2,11 @@
 // the decision from it. So nobody pays for a part that he does not ask for, or for room that his items do not need.
 use crate::Finding;
 use crate::Indices;
-use crate::Marks;
 use crate::Refusal;
 use crate::Refusals;
-use crate::rule;
+use crate::parts;
 use items::layout::MAX_ITEMS;
+use rule::Marks;
 ghost use mathlib.Core.Path.{_≡_};
 ghost use mathlib.Core.Bool.{false};
 ghost use mathlib.Core.List.{map};
@@ -16,10 +16,10 @@ ghost use Rattle.ranges.specs.Lists.{upTo};
 ghost use Rattle.arithmetic.specs.Stages.{preparedSize};
 ghost use Rattle.items.specs.Layout.{itemSize};
 ghost use Rattle.items.specs.Pairs.{stride, Prepared};
-ghost use Rattle.decision.specs.Standing as S;
-ghost use Rattle.decision.specs.Related.{itemRelations};
+ghost use Rattle.rule.specs.Standing as S;
+ghost use Rattle.rule.specs.Related.{itemRelations};
 ghost use Rattle.decision.specs.Answer as D;
-ghost use Rattle.decision.specs.Rule.{Settled, finding};
+ghost use Rattle.decision.specs.Working.{Settled, finding};
 
 // Prepares n items, compares them, and marks them.
 pub fn settle(s: &[u8], n: u8, table: &mut [f64], codes: &mut [u8]) -> Marks
@@ -37,7 +37,7 @@ pub fn ranked(s: &[u8], n: u8, codes: &[u8], m: Marks) -> Indices
     ensures { λ r. ⌜ r ≡ D.indices (D.outcome (now (s .entry)) .ranked) ⌝ }
 {
     let rf = m.refused;
-    rule::rank_all(s, n, rule::stands_table(s, codes, n, &rf))
+    parts::rank_all(s, n, rule::stands_table(s, codes, n, &rf))
 }
 
 // The dominated.
@@ -69,7 +69,7 @@ pub fn refusal(s: &[u8], n: u8, table: &[f64], codes: &[u8], m: Marks, i: u8) ->
     let sup = m.superseding;
     let sd = m.superseded;
     let rf = m.refused;
-    rule::refusal_of(s, codes, table, n, &sup, &sd, &rf, i)
+    parts::refusal_of(s, codes, table, n, &sup, &sd, &rf, i)
 }
 
 // The refusals.
@@ -90,7 +90,7 @@ pub fn refusals(s: &[u8], n: u8, table: &[f64], codes: &[u8], m: Marks) -> Refus
     let mut count: u8 = 0;
     let mut i: u8 = 0;
     while i < n {
-        let found = rule::refusal_of(s, codes, table, n, &sup, &sd, &rf, i);
+        let found = parts::refusal_of(s, codes, table, n, &sup, &sd, &rf, i);
         let Finding::Refused(x) = found else {
             i += 1;
             continue;

@@ -9,8 +9,8 @@ use Rattle.ranges.proofs.Bools.{by}
 use Rattle.ranges.proofs.Range.{padded-length}
 use Rattle.items.specs.Layout.{maxItems, itemSize}
 use Rattle.fixes.specs.Layout.{maxFixes, fixSize}
+use Rattle.rule.specs.Outcome.{Outcome}
 use Rattle.decision.specs.Answer.{bad, outcome, decided, decision, refusedDecision, indices, refusal, refusals, noRefusal}
-use Rattle.decision.specs.Outcome.{Outcome}
 use Rattle.decision.proofs.Passed.{few-items}
 use Rattle.decision.proofs.Counted.{lists-few}
 use Rattle.transmissions.specs.Members.{itemsOf, membersOf, outcomeOf}

@@ -14,9 +14,9 @@ use Rattle.ranges.specs.Tables.{marked, itself}
 use Rattle.fixes.specs.Layout.{maxFixes}
 use Rattle.drawing.specs.Widths.{headerWidth, refusedWidth}
 use Rattle.transmissions.specs.Members.{belongs, leaderOf, leading, every, tabulate, leadersOf, headsOf}
-use Rattle.decision.specs.declared.Choice.{Choice}
-use Rattle.decision.specs.declared.Choice.the-variants.{Nobody, Item}
-use Rattle.decision.proofs.Choosing.{chose-among}
+use Rattle.rule.specs.declared.Choice.{Choice}
+use Rattle.rule.specs.declared.Choice.the-variants.{Nobody, Item}
+use Rattle.rule.proofs.Choosing.{chose-among}
 use Rattle.transmissions.specs.Latest.{later, latestLeft, withChosen, latest}
 use Rattle.transmissions.specs.Picture.{maxShown}
 use Rattle.transmissions.proofs.Gathering.{members-listed}

@@ -5,7 +5,7 @@ use mathlib.Core.List.{List, [], _∷_, _++_, flatMap}
 use lib.Ieee.{binary64, toBits}
 use lib.ListN.{length}
 use Rattle.shown.specs.Fix.{Fix}
-use Rattle.decision.specs.Outcome.{Refused}
+use Rattle.rule.specs.Outcome.{Refused}
 use Rattle.shown.specs.Shown.{Transmission}
 use Rattle.drawing.specs.Lines.{header, rankedLine, dominatedLine, refusedLine}
 

@@ -11,11 +11,11 @@ use Rattle.ranges.proofs.Lists.{up-in, count-length, sort-in, sort-map}
 use Rattle.ranges.proofs.Orders.{perm-length, perm-mem}
 use Rattle.ranges.proofs.Range.{padded-length}
 use Rattle.items.specs.Layout.{maxItems}
+use Rattle.rule.specs.Outcome.{Refused, Outcome}
+use Rattle.rule.specs.Related.{itemRelations}
 use Rattle.decision.specs.declared.Refusal.{Refusal}
 use Rattle.decision.specs.declared.Decision.{Decision}
-use Rattle.decision.specs.Outcome.{Refused, Outcome}
 use Rattle.decision.specs.Claims.{listedIn, itemCount}
-use Rattle.decision.specs.Related.{itemRelations}
 use Rattle.decision.specs.Answer.{refusal, noRefusal, bad, outcome, indices, refusals, decision, decided}
 use Rattle.decision.proofs.Laws as W
 use Rattle.decision.proofs.Laws.{listed-once, refused-names}

@@ -9,9 +9,9 @@ use lib.ListN.{length, getD, take}
 use Rattle.ranges.specs.Lists.{sort}
 use Rattle.items.specs.Layout.{itemSize, maxItems}
 use Rattle.items.specs.Items.{itemRecord, itemInputs, itemIdentity, lowerAt}
+use Rattle.rule.specs.Outcome.{Refused}
 use Rattle.decision.specs.declared.Refusal.{Refusal}
 use Rattle.decision.specs.declared.Refusals.{Refusals}
-use Rattle.decision.specs.Outcome.{Refused}
 use Rattle.decision.specs.Answer.{refusal, outcome}
 use Rattle.shown.specs.Fix.{Fix}
 use Rattle.tracked.specs.Layout as L

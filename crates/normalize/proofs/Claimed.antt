@@ -14,7 +14,7 @@ use Rattle.octets.specs.Order.{same}
 use Rattle.record.specs.Fields.{tagCount}
 use Rattle.record.specs.Relations.{subset}
 use Rattle.record.proofs.Laws.{subset-fewer}
-use Rattle.decision.specs.Outcome.{Refused}
+use Rattle.rule.specs.Outcome.{Refused}
 use Rattle.decision.specs.Claims.{listedIn}
 use Rattle.decision.proofs.Laws.{Sound, listed-once, some-ranked}
 use Rattle.shown.specs.Fix.{Fix}

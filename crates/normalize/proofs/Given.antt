@@ -7,7 +7,7 @@ use lib.ListN.{take, drop, take-append-drop}
 use Rattle.ranges.specs.Lists.{sort}
 use Rattle.ranges.proofs.Lists.{sort-perm}
 use Rattle.ranges.proofs.Orders.{perm-map}
-use Rattle.decision.specs.Outcome.{Refused}
+use Rattle.rule.specs.Outcome.{Refused}
 use Rattle.decision.proofs.Laws as D
 use Rattle.shown.specs.Fix.{Fix, withSigners}
 use Rattle.shown.specs.Shown.{agreement, disagrees}

@@ -11,9 +11,9 @@ use Rattle.ranges.specs.Lists.{sort, upTo}
 use Rattle.ranges.proofs.Lists.{sort-in, sort-map}
 use Rattle.items.specs.Layout.{itemSize}
 use Rattle.items.specs.Items.{itemIdentity}
-use Rattle.decision.specs.Standing.{decide}
-use Rattle.decision.specs.Outcome.{Refused}
-use Rattle.decision.specs.Related.{itemRelations}
+use Rattle.rule.specs.Standing.{decide}
+use Rattle.rule.specs.Outcome.{Refused}
+use Rattle.rule.specs.Related.{itemRelations}
 use Rattle.decision.specs.Answer.{refusal, bad, outcome}
 use Rattle.decision.proofs.Carried.{carriedRefusal, carriedOutcome}
 use Rattle.shown.specs.Fix.{Fix}

@@ -30,7 +30,7 @@ use Rattle.items.specs.Layout.{hashSize}
 use Rattle.items.proofs.Pairing.{taken}
 use Rattle.models.specs.Identity.{setHash}
 use Rattle.models.proofs.Sets.{identity-length}
-use Rattle.decision.specs.Outcome.{Refused}
+use Rattle.rule.specs.Outcome.{Refused}
 use Rattle.decision.proofs.Laws as D
 use Rattle.decision.proofs.Laws.{refused-names}
 use Rattle.shown.specs.Fix.{Fix}

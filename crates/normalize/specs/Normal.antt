@@ -7,7 +7,7 @@ use lib.Bits.{bitOr}
 use lib.Ieee.{binary64, toBits}
 use lib.ListN.{take}
 use Rattle.ranges.specs.Lists.{anyOf, sort}
-use Rattle.decision.specs.Outcome.{Refused}
+use Rattle.rule.specs.Outcome.{Refused}
 use Rattle.shown.specs.Fix.{Fix, withSigners}
 use Rattle.shown.specs.Shown.{lower, shown}
 use Rattle.tracked.specs.Layout.{maxStanding, maxRefused}

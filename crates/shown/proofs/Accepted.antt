@@ -12,8 +12,8 @@ use Rattle.ranges.specs.Lists.{upTo}
 use Rattle.ranges.proofs.Lists.{any-none, up-in}
 use Rattle.items.specs.Layout.{maxItems, itemSize}
 use Rattle.items.specs.Items as I
-use Rattle.decision.specs.Standing.{decide}
-use Rattle.decision.specs.Related.{itemRelations}
+use Rattle.rule.specs.Standing.{decide}
+use Rattle.rule.specs.Related.{itemRelations}
 use Rattle.decision.specs.Answer.{badAt, bad, decision, decided}
 use Rattle.decision.proofs.Decided.{decided-is}
 use Rattle.shown.specs.Fix.{Fix}

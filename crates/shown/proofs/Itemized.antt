@@ -18,8 +18,8 @@ use Rattle.items.specs.Layout.{itemSize, hashSize, itemInputsAt, itemIdentityAt
 use Rattle.items.specs.declared.Verified.the-variants.{Unjudged}
 use Rattle.items.specs.Items as I
 use Rattle.items.specs.Items.{disagreesAt, withinAt, subsetAt, agreementAt, aheadAt, aheadByStanding, aheadByWeight}
-use Rattle.decision.specs.Standing.{decide}
-use Rattle.decision.specs.Related as R
+use Rattle.rule.specs.Standing.{decide}
+use Rattle.rule.specs.Related as R
 use Rattle.decision.proofs.Carried.{Alike, carriedOutcome, carried}
 use Rattle.shown.specs.Fix.{Fix}
 use Rattle.shown.specs.Items.{noFix, at, unjudged, itemBytes, itemsFor, Formed, AllFormed}

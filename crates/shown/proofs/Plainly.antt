@@ -5,9 +5,9 @@ use mathlib.Core.List.{List, [], _∷_, flatMap}
 use Rattle.ranges.specs.Lists.{anyOf, filter, sort}
 use Rattle.ranges.proofs.Lists.{any-none, filter-none}
 use Rattle.ranges.proofs.Bools.{by, and-unit}
-use Rattle.decision.specs.Standing as D
-use Rattle.decision.specs.Standing.{decide}
-use Rattle.decision.specs.Outcome.{Refused}
+use Rattle.rule.specs.Standing as D
+use Rattle.rule.specs.Standing.{decide}
+use Rattle.rule.specs.Outcome.{Refused}
 use Rattle.shown.specs.Fix.{Fix}
 use Rattle.shown.specs.Shown.{disagrees, within, ahead, refuse, isRefused, isCovered, shown}
 use Rattle.shown.specs.Claims.{fixRelations, ShownIsDecided}

@@ -2,7 +2,7 @@
 use mathlib.Core.Path.{_≡_}
 use mathlib.Core.Bool.{false}
 use mathlib.Core.List.{List}
-use Rattle.decision.specs.Standing.{Relations, decide}
+use Rattle.rule.specs.Standing.{Relations, decide}
 use Rattle.shown.specs.Fix.{Fix}
 use Rattle.shown.specs.Shown.{agreement, disagrees, within, lower, ahead, shown}
 

@@ -10,7 +10,7 @@ use Rattle.arithmetic.specs.Agree.{agreementOf, agreesOf}
 use Rattle.arithmetic.specs.declared.standing.Agreement.{Agreement}
 use Rattle.ranges.specs.Lists.{anyOf, filter, sort, foremost}
 use Rattle.items.specs.Claimed.{claimOf, moreFirst}
-use Rattle.decision.specs.Outcome.{Refused, Outcome}
+use Rattle.rule.specs.Outcome.{Refused, Outcome}
 use Rattle.shown.specs.Fix.{Fix}
 
 -- the ranked in rank, the dominated and the refused in ascending identity

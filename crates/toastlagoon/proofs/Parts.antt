@@ -16,13 +16,13 @@ use Rattle.octets.proofs.Numbers.{length-word-bytes}
 use Rattle.text.specs.Buffer.{Put}
 use Rattle.text.proofs.Writing.{put-put, put-whole}
 use Rattle.items.specs.Layout.{maxItems}
+use Rattle.rule.specs.Outcome.{Outcome}
 use Rattle.decision.specs.declared.Refusal.{Refusal}
 use Rattle.decision.specs.declared.Refusals.{Refusals}
 use Rattle.decision.specs.declared.Indices.{Indices}
 use Rattle.decision.specs.declared.Decision.{Decision}
-use Rattle.decision.specs.Outcome.{Outcome}
 use Rattle.decision.specs.Answer.{indices, refusal, noRefusal, refusals, decision}
-use Rattle.decision.specs.Rule.{plainly}
+use Rattle.decision.specs.Working.{plainly}
 use Rattle.toastlagoon.specs.Layout.{refusalSize}
 use Rattle.toastlagoon.specs.Offsets.{indicesSize, refusalsSize, rankedAt, dominatedAt, refusalsAt, answerSize, listBytes}
 use Rattle.toastlagoon.specs.Answer.{indicesBytes, refusalBytes, eachBytes, countedBytes, refusalsBytes, answerBytes}

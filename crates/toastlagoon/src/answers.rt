@@ -4,10 +4,10 @@
 // one, so that no whole decision is made and copied.
 use decision::Finding;
 use decision::Indices;
-use decision::Marks;
 use decision::Refusal;
 use items::layout::ITEM_SIZE;
 use items::layout::MAX_ITEMS;
+use rule::Marks;
 ghost use mathlib.Core.Path.{_≡_};
 ghost use mathlib.Core.Bool.{false};
 ghost use mathlib.Core.List.{map};
@@ -17,7 +17,7 @@ ghost use Rattle.text.specs.Buffer.{Put};
 ghost use Rattle.arithmetic.specs.Stages.{preparedSize};
 ghost use Rattle.items.specs.Layout.{itemSize, maxItems};
 ghost use Rattle.items.specs.Pairs.{stride, Prepared};
-ghost use Rattle.decision.specs.Rule.{few, Settled};
+ghost use Rattle.decision.specs.Working.{few, Settled};
 ghost use Rattle.decision.specs.Answer.{bad, outcome, refusal, decision, decided};
 ghost use Rattle.held.specs.After.{after};
 ghost use Rattle.toastlagoon.specs.Layout.{refusalSize};

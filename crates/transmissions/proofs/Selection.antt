@@ -14,9 +14,9 @@ use Rattle.ranges.specs.Range.{filt}
 use Rattle.ranges.specs.Tables.{marked}
 use Rattle.ranges.proofs.Range.{filt-ext, filt-at}
 use Rattle.ranges.proofs.Bools.{by, or, clash}
-use Rattle.decision.specs.declared.Choice.{Choice}
-use Rattle.decision.specs.declared.Choice.the-variants.{Nobody, Item}
-use Rattle.decision.proofs.Choosing.{chose-none, chose-among, chose-first}
+use Rattle.rule.specs.declared.Choice.{Choice}
+use Rattle.rule.specs.declared.Choice.the-variants.{Nobody, Item}
+use Rattle.rule.proofs.Choosing.{chose-none, chose-among, chose-first}
 use Rattle.transmissions.specs.Latest.{later, latestLeft, withChosen, latest}
 use Rattle.transmissions.proofs.Ages.{later-irrefl, later-trans}
 use Rattle.ranges.specs.Lists.{filter, insert, sort, lastOf, upTo}

@@ -6,8 +6,8 @@ use Prim.Native.Nat.{ℕ, zero, suc, _-_, _≤_, _<_}
 use native.Mathlib.Omega.{arith}
 use lib.ListN.{length, set, drop, replicate, length-set}
 use Rattle.fixes.specs.Layout.{maxFixes}
-use Rattle.decision.specs.declared.Choice.{Choice}
-use Rattle.decision.specs.declared.Choice.the-variants.{Nobody, Item}
+use Rattle.rule.specs.declared.Choice.{Choice}
+use Rattle.rule.specs.declared.Choice.the-variants.{Nobody, Item}
 use Rattle.transmissions.specs.Latest.{latestLeft, withChosen, latest}
 use Rattle.transmissions.specs.Picture.{maxShown}
 

@@ -9,9 +9,9 @@ use Rattle.record.specs.Fields.{time}
 use Rattle.ranges.specs.Lists.{filter, upTo}
 use Rattle.ranges.specs.Tables.{marked}
 use Rattle.fixes.specs.Layout.{fixRecord, fixIdentity}
-use Rattle.decision.specs.declared.Choice.{Choice}
-use Rattle.decision.specs.declared.Choice.the-variants.{Nobody, Item}
-use Rattle.decision.specs.Choosing.{choose}
+use Rattle.rule.specs.declared.Choice.{Choice}
+use Rattle.rule.specs.declared.Choice.the-variants.{Nobody, Item}
+use Rattle.rule.specs.Choosing.{choose}
 
 -- fix i is later than fix j: by time, then by identity
 unfoldable pub laterFix : List ℕ → ℕ → ℕ → Bool

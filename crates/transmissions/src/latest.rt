@@ -1,12 +1,12 @@
 // Which transmissions are written: the latest, the oldest of them first.
-use decision::Choice;
 use fixes::layout::MAX_FIXES;
+use rule::Choice;
 ghost use mathlib.Core.Path.{_≡_};
 ghost use mathlib.Core.List.{[]};
 ghost use Prim.Native.Nat.{ℕ, _+_, _*_, _<_, _≤_};
 ghost use lib.ListN.{length, getD, drop};
 ghost use Rattle.fixes.specs.Layout.{fixSize, maxFixes};
-ghost use Rattle.decision.specs.Choosing.{better, Below};
+ghost use Rattle.rule.specs.Choosing.{better, Below};
 ghost use Rattle.transmissions.specs.Members.{headsOf};
 ghost use Rattle.transmissions.specs.Picture.{maxShown};
 ghost use Rattle.transmissions.specs.Latest as L;

@@ -5,7 +5,7 @@ use mathlib.Core.List.{List}
 use Prim.Native.Nat.{ℕ}
 use native.Mathlib.Omega.{arith}
 use Rattle.decision.specs.Answer.{bad, decided, refusedDecision, indices}
-use Rattle.decision.specs.Rule.{plainly}
+use Rattle.decision.specs.Working.{plainly}
 use Rattle.decision.proofs.Passed.{few-items, long-items}
 use Rattle.decision.proofs.Decided.{decided-is}
 use Rattle.decision.proofs.Alone.{alone}

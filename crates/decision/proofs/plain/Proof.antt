@@ -1,7 +1,7 @@
 -- `plain` meets its contract.
 use mathlib.Core.Path.{refl}
 use Rattle.decision.specs.Answer.{indices, refusals}
-use Rattle.decision.specs.Rule.{plainly}
+use Rattle.decision.specs.Working.{plainly}
 use Rattle.decision.proofs.plain.Statement.{statement}
 use Rattle.decision.proofs.plain.Tie as tie
 

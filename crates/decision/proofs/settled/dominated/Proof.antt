@@ -9,10 +9,10 @@ use Rattle.ranges.specs.Range.{Holds}
 use Rattle.ranges.proofs.Bools.{not-t, not-false-t}
 use Rattle.ranges.proofs.Searches.{holds-none, listed-hit, listed-miss, listed-done}
 use Rattle.items.specs.Layout.{maxItems}
-use Rattle.decision.specs.Standing as S
-use Rattle.decision.specs.Related.{itemRelations}
+use Rattle.rule.specs.Standing as S
+use Rattle.rule.specs.Related.{itemRelations}
+use Rattle.rule.specs.Rule as R
 use Rattle.decision.specs.Answer.{indices}
-use Rattle.decision.specs.Rule as R
 use Rattle.decision.proofs.Arrays.{held-indices}
 use Rattle.decision.proofs.Passed.{outcome-is}
 use Rattle.decision.proofs.settled.dominated.Statement.{statement}

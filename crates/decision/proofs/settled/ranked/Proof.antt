@@ -1,6 +1,6 @@
 -- `ranked` meets its contract.
 use mathlib.Core.Path.{sym, ap, _∙_}
-use Rattle.decision.specs.Standing as S
+use Rattle.rule.specs.Standing as S
 use Rattle.decision.specs.Answer.{indices}
 use Rattle.decision.proofs.Arrays.{held-indices}
 use Rattle.decision.proofs.Passed.{outcome-is}

@@ -8,9 +8,9 @@ use Rattle.ranges.specs.Range.{Holds}
 use Rattle.ranges.proofs.Searches.{holds-none, holds-more}
 use Rattle.items.specs.Layout.{maxItems}
 use Rattle.items.specs.Pairs.{Prepared}
-use Rattle.decision.specs.Related.{itemRelations}
+use Rattle.rule.specs.Related.{itemRelations}
 use Rattle.decision.specs.Answer.{noRefusal}
-use Rattle.decision.specs.Rule.{Settled}
+use Rattle.decision.specs.Working.{Settled}
 use Rattle.decision.proofs.Arrays.{held-refusals}
 use Rattle.decision.proofs.Findings.{refusedTo, none-refused, found-none, found-one, all-refused}
 use Rattle.decision.proofs.settled.refusals.Statement.{statement}

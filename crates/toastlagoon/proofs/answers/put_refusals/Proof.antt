@@ -8,8 +8,8 @@ use borrow.Author.Needs.{needs}
 use Rattle.text.specs.Buffer.{Put}
 use Rattle.text.proofs.Writing.{put-put, put-none, put-as, put-length}
 use Rattle.items.specs.Pairs.{Prepared}
-use Rattle.decision.specs.Related.{itemRelations}
-use Rattle.decision.specs.Rule.{Settled}
+use Rattle.rule.specs.Related.{itemRelations}
+use Rattle.decision.specs.Working.{Settled}
 use Rattle.decision.proofs.Findings.{refusedTo, none-refused, found-none, found-one, all-refused}
 use Rattle.toastlagoon.specs.Layout.{refusalSize}
 use Rattle.toastlagoon.specs.Offsets.{listBytes}

@@ -1,6 +1,6 @@
 -- `later_of` meets its contract.
 use native.Mathlib.Omega.{arith}
-use Rattle.decision.proofs.Choosing.{better-none, better-new, better-old, below-at}
+use Rattle.rule.proofs.Choosing.{better-none, better-new, better-old, below-at}
 use borrow.Author.Needs.{needs}
 use Rattle.transmissions.proofs.latest.later_of.Statement.{statement}
 use Rattle.transmissions.proofs.latest.later_of.Tie as tie

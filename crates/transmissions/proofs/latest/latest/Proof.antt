@@ -1,7 +1,7 @@
 -- `latest` meets its contract.
 use native.Mathlib.Omega.{arith}
 use mathlib.Core.Path.{sym, _∙_}
-use Rattle.decision.proofs.Choosing.{chose-among}
+use Rattle.rule.proofs.Choosing.{chose-among}
 use Rattle.transmissions.proofs.Showing.{Showing, showing-none, showing-more, showing-end, showing-full}
 use borrow.Author.Needs.{needs}
 use Rattle.transmissions.proofs.latest.latest.Statement.{statement}

@@ -5,8 +5,8 @@ use native.Mathlib.Omega.{arith}
 use Rattle.ranges.proofs.Bools.{not-t, not-false-t}
 use Rattle.ranges.specs.Lists.{filter, countFrom}
 use Rattle.ranges.specs.Tables.{marked}
-use Rattle.decision.specs.Choosing.{choose, Below}
-use Rattle.decision.proofs.Choosing.{choose-start, choose-hit, choose-miss, choose-out, below-none, below-better}
+use Rattle.rule.specs.Choosing.{choose, Below}
+use Rattle.rule.proofs.Choosing.{choose-start, choose-hit, choose-miss, choose-out, below-none, below-better}
 use Rattle.transmissions.specs.Latest.{later, latestLeft}
 use borrow.Author.Needs.{needs}
 use Rattle.transmissions.proofs.latest.latest_left.Statement.{statement}

@@ -1,0 +1,16 @@
+-- How the items in a string of bytes relate (`Standing`), by their indices.
+use mathlib.Core.List.{List}
+use Prim.Native.Nat.{ℕ}
+use Rattle.items.specs.Items.{isPassed, itemVerified, agreementAt, disagreesAt, withinAt, outstandsAt, lowerAt, aheadAt}
+use Rattle.rule.specs.Standing.{Relations}
+
+abbrev pub itemRelations : List ℕ → Relations ℕ
+itemRelations s = record {
+  disagrees = disagreesAt s;
+  chiSquare = λ i j. agreementAt s i j .chi2;
+  outstands = outstandsAt s;
+  passed = λ i. isPassed (itemVerified s i);
+  within = withinAt s;
+  lower = lowerAt s;
+  ahead = aheadAt s;
+}
