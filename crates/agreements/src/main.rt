@@ -3,7 +3,7 @@
 // smaller's horizontal sigma. make_stdout.py works out the same from document 01 and the Rust's text.
 use arithmetic::standing::Agreement;
 use arithmetic::standing::Claimed;
-use arithmetic::standing::Covariance;
+use geometry::linalg::Covariance;
 use libc::STDOUT_FILENO;
 ghost use Prim.Native.Nat.{_≤_};
 ghost use lib.ListN.{length};
@@ -21,15 +21,15 @@ fn end() {
 }
 
 fn show_constants() {
-    show(arithmetic::angles::E7);
+    show(geometry::angles::E7);
     end();
-    show(arithmetic::angles::DEGREE);
+    show(geometry::angles::DEGREE);
     end();
-    show(arithmetic::geodesy::A);
+    show(geometry::geodesy::A);
     end();
-    show(arithmetic::geodesy::F);
+    show(geometry::geodesy::F);
     end();
-    show(arithmetic::geodesy::E2);
+    show(geometry::geodesy::E2);
     end();
     show(arithmetic::standing::AGREE_CHI2);
     end();
@@ -38,14 +38,14 @@ fn show_constants() {
 }
 
 fn show_series(u: f64) {
-    show(arithmetic::angles::sine_series(u));
+    show(geometry::angles::sine_series(u));
     gap();
-    show(arithmetic::angles::cosine_series(u));
+    show(geometry::angles::cosine_series(u));
     end();
 }
 
 fn show_turn(v: i32) {
-    let t = arithmetic::angles::sincos(v);
+    let t = geometry::angles::sincos(v);
     show(t.sin);
     gap();
     show(t.cos);

@@ -5,11 +5,11 @@ use mathlib.Core.List.{List}
 use mathlib.Core.Option.{Option, none, some}
 use lib.Ieee.{Float, nan, inf, fin, isNan, le, round}
 use lib.Ieee.Scale.{finite}
-use Rattle.arithmetic.specs.Numbers.{fromDecimal, notAbove}
-use Rattle.arithmetic.specs.Linalg.{less, rowsBelow, columns, choleskyOf}
+use Rattle.geometry.specs.Numbers.{fromDecimal, notAbove}
+use Rattle.geometry.specs.Linalg.{less, rowsBelow, columns, choleskyOf}
 use Rattle.arithmetic.specs.Agree.{limitOf, rowsOf, matrixOf, lengthUnder, chiSquareOf, finiteOr, differenceOf, threeOf, agreementOf, agreesOf}
 use Rattle.arithmetic.specs.Claims.{factorUnder, sumUnder, Unmeasurable, refused, overflows, NeverNan, InfiniteExactlyWhen, ElseTheSum}
-use Rattle.arithmetic.specs.declared.standing.Covariance.{Covariance}
+use Rattle.geometry.specs.declared.linalg.Covariance.{Covariance}
 use Rattle.arithmetic.specs.declared.standing.Claimed.{Claimed}
 
 never-nan-or : (x : Float) → isNan (finiteOr x) ≡ false

@@ -3,9 +3,9 @@ use mathlib.Core.Path.{_≡_, refl, ap, _∙_}
 use mathlib.Core.Bool.{true, false}
 use lib.Ieee.{Float, nan, lt, mul, ofInt, round}
 use Rattle.floats.proofs.Ieee754.{root-zero}
-use Rattle.arithmetic.specs.Numbers.{_⊕_, _⊗_, whole, fromDecimal}
+use Rattle.geometry.specs.Numbers.{_⊕_, _⊗_, whole, fromDecimal}
 use Rattle.arithmetic.specs.Agree.{sigmaOf}
-use Rattle.arithmetic.specs.declared.standing.Covariance.{Covariance}
+use Rattle.geometry.specs.declared.linalg.Covariance.{Covariance}
 
 pub low-sigma : (c : Covariance) → lt (whole 0) (fromDecimal 5 1 ⊗ (c .xx ⊕ c .yy)) ≡ false → sigmaOf c ≡ whole 0
 unfolding sigmaOf ofInt

@@ -9,17 +9,18 @@ use lib.ListN.{length, take, drop, drop-of-length-le, length-append, length-drop
 use lib.Seq.{sets, sets-eq, drop-drop, drop-at, take-at, length-take-le, drop-append-le, take-append-le, drop-append-add}
 use lib.Ieee.{Float, inf, eq, ofInt}
 use Rattle.floats.specs.Root.{root}
-use Rattle.arithmetic.specs.Numbers.{_⊖_, _⊗_, _⊘_, notAbove}
-use Rattle.arithmetic.specs.Geodesy.{toEcef}
-use Rattle.arithmetic.specs.Linalg.{less, rowsBelow, columns, choleskyOf, forwards, forward, backwards, backward, solveOf, plus}
+use Rattle.geometry.specs.Numbers.{_⊖_, _⊗_, _⊘_, notAbove}
+use Rattle.geometry.specs.Geodesy.{toEcef}
+use Rattle.geometry.specs.Linalg.{less, rowsBelow, columns, choleskyOf, forwards, forward, backwards, backward, solveOf, plus}
 use Rattle.arithmetic.specs.Agree.{geodeticOf, matrixOf, lengthUnder, chiSquareOf, differenceOf, agreementOf}
-use Rattle.arithmetic.specs.Stages.{factorOf, factorOfTwo, factorOfThree, flatLength, fullLength, lengthOfTwo, lengthOfThree, measuredOf, enuOf, partsOf, judgedOf, coordinates, placeNumbers, twoRowsOf, thirdRowOf, flagsOf, factorNumbers, numbersOf, preparedOf, flagAt, twoRowsIn, thirdRowIn, factorIn, partsIn, comparedOf, preparedSize, entryOf, entered}
-use Rattle.arithmetic.specs.declared.geodesy.Vec3.{Vec3}
-use Rattle.arithmetic.specs.declared.geodesy.Basis.{Basis}
-use Rattle.arithmetic.specs.declared.linalg.Factor.{Factor}
-use Rattle.arithmetic.specs.declared.linalg.Factor.the-variants.{None, Flat, Full}
+use Rattle.geometry.specs.Factors.{factorOf, factorOfTwo, factorOfThree, flatLength, fullLength, lengthOfTwo, lengthOfThree}
+use Rattle.arithmetic.specs.Stages.{measuredOf, enuOf, partsOf, judgedOf, coordinates, placeNumbers, twoRowsOf, thirdRowOf, flagsOf, factorNumbers, numbersOf, preparedOf, flagAt, twoRowsIn, thirdRowIn, factorIn, partsIn, comparedOf, preparedSize, entryOf, entered}
+use Rattle.geometry.specs.declared.geodesy.Vec3.{Vec3}
+use Rattle.geometry.specs.declared.geodesy.Basis.{Basis}
+use Rattle.geometry.specs.declared.linalg.Factor.{Factor}
+use Rattle.geometry.specs.declared.linalg.Factor.the-variants.{None, Flat, Full}
 use Rattle.arithmetic.specs.declared.stages.Prepared.{Prepared}
-use Rattle.arithmetic.specs.declared.standing.Covariance.{Covariance}
+use Rattle.geometry.specs.declared.linalg.Covariance.{Covariance}
 use Rattle.arithmetic.specs.declared.standing.Claimed.{Claimed}
 use Rattle.arithmetic.proofs.Comparing.{by, flag-back}
 

@@ -8,12 +8,12 @@ use lib.IntN.{ℤ, pos}
 use lib.Ieee.{Float, inf, binary64, ofInt, le, lt}
 use lib.Ieee.Scale.{finite}
 use Rattle.floats.specs.Root.{root}
-use Rattle.arithmetic.specs.Numbers.{_⊕_, _⊗_, _⊘_, whole, fromDecimal}
-use Rattle.arithmetic.specs.Angles.{sincosOf}
-use Rattle.arithmetic.specs.Geodesy.{toEcef, enuBasis, subOf, dotOf}
-use Rattle.arithmetic.specs.Linalg.{item, choleskyOf, solveOf, plus}
-use Rattle.arithmetic.specs.declared.geodesy.Geodetic.{Geodetic}
-use Rattle.arithmetic.specs.declared.standing.Covariance.{Covariance}
+use Rattle.geometry.specs.Numbers.{_⊕_, _⊗_, _⊘_, whole, fromDecimal}
+use Rattle.geometry.specs.Angles.{sincosOf}
+use Rattle.geometry.specs.Geodesy.{toEcef, enuBasis, subOf, dotOf}
+use Rattle.geometry.specs.Linalg.{item, choleskyOf, solveOf, plus}
+use Rattle.geometry.specs.declared.geodesy.Geodetic.{Geodetic}
+use Rattle.geometry.specs.declared.linalg.Covariance.{Covariance}
 use Rattle.arithmetic.specs.declared.standing.Claimed.{Claimed}
 use Rattle.arithmetic.specs.declared.standing.Agreement.{Agreement}
 

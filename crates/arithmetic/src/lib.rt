@@ -6,15 +6,12 @@ ghost use lib.ListN.{length};
 ghost use Rattle.arithmetic.specs.Agree.{agreementOf, agreesOf, sigmaOf};
 ghost use Rattle.arithmetic.specs.Stages.{preparedSize, preparedOf, comparedOf, entryOf, entered};
 
-pub mod angles;
-pub mod geodesy;
-mod linalg;
 mod stages;
 pub mod standing;
 
+use geometry::linalg::Covariance;
 use standing::Agreement;
 use standing::Claimed;
-use standing::Covariance;
 
 // How many numbers a prepared fix has.
 pub const PREPARED: usize = 21;
@@ -23,7 +20,7 @@ pub fn agreement(smaller: Claimed, larger: Claimed) -> Agreement
     ensures { λ r. ⌜ r ≡ agreementOf smaller larger ⌝ }
 {
     let from = stages::parts(smaller);
-    let to = geodesy::to_ecef(stages::geodetic(larger));
+    let to = geometry::geodesy::to_ecef(stages::geodetic(larger));
     stages::judged(from, to, larger.has_height)
 }
 

@@ -4,17 +4,18 @@ ghost use mathlib.Core.Bool.{_&&_};
 ghost use Prim.Native.Nat.{_+_, _≤_};
 ghost use lib.ListN.{length};
 ghost use lib.Seq.{sets};
-ghost use Rattle.arithmetic.specs.Geodesy.{subOf};
+ghost use Rattle.geometry.specs.Geodesy.{subOf};
 ghost use Rattle.arithmetic.specs.Agree.{metresOf, geodeticOf, finiteOr};
-ghost use Rattle.arithmetic.specs.Stages.{preparedSize, enuOf, partsOf, lengthOfTwo, lengthOfThree, withLimit, measuredOf, judgedOf, heightFlag, zeroVector, twoRowsOf, thirdRowOf, flagsOf, coordinates, placeNumbers, factorNumbers, numbersOf, flagAt, vec3At, basisIn, twoRowsIn, thirdRowIn, factorIn, comparedOf};
-use crate::geodesy::Basis;
-use crate::geodesy::Geodetic;
-use crate::geodesy::Vec3;
-use crate::linalg::Factor;
-use crate::linalg::ThirdRow;
-use crate::linalg::TwoRows;
+ghost use Rattle.geometry.specs.Factors.{lengthOfTwo, lengthOfThree};
+ghost use Rattle.arithmetic.specs.Stages.{preparedSize, enuOf, partsOf, withLimit, measuredOf, judgedOf, heightFlag, zeroVector, twoRowsOf, thirdRowOf, flagsOf, coordinates, placeNumbers, factorNumbers, numbersOf, flagAt, vec3At, basisIn, twoRowsIn, thirdRowIn, factorIn, comparedOf};
 use crate::standing::Agreement;
 use crate::standing::Claimed;
+use geometry::geodesy::Basis;
+use geometry::geodesy::Geodetic;
+use geometry::geodesy::Vec3;
+use geometry::linalg::Factor;
+use geometry::linalg::ThirdRow;
+use geometry::linalg::TwoRows;
 
 pub struct Prepared {
     pub ecef: Vec3,
@@ -36,8 +37,8 @@ fn metres(high: bool, height: i32) -> f64
 pub fn geodetic(claim: Claimed) -> Geodetic
     ensures { λ r. ⌜ r ≡ geodeticOf claim ⌝ }
 {
-    let lat = crate::angles::sincos(claim.lat);
-    let lon = crate::angles::sincos(claim.lon);
+    let lat = geometry::angles::sincos(claim.lat);
+    let lon = geometry::angles::sincos(claim.lon);
     let height_m = metres(claim.has_height, claim.height);
     Geodetic { lat, lon, height_m }
 }
@@ -46,9 +47,9 @@ pub fn parts(claim: Claimed) -> Prepared
     ensures { λ r. ⌜ r ≡ partsOf claim ⌝ }
 {
     let position = geodetic(claim);
-    let ecef = crate::geodesy::to_ecef(position);
-    let basis = crate::geodesy::enu_basis(position);
-    let factor = crate::linalg::cholesky(claim.covariance);
+    let ecef = geometry::geodesy::to_ecef(position);
+    let basis = geometry::geodesy::enu_basis(position);
+    let factor = geometry::linalg::cholesky(claim.covariance);
     Prepared {
         ecef,
         basis,
@@ -61,9 +62,9 @@ pub fn parts(claim: Claimed) -> Prepared
 fn enu(basis: Basis, d: Vec3) -> Vec3
     ensures { λ r. ⌜ r ≡ enuOf basis d ⌝ }
 {
-    let x = crate::geodesy::dot(basis.east, d);
-    let y = crate::geodesy::dot(basis.north, d);
-    let z = crate::geodesy::dot(basis.up, d);
+    let x = geometry::geodesy::dot(basis.east, d);
+    let y = geometry::geodesy::dot(basis.north, d);
+    let z = geometry::geodesy::dot(basis.up, d);
     Vec3 { x, y, z }
 }
 
@@ -110,15 +111,15 @@ fn measured(three: bool, f: Factor, v: Vec3) -> Agreement
     ensures { λ r. ⌜ r ≡ measuredOf three f v ⌝ }
 {
     if three {
-        return with_limit(three, crate::linalg::length_of_three(f, v));
+        return with_limit(three, geometry::linalg::length_of_three(f, v));
     }
-    with_limit(three, crate::linalg::length_of_two(f, v))
+    with_limit(three, geometry::linalg::length_of_two(f, v))
 }
 
 pub fn judged(from: Prepared, to: Vec3, high: bool) -> Agreement
     ensures { λ r. ⌜ r ≡ judgedOf from to high ⌝ }
 {
-    let d = crate::geodesy::sub(to, from.ecef);
+    let d = geometry::geodesy::sub(to, from.ecef);
     let v = enu(from.basis, d);
     let factor = from.factor;
     measured(both(from.has_height, high), factor, v)
@@ -285,7 +286,7 @@ fn length_of_two_in(p: &[f64], v: Vec3) -> f64
     if !flag_at(p, 18) {
         return 1.0 / 0.0;
     }
-    crate::linalg::flat_length(two_rows_in(p), v)
+    geometry::linalg::flat_length(two_rows_in(p), v)
 }
 
 fn length_of_three_in(p: &[f64], v: Vec3) -> f64
@@ -298,7 +299,7 @@ fn length_of_three_in(p: &[f64], v: Vec3) -> f64
     if !flag_at(p, 19) {
         return 1.0 / 0.0;
     }
-    crate::linalg::full_length(two_rows_in(p), third_row_in(p), v)
+    geometry::linalg::full_length(two_rows_in(p), third_row_in(p), v)
 }
 
 fn measured_in(three: bool, p: &[f64], v: Vec3) -> Agreement
@@ -329,7 +330,7 @@ fn difference<'a>(smaller: &'a [f64], larger: &'a [f64]) -> Vec3
     let from = vec3_at(smaller, 0);
     let to = vec3_at(larger, 0);
     let basis = basis_in(smaller);
-    enu(basis, crate::geodesy::sub(to, from))
+    enu(basis, geometry::geodesy::sub(to, from))
 }
 
 pub fn compared<'a>(smaller: &'a [f64], larger: &'a [f64]) -> Agreement

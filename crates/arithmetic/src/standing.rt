@@ -1,14 +1,5 @@
 // What a fix claims, and how another stands to it.
-
-// A fix's covariance, square metres, in east (x), north (y) and up (z).
-pub struct Covariance {
-    pub xx: f64,
-    pub xy: f64,
-    pub xz: f64,
-    pub yy: f64,
-    pub yz: f64,
-    pub zz: f64,
-}
+use geometry::linalg::Covariance;
 
 // What a fix claims: 1e-7 degree, millimetres above the ellipsoid where it has a height, and how sure.
 pub struct Claimed {

@@ -4,7 +4,8 @@ use mathlib.Core.Path.{_≡_, refl}
 use mathlib.Core.List.{List, []}
 use Rattle.floats.proofs.Worked.{root-of-4}
 use Rattle.text.proofs.Readback.{height-texts}
-use Rattle.arithmetic.proofs.Positions.{position-1, position-2, position-4}
+use Rattle.geometry.proofs.Positions.{position-4}
+use Rattle.arithmetic.proofs.Positions.{position-1, position-2}
 use Rattle.decision.proofs.Positions.{position-3, ends-only}
 use Rattle.ranges.specs.Lists.{filter, sort}
 use Rattle.fixes.specs.Fixes.{enterAll, fixesOf}

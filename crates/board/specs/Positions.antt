@@ -6,7 +6,8 @@ use lib.IntN.{pos}
 use lib.Ieee.{binary64, ofInt}
 use Rattle.floats.specs.Root.{root}
 use Rattle.text.specs.Claims.{HeightTexts}
-use Rattle.arithmetic.specs.Claims.{Position1, Position2, Position4}
+use Rattle.geometry.specs.Claims.{Position4}
+use Rattle.arithmetic.specs.Claims.{Position1, Position2}
 use Rattle.decision.specs.Claims.{Position3, OnlyTheEndsDisagree}
 use Rattle.links.specs.Claims.{Position6}
 use Rattle.board.specs.Board.{boardOf}

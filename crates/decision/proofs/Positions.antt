@@ -7,10 +7,10 @@ use Rattle.octets.specs.Words.{wordBytes, word}
 use Rattle.record.specs.Formed.{wellFormed, ascends, ascendsFrom, allUpTo}
 use Rattle.record.specs.Fields.{tagsFrom}
 use Rattle.floats.specs.Root.{isqrt, digitsOf, rootOf, rootFinite, rootBits, root}
-use Rattle.arithmetic.specs.Numbers.{fromDecimal}
-use Rattle.arithmetic.specs.Angles.{degree, radiansOf, factorial, coefficient, sineSeries, cosineSeries, sincosOf}
-use Rattle.arithmetic.specs.Geodesy.{flattening, eccentricity2, toEcef, enuBasis, subOf, dotOf}
-use Rattle.arithmetic.specs.Linalg.{less, rowsBelow, columns, choleskyOf, forwards, forward, backwards, backward, solveOf, plus}
+use Rattle.geometry.specs.Numbers.{fromDecimal}
+use Rattle.geometry.specs.Angles.{degree, radiansOf, factorial, coefficient, sineSeries, cosineSeries, sincosOf}
+use Rattle.geometry.specs.Geodesy.{flattening, eccentricity2, toEcef, enuBasis, subOf, dotOf}
+use Rattle.geometry.specs.Linalg.{less, rowsBelow, columns, choleskyOf, forwards, forward, backwards, backward, solveOf, plus}
 use Rattle.arithmetic.specs.Agree.{limitOf, geodeticOf, matrixOf, lengthUnder, chiSquareOf, finiteOr, differenceOf, agreementOf, agreesOf}
 use Rattle.octets.specs.Order.{same, isBefore}
 use Rattle.octets.specs.Masks.{bits}

@@ -6,7 +6,7 @@ use lib.Dec.{ltb}
 use lib.Ieee.{Float, binary64, ofBits}
 use Rattle.record.specs.Fields as F
 use Rattle.arithmetic.specs.declared.standing.Claimed.{Claimed}
-use Rattle.arithmetic.specs.declared.standing.Covariance.{Covariance}
+use Rattle.geometry.specs.declared.linalg.Covariance.{Covariance}
 
 abbrev pub varianceAt : List ℕ → ℕ → Float
 varianceAt r k = ofBits binary64 (F.covarianceBits r k)

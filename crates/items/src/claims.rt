@@ -1,6 +1,6 @@
 // What a record claims.
 use arithmetic::standing::Claimed;
-use arithmetic::standing::Covariance;
+use geometry::linalg::Covariance;
 ghost use mathlib.Core.Path.{_≡_};
 ghost use Prim.Native.Nat.{_+_, _*_, _≤_, _<_};
 ghost use lib.ListN.{length};

@@ -20,8 +20,8 @@ use Rattle.octets.proofs.Zeros.{or-zero}
 use Rattle.places.specs.Places.{allPlaces}
 use Rattle.ranges.specs.Lists.{anyOf}
 use Rattle.ranges.proofs.Bools.{by, or, and-both, not-f, not-t}
-use Rattle.arithmetic.specs.Numbers.{_⊗_}
-use Rattle.arithmetic.specs.Linalg.{item, plus, choleskyOf, solveOf}
+use Rattle.geometry.specs.Numbers.{_⊗_}
+use Rattle.geometry.specs.Linalg.{item, plus, choleskyOf, solveOf}
 use Rattle.arithmetic.specs.Agree.{rowsOf, matrixOf, lengthUnder, chiSquareOf, finiteOr, differenceOf, threeOf, agreementOf}
 use Rattle.arithmetic.specs.declared.standing.Claimed.{Claimed}
 use Rattle.record.specs.Layout.{recordSize}

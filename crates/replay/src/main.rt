@@ -1,7 +1,7 @@
 // Replays the Rust's cases and prints what ours answers: on standard input 'a' and two claims of 61 bytes, or 'd', a length in two
 // bytes, and so many bytes of items. The expected output is what the Rust answered (make_stdout.py).
 use arithmetic::standing::Claimed;
-use arithmetic::standing::Covariance;
+use geometry::linalg::Covariance;
 use items::layout::MAX_ITEMS;
 use libc::STDIN_FILENO;
 use libc::STDOUT_FILENO;

@@ -2,7 +2,7 @@
 // include/toastlagoon.h says the same for C.
 use answers::ANSWER_SIZE;
 use arithmetic::standing::Claimed;
-use arithmetic::standing::Covariance;
+use geometry::linalg::Covariance;
 ghost use mathlib.Core.Path.{_≡_};
 ghost use Rattle.hashing.specs.Blake2s as Hash;
 ghost use Rattle.floats.specs.Root as Root;

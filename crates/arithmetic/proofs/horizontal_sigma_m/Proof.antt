@@ -1,7 +1,7 @@
 -- `horizontal_sigma_m` meets its contract.
 use lib.Ieee.{ofInt, ofBits, round}
 use borrow.Author.Needs.{needs}
-use Rattle.arithmetic.specs.Numbers.{fromDecimal}
+use Rattle.geometry.specs.Numbers.{fromDecimal}
 use Rattle.arithmetic.specs.Agree.{sigmaOf}
 use Rattle.arithmetic.proofs.horizontal_sigma_m.Statement.{statement}
 use Rattle.arithmetic.proofs.horizontal_sigma_m.Tie as tie

@@ -2,7 +2,7 @@
 use mathlib.Core.Path.{sym, ap}
 use lib.Ieee.{ofInt, ofBits}
 use Rattle.arithmetic.specs.Stages.{flagsOf}
-use Rattle.arithmetic.specs.declared.linalg.Factor.{Factor}
+use Rattle.geometry.specs.declared.linalg.Factor.{Factor}
 use borrow.Author.Needs.{needs}
 use Rattle.arithmetic.proofs.stages.flags.Statement.{statement}
 use Rattle.arithmetic.proofs.stages.flags.Tie as tie

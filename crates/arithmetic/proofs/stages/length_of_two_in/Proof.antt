@@ -3,7 +3,7 @@ use mathlib.Core.Path.{_≡_, sym, _∙_}
 use mathlib.Core.Bool.{true, false}
 use borrow.Author.Tests.{not-true, not-false}
 use Rattle.arithmetic.specs.Stages.{flagAt}
-use Rattle.arithmetic.proofs.Comparing.{infinite}
+use Rattle.geometry.proofs.Comparing.{infinite}
 use Rattle.arithmetic.proofs.Staged.{two-in}
 use borrow.Author.Needs.{needs}
 use Rattle.arithmetic.proofs.stages.length_of_two_in.Statement.{statement}

@@ -1,6 +1,6 @@
 -- `stages::with_limit` meets its contract: the limits are the definition's.
 use lib.Ieee.{ofBits, round}
-use Rattle.arithmetic.specs.Numbers.{fromDecimal}
+use Rattle.geometry.specs.Numbers.{fromDecimal}
 use Rattle.arithmetic.specs.Agree.{limitOf}
 use borrow.Author.Needs.{needs}
 use Rattle.arithmetic.proofs.stages.with_limit.Statement.{statement}

@@ -1,0 +1,4 @@
+pub mod Comparing
+pub mod Constants
+pub mod Positions
+pub mod Quadrants
