@@ -106,6 +106,30 @@ fn held(transmissions: u64, fixes: u64) -> Vec<Call> {
     calls
 }
 
+/// The same calls, all reports with one transmit time: then identities alone tell which transmission is older.
+fn at_one_time(calls: &[Call]) -> Vec<Call> {
+    let mut calls = calls.to_vec();
+    for call in &mut calls {
+        if let Call::Report { record, .. } = call {
+            record[..8].copy_from_slice(&1_000u64.to_le_bytes());
+        }
+    }
+    calls
+}
+
+/// The same track, every other transmission under a model of which engine 2 alone has a summary.
+fn held_of_two_models(transmissions: u64, fixes: u64) -> Vec<Call> {
+    let mut calls = vec![summary(1, 7), Call::Summary { engine: 2, model: 6, spec: 3, inputs: vec![7; 32] }];
+    for t in 0..transmissions {
+        for k in 0..fixes {
+            let record = Record { models: vec![5 + (t % 2) as u8], ..fix(t, k) };
+            calls.push(report(&record, 1));
+            calls.push(report(&record, 2));
+        }
+    }
+    calls
+}
+
 impl Row {
     fn new(name: &str, before: &[Call], calls: Vec<Call>) -> Self {
         let mut state = Track::default();
@@ -135,7 +159,14 @@ fn joins() -> Vec<Row> {
         Row::of("report that joins 3 fixes (4 are decided)", &held(1, 3), larger(&[10, 30]), 20, &[(3, 0)]),
         Row::of("report that joins 8 fixes (9 are decided)", &held(1, 8), apart.clone(), 20, &[(5, 3)]),
         Row::of("report that joins 9 fixes (10 are decided)", &held(1, 9), apart.clone(), 20, &[(5, 4)]),
-        Row::of("report that joins 9 fixes, 8 transmissions held", &held(8, 9), apart, 20, &[(5, 4); 8]),
+        Row::of("report that joins 9 fixes, 8 transmissions held", &held(8, 9), apart.clone(), 20, &[(5, 4); 8]),
+        Row::of(
+            "report that joins 9 fixes, 8 transmissions of one time held",
+            &at_one_time(&held(8, 9)),
+            apart,
+            20,
+            &[(5, 4); 8],
+        ),
     ]
 }
 
@@ -149,6 +180,13 @@ fn reports() -> Vec<Row> {
         Row::of("report, duplicate of the fourth refused, 72 fixes held", &held(8, 9), report(&fix(7, 8), 1), 22, &[(5, 4); 8]),
         Row::of("report, new, one fix held", &held(1, 1), new(1), 20, &[(1, 0); 2]),
         Row::of("report, new, 8 transmissions of one fix held", &held(8, 1), new(8), 20, &[(1, 0); 8]),
+        Row::of(
+            "report, new, 7 transmissions of one time held",
+            &at_one_time(&held(7, 1)),
+            at_one_time(&[new(8)])[0].clone(),
+            20,
+            &[(1, 0); 8],
+        ),
         Row::of(
             "report, new, 36 fixes in 4 transmissions held",
             &held(4, 9),
@@ -171,6 +209,8 @@ fn others() -> Vec<Row> {
     vec![
         Row::of("conviction, 72 fixes held, none falls", &full, convict(2), 0, &[(5, 4); 8]),
         Row::of("conviction, 72 fixes held, the 32 refused fall", &half, convict(2), 0, &[(5, 0); 8]),
+        Row::of("conviction, 72 fixes held, 36 fall with their model", &held_of_two_models(8, 9), convict(2), 0, &[(5, 4); 4]),
+        Row::of("conviction, 72 fixes of one time held, none falls", &at_one_time(&full), convict(2), 0, &[(5, 4); 8]),
         Row::of("conviction, one fix held", &held(1, 1), convict(2), 0, &[(1, 0)]),
         Row::of("summary that disputes, 72 fixes held, all fall", &full, summary(3, 8), 0, &[]),
         Row::of("summary that disputes, one fix held, it falls", &held(1, 1), summary(3, 8), 0, &[]),
