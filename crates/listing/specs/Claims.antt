@@ -42,6 +42,6 @@ longest = length widestFirst + maxTransmissions * longestHeld
 abbrev pub LengthNumbers : Type 0
 LengthNumbers = (shortest ≡ 12) × (longest ≡ 9271)
 
--- every track that is well-formed has one of such a length, which is greater than the number of any refusal
+-- every track that is well-formed has one of such a length, which is greater than 1 and 10, the numbers that refuse a listing
 abbrev pub ListingLength : Type 0
 ListingLength = (m : List ℕ) → wellFormed m ≡ true → (shortest ≤ length (listingOf (decode m))) × (length (listingOf (decode m)) ≤ longest)

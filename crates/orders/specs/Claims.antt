@@ -1,6 +1,6 @@
 -- Whether the order of calls matters. To a track it does (document 01, 'Positions to check': "9: a track taking S, M, L serves L; taking L, S, M it serves M"). To a
--- board it does not: the same calls in those two orders, or in any other two, show the same board. A reader who believes this file, and the definitions it names,
--- needs none of the proofs; the theorem is `order-matters` in proofs/Claimed.
+-- board it does not: the same calls in those two orders, or in any other two where nothing is refused as full, show the same board. A reader who believes this
+-- file, and the definitions it names, needs none of the proofs; the theorem is `order-matters` in proofs/Claimed.
 use Prim.Native.Nat.{ℕ, _≤_}
 use mathlib.Core.Path.{_≡_}
 use mathlib.Core.Bool.{true}
