@@ -1,17 +1,17 @@
 // Replays the Rust's cases and prints what ours answers: on standard input 'a' and two claims of 61 bytes, or 'd', a length in two
 // bytes, and so many bytes of items. The expected output is what the Rust answered (make_stdout.py).
+use answers::ANSWER_SIZE;
+use answers::INDICES_SIZE;
+use answers::REFUSAL_SIZE;
 use arithmetic::standing::Claimed;
 use geometry::linalg::Covariance;
 use items::layout::MAX_ITEMS;
 use libc::STDIN_FILENO;
 use libc::STDOUT_FILENO;
-use toastlagoon::answers::ANSWER_SIZE;
-use toastlagoon::answers::INDICES_SIZE;
-use toastlagoon::answers::REFUSAL_SIZE;
 ghost use Prim.Native.Nat.{_+_, _<_, _≤_};
 ghost use lib.ListN.{length};
-ghost use Rattle.toastlagoon.specs.Layout.{refusalSize};
-ghost use Rattle.toastlagoon.specs.Offsets.{indicesSize, refusalsSize};
+ghost use Rattle.answers.specs.Layout.{refusalSize};
+ghost use Rattle.answers.specs.Offsets.{indicesSize, refusalsSize};
 
 // A claim: latitude, longitude, whether it has a height, the height, and the covariance.
 const CLAIM_SIZE: usize = 61;
@@ -149,7 +149,7 @@ fn show_answer(answer: [u8; ANSWER_SIZE]) {
 
 fn decide(items: &[u8]) {
     let mut answer = [0u8; ANSWER_SIZE];
-    let number = toastlagoon::answers::decide(items, &mut answer);
+    let number = answers::decide(items, &mut answer);
     word(b"answer");
     show(number as u64);
     show_answer(answer);

@@ -16,9 +16,7 @@ ghost use Rattle.stored.specs.Memory as T;
 ghost use Rattle.track.specs.Track.{trackReport, trackSummary, trackConviction};
 ghost use Rattle.listing.specs.Listing.{listTrack};
 ghost use Rattle.toastlagoon.specs.Border.{covarianceFrom, claimFrom};
-ghost use Rattle.toastlagoon.specs.Answer.{handOut};
-
-pub mod answers;
+ghost use Rattle.answers.specs.Answer.{handOut};
 
 // The BLAKE2s-256 hash of any bytes. Answers 0.
 #[no_mangle]

@@ -11,12 +11,12 @@ use Rattle.items.specs.Pairs.{Prepared}
 use Rattle.rule.specs.Related.{itemRelations}
 use Rattle.decision.specs.Working.{Settled}
 use Rattle.decision.proofs.Findings.{refusedTo, none-refused, found-none, found-one, all-refused}
-use Rattle.toastlagoon.specs.Layout.{refusalSize}
-use Rattle.toastlagoon.specs.Offsets.{listBytes}
-use Rattle.toastlagoon.specs.Answer.{eachBytes}
-use Rattle.toastlagoon.proofs.Parts.{length-each, each-more, put-before}
-use Rattle.toastlagoon.proofs.answers.put_refusals.Statement.{statement}
-use Rattle.toastlagoon.proofs.answers.put_refusals.Tie as tie
+use Rattle.answers.specs.Layout.{refusalSize}
+use Rattle.answers.specs.Offsets.{listBytes}
+use Rattle.answers.specs.Answer.{eachBytes}
+use Rattle.answers.proofs.Parts.{length-each, each-more, put-before}
+use Rattle.answers.proofs.put_refusals.Statement.{statement}
+use Rattle.answers.proofs.put_refusals.Tie as tie
 
 abbrev Inv-loop : tie.InvT-loop
 Inv-loop out₀ at s n table codes m next₀ count₀ i₀ out next count i =

@@ -4,8 +4,8 @@ use native.Mathlib.Omega.{arith}
 use lib.ListN.{length-set}
 use Rattle.text.proofs.Writing.{put-put, put-one, put-length}
 use borrow.Author.Needs.{needs}
-use Rattle.toastlagoon.proofs.answers.put_indices.Statement.{statement}
-use Rattle.toastlagoon.proofs.answers.put_indices.Tie as tie
+use Rattle.answers.proofs.put_indices.Statement.{statement}
+use Rattle.answers.proofs.put_indices.Tie as tie
 
 slice-write-out : tie.Need-slice-write-out
 slice-write-out c = search needs

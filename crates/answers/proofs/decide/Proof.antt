@@ -8,11 +8,11 @@ use Rattle.held.specs.After.{after}
 use Rattle.decision.specs.Answer.{bad, outcome, decided, decision, refusedDecision}
 use Rattle.decision.proofs.Passed.{few-items, long-items}
 use Rattle.decision.proofs.Alone.{alone}
-use Rattle.toastlagoon.specs.Answer.{answerBytes, handOut}
-use Rattle.toastlagoon.proofs.Parts.{answer-alone}
+use Rattle.answers.specs.Answer.{answerBytes, handOut}
+use Rattle.answers.proofs.Parts.{answer-alone}
 use borrow.Author.Needs.{needs}
-use Rattle.toastlagoon.proofs.answers.decide.Statement.{statement}
-use Rattle.toastlagoon.proofs.answers.decide.Tie as tie
+use Rattle.answers.proofs.decide.Statement.{statement}
+use Rattle.answers.proofs.decide.Tie as tie
 
 -- what is handed out of bad items, and of others
 refused-out : (s found : List ℕ) → bad s ≡ true → after 8 found ≡ handOut (decided s) found

@@ -23,9 +23,9 @@ use Rattle.decision.specs.declared.Indices.{Indices}
 use Rattle.decision.specs.declared.Decision.{Decision}
 use Rattle.decision.specs.Answer.{indices, refusal, noRefusal, refusals, decision}
 use Rattle.decision.specs.Working.{plainly}
-use Rattle.toastlagoon.specs.Layout.{refusalSize}
-use Rattle.toastlagoon.specs.Offsets.{indicesSize, refusalsSize, rankedAt, dominatedAt, refusalsAt, answerSize, listBytes}
-use Rattle.toastlagoon.specs.Answer.{indicesBytes, refusalBytes, eachBytes, countedBytes, refusalsBytes, answerBytes}
+use Rattle.answers.specs.Layout.{refusalSize}
+use Rattle.answers.specs.Offsets.{indicesSize, refusalsSize, rankedAt, dominatedAt, refusalsAt, answerSize, listBytes}
+use Rattle.answers.specs.Answer.{indicesBytes, refusalBytes, eachBytes, countedBytes, refusalsBytes, answerBytes}
 
 -- a number put at a place is a text of its bytes
 pub word-put : (n at x : ℕ) (s : List ℕ) → at + n ≤ length s → Put s at (wordBytes n x) (at + n) (putWord n at x s)

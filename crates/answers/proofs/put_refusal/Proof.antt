@@ -1,11 +1,11 @@
 -- `put_refusal` meets its contract.
-use Rattle.toastlagoon.proofs.Parts.{refusal-put}
+use Rattle.answers.proofs.Parts.{refusal-put}
 use mathlib.Core.Path.{_∙_}
 use native.Mathlib.Omega.{arith}
 use lib.ListN.{length-set}
 use borrow.Author.Needs.{needs}
-use Rattle.toastlagoon.proofs.answers.put_refusal.Statement.{statement}
-use Rattle.toastlagoon.proofs.answers.put_refusal.Tie as tie
+use Rattle.answers.proofs.put_refusal.Statement.{statement}
+use Rattle.answers.proofs.put_refusal.Tie as tie
 
 slice-write-out : tie.Need-slice-write-out
 slice-write-out c = search needs

@@ -20,10 +20,10 @@ ghost use Rattle.items.specs.Pairs.{stride, Prepared};
 ghost use Rattle.decision.specs.Working.{few, Settled};
 ghost use Rattle.decision.specs.Answer.{bad, outcome, refusal, decision, decided};
 ghost use Rattle.held.specs.After.{after};
-ghost use Rattle.toastlagoon.specs.Layout.{refusalSize};
-ghost use Rattle.toastlagoon.specs.Offsets.{indicesSize, refusalsSize, answerSize};
-ghost use Rattle.toastlagoon.specs.Answer.{indicesBytes, refusalBytes, answerBytes, handOut};
-ghost use Rattle.toastlagoon.specs.Offsets.{listBytes};
+ghost use Rattle.answers.specs.Layout.{refusalSize};
+ghost use Rattle.answers.specs.Offsets.{indicesSize, refusalsSize, answerSize};
+ghost use Rattle.answers.specs.Answer.{indicesBytes, refusalBytes, answerBytes, handOut};
+ghost use Rattle.answers.specs.Offsets.{listBytes};
 
 // A count and room for an index of each item.
 pub const INDICES_SIZE: usize = 1 + MAX_ITEMS;

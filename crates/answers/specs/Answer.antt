@@ -13,7 +13,7 @@ use Rattle.decision.specs.declared.Refusals.{Refusals}
 use Rattle.decision.specs.declared.Indices.{Indices}
 use Rattle.decision.specs.declared.Decision.{Decision}
 use Rattle.held.specs.After.{After, after}
-use Rattle.toastlagoon.specs.Layout.{refusalSize}
+use Rattle.answers.specs.Layout.{refusalSize}
 
 abbrev pub indicesBytes : Indices → List ℕ
 indicesBytes x = x .count ∷ x .list

@@ -5,8 +5,8 @@ use mathlib.Core.List.{List, _∷_}
 use lib.ListN.{length}
 use Rattle.items.specs.Layout.{maxItems}
 use Rattle.decision.specs.declared.Refusal.{Refusal}
-use Rattle.toastlagoon.specs.Layout.{refusalSize}
-use Rattle.toastlagoon.specs.Answer.{eachBytes}
+use Rattle.answers.specs.Layout.{refusalSize}
+use Rattle.answers.specs.Answer.{eachBytes}
 
 -- a count, and an index for each item
 abbrev pub indicesSize : ℕ

@@ -3,11 +3,11 @@ use Prim.Native.Nat.{ℕ}
 use mathlib.Core.Path.{_≡_, ap, _∙_}
 use native.Mathlib.Omega.{arith}
 use lib.ListN.{length, length-replicate}
-use Rattle.toastlagoon.specs.Offsets.{answerSize, refusalsAt}
-use Rattle.toastlagoon.proofs.Parts.{answer-put}
+use Rattle.answers.specs.Offsets.{answerSize, refusalsAt}
+use Rattle.answers.proofs.Parts.{answer-put}
 use borrow.Author.Needs.{needs}
-use Rattle.toastlagoon.proofs.answers.put_parts.Statement.{statement}
-use Rattle.toastlagoon.proofs.answers.put_parts.Tie as tie
+use Rattle.answers.proofs.put_parts.Statement.{statement}
+use Rattle.answers.proofs.put_parts.Tie as tie
 
 -- the array is as long as it was
 module _ (a : tie.After-ranked) where
