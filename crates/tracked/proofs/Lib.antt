@@ -2,3 +2,4 @@ pub mod Holding
 pub mod Encoding
 pub mod Searching
 pub mod Sets
+pub mod Knowing

@@ -21,6 +21,7 @@ ghost use Rattle.tracked.specs.Layout as L;
 ghost use Rattle.tracked.specs.Bytes as B;
 ghost use Rattle.tracked.specs.Parts as P;
 
+pub mod known;
 pub mod layout;
 
 // The record of a fix.
