@@ -2,7 +2,7 @@
 use Prim.Native.Nat.{ℕ, _+_, _*_, _≤_, _<_}
 use mathlib.Core.Path.{_≡_}
 use mathlib.Core.Bool.{Bool, false, cond}
-use mathlib.Core.List.{List, [], _∷_, map}
+use mathlib.Core.List.{List, [], _∷_, _++_, map}
 use lib.Dec.{ltb}
 use lib.Ieee.{nan, binary64, toBits}
 use lib.ListN.{length, getD, take}
@@ -16,6 +16,7 @@ use Rattle.decision.specs.Answer.{refusal, outcome}
 use Rattle.shown.specs.Fix.{Fix}
 use Rattle.tracked.specs.Layout as L
 use Rattle.tracked.specs.Held.{RefusedFix, HeldTransmission}
+use Rattle.tracked.specs.Known.{knownCount, knownIdentity}
 use Rattle.keeping.specs.declared.Lowest.{Lowest}
 use Rattle.keeping.specs.declared.Kept as D
 
@@ -90,3 +91,18 @@ Signed s g = length s ≤ length g * itemSize
 
 abbrev pub keptIn : List ℕ → List ℕ → D.Kept → HeldTransmission
 keptIn s g k = record { fixes = map (itemFix s g) (take (k .standing) (k .ranked)); refused = map (itemRefused s g) (lowestIn (k .refused)) }
+
+-- ---- their identities
+
+abbrev pub refusedOf : Refusal → ℕ
+refusedOf x = x .refused
+
+-- the items that are kept: those that stand, then the refused
+abbrev pub heldItems : D.Kept → List ℕ
+heldItems k = take (k .standing) (k .ranked) ++ map refusedOf (lowestIn (k .refused))
+
+-- the sheet s has these identities
+pub record Names (s : List ℕ) (ids : List (List ℕ)) : Type 0 where
+  pub size : length s ≡ L.knownSize
+  pub count : knownCount s ≡ length ids
+  pub right : (k : ℕ) → k < length ids → knownIdentity s k ≡ getD ids k []

@@ -5,6 +5,7 @@ use decision::Refusals;
 use items::layout::MAX_ITEMS;
 use tracked::layout::FIX_COUNT_AT;
 use tracked::layout::FIXES_AT;
+use tracked::layout::IDENTITIES_AT;
 use tracked::layout::MAX_REFUSED;
 use tracked::layout::MAX_STANDING;
 use tracked::layout::REFUSED_AT;
@@ -16,9 +17,10 @@ ghost use Prim.Native.Nat.{ℕ, _+_, _*_, _<_, _≤_};
 ghost use lib.ListN.{length, getD, take, drop};
 ghost use Rattle.ranges.specs.Lists as Lists;
 ghost use Rattle.ranges.specs.Range.{first};
-ghost use Rattle.places.specs.Places.{tableOf};
+ghost use Rattle.places.specs.Places.{flat, tableOf};
 ghost use Rattle.text.specs.Buffer.{Put};
-ghost use Rattle.items.specs.Layout.{itemSize, maxItems};
+ghost use Rattle.items.specs.Layout.{hashSize, maxItems};
+ghost use Rattle.items.specs.Items.{itemIdentity};
 ghost use Rattle.decision.specs.Answer.{bad};
 ghost use Rattle.tracked.specs.Layout as L;
 ghost use Rattle.tracked.specs.Bytes.{fixBytes, refusedBytes, transmissionBytes};
@@ -203,4 +205,51 @@ pub fn write(b: &mut [u8], s: &[u8], g: &[u32], k: Kept)
     b[REFUSED_COUNT_AT] = refused.count;
     write_fixes(&mut b[FIXES_AT..REFUSED_AT], s, g, &ranked, k.standing);
     write_refused(&mut b[REFUSED_AT..], s, g, refused);
+}
+
+// The items of refusals.
+pub fn refused_items(l: Lowest) -> [u8; MAX_REFUSED]
+    requires { ⌜ K.Sized l ⌝ }
+    ensures { λ r. ⌜ (length r ≡ L.maxRefused) × (take (l .count) r ≡ map K.refusedOf (K.lowestIn l)) ⌝ }
+{
+    let refusals = l.list;
+    let count = l.count;
+    let mut list = [0u8; MAX_REFUSED];
+    let mut i: u8 = 0;
+    while i < count {
+        let x = refusals[i as usize];
+        list[i as usize] = x.refused;
+        i += 1;
+    }
+    list
+}
+
+// Writes the identities of the first `count` items of a list.
+fn put_identities(t: &mut [u8], at: usize, s: &[u8], list: &[u8], count: u8) -> usize
+    requires { ⌜ at + count * hashSize ≤ length (now t) ⌝ }
+    requires { ⌜ (count ≤ length (now list)) × ((i : ℕ) → i < count → K.Lies (now s) (getD (now list) i 0)) ⌝ }
+    ensures { λ r. ⌜ (r ≡ at + count * hashSize) × Put (now (t .entry)) at (flat (map (itemIdentity (now (s .entry))) (take count (now (list .entry))))) r (now (t .exit)) ⌝ }
+{
+    let mut a = at;
+    let mut i: u8 = 0;
+    while i < count {
+        let id = items::hash_of(s, list[i as usize], items::layout::IDENTITY_AT);
+        a = text::put_bytes(t, a, id);
+        i += 1;
+    }
+    a
+}
+
+// Writes the identities of the items that are kept, so that nothing of what was decided is hashed again.
+pub fn write_identities(t: &mut [u8], s: &[u8], k: Kept)
+    requires { ⌜ length (now t) ≡ L.knownSize ⌝ }
+    requires { ⌜ K.Keeps (now s) k ⌝ }
+    ensures { λ _. ⌜ K.Names (now (t .exit)) (map (itemIdentity (now (s .entry))) (K.heldItems k)) ⌝ }
+{
+    let ranked = k.ranked;
+    let refused = k.refused;
+    let list = refused_items(refused);
+    t[0] = k.standing + refused.count;
+    let a = put_identities(t, IDENTITIES_AT, s, &ranked, k.standing);
+    put_identities(t, a, s, &list, refused.count);
 }

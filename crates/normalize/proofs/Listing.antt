@@ -119,6 +119,11 @@ module _ (b : List ℕ) where
 
 -- ---- the identities
 
+pub map-at : (f : List ℕ → List ℕ) (l : List (List ℕ)) (k : ℕ) → k < length l → getD (map f l) k [] ≡ f (getD l k [])
+map-at f [] k p = absurd (omega arith)
+map-at f (x ∷ l) zero p = refl
+map-at f (x ∷ l) (suc k) p = map-at f l k (omega arith)
+
 pub signed-width : (p : List ℕ) → length (signedIdentity p) ≡ hashSize
 signed-width p =
     by (signedPlace p)
@@ -164,18 +169,13 @@ module _ (b : List ℕ) where
         sym (part-in hashSize (k * hashSize) (heldCount b * hashSize) ids (omega arith))
         ∙ ap (λ (x : List ℕ). take hashSize (drop (k * hashSize) x)) (w ∙ sym whole)
         ∙ place-at hashSize (length ps) ps k ids-wide (omega arith)
-        ∙ map-at (heldPlaces b) k (omega (arith, held-length b))
+        ∙ map-at signedIdentity (heldPlaces b) k (omega (arith, held-length b))
       where
         whole : tableOf hashSize (length (map signedIdentity (heldPlaces b))) (map signedIdentity (heldPlaces b)) ≡ idsOf b
         whole =
             let n = length (map signedIdentity (heldPlaces b)) in
             let z : n - n ≡ 0 = omega arith in
             rw z (append-nil (idsOf b))
-
-        map-at : (l : List (List ℕ)) (k : ℕ) → k < length l → getD (map signedIdentity l) k [] ≡ signedIdentity (getD l k [])
-        map-at [] k p = absurd (omega arith)
-        map-at (x ∷ l) zero p = refl
-        map-at (x ∷ l) (suc k) p = map-at l k (omega arith)
 
     -- where all are signed
     pub id-of : allPlaces signedPlace (heldPlaces b) ≡ true → (k : ℕ) → k < heldCount b → idAt ids k ≡ identityIn (getD (heldPlaces b) k [])

@@ -2,7 +2,7 @@
 use Prim.Native.Nat.{ℕ, _*_, _<_}
 use mathlib.Core.Path.{_≡_, refl, sym, ap, ap₂, _∙_, subst}
 use mathlib.Core.Bool.{false}
-use mathlib.Core.List.{List, map, map-map, List·Memᴰ}
+use mathlib.Core.List.{List, _++_, map, map-append, map-map, List·Memᴰ}
 use native.Mathlib.Omega.{arith}
 use lib.Ieee.{binary64, toBits}
 use lib.ListN.{take}
@@ -22,13 +22,14 @@ use Rattle.shown.specs.Shown.{Transmission, shown}
 use Rattle.shown.proofs.Itemized.{shown-of-items}
 use Rattle.shown.proofs.Accepted.{items-length, items-count, items-good}
 use Rattle.tracked.specs.Layout.{maxStanding, maxRefused}
-use Rattle.tracked.specs.Held.{RefusedFix}
+use Rattle.tracked.specs.Held.{RefusedFix, fixOf, heldIn}
 use Rattle.keeping.specs.declared.Kept.{Kept}
-use Rattle.keeping.specs.Working.{Lies, lowerItem, lowestIn, Keeps, itemFix, itemRefused, Signed, keptIn}
+use Rattle.keeping.specs.Working.{Lies, lowerItem, lowestIn, Keeps, itemFix, itemRefused, Signed, keptIn, refusedOf, heldItems}
 use Rattle.keeping.proofs.Lowering.{take-in}
 use Rattle.keeping.proofs.Outcomes.{take-map, ranked-lies, refused-lies}
 use Rattle.normalize.specs.Normal.{distinct, refusedFix, lowerRefused, normalized}
-use Rattle.normalize.specs.Working.{Laid, kept, standingIn}
+use Rattle.normalize.specs.Claims.{identityOf}
+use Rattle.normalize.specs.Working.{Laid, kept, standingIn, refusedIn}
 use Rattle.normalize.proofs.Laying.{map-same, front-fix, laid-length, laid-few}
 
 -- what is kept is of those with different identities
@@ -100,3 +101,17 @@ module _ {s g : List ℕ} {n : ℕ} {ks : List Fix} (w : Laid s g n ks) where
 
   pub settled : (k : Kept) → Keeps (take (n * itemSize) s) k → keptIn (take (n * itemSize) s) g k ≡ kept ks
   settled k z = ap (λ (x : List ℕ). keptIn x g k) (w .items) ∙ whole k (subst (λ (x : List ℕ). Keeps x k) (w .items) z)
+
+-- ---- the fixes of the items that are kept
+
+module _ (s g : List ℕ) (k : Kept) where
+  pub refused-fixes : map fixOf (keptIn s g k .refused) ≡ map (itemFix s g) (refusedIn k)
+  refused-fixes =
+      map-map fixOf (itemRefused s g) (lowestIn (k .refused))
+      ∙ sym (map-map (itemFix s g) refusedOf (lowestIn (k .refused)))
+
+  pub held-identities : map identityOf (heldIn (keptIn s g k)) ≡ map (itemIdentity s) (heldItems k)
+  held-identities =
+      ap (λ (x : List Fix). map identityOf (map (itemFix s g) (standingIn k) ++ x)) refused-fixes
+      ∙ ap (map identityOf) (sym (map-append (itemFix s g) (standingIn k) (refusedIn k)))
+      ∙ map-map identityOf (itemFix s g) (heldItems k)

@@ -1,11 +1,11 @@
 -- What the code tells of a fix that joined, by the items that are kept, is what it did.
 use Prim.Native.Nat.{ℕ, zero, suc, _+_, _-_, _≤_, _<_}
-use mathlib.Core.Path.{_≡_, refl, sym, ap, _∙_, subst}
+use mathlib.Core.Path.{_≡_, refl, sym, ap, _∙_}
 use mathlib.Core.Bool.{Bool, true, not}
-use mathlib.Core.List.{List, [], _∷_, map, map-map}
+use mathlib.Core.List.{List, [], _∷_, map}
 use native.Mathlib.Omega.{arith}
-use lib.ListN.{length, getD, take, drop, length-map, List·getD-map}
-use lib.Seq.{drop-cons, getD-take}
+use lib.ListN.{length, getD, take, drop, length-map}
+use lib.Seq.{drop-cons}
 use Rattle.octets.specs.Order.{same}
 use Rattle.places.proofs.Tables.{length-places}
 use Rattle.places.specs.Places.{allPlaces}
@@ -20,25 +20,13 @@ use Rattle.tracked.specs.Bytes.{identityIn, fixIn, refusedIn, fixCount, fixTabl
 use Rattle.tracked.specs.Parts.{heldPlaces, heldCount}
 use Rattle.tracked.proofs.Holding.{held-length, fix-of-more}
 use Rattle.keeping.specs.declared.Kept.{Kept}
-use Rattle.keeping.specs.Working.{unread, Lies, lowestIn, Keeps, itemFix, itemRefused, keptIn}
+use Rattle.keeping.specs.Working.{itemFix, keptIn}
 use Rattle.normalize.specs.Joining.{refuses, upholds, entered, leads, moved}
 use Rattle.normalize.specs.Did.{did}
 use Rattle.normalize.specs.Working as W
-use Rattle.normalize.specs.Working.{Listed, signedPlace, idAt, identified, isListed, refusedOf, standingIn, unlisted}
+use Rattle.normalize.specs.Working.{Listed, signedPlace, idAt, identified, isListed, standingIn, unlisted}
 use Rattle.normalize.proofs.Listing.{held-refused, id-of}
-
--- ---- the items of refusals lie in s
-
-module _ (s : List ℕ) (k : Kept) (z : Keeps s k) (l : List ℕ) (e : take (k .refused .count) l ≡ W.refusedIn k) where
-  abbrev c : ℕ
-  c = k .refused .count
-
-  pub refused-lie : (i : ℕ) → i < k .refused .count → Lies s (getD l i 0)
-  refused-lie i h =
-      let q : getD l i 0 ≡ refusedOf (getD (k .refused .list) i unread) =
-      sym (getD-take c l i 0 h) ∙ ap (λ (x : List ℕ). getD x i 0) e ∙ List·getD-map refusedOf (lowestIn (k .refused)) i unread
-      ∙ ap refusedOf (getD-take c (k .refused .list) i unread h) in
-      subst (Lies s) (sym q) (z .lies-refused i h .0)
+use Rattle.normalize.proofs.Settling.{refused-fixes}
 
 -- ---- what is told of the items is so of the fixes
 
@@ -46,14 +34,9 @@ module _ (s g : List ℕ) (k : Kept) where
   pub upholds-is : (f : Fix) → upholds (keptIn s g k) f ≡ anyOf (identified s (f .identity)) (standingIn k)
   upholds-is f = any-map (itemFix s g) (identified s (f .identity)) (isOf f) (standingIn k) (λ i m. refl)
 
-  refused-fixes : map fixOf (keptIn s g k .refused) ≡ map (itemFix s g) (W.refusedIn k)
-  refused-fixes =
-      map-map fixOf (itemRefused s g) (lowestIn (k .refused))
-      ∙ sym (map-map (itemFix s g) refusedOf (lowestIn (k .refused)))
-
   pub refuses-is : (f : Fix) → refuses (keptIn s g k) f ≡ anyOf (identified s (f .identity)) (W.refusedIn k)
   refuses-is f =
-      ap (anyOf (isOf f)) refused-fixes
+      ap (anyOf (isOf f)) (refused-fixes s g k)
       ∙ any-map (itemFix s g) (identified s (f .identity)) (isOf f) (W.refusedIn k) (λ i m. refl)
 
   leads-is : (f : Fix) (l : List ℕ) → leads f (map (itemFix s g) l) ≡ anyOf (identified s (f .identity)) (take 1 l)
@@ -107,7 +90,7 @@ module _ (s g : List ℕ) (k : Kept) where
     entered-is =
         let t = transmissionIn b in
         let p : ℕ → Bool = λ i. not (isListed ids (fixCount b) (heldCount b) (itemIdentity s i)) in
-        ap (λ (x : List Fix). length (filter (λ h. not (refuses t h)) x)) refused-fixes
+        ap (λ (x : List Fix). length (filter (λ h. not (refuses t h)) x)) (refused-fixes s g k)
         ∙ ap length (filter-map (itemFix s g) p (λ h. not (refuses t h)) (W.refusedIn k) (λ i m. ap not (sym (listed-is (itemIdentity s i)))))
         ∙ length-map (filter p (W.refusedIn k)) (itemFix s g)
 

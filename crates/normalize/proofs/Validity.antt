@@ -3,7 +3,7 @@ use Prim.Native.Nat.{ℕ, suc, _+_, _-_, _^_, _<_}
 use mathlib.Core.Path.{_≡_, refl, sym, ap, ap₂, _∙_, subst}
 use mathlib.Core.Bool.{Bool, true, false}
 use mathlib.Core.Option.{Option, none, some}
-use mathlib.Core.List.{List, [], _∷_, _++_, map, map-append, map-map, append-nil, List·Memᴰ, List·Memᴰ·head, List·Memᴰ·tail, List·Memᴰ·not-nil, List·Memᴰ·cases-cons, List·Memᴰ·append-cases, List·Memᴰ·eq-of-singleton, Memᴰ·of-map}
+use mathlib.Core.List.{List, [], _∷_, _++_, map, map-append, map-map, append-nil, List·Memᴰ, List·Memᴰ·head, List·Memᴰ·tail, List·Memᴰ·not-nil, List·Memᴰ·cases-cons, List·Memᴰ·append-cases, List·Memᴰ·eq-of-singleton, Memᴰ·append-left, Memᴰ·append-right, Memᴰ·of-map}
 use native.Mathlib.Omega.{arith}
 use lib.Bits.{bitOr, or-lt}
 use lib.Dec.{T, eqb}
@@ -11,15 +11,16 @@ use lib.Ieee.{Float, binary64, fits, toBits}
 use lib.Ieee.Bits.{toBits-lt}
 use lib.Ieee.Fits.{cond-fits, inf-fits, add-fits}
 use lib.Ieee.Scale.{finite}
-use lib.ListN.{length, getD, take, drop}
+use lib.ListN.{length, getD, take, drop, length-map}
 use lib.Seq.{take-at, length-take-le}
 use Rattle.octets.specs.Bytes.{Bytes}
 use Rattle.octets.specs.Words.{word}
 use Rattle.octets.proofs.Numbers.{word-lt, bytes-take, bytes-drop}
 use Rattle.octets.proofs.Zeros.{or-zero}
 use Rattle.places.specs.Places.{allPlaces}
-use Rattle.ranges.specs.Lists.{anyOf}
+use Rattle.ranges.specs.Lists.{anyOf, filter}
 use Rattle.ranges.proofs.Bools.{by, or, and-both, not-f, not-t}
+use Rattle.ranges.proofs.Lists.{filter-in}
 use Rattle.geometry.specs.Numbers.{_⊗_}
 use Rattle.geometry.specs.Linalg.{item, plus, choleskyOf, solveOf}
 use Rattle.arithmetic.specs.Agree.{rowsOf, matrixOf, lengthUnder, chiSquareOf, finiteOr, differenceOf, threeOf, agreementOf}
@@ -40,16 +41,20 @@ use Rattle.shown.proofs.Indexed.{in-at}
 use Rattle.shown.proofs.Plainly.{shown-is-decided}
 use Rattle.tracked.specs.Layout.{maxStanding, fixSize, signersAt, inputsAt}
 use Rattle.tracked.specs.Held.{RefusedFix, HeldTransmission, fixOf, heldIn, isOf}
-use Rattle.tracked.specs.Bytes.{recordIn, fixIn, fixBytes, refusedBytes, transmissionIn, transmissionBytes}
+use Rattle.tracked.specs.Bytes.{recordIn, identityIn, fixIn, fixBytes, refusedBytes, transmissionIn, transmissionBytes}
 use Rattle.tracked.specs.Parts.{heldPlaces, heldCount, Sound, heldPlace}
+use Rattle.tracked.specs.Known.{Knows, knownCount}
 use Rattle.tracked.proofs.Encoding.{ValidFix, ValidRefused, Valid, Bounded, fix-length, fix-back, bytes-length, fix-places-back, refused-places-back, decode-encode}
 use Rattle.tracked.proofs.Holding.{held-length, held-at, held-size, held-formed, held-are}
+use Rattle.keeping.specs.Working.{Names}
 use Rattle.keeping.proofs.Lowering.{take-in}
 use Rattle.normalize.specs.Normal.{signedBy, signFirst, gather, gatherAll, distinct, refusedFix, normalized}
 use Rattle.normalize.specs.Signed.{isSigned}
+use Rattle.normalize.specs.Claims.{identityOf}
 use Rattle.normalize.specs.Working.{signedPlace}
 use Rattle.normalize.proofs.Distinct.{gather-held, gather-new}
 use Rattle.normalize.proofs.Laying.{map-same}
+use Rattle.normalize.proofs.Listing.{map-at}
 use Rattle.normalize.proofs.Claimed.{low-in, ranked-in, refused-in, kept-in, few-kept}
 
 -- ---- what holds of all that are given holds of those that are gathered
@@ -239,6 +244,37 @@ module _ (fs : List Fix) (w : (f : Fix) → List·Memᴰ f fs → Holdable f) wh
       both : (f g : Fix) → isSigned f ≡ true → isSigned g ≡ true → isSigned (signedBy f g) ≡ true
       both f g p q = not-f (eqb (bitOr (g .signers) (f .signers)) 0) (or-zero (g .signers) (f .signers) ∙ rw (not-t (eqb (g .signers) 0) q) refl)
 
+-- ---- the identities of all that is kept are known
+
+module _ (u : HeldTransmission) (v : Valid u) (s : List ℕ) (z : Names s (map identityOf (heldIn u))) where
+  abbrev b : List ℕ
+  b = transmissionBytes u
+
+  identities-are : map identityOf (heldIn u) ≡ map identityIn (heldPlaces b)
+  identities-are =
+      sym (ap (map identityIn) (held-back u v) ∙ map-map identityIn fixBytes (heldIn u)
+      ∙ map-same (λ f. identityIn (fixBytes f)) identityOf (heldIn u)
+      (λ f m. ap identityOf (ap fixIn (sym (append-nil (fixBytes f))) ∙ fix-back f (held-valid u v f m) [])))
+
+  counted : knownCount s ≡ heldCount b
+  counted = z .count ∙ ap length identities-are ∙ length-map (heldPlaces b) identityIn ∙ held-length b
+
+  names-known : Knows b s
+  names-known = record {
+    size = z .size;
+    few = let e = counted in omega arith;
+    right = λ k h.
+        z .right k (let e = z .count in omega arith) ∙ ap (λ (x : List (List ℕ)). getD x k []) identities-are
+        ∙ map-at identityIn (heldPlaces b) k (let e = counted in let l = held-length b in omega arith);
+  }
+
+pub all-known : (fs : List Fix) → ((f : Fix) → List·Memᴰ f fs → Holdable f) → (b s : List ℕ) → b ≡ transmissionBytes (normalized fs)
+    → Names s (map identityOf (heldIn (normalized fs))) → Knows b s × (knownCount s ≡ heldCount b)
+all-known fs w b s e z =
+    let u = normalized fs in
+    let v = normalized-valid fs w in
+    (subst (λ (x : List ℕ). Knows x s) (sym e) (names-known u v s z), counted u v s z ∙ ap heldCount (sym e))
+
 -- ---- the fixes that sound bytes hold
 
 module _ (b : List ℕ) (bytes : Bytes b) (s : Sound b) where
@@ -251,3 +287,13 @@ module _ (b : List ℕ) (bytes : Bytes b) (s : Sound b) where
       let p = getD (heldPlaces b) k [] in
       let c : Bytes p = subst Bytes (held-at b s k h) (bytes-take fixSize (drop (heldPlace b k) b) (bytes-drop (heldPlace b k) b bytes)) in
       subst Holdable (ap fixIn (i .2) ∙ r .2) (holdable-in p c (held-size b s k h) (held-formed b s k h))
+
+  -- those that are signed, and all with a further one
+  pub signed-holdable : (f : Fix) → List·Memᴰ f (filter isSigned (heldIn (transmissionIn b))) → Holdable f
+  signed-holdable f m = held-holdable f (filter-in isSigned (heldIn (transmissionIn b)) f m .0)
+
+  pub with-holdable : (f : Fix) → Holdable f → (g : Fix) → List·Memᴰ g (transmissionIn b .fixes ++ (f ∷ map fixOf (transmissionIn b .refused))) → Holdable g
+  with-holdable f h g m =
+      or (List·Memᴰ·append-cases (transmissionIn b .fixes) m)
+      (λ k. held-holdable g (Memᴰ·append-left (map fixOf (transmissionIn b .refused)) k))
+      (λ k. or (List·Memᴰ·cases-cons k) (λ e. subst Holdable (sym e) h) (λ q. held-holdable g (Memᴰ·append-right (transmissionIn b .fixes) q)))

@@ -2,11 +2,11 @@
 use Prim.Native.Nat.{ℕ, _+_, _-_, _≤_, _<_}
 use mathlib.Core.Path.{_≡_, refl, sym, ap, ap₂, _∙_}
 use mathlib.Core.Bool.{Bool, true, false}
-use mathlib.Core.List.{List, [], _∷_, _++_, map, map-append}
+use mathlib.Core.List.{List, [], _∷_}
 use native.Mathlib.Omega.{arith}
 use native.Mathlib.Numerals.{add-one}
-use lib.ListN.{length, getD, take, drop, set, length-take, drop-of-length-le}
-use lib.Seq.{drop-cons, getD-take, length-take-le, take-suc, take-suc-set}
+use lib.ListN.{length, getD, take, drop, length-take, drop-of-length-le}
+use lib.Seq.{drop-cons, getD-take, length-take-le}
 use Rattle.ranges.specs.Lists.{anyOf, filter}
 
 module _ {A : Type 0} (d : A) (l : List A) (n i : ℕ) where
@@ -47,14 +47,3 @@ module _ {A : Type 0} (d : A) (l : List A) (n i : ℕ) where
   pub count-past : (test : A → Bool) → n ≤ i → length (filter test (drop i (take n l))) ≡ 0
   unfolding filter
   count-past test h = ap (λ (x : List A). length (filter test x)) (part-end h)
-
--- ---- a function of each, written into an array
-
-pub map-more : {A B : Type 0} (f : A → B) (d : A) (l : List A) (a : List B) (i : ℕ) → i < length l → i < length a → take i a ≡ map f (take i l)
-    → take (i + 1) (set a i (f (getD l i d))) ≡ map f (take (i + 1) l)
-map-more {A} {B} f d l a i h k e =
-    ap (λ (j : ℕ). take j (set a i (f (getD l i d)))) (add-one i)
-    ∙ take-suc-set a i (f (getD l i d)) k
-    ∙ ap (λ (x : List B). x ++ (f (getD l i d) ∷ [])) e
-    ∙ sym (map-append f (take i l) (getD l i d ∷ []))
-    ∙ ap (map f) (sym (take-suc l i d h) ∙ ap (λ (j : ℕ). take j l) (sym (add-one i)))

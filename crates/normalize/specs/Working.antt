@@ -9,7 +9,6 @@ use Rattle.places.specs.Places.{flat}
 use Rattle.ranges.specs.Lists.{anyOf, filter, sort, countFrom, upTo}
 use Rattle.items.specs.Layout.{itemSize, hashSize}
 use Rattle.items.specs.Items.{itemIdentity}
-use Rattle.decision.specs.declared.Refusal.{Refusal}
 use Rattle.shown.specs.Fix.{Fix}
 use Rattle.shown.specs.Items.{itemsFor, Apart, AllFormed}
 use Rattle.shown.specs.Shown.{shown}
@@ -18,7 +17,7 @@ use Rattle.tracked.specs.Held.{HeldTransmission}
 use Rattle.tracked.specs.Bytes.{identityIn, fixIn, fixCount}
 use Rattle.tracked.specs.Parts.{heldPlaces, heldCount}
 use Rattle.keeping.specs.declared.Kept.{Kept}
-use Rattle.keeping.specs.Working.{itemFix, lowestIn}
+use Rattle.keeping.specs.Working.{itemFix, lowestIn, refusedOf}
 use Rattle.normalize.specs.declared.Joined.{Joined}
 use Rattle.normalize.specs.Signed.{isSigned}
 use Rattle.normalize.specs.Normal.{refusedFix, lowerRefused}
@@ -88,9 +87,6 @@ identified s id i = same (itemIdentity s i) id
 -- one of the identities k to e - 1 is this one
 abbrev pub isListed : List ℕ → ℕ → ℕ → List ℕ → Bool
 isListed ids k e id = anyOf (λ j. same (idAt ids j) id) (countFrom k (e - k))
-
-abbrev pub refusedOf : Refusal → ℕ
-refusedOf x = x .refused
 
 -- the items that stand, and those that are refused
 abbrev pub standingIn : Kept → List ℕ

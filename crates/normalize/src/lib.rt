@@ -3,7 +3,6 @@
 use items::layout::HASH_SIZE;
 use items::layout::ITEM_SIZE;
 use keeping::Kept;
-use keeping::Lowest;
 use tracked::layout::MAX_REFUSED;
 use tracked::layout::MAX_STANDING;
 ghost use mathlib.Core.Path.{_≡_};
@@ -12,6 +11,7 @@ ghost use mathlib.Core.List.{[], _++_, map};
 ghost use Prim.Native.Nat.{ℕ, _+_, _*_, _-_, _<_, _≤_};
 ghost use lib.ListN.{length, getD, take, drop};
 ghost use Rattle.places.specs.Places.{allPlaces};
+ghost use Rattle.text.specs.Buffer.{Put};
 ghost use Rattle.ranges.specs.Lists.{anyOf, filter};
 ghost use Rattle.ranges.specs.Range.{first};
 ghost use Rattle.record.specs.Formed.{wellFormed};
@@ -20,10 +20,12 @@ ghost use Rattle.tracked.specs.Layout as L;
 ghost use Rattle.tracked.specs.Held.{heldIn};
 ghost use Rattle.tracked.specs.Bytes as B;
 ghost use Rattle.tracked.specs.Parts as P;
-ghost use Rattle.keeping.specs.Working.{Lies, Sized, lowestIn, Keeps};
+ghost use Rattle.tracked.specs.Known.{Knows, knownCount};
+ghost use Rattle.keeping.specs.Working.{Lies, Keeps, Names};
 ghost use Rattle.normalize.specs.Normal as N;
 ghost use Rattle.normalize.specs.Joining.{withFix};
 ghost use Rattle.normalize.specs.Did.{did};
+ghost use Rattle.normalize.specs.Claims.{identityOf};
 ghost use Rattle.normalize.specs.Signed.{isSigned};
 ghost use Rattle.normalize.specs.Working as W;
 
@@ -38,20 +40,26 @@ pub struct Joined {
     pub entered: u8,
 }
 
-// The identity of a fix that is signed. One that is not is never asked for.
-fn signed_identity(f: &[u8]) -> [u8; HASH_SIZE]
-    requires { ⌜ (length (now f) ≡ L.fixSize) × (wellFormed (B.recordIn (now f)) ≡ true) ⌝ }
-    ensures { λ r. ⌜ r ≡ W.signedIdentity (now (f .entry)) ⌝ }
+// Writes the identity of the held fix k where it is signed; one that is not is never asked for. What s knows is not hashed again.
+fn put_identity(ids: &mut [u8], at: usize, b: &[u8], s: &[u8], k: u8) -> usize
+    requires { ⌜ at + hashSize ≤ length (now ids) ⌝ }
+    requires { ⌜ P.Sound (now b) × Knows (now b) (now s) × (k < P.heldCount (now b)) ⌝ }
+    ensures { λ r. ⌜ Put (now (ids .entry)) at (W.signedIdentity (getD (P.heldPlaces (now (b .entry))) k [])) r (now (ids .exit)) ⌝ }
 {
+    let f = tracked::held(b, k);
     if tracked::signers(f) == 0 {
-        return [0u8; HASH_SIZE];
+        return text::put_bytes(ids, at, &[0u8; HASH_SIZE]);
     }
-    tracked::identity(f)
+    if k < tracked::known::count(s) {
+        return text::put_bytes(ids, at, tracked::known::identity_at(s, k));
+    }
+    let id = tracked::identity(f);
+    text::put_bytes(ids, at, &id)
 }
 
 // The identities of the fixes that b holds, one after another.
-pub fn identities(b: &[u8], ids: &mut [u8])
-    requires { ⌜ P.Sound (now b) ⌝ }
+pub fn identities(b: &[u8], s: &[u8], ids: &mut [u8])
+    requires { ⌜ P.Sound (now b) × Knows (now b) (now s) ⌝ }
     requires { ⌜ P.heldCount (now b) * hashSize ≤ length (now ids) ⌝ }
     ensures { λ _. ⌜ now (ids .exit) ≡ W.idsOf (now (b .entry)) ++ drop (P.heldCount (now (b .entry)) * hashSize) (now (ids .entry)) ⌝ }
 {
@@ -59,8 +67,7 @@ pub fn identities(b: &[u8], ids: &mut [u8])
     let mut at = 0;
     let mut k: u8 = 0;
     while k < n {
-        let id = signed_identity(tracked::held(b, k));
-        at = text::put_bytes(ids, at, &id);
+        at = put_identity(ids, at, b, s, k);
         k += 1;
     }
 }
@@ -150,15 +157,16 @@ fn gather_held(
     m
 }
 
-// Decides n items, and writes what is kept of them into b.
-fn settle(b: &mut [u8], items: &[u8], signers: &[u32], n: u8) -> Kept
-    requires { ⌜ length (now b) ≡ L.transmissionSize ⌝ }
+// Decides n items, and writes what is kept of them into b, and their identities into s.
+fn settle(b: &mut [u8], items: &[u8], signers: &[u32], n: u8, s: &mut [u8]) -> Kept
+    requires { ⌜ (length (now b) ≡ L.transmissionSize) × (length (now s) ≡ L.knownSize) ⌝ }
     requires { ⌜ W.Laid (now items) (now signers) n (W.fixesIn (now items) (now signers) n) ⌝ }
-    ensures { λ r. ⌜ (now (b .exit) ≡ B.transmissionBytes (W.kept (W.fixesIn (now (items .entry)) (now (signers .entry)) n))) × Keeps (take (n * itemSize) (now (items .entry))) r ⌝ }
+    ensures { λ r. ⌜ (now (b .exit) ≡ B.transmissionBytes (W.kept (W.fixesIn (now (items .entry)) (now (signers .entry)) n))) × Keeps (take (n * itemSize) (now (items .entry))) r × Names (now (s .exit)) (map identityOf (heldIn (W.kept (W.fixesIn (now (items .entry)) (now (signers .entry)) n)))) ⌝ }
 {
     let end = n as usize * ITEM_SIZE;
     let kept = keeping::keep(&items[..end]);
     keeping::write(b, &items[..end], signers, kept);
+    keeping::write_identities(s, &items[..end], kept);
     kept
 }
 
@@ -215,23 +223,6 @@ fn unlisted(s: &[u8], list: &[u8], count: u8, ids: &[u8], k: u8, e: u8) -> u8
     n
 }
 
-// The items of refusals.
-fn refused_items(l: Lowest) -> [u8; MAX_REFUSED]
-    requires { ⌜ Sized l ⌝ }
-    ensures { λ r. ⌜ (length r ≡ L.maxRefused) × (take (l .count) r ≡ map W.refusedOf (lowestIn l)) ⌝ }
-{
-    let refusals = l.list;
-    let count = l.count;
-    let mut list = [0u8; MAX_REFUSED];
-    let mut i: u8 = 0;
-    while i < count {
-        let x = refusals[i as usize];
-        list[i as usize] = x.refused;
-        i += 1;
-    }
-    list
-}
-
 // What a fix with this identity did, where k was kept of items s, and ids had the identities of c fixes that stood and of the refused, up to e.
 fn tell(s: &[u8], k: Kept, id: &[u8], ids: &[u8], c: u8, e: u8) -> Joined
     requires { ⌜ Keeps (now s) k ⌝ }
@@ -240,7 +231,7 @@ fn tell(s: &[u8], k: Kept, id: &[u8], ids: &[u8], c: u8, e: u8) -> Joined
 {
     let ranked = k.ranked;
     let lowest = k.refused;
-    let list = refused_items(lowest);
+    let list = keeping::refused_items(lowest);
     let refused = among(s, &list, lowest.count, id);
     let first = keeping::at_most(k.standing, 1);
     let moved = !among(s, &ranked, first, identity_at(ids, 0));
@@ -276,31 +267,33 @@ fn gather_with(
 }
 
 // Decides the fixes of b that are signed again. A fix whose signers are none is left out: its engine was convicted, or its models no longer stand.
-pub fn normalize(b: &mut [u8])
-    requires { ⌜ P.Sound (now b) ⌝ }
-    ensures { λ _. ⌜ now (b .exit) ≡ B.transmissionBytes (N.normalized (filter isSigned (heldIn (B.transmissionIn (now (b .entry)))))) ⌝ }
+// What s knows is not hashed again, and then it knows all that is kept.
+pub fn normalize(b: &mut [u8], s: &mut [u8])
+    requires { ⌜ P.Sound (now b) × Knows (now b) (now s) ⌝ }
+    ensures { λ _. ⌜ (now (b .exit) ≡ B.transmissionBytes (N.normalized (filter isSigned (heldIn (B.transmissionIn (now (b .entry))))))) × Knows (now (b .exit)) (now (s .exit)) × (knownCount (now (s .exit)) ≡ P.heldCount (now (b .exit))) ⌝ }
 {
     let mut ids = identity_room();
     let mut items = item_room();
     let mut signers = [0u32; MAX_GATHERED];
     let e = tracked::held_count(b);
-    identities(b, &mut ids);
+    identities(b, s, &mut ids);
     let n = gather_held(&mut items, &mut signers, 0, b, &ids, 0, e);
-    settle(b, &items, &signers, n);
+    settle(b, &items, &signers, n, s);
 }
 
-// Puts a further fix among the fixes of b, which are signed, and decides all again.
-pub fn join(b: &mut [u8], f: &[u8], id: &[u8], ids: &[u8]) -> Joined
+// Puts a further fix among the fixes of b, which are signed, and decides all again; s knows then all that is kept.
+pub fn join(b: &mut [u8], f: &[u8], id: &[u8], ids: &[u8], s: &mut [u8]) -> Joined
     requires { ⌜ P.Sound (now b) × (1 ≤ B.fixCount (now b)) × (allPlaces W.signedPlace (P.heldPlaces (now b)) ≡ true) × W.Listed (now b) (now ids) ⌝ }
     requires { ⌜ (length (now f) ≡ L.fixSize) × (wellFormed (B.recordIn (now f)) ≡ true) × (now id ≡ B.identityIn (now f)) ⌝ }
-    ensures { λ r. ⌜ (now (b .exit) ≡ B.transmissionBytes (withFix (B.fixIn (now (f .entry))) (B.transmissionIn (now (b .entry))))) × (r ≡ did (B.fixIn (now (f .entry))) (B.transmissionIn (now (b .entry))) (withFix (B.fixIn (now (f .entry))) (B.transmissionIn (now (b .entry))))) ⌝ }
+    requires { ⌜ length (now s) ≡ L.knownSize ⌝ }
+    ensures { λ r. ⌜ (now (b .exit) ≡ B.transmissionBytes (withFix (B.fixIn (now (f .entry))) (B.transmissionIn (now (b .entry))))) × (r ≡ did (B.fixIn (now (f .entry))) (B.transmissionIn (now (b .entry))) (withFix (B.fixIn (now (f .entry))) (B.transmissionIn (now (b .entry))))) × Knows (now (b .exit)) (now (s .exit)) × (knownCount (now (s .exit)) ≡ P.heldCount (now (b .exit))) ⌝ }
 {
     let mut items = item_room();
     let mut signers = [0u32; MAX_GATHERED];
     let c = tracked::fix_count(b);
     let e = tracked::held_count(b);
     let n = gather_with(&mut items, &mut signers, b, f, id, ids);
-    let kept = settle(b, &items, &signers, n);
+    let kept = settle(b, &items, &signers, n, s);
     let end = n as usize * ITEM_SIZE;
     tell(&items[..end], kept, id, ids, c, e)
 }

@@ -112,7 +112,7 @@ map-back : {A : Type 0} (to : A → List ℕ) (from : List ℕ → A) (l : List 
 map-back to from [] e = refl
 map-back to from (x ∷ l) e = ap₂ _∷_ (e x (List·Memᴰ·head refl)) (map-back to from l (λ y m. e y (List·Memᴰ·tail m)))
 
-map-wide : {A : Type 0} (w : ℕ) (to : A → List ℕ) (l : List A) → ((x : A) → List·Memᴰ x l → length (to x) ≡ w) → wide w (map to l)
+pub map-wide : {A : Type 0} (w : ℕ) (to : A → List ℕ) (l : List A) → ((x : A) → List·Memᴰ x l → length (to x) ≡ w) → wide w (map to l)
 map-wide w to [] e = tt
 map-wide w to (x ∷ l) e = (e x (List·Memᴰ·head refl), map-wide w to l (λ y m. e y (List·Memᴰ·tail m)))
 

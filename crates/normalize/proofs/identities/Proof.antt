@@ -20,15 +20,13 @@ use Rattle.normalize.proofs.identities.Tie as tie
 use Rattle.normalize.proofs.identities.Reads as reads
 use Rattle.normalize.proofs.identities.Lts as lts
 use Rattle.tracked.proofs.held_count.Reads as held-count-reads
-use Rattle.text.proofs.put_bytes.Reads as put-bytes-reads
-use Rattle.tracked.proofs.held.Reads as held-reads
-use Rattle.normalize.proofs.signed_identity.Reads as signed-identity-reads
+use Rattle.normalize.proofs.put_identity.Reads as put-identity-reads
 
 abbrev Inv-loop : tie.InvT-loop
-Inv-loop b ids₀ n at₀ k₀ ids at k = (k ≤ n) × (at ≡ k * hashSize) × Put ids₀ 0 (flat (map signedIdentity (take k (heldPlaces b)))) at ids
+Inv-loop b s ids₀ n at₀ k₀ ids at k = (k ≤ n) × (at ≡ k * hashSize) × Put ids₀ 0 (flat (map signedIdentity (take k (heldPlaces b)))) at ids
 
 abbrev μ-loop : tie.MeasureT-loop
-μ-loop b ids₀ n at₀ k₀ ids at k = n - k
+μ-loop b s ids₀ n at₀ k₀ ids at k = n - k
 
 held-count-requires : tie.Need-held-count-requires Inv-loop μ-loop
 held-count-requires c κs = search needs
@@ -39,7 +37,7 @@ loop-holds c = (omega arith, omega arith, put-none _ _)
 
 module _ (l : tie.At-loop Inv-loop μ-loop) where
   abbrev start : tie.Start Inv-loop μ-loop
-  start = l .before .before .before .before
+  start = l .before .before .before .before .before
 
   abbrev b : List ℕ
   b = start .args .b .now
@@ -50,20 +48,11 @@ module _ (l : tie.At-loop Inv-loop μ-loop) where
   long : length (l .loop .ids) ≡ length (start .args .ids .now)
   long = put-length (l .loop .inv .2)
 
-held-requires : tie.Need-held-requires Inv-loop μ-loop
-held-requires c κs = (start (c .before) .pre .0, omega (arith, counted (c .before)))
-
-signed-identity-requires : tie.Need-signed-identity-requires Inv-loop μ-loop
-signed-identity-requires c κs = search needs
-
-slice-aggregate-put-bytes : tie.Need-slice-aggregate-put-bytes Inv-loop μ-loop
-slice-aggregate-put-bytes c = search needs
-
-put-bytes-requires : tie.Need-put-bytes-requires Inv-loop μ-loop
-put-bytes-requires c κs =
-    let i = c .before .before in
-    let l = i .before .before .before in
-    omega (arith, long l, start l .pre .1, counted l, ap length (i .signed-identity .ensures), signed-width (i .before .held .result .now))
+put-identity-requires : tie.Need-put-identity-requires Inv-loop μ-loop
+put-identity-requires c κs =
+    let l = c .before .before in
+    let s = start l in
+    (omega (arith, long l, s .pre .1, counted l), (s .pre .0 .0, s .pre .0 .1, omega (arith, counted l)))
 
 add-k : tie.Need-add-k Inv-loop μ-loop
 add-k c = search needs
@@ -74,14 +63,12 @@ loop-less c = search needs
 loop-again : tie.Need-loop-again Inv-loop μ-loop
 loop-again c =
     let p = c .before .before in
-    let i = p .before .before .before in
-    let l = i .before .before .before in
-    let e : i .signed-identity .result ≡ signedIdentity (getD (heldPlaces (b l)) (l .loop .k) []) = i .signed-identity .ensures ∙ ap signedIdentity (i .before .held .ensures .0) in
+    let l = p .before .before .before in
     let h : l .loop .k < length (heldPlaces (b l)) = omega (arith, held-length (b l), counted l) in
-    let q = p .put-bytes .ensures in (
+    let q = p .put-identity .ensures in (
       omega arith,
-      omega (arith, q .next, ap length (i .signed-identity .ensures), signed-width (i .before .held .result .now)),
-      put-as (flat-next signedIdentity (heldPlaces (b l)) (l .loop .k) [] h) (put-put (l .loop .inv .2) (put-as e q)),
+      omega (arith, q .next, signed-width (getD (heldPlaces (b l)) (l .loop .k) [])),
+      put-as (flat-next signedIdentity (heldPlaces (b l)) (l .loop .k) [] h) (put-put (l .loop .inv .2) q),
     )
 
 same-length : tie.Need-same-length Inv-loop μ-loop
@@ -103,10 +90,7 @@ identities-spec =
     μ-loop
     held-count-requires
     loop-holds
-    held-requires
-    signed-identity-requires
-    slice-aggregate-put-bytes
-    put-bytes-requires
+    put-identity-requires
     add-k
     loop-less
     loop-again

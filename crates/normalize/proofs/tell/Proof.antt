@@ -9,9 +9,9 @@ use Rattle.ranges.specs.Lists.{anyOf}
 use Rattle.keeping.specs.declared.Kept.{Kept}
 use Rattle.keeping.specs.Working.{Lies, Keeps}
 use Rattle.keeping.proofs.Lowering.{lesser-left, lesser-right, take-lesser}
+use Rattle.keeping.proofs.Naming.{refused-lie}
 use Rattle.normalize.specs.Working as W
 use Rattle.normalize.specs.Working.{idAt, identified}
-use Rattle.normalize.proofs.Telling.{refused-lie}
 use borrow.Author.Needs.{needs}
 use Rattle.normalize.proofs.tell.Statement.{statement}
 use Rattle.normalize.proofs.tell.Tie as tie
@@ -20,7 +20,7 @@ use Rattle.normalize.proofs.tell.Lts as lts
 use Rattle.keeping.proofs.at_most.Reads as at-most-reads
 use Rattle.normalize.proofs.among.Reads as among-reads
 use Rattle.normalize.proofs.identity_at.Reads as identity-at-reads
-use Rattle.normalize.proofs.refused_items.Reads as refused-items-reads
+use Rattle.keeping.proofs.refused_items.Reads as refused-items-reads
 use Rattle.normalize.proofs.unlisted.Reads as unlisted-reads
 
 module _ (a : tie.After-refused-items) where

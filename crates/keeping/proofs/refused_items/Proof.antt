@@ -5,14 +5,13 @@ use mathlib.Core.List.{map}
 use native.Mathlib.Omega.{arith}
 use lib.ListN.{length, take, length-set}
 use Rattle.tracked.specs.Layout.{maxRefused}
-use Rattle.keeping.specs.Working.{unread}
-use Rattle.normalize.specs.Working.{refusedOf}
-use Rattle.normalize.proofs.Walking.{map-more}
+use Rattle.keeping.specs.Working.{unread, refusedOf}
+use Rattle.keeping.proofs.Naming.{map-more}
 use borrow.Author.Needs.{needs}
-use Rattle.normalize.proofs.refused_items.Statement.{statement}
-use Rattle.normalize.proofs.refused_items.Tie as tie
-use Rattle.normalize.proofs.refused_items.Reads as reads
-use Rattle.normalize.proofs.refused_items.Lts as lts
+use Rattle.keeping.proofs.refused_items.Statement.{statement}
+use Rattle.keeping.proofs.refused_items.Tie as tie
+use Rattle.keeping.proofs.refused_items.Reads as reads
+use Rattle.keeping.proofs.refused_items.Lts as lts
 
 abbrev Inv-loop : tie.InvT-loop
 Inv-loop refusals count list₀ i₀ list i = (i ≤ count) × (length list ≡ maxRefused) × (take i list ≡ map refusedOf (take i refusals))
