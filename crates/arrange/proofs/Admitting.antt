@@ -1,18 +1,15 @@
 -- A further transmission among those of a table.
-use Prim.Native.Nat.{ℕ, zero, suc, _+_, _*_, _-_, _≤_, _<_}
-use mathlib.Core.Path.{_≡_, refl, sym, ap, ap₂, _∙_, subst}
+use Prim.Native.Nat.{ℕ, _+_, _*_, _-_, _≤_, _<_}
+use mathlib.Core.Path.{_≡_, refl, sym, ap, _∙_, subst}
 use mathlib.Core.Bool.{Bool, true, false}
-use mathlib.Core.List.{List, [], _∷_, _++_, List·Memᴰ, List·Memᴰ·head, List·Memᴰ·tail, List·Memᴰ·not-nil, List·Memᴰ·cases-cons, List·Memᴰ·append-cases, append-assoc, append-nil}
+use mathlib.Core.List.{List, [], _∷_, _++_, List·Memᴰ, List·Memᴰ·head, List·Memᴰ·tail, List·Memᴰ·not-nil, List·Memᴰ·cases-cons, List·Memᴰ·append-cases}
 use native.Mathlib.Omega.{arith}
-use native.Mathlib.Nat.{suc-mul}
-use lib.ListN.{length, getD, take, drop, replicate, length-append, length-replicate, replicate-append-replicate}
-use lib.Seq.{drop-drop, take-all, drop-at}
-use Rattle.ranges.specs.Lists.{filter, insert, sort, lastOf}
+use lib.ListN.{length, getD, take, drop, length-append}
+use Rattle.ranges.specs.Lists.{filter, sort, lastOf}
 use Rattle.ranges.proofs.Bools.{by, or, clash}
 use Rattle.ranges.proofs.Lists.{filter-in, sort-perm}
 use Rattle.ranges.proofs.Orders.{perm-length}
-use Rattle.places.specs.Places.{flat, tableOf}
-use Rattle.places.proofs.Tables.{wide, flat-append, flat-length, places-of-table, table-length}
+use Rattle.places.proofs.Tables.{wide}
 use Rattle.shown.proofs.Indexed.{at-in}
 use Rattle.shown.specs.Ages.{older}
 use Rattle.shown.proofs.Ages.{older-irrefl, older-trans, older-past}
@@ -22,7 +19,7 @@ use Rattle.tracked.specs.Parts.{Sound}
 use Rattle.arrange.specs.Arranged.{maxTransmissions}
 use Rattle.arrange.specs.Blocks.{blocks, blockTable, hasFixIn, olderBlock, arrangedBlocks, Filled, without, admitted}
 use Rattle.arrange.proofs.Kept.{firstHeld, older-first, some-fix, no-fix}
-use Rattle.arrange.proofs.Tables.{front, back}
+use Rattle.arrange.proofs.Tables.{append-table}
 use Rattle.arrange.proofs.Settling.{AllSound, all-wide, positive, count-is, table-filled, arranged-in}
 use Rattle.arrange.proofs.Stable.{sort-agree, Weak, sort-front, Ordered, none, next, sort-ordered, sort-same, last-first, first-stays}
 
@@ -88,31 +85,6 @@ arranged-again bs b e =
     ∙ ap (λ (r : List (List ℕ)). sort keptOlder (filter hasFixIn bs ++ r)) (sym (filter-kept (b ∷ []) k))
     ∙ ap (sort keptOlder) (sym (filter-append bs (b ∷ [])))
     ∙ sym (sorted (bs ++ (b ∷ [])))
-
--- ---- one more behind the others
-
--- the bytes of a further place
-pub append-table : (w cap : ℕ) (ps : List (List ℕ)) (x : List ℕ) → wide w ps → length x ≡ w → length ps < cap
-    → take (length ps * w) (tableOf w cap ps) ++ (x ++ drop (length ps * w + w) (tableOf w cap ps)) ≡ tableOf w cap (ps ++ (x ∷ []))
-unfolding flat
-append-table w cap ps x h e l =
-    let n = length ps in
-    let z : ℕ = (cap - (n + 1)) * w in
-    let b : drop (n * w) (tableOf w cap ps) ≡ replicate (w + z) 0 = back w cap ps h n (omega arith) ∙ ap₂ (λ (u : List (List ℕ)) (k : ℕ). flat u ++ replicate k 0) (nothing ps) (more cap n l) in
-    let d : drop (n * w + w) (tableOf w cap ps) ≡ replicate z 0 = sym (drop-drop w (n * w) (tableOf w cap ps)) ∙ ap (drop w) b ∙ zeros w z in
-    let m : length (ps ++ (x ∷ [])) ≡ n + 1 = length-append ps (x ∷ []) in
-    rw (front w cap ps h n (omega arith), d, take-all n ps (omega arith), m, flat-append ps (x ∷ []))
-    (sym (append-assoc (flat ps) (x ++ []) (replicate z 0) ∙ ap (λ (u : List ℕ). flat ps ++ (u ++ replicate z 0)) (append-nil x)))
-  where
-    nothing : (qs : List (List ℕ)) → drop (length qs) qs ≡ []
-    nothing [] = refl
-    nothing (q ∷ qs) = nothing qs
-
-    more : (c n : ℕ) → n < c → (c - n) * w ≡ w + (c - (n + 1)) * w
-    more c n h = let g : c - n ≡ suc (c - (n + 1)) = omega arith in ap (λ (k : ℕ). k * w) g ∙ omega (arith, suc-mul (c - (n + 1)) w)
-
-    zeros : (i j : ℕ) → drop i (replicate (i + j) 0) ≡ replicate {A = ℕ} j 0
-    zeros i j = rw (← replicate-append-replicate {A = ℕ} i j 0) (drop-at (replicate i 0) (replicate j 0) i (length-replicate i 0))
 
 -- where there is room, none goes
 pub few-stay : (l : List (List ℕ)) → length l ≤ maxTransmissions → lastOf maxTransmissions l ≡ l
@@ -202,7 +174,7 @@ module _ (t t′ b : List ℕ) (n : ℕ) (f : Filled t n) (s : Sound b) (room : 
   more-count = sym (length-append (blocks n t) (b ∷ []) ∙ ap (λ (k : ℕ). k + 1) (count-is t n f))
 
   bytes : (bs : List (List ℕ)) → wide transmissionSize bs → length bs ≡ n → t ≡ blockTable bs → t′ ≡ blockTable (bs ++ (b ∷ []))
-  bytes bs w q e = put ∙ rw (e, s .size, sym q) (append-table transmissionSize maxTransmissions bs b w (s .size) (rw q room))
+  bytes bs w q e = put ∙ rw (e, s .size, sym q) (append-table transmissionSize maxTransmissions bs b w (rw q room))
 
   pub appended : (blocks (n + 1) t′ ≡ blocks n t ++ (b ∷ [])) × Filled t′ (n + 1)
   appended = table-filled more t′ (n + 1) more-sound more-count (omega arith) (bytes (blocks n t) (all-wide (blocks n t) (f .sound)) (count-is t n f) (f .is))

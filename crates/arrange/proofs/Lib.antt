@@ -1,6 +1,7 @@
 pub mod Tables
 pub mod Moving
 pub mod Kept
+pub mod Sheets
 pub mod Settling
 pub mod Stable
 pub mod Admitting

@@ -1,9 +1,9 @@
 -- Bytes that were copied down, and what is then put or cleared behind them.
-use Prim.Native.Nat.{ℕ, _+_, _*_, _-_, _≤_, _<_}
+use Prim.Native.Nat.{ℕ, _+_, _-_, _≤_}
 use mathlib.Core.Path.{_≡_, refl, sym, ap, ap₂, _∙_}
-use mathlib.Core.List.{List, _++_, append-assoc, append-nil}
+use mathlib.Core.List.{List, _++_, append-assoc}
 use native.Mathlib.Omega.{arith}
-use lib.ListN.{length, take, drop, replicate, length-append, length-take, length-drop, length-replicate, drop-of-length-le}
+use lib.ListN.{length, take, drop, replicate, length-append, length-take, length-drop, length-replicate}
 use lib.Seq.{take-at, drop-at, drop-drop}
 use borrow.Rule.Slice.PartMut.{putMid}
 use Rattle.text.specs.Buffer.{Put}
@@ -36,21 +36,20 @@ module _ (T t : List ℕ) (from a m : ℕ) (low : a ≤ from) (within : from + m
       ap₂ (λ (u v : List ℕ). u ++ (x ++ v)) in-front b ∙ append-assoc (take a T) (take m (drop from T)) (x ++ drop (a + m + length x) T)
 
   -- the w bytes behind them cleared
-  pub cleared-behind : (w : ℕ) → a + m + w ≤ length T → (y : List ℕ) → y ≡ replicate (length (take (a + m + w - (a + m)) (drop (a + m) t))) 0
-      → putMid (a + m) (a + m + w - (a + m)) t y ≡ take a T ++ (take m (drop from T) ++ (replicate w 0 ++ drop (a + m + w) T))
-  cleared-behind w h y e =
-      let z : a + m + w - (a + m) ≡ w = omega arith in
-      let n : length (take (a + m + w - (a + m)) (drop (a + m) t)) ≡ w = simp (length-take, length-drop) (omega (arith, moved-length)) in
+  pub cleared-behind : (w l e : ℕ) → l ≡ a + m → e ≡ a + m + w → e ≤ length T → (y : List ℕ) → y ≡ replicate (length (take (e - l) (drop l t))) 0
+      → putMid l (e - l) t y ≡ take a T ++ (take m (drop from T) ++ (replicate w 0 ++ drop e T))
+  cleared-behind w l e p q h y is-zero =
+      let z : e - l ≡ w = omega arith in
+      let n : length (take (e - l) (drop l t)) ≡ w = simp (length-take, length-drop) (omega (arith, moved-length)) in
       let zeros : List ℕ = replicate w 0 in
-      let l : length zeros ≡ w = length-replicate {A = ℕ} w 0 in
-      ap₂ (λ (k : ℕ) (x : List ℕ). take (a + m) t ++ (x ++ drop k (drop (a + m) t))) (z ∙ sym l) (e ∙ ap (λ (k : ℕ). replicate k 0) n)
-      ∙ ap (λ (x : List ℕ). take (a + m) t ++ (zeros ++ x)) (drop-drop (length zeros) (a + m) t)
+      let k : length zeros ≡ w = length-replicate {A = ℕ} w 0 in
+      let d : a + m + length zeros ≡ e = omega (arith, k, q) in
+      ap₂ (λ (i : ℕ) (x : List ℕ). take l t ++ (x ++ drop i (drop l t))) (z ∙ sym k) (is-zero ∙ ap (λ (i : ℕ). replicate i 0) n)
+      ∙ ap (λ (x : List ℕ). take l t ++ (zeros ++ x)) (drop-drop (length zeros) l t)
+      ∙ ap (λ (i : ℕ). take i t ++ (zeros ++ drop (i + length zeros) t)) p
       ∙ put-behind zeros
-      ∙ ap (λ (k : ℕ). take a T ++ (take m (drop from T) ++ (zeros ++ drop (a + m + k) T))) l
+      ∙ ap (λ (i : ℕ). take a T ++ (take m (drop from T) ++ (zeros ++ drop i T))) d
 
--- all of a buffer written
-pub put-all : {z x b : List ℕ} {r : ℕ} → Put z 0 b r x → length z ≡ length b → x ≡ b
-put-all {z} {x} {b} {r} p e =
-    put-whole p (omega arith)
-    ∙ ap (λ (l : List ℕ). b ++ l) (let h : length z ≤ 0 + length b = omega arith in drop-of-length-le z h)
-    ∙ append-nil b
+-- the front of a buffer written
+pub put-front : {z x b : List ℕ} {r : ℕ} → Put z 0 b r x → length b ≤ length z → take (length b) x ≡ b
+put-front {z} {x} {b} {r} p h = ap (take (length b)) (put-whole p (omega arith)) ∙ take-at b (drop (0 + length b) z) (length b) refl

@@ -1,17 +1,16 @@
 -- A transmission put into the order of those behind it: what each turn of the loop leaves.
 use Prim.Native.Nat.{ℕ, zero, suc, _+_, _*_, _-_, _≤_, _<_}
-use mathlib.Core.Path.{_≡_, refl, sym, ap, ap₂, _∙_, subst}
+use mathlib.Core.Path.{_≡_, refl, sym, ap, _∙_, subst}
 use mathlib.Core.Bool.{Bool, true, false, cond}
 use mathlib.Core.List.{List, [], _∷_, _++_, List·Memᴰ, List·Memᴰ·head, List·Memᴰ·tail, List·Memᴰ·append-cases, List·Memᴰ·not-nil, List·Memᴰ·cases-cons, append-nil}
 use native.Mathlib.Omega.{arith}
 use native.Mathlib.Numerals.{add-one}
-use lib.ListN.{length, getD, take, drop, replicate, length-append, length-take, length-drop, take-append-drop, List·getD-append}
-use lib.Seq.{drop-cons, split-at, drop-drop, take-at, drop-at, take-all, getD-append-seam, getD-append-add, getD-drop, length-take-le, getD-take}
+use lib.ListN.{length, getD, take, drop, length-append, length-take, length-drop, List·getD-append}
+use lib.Seq.{drop-cons, split-at, drop-drop, drop-at, take-all, getD-drop, length-take-le, getD-take}
 use Rattle.ranges.specs.Lists.{filter, insert, sort}
 use Rattle.ranges.proofs.Bools.{by, or, clash}
 use Rattle.ranges.proofs.Lists.{filter-in, filter-few, sort-in, sort-perm}
 use Rattle.ranges.proofs.Orders.{perm-length}
-use Rattle.places.specs.Places.{places}
 use Rattle.places.proofs.Tables.{wide, length-places, places-of-table, table-length}
 use Rattle.places.proofs.Walks.{place-of}
 use Rattle.shown.proofs.Indexed.{at-in}
@@ -19,7 +18,7 @@ use Rattle.tracked.specs.Layout.{transmissionSize}
 use Rattle.tracked.specs.Bytes.{fixCount}
 use Rattle.tracked.specs.Parts.{Sound}
 use Rattle.arrange.specs.Arranged.{maxTransmissions}
-use Rattle.arrange.specs.Blocks.{blocks, blockTable, hasFixIn, olderBlock, arrangedBlocks, Filled, FixesFrom, leading, turned, without, settled}
+use Rattle.arrange.specs.Blocks.{blocks, blockTable, hasFixIn, olderBlock, arrangedBlocks, Filled, FixesFrom, leading, turnedBytes, removedBytes, turned, without, settled}
 use Rattle.arrange.proofs.Kept.{no-fix}
 use Rattle.arrange.proofs.Tables.{turn-table, remove-table}
 
@@ -157,6 +156,14 @@ drop-in (y ∷ l) (suc k) x m = List·Memᴰ·tail (drop-in l k x m)
 pub without-sound : (bs : List (List ℕ)) (i : ℕ) → AllSound bs → AllSound (without i bs)
 without-sound bs i s x m = or (List·Memᴰ·append-cases (take i bs) m) (λ k. s x (take-in bs i x k)) (λ k. s x (drop-in bs (i + 1) x k))
 
+turned-sound : (bs : List (List ℕ)) (i j : ℕ) → i < length bs → AllSound bs → AllSound (turned i j bs)
+turned-sound bs i j h s x m =
+    or (List·Memᴰ·append-cases (take i bs) m)
+    (λ k. s x (take-in bs i x k))
+    (λ k. or (List·Memᴰ·append-cases (take (j - (i + 1)) (drop (i + 1) bs)) k)
+    (λ l. s x (drop-in bs (i + 1) x (take-in (drop (i + 1) bs) (j - (i + 1)) x l)))
+    (λ l. or (List·Memᴰ·cases-cons l) (λ e. subst Sound (sym e) (s (getD bs i []) (at-in [] bs i h))) (λ r. s x (drop-in bs j x r))))
+
 pub without-count : (bs : List (List ℕ)) (i : ℕ) → i < length bs → length (without i bs) ≡ length bs - 1
 without-count bs i h = simp (length-append, length-take, length-drop) (omega arith)
 
@@ -166,20 +173,15 @@ module _ (bs : List (List ℕ)) (t : List ℕ) (n i : ℕ) (s : AllSound bs) (fe
   pub among : i < length bs
   among = rw q h
 
-  pub removed-table : take (i * transmissionSize) t ++ (take ((n - (i + 1)) * transmissionSize) (drop ((i + 1) * transmissionSize) t) ++ (replicate transmissionSize 0 ++ drop (n * transmissionSize) t)) ≡ blockTable (without i bs)
+  pub removed-table : removedBytes (i * transmissionSize) transmissionSize (n * transmissionSize) t ≡ blockTable (without i bs)
   removed-table = rw (is, sym q) (remove-table transmissionSize maxTransmissions bs (all-wide bs s) (rw q few) i among)
 
-  pub removed-bytes : hasFixIn (getD bs i []) ≡ false
-      → take (i * transmissionSize) t ++ (take ((n - (i + 1)) * transmissionSize) (drop ((i + 1) * transmissionSize) t) ++ (replicate transmissionSize 0 ++ drop (n * transmissionSize) t))
-      ≡ blockTable (settled i bs)
-  removed-bytes e = removed-table ∙ ap blockTable (taken-out bs i among e)
-
-  pub turned-bytes : (j : ℕ) → hasFixIn (getD bs i []) ≡ true → j ≡ i + 1 + lead bs i among
-      → take (i * transmissionSize) t ++ (take ((j - (i + 1)) * transmissionSize) (drop ((i + 1) * transmissionSize) t) ++ (take transmissionSize (drop (i * transmissionSize) t) ++ drop (j * transmissionSize) t))
-      ≡ blockTable (settled i bs)
-  turned-bytes j e g =
-      let l = lead-few bs i among in
-      rw is (turn-table transmissionSize maxTransmissions bs (all-wide bs s) i j (omega arith) (omega arith) ∙ ap blockTable (ap (λ (k : ℕ). turned i k bs) g ∙ turned-is bs i among e))
+  pub turned-table : (j : ℕ) → i < j → j ≤ n → (t′ : List ℕ) → t′ ≡ turnedBytes (i * transmissionSize) transmissionSize (j * transmissionSize) t
+      → (t′ ≡ blockTable (turned i j bs)) × (blocks n t′ ≡ turned i j bs)
+  turned-table j l m t′ e =
+      let k : t′ ≡ blockTable (turned i j bs) = e ∙ rw is (turn-table transmissionSize maxTransmissions bs (all-wide bs s) i j l (rw q m)) in
+      let c : n ≡ length (turned i j bs) = sym (simp (length-append, length-take, length-drop, q) (omega (arith, l, m))) in
+      (k, table-filled (turned i j bs) t′ n (turned-sound bs i j among s) c few k .0)
 
 -- one more in front of a list
 pub arranged-more : (p : List ℕ) (l : List (List ℕ)) → cond (hasFixIn p) (insert olderBlock p (arrangedBlocks l)) (arrangedBlocks l) ≡ arrangedBlocks (p ∷ l)
