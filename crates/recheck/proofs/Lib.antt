@@ -1,4 +1,5 @@
 pub mod Standing
+pub mod Identities
 pub mod Renewing
 pub mod Rearranging
 pub mod Rechecked

@@ -67,6 +67,9 @@ module _ (m : List ℕ) (o : Opened m) (b : Bytes m) where
   unfolding recheck decode
   stale-is h = rw h refl
 
-  pub some-stale : anyOf (hasStale (summariesIn m)) ts ≡ true → (n : ℕ) → n ≡ length (arranged us) → (x : List ℕ) → x ≡ take transmissionsAt m ++ blockTable (map transmissionBytes (arranged us))
-      → set x transmissionCountAt n ≡ encode (recheck (decode m))
-  some-stale h n e x q = ap (λ (l : List ℕ). set l transmissionCountAt n) q ∙ with-transmissions (arranged us) n e ∙ ap encode (sym (stale-is h))
+  pub taken-out : (n : ℕ) → n ≡ length (arranged us) → (x : List ℕ) → x ≡ take transmissionsAt m ++ blockTable (map transmissionBytes (arranged us))
+      → set x transmissionCountAt n ≡ encode (withTransmissions (arranged us) (decode m))
+  taken-out n e x q = ap (λ (l : List ℕ). set l transmissionCountAt n) q ∙ with-transmissions (arranged us) n e
+
+  pub some-stale : anyOf (hasStale (summariesIn m)) ts ≡ true → encode (withTransmissions (arranged us) (decode m)) ≡ encode (recheck (decode m))
+  some-stale h = ap encode (sym (stale-is h))

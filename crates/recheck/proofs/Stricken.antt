@@ -1,28 +1,30 @@
 -- What a conviction leaves of a track's bytes: the bytes of the track without the engine.
 use Prim.Native.Nat.{ℕ, _+_, _-_, _≤_}
-use mathlib.Core.Path.{_≡_, refl, sym, ap, ap₂, _∙_}
+use mathlib.Core.Path.{_≡_, refl, sym, ap, ap₂, _∙_, subst}
 use mathlib.Core.List.{List, [], _∷_, _++_, map, List·Memᴰ}
 use native.Mathlib.Omega.{arith}
-use lib.ListN.{length, set, take, drop, length-map}
+use lib.ListN.{length, getD, set, take, drop, length-map}
 use Rattle.octets.specs.Bytes.{Bytes}
 use Rattle.octets.specs.Masks.{withBit}
 use Rattle.octets.specs.Writes.{putWord}
 use Rattle.places.specs.Places.{places, tableOf, keepPlaces}
-use Rattle.places.proofs.Keeping.{kept-length}
+use Rattle.places.proofs.Keeping.{kept-length, kept-wide}
+use Rattle.places.proofs.Tables.{wide, table-length}
 use Rattle.models.specs.Summary.{summarySize}
 use Rattle.held.specs.Limits.{maxSummaries, summariesSize}
 use Rattle.held.specs.Summaries.{noValue, isOfAnother}
 use Rattle.held.specs.Strikes.{Struck}
 use Rattle.held.proofs.Striking.{struck-table}
+use Rattle.held.proofs.Summarized.{all-of, none-more}
 use Rattle.tracked.specs.Held.{HeldTransmission}
 use Rattle.tracked.specs.Bytes.{transmissionIn, transmissionBytes}
 use Rattle.arrange.specs.Arranged.{maxTransmissions, arranged}
-use Rattle.arrange.specs.Blocks.{blockTable}
+use Rattle.arrange.specs.Blocks.{blockTable, Known}
 use Rattle.stored.specs.Layout.{convictedAt, summaryCountAt, transmissionCountAt, summariesAt, transmissionsAt}
 use Rattle.stored.specs.Memory.{convictedIn, summaryCount, transmissionCount, contestedIn, summaryTable, transmissionTable, summariesIn, transmissionPlaces, decode, encode}
 use Rattle.stored.proofs.Blocks.{of-map, Kept}
-use Rattle.stored.proofs.Frames.{frame, put-convicted, put-summary-count, set-transmission-count, frame-summaries, frame-summaries-back, frame-transmissions-back}
-use Rattle.stored.proofs.Opened.{Opened, summaries-length, summary-bytes-length, transmissions-length, all-held, framed}
+use Rattle.stored.proofs.Frames.{frame, put-convicted, put-summary-count, set-transmission-count, read-transmission-count, frame-summaries, frame-transmissions, frame-summaries-back, frame-transmissions-back}
+use Rattle.stored.proofs.Opened.{Opened, summaries-length, summaries-wide, summary-bytes-length, transmissions-length, all-held, framed}
 use Rattle.recheck.specs.Recheck.{withoutEngine, strikeEngine}
 use Rattle.recheck.specs.Steps.{withoutBytes}
 use Rattle.recheck.proofs.Renewing.{without-kept}
@@ -57,6 +59,9 @@ module _ (m : List ℕ) (o : Opened m) (b : Bytes m) (e : ℕ) where
   few-left : length ss ≤ maxSummaries
   few-left = omega (arith, kept-length summarySize (isOfAnother e) noValue (summariesIn m), summaries-length m o, o .few-summaries)
 
+  wide-left : wide summarySize ss
+  wide-left = kept-wide summarySize (isOfAnother e) noValue summarySize all-of none-more (summariesIn m) (summaries-wide m o)
+
   abbrev table : List ℕ
   table = blockTable (map transmissionBytes (arranged us))
 
@@ -89,9 +94,8 @@ module _ (m : List ℕ) (o : Opened m) (b : Bytes m) (e : ℕ) where
             ∙ frame-summaries-back (convictedIn m) (summaryCount m) (transmissionCount m) (contestedIn m) (summaryTable m) table (summary-bytes-length m o) s
             ∙ ap (λ (x : List ℕ). frame (convictedIn m) (summaryCount m) (transmissionCount m) (contestedIn m) x table) (struck-table summarySize maxSummaries ss (summaryTable m) a s (summary-bytes-length m o) p′)
 
-        pub third : (y r : ℕ) → y ≡ withBit (convictedIn m) e → r ≡ length (arranged us) → (x : List ℕ) → x ≡ set (putWord 2 summaryCountAt a (putWord 4 convictedAt y m₂)) transmissionCountAt r → x ≡ encode (strikeEngine e (decode m))
-        unfolding encode decode strikeEngine
-        third y r ey er x z =
+        third : (y r : ℕ) (x : List ℕ) → x ≡ set (putWord 2 summaryCountAt a (putWord 4 convictedAt y m₂)) transmissionCountAt r → x ≡ frame y a r (contestedIn m) (tableOf summarySize maxSummaries ss) table
+        third y r x z =
             let k = transmissionCount m in
             let c = contestedIn m in
             let t = tableOf summarySize maxSummaries ss in
@@ -99,4 +103,20 @@ module _ (m : List ℕ) (o : Opened m) (b : Bytes m) (e : ℕ) where
             ∙ ap (λ (l : List ℕ). set (putWord 2 summaryCountAt a l) transmissionCountAt r) (put-convicted (convictedIn m) (summaryCount m) k c t table y)
             ∙ ap (λ (l : List ℕ). set l transmissionCountAt r) (put-summary-count y (summaryCount m) k c t table a)
             ∙ set-transmission-count y a k c t table r
-            ∙ (λ i. frame (ey i) (p′ .count i) (er i) c t table)
+
+        pub struck : (y r : ℕ) → y ≡ withBit (convictedIn m) e → r ≡ length (arranged us) → (x : List ℕ) → x ≡ set (putWord 2 summaryCountAt a (putWord 4 convictedAt y m₂)) transmissionCountAt r → x ≡ encode (strikeEngine e (decode m))
+        unfolding encode decode strikeEngine
+        struck y r ey er x z = third y r x z ∙ (λ i. frame (ey i) (p′ .count i) (er i) (contestedIn m) (tableOf summarySize maxSummaries ss) table)
+
+        -- the transmissions, and so what is known of them, are those that were struck
+        pub struck-known : (y r : ℕ) (x : List ℕ) → x ≡ set (putWord 2 summaryCountAt a (putWord 4 convictedAt y m₂)) transmissionCountAt r → (k : List ℕ) → Known (transmissionTable m₁) k r
+            → Known (transmissionTable x) k (transmissionCount x)
+        struck-known y r x z k h =
+            let c = contestedIn m in
+            let t = tableOf summarySize maxSummaries ss in
+            let f = third y r x z in
+            let p : transmissionTable x ≡ transmissionTable m₁ =
+            ap (drop transmissionsAt) f ∙ frame-transmissions y a r c t table (table-length summarySize maxSummaries ss wide-left few-left)
+            ∙ sym (ap (drop transmissionsAt) first ∙ frame-transmissions (convictedIn m) (summaryCount m) (transmissionCount m) c (summaryTable m) table (summary-bytes-length m o)) in
+            let q : transmissionCount x ≡ r = ap (λ (l : List ℕ). getD l transmissionCountAt 0) f ∙ read-transmission-count y a r c t table in
+            subst (λ (n : ℕ). Known (transmissionTable x) k n) (sym q) (subst (λ (l : List ℕ). Known l k r) (sym p) h)

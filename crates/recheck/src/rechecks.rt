@@ -1,6 +1,8 @@
 // Which fixes a track's summaries still bear out, and those that they do not taken out.
+use arrange::KNOWN_TABLE_SIZE;
 use stored::layout;
 use stored::signatures;
+use tracked::layout::KNOWN_SIZE;
 use tracked::layout::TRANSMISSION_SIZE;
 ghost use mathlib.Core.Path.{_≡_};
 ghost use mathlib.Core.Bool.{true, not};
@@ -16,9 +18,12 @@ ghost use Rattle.tracked.specs.Layout.{fixSize, transmissionSize};
 ghost use Rattle.tracked.specs.Held.{heldIn};
 ghost use Rattle.tracked.specs.Bytes.{recordIn, fixIn, transmissionIn};
 ghost use Rattle.tracked.specs.Parts.{heldCount, Sound};
-ghost use Rattle.arrange.specs.Blocks.{blockTable};
+ghost use Rattle.tracked.specs.Known.{Knows};
+ghost use Rattle.arrange.specs.Arranged.{arranged};
+ghost use Rattle.arrange.specs.Blocks.{blockTable, Known};
 ghost use Rattle.stored.specs.Layout.{transmissionsAt};
-ghost use Rattle.stored.specs.Memory.{summaryTable, summariesIn, transmissionPlaces, wellFormed, decode, encode};
+ghost use Rattle.stored.specs.Track.{withTransmissions};
+ghost use Rattle.stored.specs.Memory.{transmissionCount, summaryTable, transmissionTable, summariesIn, transmissionPlaces, wellFormed, decode, encode};
 ghost use Rattle.stored.specs.Steps.{blockAt, heldFix, Carries, OnlyAt};
 ghost use Rattle.recheck.specs.Recheck as T;
 ghost use Rattle.recheck.specs.Steps as S;
@@ -110,33 +115,59 @@ fn silence(memory: &mut [u8], n: usize, at: usize)
 }
 
 // Decides a transmission again, without the fixes that do not stand.
-fn renew(memory: &mut [u8], n: usize, at: usize)
+fn renew(memory: &mut [u8], n: usize, at: usize, s: &mut [u8])
     requires { ⌜ (n ≤ maxSummaries) × (transmissionsAt ≤ at) × (at + transmissionSize ≤ length (now memory)) ⌝ }
-    requires { ⌜ Sound (blockAt at (now memory)) × S.AllSigned (blockAt at (now memory)) ⌝ }
+    requires { ⌜ Sound (blockAt at (now memory)) × S.AllSigned (blockAt at (now memory)) × Knows (blockAt at (now memory)) (now s) ⌝ }
     ensures { λ _. ⌜ now (memory .exit) ≡ take at (now (memory .entry)) ++ (S.standingBytes (places summarySize n (summaryTable (now (memory .entry)))) (blockAt at (now (memory .entry))) ++ drop (at + transmissionSize) (now (memory .entry))) ⌝ }
+    ensures { λ _. ⌜ Knows (blockAt at (now (memory .exit))) (now (s .exit)) ⌝ }
 {
     silence(memory, n, at);
     let e = at + TRANSMISSION_SIZE;
-    normalize::normalize(&mut memory[at..e]);
+    normalize::normalize(&mut memory[at..e], s);
 }
 
 // Decides every transmission of a track again, without the fixes that do not stand.
-fn renew_all(memory: &mut [u8])
-    requires { ⌜ wellFormed (now memory) ≡ true ⌝ }
+fn renew_all(memory: &mut [u8], known: &mut [u8])
+    requires { ⌜ (wellFormed (now memory) ≡ true) × Known (transmissionTable (now memory)) (now known) (transmissionCount (now memory)) ⌝ }
     ensures { λ _. ⌜ now (memory .exit) ≡ take transmissionsAt (now (memory .entry)) ++ blockTable (map (S.standingBytes (summariesIn (now (memory .entry)))) (transmissionPlaces (now (memory .entry)))) ⌝ }
+    ensures { λ _. ⌜ Known (transmissionTable (now (memory .exit))) (now (known .exit)) (transmissionCount (now (memory .entry))) ⌝ }
 {
     let n = octets::words::u16_at(memory, layout::SUMMARY_COUNT_AT) as usize;
     let count = memory[layout::TRANSMISSION_COUNT_AT] as usize;
     let mut i = 0;
     let mut at = layout::TRANSMISSIONS_AT;
     while i < count {
-        renew(memory, n, at);
+        let k = i * KNOWN_SIZE;
+        let k_end = k + KNOWN_SIZE;
+        renew(memory, n, at, &mut known[k..k_end]);
         at += TRANSMISSION_SIZE;
         i += 1;
     }
 }
 
-// Takes the fixes that do not stand out of a track. Where all stand nothing is decided again.
+// Takes the fixes that do not stand out of a track, where some do not.
+fn take_out(memory: &mut [u8], known: &mut [u8])
+    requires { ⌜ (wellFormed (now memory) ≡ true) × Known (transmissionTable (now memory)) (now known) (transmissionCount (now memory)) ⌝ }
+    ensures { λ _. ⌜ now (memory .exit) ≡ encode (withTransmissions (arranged (map (T.standing (summariesIn (now (memory .entry)))) (map transmissionIn (transmissionPlaces (now (memory .entry)))))) (decode (now (memory .entry)))) ⌝ }
+{
+    let count = memory[layout::TRANSMISSION_COUNT_AT] as usize;
+    renew_all(memory, known);
+    let left = arrange::arrange(&mut memory[layout::TRANSMISSIONS_AT..], known, count);
+    memory[layout::TRANSMISSION_COUNT_AT] = left as u8;
+}
+
+// Takes the fixes that do not stand out of a track of which some identities are known. Where all stand nothing is decided again.
+pub fn recheck_known(memory: &mut [u8], known: &mut [u8])
+    requires { ⌜ (wellFormed (now memory) ≡ true) × Known (transmissionTable (now memory)) (now known) (transmissionCount (now memory)) ⌝ }
+    ensures { λ _. ⌜ now (memory .exit) ≡ encode (T.recheck (decode (now (memory .entry)))) ⌝ }
+{
+    if !any_stale(memory) {
+        return;
+    }
+    take_out(memory, known);
+}
+
+// Takes the fixes that do not stand out of a track. Where all stand nothing is decided again, and no table is cleared.
 pub fn recheck(memory: &mut [u8])
     requires { ⌜ wellFormed (now memory) ≡ true ⌝ }
     ensures { λ _. ⌜ now (memory .exit) ≡ encode (T.recheck (decode (now (memory .entry)))) ⌝ }
@@ -144,8 +175,6 @@ pub fn recheck(memory: &mut [u8])
     if !any_stale(memory) {
         return;
     }
-    let count = memory[layout::TRANSMISSION_COUNT_AT] as usize;
-    renew_all(memory);
-    let left = arrange::arrange(&mut memory[layout::TRANSMISSIONS_AT..], count);
-    memory[layout::TRANSMISSION_COUNT_AT] = left as u8;
+    let mut known = [0u8; KNOWN_TABLE_SIZE];
+    take_out(memory, &mut known);
 }

@@ -14,7 +14,7 @@ use Rattle.stored.specs.Layout.{summariesAt, trackSize}
 use Rattle.stored.specs.Memory.{convictedIn, summaryCount}
 use Rattle.stored.proofs.Opened.{Opened, opened}
 use Rattle.recheck.proofs.Renewing.{arranged-at-most}
-use Rattle.recheck.proofs.Stricken.{us, lent-length, summaries-left, third}
+use Rattle.recheck.proofs.Stricken.{us, lent-length, summaries-left, struck, struck-known}
 use borrow.Author.Needs.{needs}
 use Rattle.recheck.proofs.strikes.strike.Statement.{statement}
 use Rattle.recheck.proofs.strikes.strike.Tie as tie
@@ -23,13 +23,13 @@ use Rattle.recheck.proofs.strikes.strike.Tie as tie
 
 module _ (a : tie.After-strike-transmissions) where
   abbrev counted : tie.After-u16-at
-  counted = a .before .before
+  counted = a .before .before .before
 
   abbrev convicted-read : tie.After-u32-at
   convicted-read = counted .before .before
 
   abbrev s : tie.Start
-  s = convicted-read .before .before .before
+  s = convicted-read .before .before .before .before
 
   abbrev m : List ℕ
   m = s .args .memory .now
@@ -41,7 +41,7 @@ module _ (a : tie.After-strike-transmissions) where
   o = opened m (s .pre .0)
 
   b : Bytes m
-  b = all-bytes m (λ i. convicted-read .before .before .slice-known .given i .fits)
+  b = all-bytes m (λ i. convicted-read .before .before .before .slice-known .given i .fits)
 
   abbrev n : ℕ
   n = counted .u16-at .result
@@ -62,10 +62,10 @@ module _ (a : tie.After-strike-transmissions) where
 
 module _ (a : tie.After-strike-summaries) where
   abbrev h : tie.After-strike-transmissions
-  h = a .before .before .before .before
+  h = a .before .before .before .before .before .before
 
   few-summaries : a .strike-summaries .result ≤ maxSummaries
-  few-summaries = summaries-left (m h) (o h) (b h) (e h) (m₁ h) (h .strike-transmissions .ensures .1) (n h) (n-is h) (a .strike-summaries .result) (a .strike-summaries .last .0) (a .strike-summaries .ensures)
+  few-summaries = summaries-left (m h) (o h) (b h) (e h) (m₁ h) (h .strike-transmissions .ensures .1 .0) (n h) (n-is h) (a .strike-summaries .result) (a .strike-summaries .last .0) (a .strike-summaries .ensures)
 
   abbrev m₂ : List ℕ
   m₂ = take summariesAt (m₁ h) ++ (a .strike-summaries .last .0 ++ drop summariesSize (drop summariesAt (m₁ h)))
@@ -74,10 +74,10 @@ module _ (a : tie.After-strike-summaries) where
   size₂ = same-len-mid summariesAt summariesSize (m₁ h) (a .strike-summaries .last .0) (a .strike-summaries .kept .0) ∙ size₁ h
 
 u32-at-requires : tie.Need-u32-at-requires
-u32-at-requires c κs = let s = c .before .before in omega (arith, opened (s .args .memory .now) (s .pre .0) .size)
+u32-at-requires c κs = let s = c .before .before .before in omega (arith, opened (s .args .memory .now) (s .pre .0) .size)
 
 u16-at-requires : tie.Need-u16-at-requires
-u16-at-requires c κs = let s = c .before .before .before .before in omega (arith, opened (s .args .memory .now) (s .pre .0) .size)
+u16-at-requires c κs = let s = c .before .before .before .before .before in omega (arith, opened (s .args .memory .now) (s .pre .0) .size)
 
 cast-n : tie.Need-cast-n
 cast-n c = search needs
@@ -92,15 +92,15 @@ part-strike-summaries-start : tie.Need-part-strike-summaries-start
 part-strike-summaries-start c = search needs
 
 part-strike-summaries-end : tie.Need-part-strike-summaries-end
-part-strike-summaries-end c = omega (arith, size₁ (c .before .before))
+part-strike-summaries-end c = omega (arith, size₁ (c .before .before .before .before))
 
 cast-strike-summaries : tie.Need-cast-strike-summaries
 cast-strike-summaries c = search needs
 
 strike-summaries-requires : tie.Need-strike-summaries-requires
 strike-summaries-requires c κs =
-    let h = c .before .before .before in
-    rw (lent-length (m h) (o h) (b h) (e h) (m₁ h) (h .strike-transmissions .ensures .1)) (omega (arith, o h .few-summaries, n-is h))
+    let h = c .before .before .before .before .before in
+    rw (lent-length (m h) (o h) (b h) (e h) (m₁ h) (h .strike-transmissions .ensures .1 .0)) (omega (arith, o h .few-summaries, n-is h))
 
 with-u32-requires : tie.Need-with-u32-requires
 with-u32-requires c κs = search needs
@@ -117,13 +117,20 @@ put-header-requires c κs = omega (arith, size₂ (c .before .before .before .be
 same-length : tie.Need-same-length
 same-length c = search needs
 
+same-length-2 : tie.Need-same-length-2
+same-length-2 c = search needs
+
 returns : tie.Need-returns
 returns c =
     let w = c .before .before .before in
     let a = w .before .before .before .before in
     let d = h a in
-    third (m d) (o d) (b d) (e d) (m₁ d) (d .strike-transmissions .ensures .1) (n d) (n-is d) (a .strike-summaries .result) (a .strike-summaries .last .0) (a .strike-summaries .ensures) (m₂ a) refl
-    (w .with-u32 .result) (d .strike-transmissions .result) (w .with-u32 .ensures ∙ ap (λ (x : ℕ). withBit x (e d)) (convicted-read d .u32-at .ensures)) (d .strike-transmissions .ensures .0) _ (c .before .before .put-header .ensures)
+    let p = c .before .before .put-header .ensures in (
+      struck (m d) (o d) (b d) (e d) (m₁ d) (d .strike-transmissions .ensures .1 .0) (n d) (n-is d) (a .strike-summaries .result) (a .strike-summaries .last .0) (a .strike-summaries .ensures) (m₂ a) refl
+          (w .with-u32 .result) (d .strike-transmissions .result) (w .with-u32 .ensures ∙ ap (λ (x : ℕ). withBit x (e d)) (convicted-read d .u32-at .ensures)) (d .strike-transmissions .ensures .0) _ p,
+      struck-known (m d) (o d) (b d) (e d) (m₁ d) (d .strike-transmissions .ensures .1 .0) (n d) (n-is d) (a .strike-summaries .result) (a .strike-summaries .last .0) (a .strike-summaries .ensures) (m₂ a) refl
+          (w .with-u32 .result) (d .strike-transmissions .result) _ p (d .strike-transmissions .last .1 .0) (d .strike-transmissions .ensures .1 .1),
+    )
 
 pub strike-spec : {M : Type 1} → statement M
 strike-spec =
@@ -143,4 +150,5 @@ strike-spec =
     cast-put-header-2
     put-header-requires
     same-length
+    same-length-2
     returns)
