@@ -2,7 +2,7 @@
 use Prim.Native.Nat.{ℕ, zero, suc, _+_, _*_, _-_, _≤_, _<_}
 use mathlib.Core.Path.{_≡_, refl, sym, ap, ap₂, _∙_, subst}
 use mathlib.Core.Bool.{Bool, true, false, cond, _||_}
-use mathlib.Core.List.{List, [], _∷_, _++_, map, List·Memᴰ, List·Memᴰ·head, List·Memᴰ·tail, List·Memᴰ·not-nil, List·Memᴰ·cases-cons, List·Memᴰ·append-cases, Memᴰ·append-left, Memᴰ·append-right}
+use mathlib.Core.List.{List, [], _∷_, _++_, map, List·Memᴰ, List·Memᴰ·head, List·Memᴰ·tail, List·Memᴰ·not-nil, List·Memᴰ·cases-cons}
 use mathlib.Core.Logic.{_⊎_, inl, inr}
 use native.Mathlib.Omega.{arith}
 use native.Mathlib.Numerals.{add-one}
@@ -25,7 +25,7 @@ use Rattle.tracked.proofs.Holding.{held-are}
 use Rattle.tracked.proofs.Encoding.{Valid, fixes-back}
 use Rattle.normalize.specs.Joining.{withFix, entered, refuses, upholds, moved}
 use Rattle.normalize.specs.Did.{did}
-use Rattle.normalize.proofs.Validity.{Holdable, holdable-in, held-holdable, normalized-valid, normalized-sound}
+use Rattle.normalize.proofs.Validity.{Holdable, holdable-in, with-holdable, normalized-valid, normalized-sound}
 use Rattle.arrange.specs.Arranged.{maxTransmissions, arranged}
 use Rattle.arrange.specs.Blocks.{blockTable, arrangedBlocks}
 use Rattle.arrange.proofs.Settling.{arranged-few}
@@ -135,13 +135,7 @@ module _ (f : List ℕ) (bs : List (List ℕ)) where
       all = transmissionIn b .fixes ++ (fixIn f ∷ map fixOf (transmissionIn b .refused))
 
       holdable : (x : Fix) → List·Memᴰ x all → Holdable x
-      holdable x m =
-          let v = held-holdable b y (s b (at-in [] bs i h) .sound) in
-          or (List·Memᴰ·append-cases (transmissionIn b .fixes) m)
-          (λ k. v x (Memᴰ·append-left (map fixOf (transmissionIn b .refused)) k))
-          (λ k. or (List·Memᴰ·cases-cons k)
-          (λ e. subst Holdable (sym e) (holdable-in f w size formed))
-          (λ n. v x (Memᴰ·append-right (transmissionIn b .fixes) n)))
+      holdable = with-holdable b y (s b (at-in [] bs i h) .sound) (fixIn f) (holdable-in f w size formed)
 
       u-valid : Valid u
       u-valid = normalized-valid all holdable

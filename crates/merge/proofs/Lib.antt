@@ -4,6 +4,7 @@ pub mod Putting
 pub mod Signing
 pub mod Arranging
 pub mod Opening
+pub mod Sheets
 pub mod Identified
 pub mod Joining
 pub mod Claimed

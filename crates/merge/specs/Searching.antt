@@ -11,6 +11,7 @@ use Rattle.tracked.specs.Bytes.{identityIn, fixCount, transmissionIn, transmiss
 use Rattle.shown.specs.Fix.{Fix}
 use Rattle.tracked.specs.Held.{HeldTransmission, heldIn, isOf}
 use Rattle.tracked.specs.Parts.{Sound, heldPlaces, tiesTo, sameSet}
+use Rattle.tracked.specs.Known.{Knows}
 use Rattle.normalize.specs.Joining.{withFix}
 use Rattle.normalize.specs.declared.Joined.{Joined}
 use Rattle.normalize.specs.Did.{did}
@@ -74,6 +75,11 @@ pub record Leaves (x : Step) (r : Outcome) (t : List ℕ) : Type 0 where
 abbrev pub JointAs : Fix → HeldTransmission → Joint → List ℕ → Type 0
 JointAs f t Signed b = (anyOf (isOf f) (heldIn t) ≡ true) × (b ≡ transmissionBytes (signIn f t))
 JointAs f t (Decided j) b = (anyOf (isOf f) (heldIn t) ≡ false) × (b ≡ transmissionBytes (withFix f t)) × (j ≡ did f t (withFix f t))
+
+-- where all was decided again, the sheet s is right about what is left
+abbrev pub KnowsDecided : Joint → List ℕ → List ℕ → Type 0
+KnowsDecided Signed b s = Unit {0}
+KnowsDecided (Decided j) b s = Knows b s
 
 -- a transmission as a track holds it: it has a fix, every fix is signed, and the bytes are those of what it holds
 pub record Steady (b : List ℕ) : Type 0 where

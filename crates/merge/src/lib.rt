@@ -1,6 +1,8 @@
 // What a track does with a further fix.
+use arrange::KNOWN_TABLE_SIZE;
 use items::layout::HASH_SIZE;
 use normalize::Joined;
+use tracked::layout::KNOWN_SIZE;
 use tracked::layout::MAX_REFUSED;
 use tracked::layout::MAX_STANDING;
 use tracked::layout::TRANSMISSION_SIZE;
@@ -14,9 +16,10 @@ ghost use Rattle.places.specs.Places.{places};
 ghost use Rattle.record.specs.Formed.{wellFormed};
 ghost use Rattle.items.specs.Layout.{hashSize};
 ghost use Rattle.tracked.specs.Layout.{fixSize};
-ghost use Rattle.tracked.specs.Bytes.{recordIn, fixIn, identityIn, transmissionIn, transmissionBytes};
+ghost use Rattle.tracked.specs.Bytes.{recordIn, fixIn, identityIn, fixCount, transmissionIn, transmissionBytes};
 ghost use Rattle.tracked.specs.Parts.{heldPlaces, heldCount, Sound};
-ghost use Rattle.arrange.specs.Blocks.{blocks, Filled};
+ghost use Rattle.tracked.specs.Known.{knownCount, Knows};
+ghost use Rattle.arrange.specs.Blocks.{blocks, blockTable, arrangedBlocks, Filled, Known, blockAt, Ready, Still};
 ghost use Rattle.merge.specs.Merged.{opened, merged};
 ghost use Rattle.merge.specs.Searching as S;
 
@@ -122,17 +125,35 @@ fn keeps_set(t: &[u8], n: usize, f: &[u8]) -> bool
     false
 }
 
+// Whether the fix kept of a transmission has an identity. That of the fix is worked out unless the sheet s has it.
+fn keeps_first(b: &[u8], s: &mut [u8], id: &[u8]) -> bool
+    requires { ⌜ Sound (now b) × (1 ≤ fixCount (now b)) × Knows (now b) (now s) ⌝ }
+    ensures { λ x. ⌜ x ≡ S.keepsIdentity (now (id .entry)) (now (b .entry)) ⌝ }
+    ensures { λ _. ⌜ Knows (now (b .entry)) (now (s .exit)) × (1 ≤ knownCount (now (s .exit))) ⌝ }
+{
+    tracked::known::learn_first(b, s);
+    octets::order::equal(tracked::known::identity_at(s, 0), id)
+}
+
+// The same of transmission i, whose sheet is in place i.
+fn keeps_at(t: &[u8], known: &mut [u8], i: usize, id: &[u8]) -> bool
+    requires { ⌜ Ready (now t) (now known) i ⌝ }
+    ensures { λ x. ⌜ x ≡ S.keepsIdentity (now (id .entry)) (blockAt (now (t .entry)) i) ⌝ }
+    ensures { λ _. ⌜ Still (now (t .entry)) (now (known .entry)) (now (known .exit)) ⌝ }
+{
+    let a = i * KNOWN_SIZE;
+    let e = a + KNOWN_SIZE;
+    keeps_first(arrange::block(t, i), &mut known[a..e], id)
+}
+
 // Whether the fix kept of some transmission has an identity.
-fn keeps_identity(t: &[u8], n: usize, id: &[u8]) -> bool
-    requires { ⌜ Filled (now t) n × S.AllFixed (blocks n (now t)) ⌝ }
+fn keeps_identity(t: &[u8], known: &mut [u8], n: usize, id: &[u8]) -> bool
+    requires { ⌜ Filled (now t) n × S.AllFixed (blocks n (now t)) × Known (now t) (now known) n ⌝ }
     ensures { λ x. ⌜ x ≡ anyOf (S.keepsIdentity (now (id .entry))) (blocks n (now (t .entry))) ⌝ }
 {
     let mut i = 0;
     while i < n {
-        if octets::order::equal(
-            &tracked::identity(tracked::held(arrange::block(t, i), 0)),
-            id,
-        ) {
+        if keeps_at(t, known, i, id) {
             return true;
         }
         i += 1;
@@ -141,15 +162,15 @@ fn keeps_identity(t: &[u8], n: usize, id: &[u8]) -> bool
 }
 
 // Whether the fix kept of some transmission has the identity of f. Mostly that is f itself, and nothing is hashed.
-fn keeps(t: &[u8], n: usize, f: &[u8]) -> bool
-    requires { ⌜ Filled (now t) n × S.AllFixed (blocks n (now t)) ⌝ }
+fn keeps(t: &[u8], known: &mut [u8], n: usize, f: &[u8]) -> bool
+    requires { ⌜ Filled (now t) n × S.AllFixed (blocks n (now t)) × Known (now t) (now known) n ⌝ }
     requires { ⌜ (length (now f) ≡ fixSize) × (wellFormed (recordIn (now f)) ≡ true) ⌝ }
     ensures { λ x. ⌜ x ≡ anyOf (S.keepsIdentity (identityIn (now (f .entry)))) (blocks n (now (t .entry))) ⌝ }
 {
     if keeps_set(t, n, f) {
         return true;
     }
-    keeps_identity(t, n, &tracked::identity(f))
+    keeps_identity(t, known, n, &tracked::identity(f))
 }
 
 // A fix that is tied to none or to several transmissions opens one of its own.
@@ -159,8 +180,10 @@ fn open(t: &mut [u8], n: usize, f: &[u8]) -> Outcome
     ensures { λ r. ⌜ S.Leaves (opened (fixIn (now (f .entry))) (map transmissionIn (blocks n (now (t .entry))))) r (now (t .exit)) ⌝ }
 {
     let b = alone(f);
-    let count = arrange::admit(t, n, &b);
-    if keeps(t, count, f) {
+    let mut known = [0u8; KNOWN_TABLE_SIZE];
+    let mut s = [0u8; KNOWN_SIZE];
+    let count = arrange::admit(t, &mut known, n, &b, &mut s);
+    if keeps(t, &mut known, count, f) {
         return Outcome {
             answer: Merged::Changed,
             entered: 0,
@@ -237,33 +260,36 @@ fn sign_held(b: &mut [u8], k: u8, f: &[u8])
     tracked::sign(b, k, tracked::signers(f));
 }
 
-// A fix in the transmission that it is tied to, by the identities of all that are held.
-fn join_identified(b: &mut [u8], f: &[u8]) -> Joint
-    requires { ⌜ S.Steady (now b) ⌝ }
+// A fix in the transmission that it is tied to, by the identities of all that are held. s is the sheet of the transmission.
+fn join_identified(b: &mut [u8], f: &[u8], s: &mut [u8]) -> Joint
+    requires { ⌜ S.Steady (now b) × Knows (now b) (now s) ⌝ }
     requires { ⌜ (length (now f) ≡ fixSize) × (wellFormed (recordIn (now f)) ≡ true) ⌝ }
     ensures { λ r. ⌜ S.JointAs (fixIn (now (f .entry))) (transmissionIn (now (b .entry))) r (now (b .exit)) ⌝ }
+    ensures { λ r. ⌜ S.KnowsDecided r (now (b .exit)) (now (s .exit)) ⌝ }
 {
     let id = tracked::identity(f);
     let mut ids = [0u8; IDS_SIZE];
-    normalize::identities(b, &mut ids);
+    normalize::identities(b, s, &mut ids);
     let n = tracked::held_count(b);
     let found = find_identity(&ids, n as usize, &id);
     let Found::At(k) = found else {
-        return Joint::Decided(normalize::join(b, f, &id, &ids));
+        return Joint::Decided(normalize::join(b, f, &id, &ids, s));
     };
     sign_held(b, k as u8, f);
     Joint::Signed
 }
 
 // A fix in the transmission that it is tied to. Where a held fix has its message, tags and inputs, only those before it are hashed.
-fn join_block(b: &mut [u8], f: &[u8]) -> Joint
-    requires { ⌜ S.Steady (now b) ⌝ }
+// s is the sheet of the transmission.
+fn join_block(b: &mut [u8], f: &[u8], s: &mut [u8]) -> Joint
+    requires { ⌜ S.Steady (now b) × Knows (now b) (now s) ⌝ }
     requires { ⌜ (length (now f) ≡ fixSize) × (wellFormed (recordIn (now f)) ≡ true) ⌝ }
     ensures { λ r. ⌜ S.JointAs (fixIn (now (f .entry))) (transmissionIn (now (b .entry))) r (now (b .exit)) ⌝ }
+    ensures { λ r. ⌜ S.KnowsDecided r (now (b .exit)) (now (s .exit)) ⌝ }
 {
     let found = find_set(b, f);
     let Found::At(k) = found else {
-        return join_identified(b, f);
+        return join_identified(b, f, s);
     };
     let i = first_identified(b, k as u8, f);
     sign_held(b, i, f);
@@ -286,6 +312,17 @@ fn answer_of(j: Joined) -> Merged
     Merged::Dropped
 }
 
+// Brings the transmissions of a table into their order, where s is the sheet of transmission i.
+fn rearrange(t: &mut [u8], n: usize, i: usize, s: &[u8]) -> usize
+    requires { ⌜ Filled (now t) n × (i < n) × Knows (getD (blocks n (now t)) i []) (now s) ⌝ }
+    ensures { λ r. ⌜ r ≡ length (arrangedBlocks (blocks n (now (t .entry)))) ⌝ }
+    ensures { λ _. ⌜ now (t .exit) ≡ blockTable (arrangedBlocks (blocks n (now (t .entry)))) ⌝ }
+{
+    let mut known = [0u8; KNOWN_TABLE_SIZE];
+    text::put_bytes(&mut known, i * KNOWN_SIZE, s);
+    arrange::arrange(t, &mut known, n)
+}
+
 // A fix that is tied to transmission i alone.
 fn join_at(t: &mut [u8], n: usize, i: usize, f: &[u8]) -> Outcome
     requires { ⌜ S.Ready (now t) n ⌝ }
@@ -295,7 +332,8 @@ fn join_at(t: &mut [u8], n: usize, i: usize, f: &[u8]) -> Outcome
 {
     let a = i * TRANSMISSION_SIZE;
     let e = a + TRANSMISSION_SIZE;
-    let joint = join_block(&mut t[a..e], f);
+    let mut s = [0u8; KNOWN_SIZE];
+    let joint = join_block(&mut t[a..e], f, &mut s);
     let Joint::Decided(j) = joint else {
         return Outcome {
             answer: Merged::Duplicate,
@@ -303,7 +341,7 @@ fn join_at(t: &mut [u8], n: usize, i: usize, f: &[u8]) -> Outcome
             count: n,
         };
     };
-    let count = arrange::arrange(t, n);
+    let count = rearrange(t, n, i, &s);
     Outcome {
         answer: answer_of(j),
         entered: j.entered,

@@ -33,6 +33,9 @@ join-identified-requires c κs = search needs
 same-length : tie.Need-same-length
 same-length c = search needs
 
+same-length-2 : tie.Need-same-length-2
+same-length-2 c = search needs
+
 returns : tie.Need-returns
 returns c = search needs
 
@@ -42,7 +45,7 @@ module _ (k : tie.After-known-told) where
   o = k .before .before .before
 
   abbrev s : tie.Start
-  s = o .before .before .before .before
+  s = o .before .before .before .before .before
 
   abbrev b : List ℕ
   b = s .args .b .now
@@ -57,18 +60,18 @@ module _ (k : tie.After-known-told) where
   there = rw (held-length b) at (found .1)
 
 cast-first-identified : tie.Need-cast-first-identified
-cast-first-identified c = let k = c .before in omega (arith, there k, s k .pre .0 .sound .few, s k .pre .0 .sound .few-refused)
+cast-first-identified c = let k = c .before in omega (arith, there k, s k .pre .0 .0 .sound .few, s k .pre .0 .0 .sound .few-refused)
 
 first-identified-requires : tie.Need-first-identified-requires
 first-identified-requires c κs =
     let k = c .before in
-    ((s k .pre .0 .sound, there k, set-identity (b k) (s k .args .f .now) (s k .pre .0 .sound) (i k) (there k) (found k .3)), s k .pre .1)
+    ((s k .pre .0 .0 .sound, there k, set-identity (b k) (s k .args .f .now) (s k .pre .0 .0 .sound) (i k) (there k) (found k .3)), s k .pre .1)
 
 sign-held-requires : tie.Need-sign-held-requires
 sign-held-requires c κs = search needs
 
-same-length-2 : tie.Need-same-length-2
-same-length-2 c = search needs
+same-length-3 : tie.Need-same-length-3
+same-length-3 c = search needs
 
 returns-2 : tie.Need-returns-2
 returns-2 c = search needs
@@ -82,9 +85,10 @@ join-block-spec =
     enum-told
     join-identified-requires
     same-length
+    same-length-2
     returns
     cast-first-identified
     first-identified-requires
     sign-held-requires
-    same-length-2
+    same-length-3
     returns-2)

@@ -62,7 +62,7 @@ slice-aggregate-join-2 c = search needs
 -- ---- where the identity was looked for
 
 abbrev beginning : tie.After-find-identity → tie.After-slice-known
-beginning o = o .before .before .before .before .before .before .before .before .before .before .before
+beginning o = o .before .before .before .before .before .before .before .before .before .before .before .before .before
 
 abbrev start : tie.After-find-identity → tie.Start
 start o = beginning o .before
@@ -78,16 +78,16 @@ module _ (o : tie.After-find-identity) where
   written = o .before .before .before .before .before .before
 
   abbrev ids : List ℕ
-  ids = written .identities .last .1 .0
+  ids = written .identities .last .1 .1 .0
 
-  identified : written .before .before .before .identity .result ≡ identityIn f
-  identified = written .before .before .before .identity .ensures
+  identified : written .before .before .before .before .identity .result ≡ identityIn f
+  identified = written .before .before .before .before .identity .ensures
 
   listed-there : Listed b ids
   listed-there = listed b ids _ (written .identities .ensures)
 
   searched : First (isIdentity (identityIn f)) (map identityIn (heldPlaces b)) [] 0 (o .find-identity .result)
-  searched = rw (sym identified, sym (ids-places b ids listed-there (start o .pre .0 .signed)), sym (o .before .before .before .held-count .ensures)) (o .find-identity .ensures)
+  searched = rw (sym identified, sym (ids-places b ids listed-there (start o .pre .0 .0 .signed)), sym (o .before .before .before .held-count .ensures)) (o .find-identity .ensures)
 
   among : length (map identityIn (heldPlaces b)) ≡ heldCount b
   among = length-map (heldPlaces b) identityIn ∙ held-length b
@@ -98,33 +98,40 @@ found k = subst (First (isIdentity (identityIn (f (k .before .before .before))))
 
 join-requires : tie.Need-join-requires
 join-requires c κs =
-    let o = c .before .before .before .before .before in
+    let o = c .before .before .before .before .before .before in
     let s = start o in
-    ((s .pre .0 .sound, s .pre .0 .some, s .pre .0 .signed, listed-there o), (s .pre .1 .0, s .pre .1 .1, identified o))
+    let y = s .pre .0 .0 in
+    ((y .sound, y .some, y .signed, listed-there o), ((s .pre .1 .0, s .pre .1 .1, identified o), s .pre .0 .1 .size))
 
 same-length : tie.Need-same-length
 same-length c = search needs
 
-returns : tie.Need-returns
-returns c =
-    let j = c .before .before in
-    let e = j .before .before .before .before in
-    let o = e .before .before in
-    let s = start o in
-    let a = subst (First (isIdentity (identityIn (s .args .f .now))) (map identityIn (heldPlaces (s .args .b .now))) [] 0) (e .enum-told .given .1) (searched o) in
-    (none-held (s .args .b .now) (s .args .f .now) a, j .join .ensures .0, j .join .ensures .1)
-
-cast-sign-held : tie.Need-cast-sign-held
-cast-sign-held c = let k = c .before in let f = found k in let o = k .before .before .before in omega (arith, f .1, among o, start o .pre .0 .sound .few, start o .pre .0 .sound .few-refused)
-
-sign-held-requires : tie.Need-sign-held-requires
-sign-held-requires c κs = let k = c .before in let o = k .before .before .before in ((start o .pre .0, start o .pre .1 .0), found k)
-
 same-length-2 : tie.Need-same-length-2
 same-length-2 c = search needs
 
+returns : tie.Need-returns
+returns c =
+    let j = c .before .before .before .before in
+    let e = j .before .before .before .before .before in
+    let o = e .before .before in
+    let s = start o in
+    let a = subst (First (isIdentity (identityIn (s .args .f .now))) (map identityIn (heldPlaces (s .args .b .now))) [] 0) (e .enum-told .given .1) (searched o) in
+    ((none-held (s .args .b .now) (s .args .f .now) a, j .join .ensures .0, j .join .ensures .1), j .join .ensures .2)
+
+cast-sign-held : tie.Need-cast-sign-held
+cast-sign-held c = let k = c .before in let f = found k in let o = k .before .before .before in omega (arith, f .1, among o, start o .pre .0 .0 .sound .few, start o .pre .0 .0 .sound .few-refused)
+
+sign-held-requires : tie.Need-sign-held-requires
+sign-held-requires c κs = let k = c .before in let o = k .before .before .before in ((start o .pre .0 .0, start o .pre .1 .0), found k)
+
+same-length-3 : tie.Need-same-length-3
+same-length-3 c = search needs
+
+same-length-4 : tie.Need-same-length-4
+same-length-4 c = search needs
+
 returns-2 : tie.Need-returns-2
-returns-2 c = c .before .before .sign-held .ensures
+returns-2 c = (c .before .before .sign-held .ensures, tt)
 
 pub join-identified-spec : {M : Type 1} → statement M
 join-identified-spec =
@@ -144,8 +151,10 @@ join-identified-spec =
     slice-aggregate-join-2
     join-requires
     same-length
+    same-length-2
     returns
     cast-sign-held
     sign-held-requires
-    same-length-2
+    same-length-3
+    same-length-4
     returns-2)

@@ -27,7 +27,7 @@ keeps-set-requires c κs = search needs
 returns : tie.Need-returns
 returns c =
     let o = c .before in
-    let s = o .before .before .before in
+    let s = o .before .before .before .before in
     let bs = blocks (s .args .n) (s .args .t .now) in
     let f = s .args .f .now in
     let r = any-in (keepsSet f) bs (sym (o .keeps-set .ensures) ∙ c .if1 .taken) in
@@ -44,10 +44,14 @@ slice-aggregate-keeps-identity c = search needs
 keeps-identity-requires : tie.Need-keeps-identity-requires
 keeps-identity-requires c κs = search needs
 
+same-length : tie.Need-same-length
+same-length c = search needs
+
 returns-2 : tie.Need-returns-2
 returns-2 c =
-    let s = c .before .before .before .before .before .before .before in
-    c .keeps-identity .ensures ∙ ap (λ (x : List ℕ). anyOf (keepsIdentity x) (blocks (s .args .n) (s .args .t .now))) (c .before .before .identity .ensures)
+    let k = c .before .before in
+    let s = k .before .before .before .before .before .before .before .before .before in
+    k .keeps-identity .ensures ∙ ap (λ (x : List ℕ). anyOf (keepsIdentity x) (blocks (s .args .n) (s .args .t .now))) (k .before .before .identity .ensures)
 
 pub keeps-spec : {M : Type 1} → statement M
 keeps-spec =
@@ -58,4 +62,5 @@ keeps-spec =
     identity-requires
     slice-aggregate-keeps-identity
     keeps-identity-requires
+    same-length
     returns-2)
