@@ -13,12 +13,12 @@ use Rattle.items.proofs.Pairing.{width}
 use Rattle.places.specs.Places.{places, flat}
 use Rattle.places.proofs.Tables.{wide, length-places, flat-places, places-flat}
 use Rattle.places.proofs.Walks.{place-of, part-in}
-use Rattle.tracked.specs.Layout.{transmissionSize, knownSize}
+use Rattle.tracked.specs.Layout.{transmissionSize}
 use Rattle.tracked.specs.Bytes.{fixCount}
-use Rattle.tracked.specs.Known.{knownCount, Knows}
+use Rattle.tracked.specs.Known.{knownSize, knownCount, Knows}
 use Rattle.tracked.proofs.Knowing.{nothing-known}
 use Rattle.arrange.specs.Arranged.{maxTransmissions}
-use Rattle.arrange.specs.Blocks.{blocks, Filled, Known, blockAt, sheetAt, Ready, Still, turnedBytes, removedBytes, turned, without}
+use Rattle.arrange.specs.Blocks.{blocks, Filled, Known, transmissionAt, sheetAt, Comparable, Still, turnedBytes, removedBytes, turned, without}
 use Rattle.arrange.proofs.Tables.{turn-flat, remove-flat, append-flat}
 use Rattle.arrange.proofs.Settling.{block-at, sound-at}
 
@@ -67,14 +67,14 @@ module _ {t s : List ℕ} {n : ℕ} (k : Known t s n) where
   known-each : Each (blocks n t) (places knownSize n s)
   known-each = each-of (blocks n t) (places knownSize n s) (length-places transmissionSize n t ∙ sym (length-places knownSize n s)) (λ i h. k .right i (rw (length-places transmissionSize n t) at h))
 
-  pub known-at : (i : ℕ) → i < n → Knows (blockAt t i) (sheetAt s i)
+  pub known-at : (i : ℕ) → i < n → Knows (transmissionAt t i) (sheetAt s i)
   known-at i h = rw (place-of transmissionSize n i t h, place-of knownSize n i s h) at (k .right i h)
 
   -- the bytes of the sheets, and what stands behind them
   sheets-parted : n ≤ maxTransmissions → s ≡ flat (places knownSize n s) ++ drop (n * knownSize) s
   sheets-parted h = sym (ap (λ (x : List ℕ). x ++ drop (n * knownSize) s) (flat-places knownSize n s (let z = k .size in omega (arith, z, h))) ∙ take-append-drop (n * knownSize) s)
 
-pub known-of : (t s : List ℕ) (n : ℕ) → length s ≡ maxTransmissions * knownSize → ((i : ℕ) → i < n → Knows (blockAt t i) (sheetAt s i)) → Known t s n
+pub known-of : (t s : List ℕ) (n : ℕ) → length s ≡ maxTransmissions * knownSize → ((i : ℕ) → i < n → Knows (transmissionAt t i) (sheetAt s i)) → Known t s n
 known-of t s n z k = record { size = z; right = λ i h. rw (place-of transmissionSize n i t h, place-of knownSize n i s h) (k i h) }
 
 -- transmissions and sheets that were moved alike
@@ -136,10 +136,10 @@ module _ (s y : List ℕ) (i : ℕ) (z : length s ≡ maxTransmissions * knownSi
       (λ e. subst (P k) (sym (sheet-other k (eqb-false k i e))) (q (eqb-false k i e)))
 
   -- a right sheet with a first identity
-  pub learned : (t : List ℕ) → Knows (blockAt t i) y → 1 ≤ knownCount y → Still t s putSheet × (1 ≤ knownCount (sheetAt putSheet i))
+  pub learned : (t : List ℕ) → Knows (transmissionAt t i) y → 1 ≤ knownCount y → Still t s putSheet × (1 ≤ knownCount (sheetAt putSheet i))
   learned t k c = (
     record {
-      right = λ j l r. put-all (λ (x : ℕ) (u : List ℕ). Knows (blockAt t x) u) j k (λ d. r);
+      right = λ j l r. put-all (λ (x : ℕ) (u : List ℕ). Knows (transmissionAt t x) u) j k (λ d. r);
       first = λ j l r. put-all (λ (x : ℕ) (u : List ℕ). 1 ≤ knownCount u) j c (λ d. r);
     },
     subst (λ (u : List ℕ). 1 ≤ knownCount u) (sym sheet-here) c,
@@ -169,17 +169,17 @@ still-same t s = record { right = λ k h y. y; first = λ k h y. y }
 pub still-then : {t s s′ s″ : List ℕ} → Still t s s′ → Still t s′ s″ → Still t s s″
 still-then a b = record { right = λ k h y. b .right k h (a .right k h y); first = λ k h y. b .first k h (a .first k h y) }
 
-pub ready-at : (t s : List ℕ) (n : ℕ) → Filled t n → Known t s n → (i : ℕ) → i < n → 1 ≤ fixCount (getD (blocks n t) i []) → Ready t s i
+pub ready-at : (t s : List ℕ) (n : ℕ) → Filled t n → Known t s n → (i : ℕ) → i < n → 1 ≤ fixCount (getD (blocks n t) i []) → Comparable t s i
 ready-at t s n f y i h c =
     let e = block-at t n f i h in
     record { among = let l = f .few in omega (arith, l, h); size = f .size; sheets = y .size; sound = rw e (sound-at t n f i h); fixes = rw e c; knows = known-at y i h }
 
-pub ready-on : {t s s′ : List ℕ} {i : ℕ} → Ready t s i → Still t s s′ → length s′ ≡ length s → Ready t s′ i
+pub ready-on : {t s s′ : List ℕ} {i : ℕ} → Comparable t s i → Still t s s′ → length s′ ≡ length s → Comparable t s′ i
 ready-on {t} {s} {s′} {i} r y z = record { among = r .among; size = r .size; sheets = z ∙ r .sheets; sound = r .sound; fixes = r .fixes; knows = y .right i (r .among) (r .knows) }
 
 -- at first nothing is known
 pub none-known : (t : List ℕ) (n : ℕ) → n ≤ maxTransmissions → Known t (replicate (maxTransmissions * knownSize) 0) n
-none-known t n h = known-of t (replicate (maxTransmissions * knownSize) 0) n (length-replicate {A = ℕ} (maxTransmissions * knownSize) 0) (λ i l. rw (zeros (i * knownSize) knownSize (maxTransmissions * knownSize) (omega (arith, h, l))) (nothing-known (blockAt t i)))
+none-known t n h = known-of t (replicate (maxTransmissions * knownSize) 0) n (length-replicate {A = ℕ} (maxTransmissions * knownSize) 0) (λ i l. rw (zeros (i * knownSize) knownSize (maxTransmissions * knownSize) (omega (arith, h, l))) (nothing-known (transmissionAt t i)))
   where
     zeros : (a w l : ℕ) → a + w ≤ l → take w (drop a (replicate l 0)) ≡ replicate {A = ℕ} w 0
     zeros a w l g =

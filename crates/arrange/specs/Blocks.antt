@@ -7,10 +7,10 @@ use lib.ListN.{length, getD, take, drop, replicate}
 use Rattle.ranges.specs.Lists.{filter, insert, sort, lastOf}
 use Rattle.places.specs.Places.{places, tableOf}
 use Rattle.record.specs.Fields.{time}
-use Rattle.tracked.specs.Layout.{transmissionSize, knownSize}
+use Rattle.tracked.specs.Layout.{transmissionSize}
 use Rattle.tracked.specs.Bytes.{recordIn, fixCount, transmissionIn}
 use Rattle.tracked.specs.Parts.{heldPlaces, Sound}
-use Rattle.tracked.specs.Known.{knownCount, Knows}
+use Rattle.tracked.specs.Known.{knownSize, knownCount, Knows}
 use Rattle.arrange.specs.Arranged.{maxTransmissions, hasFix, olderThan}
 
 -- the first n transmissions of a table
@@ -48,24 +48,24 @@ pub record Known (t s : List ℕ) (n : ℕ) : Type 0 where
   pub right : (i : ℕ) → i < n → Knows (getD (blocks n t) i []) (getD (places knownSize n s) i [])
 
 -- transmission i, and its sheet
-abbrev pub blockAt : List ℕ → ℕ → List ℕ
-blockAt t i = take transmissionSize (drop (i * transmissionSize) t)
+abbrev pub transmissionAt : List ℕ → ℕ → List ℕ
+transmissionAt t i = take transmissionSize (drop (i * transmissionSize) t)
 
 abbrev pub sheetAt : List ℕ → ℕ → List ℕ
 sheetAt s i = take knownSize (drop (i * knownSize) s)
 
 -- transmission i has a fix, and its sheet is right
-pub record Ready (t s : List ℕ) (i : ℕ) : Type 0 where
+pub record Comparable (t s : List ℕ) (i : ℕ) : Type 0 where
   pub among : i < maxTransmissions
   pub size : length t ≡ maxTransmissions * transmissionSize
   pub sheets : length s ≡ maxTransmissions * knownSize
-  pub sound : Sound (blockAt t i)
-  pub fixes : 1 ≤ fixCount (blockAt t i)
-  pub knows : Knows (blockAt t i) (sheetAt s i)
+  pub sound : Sound (transmissionAt t i)
+  pub fixes : 1 ≤ fixCount (transmissionAt t i)
+  pub knows : Knows (transmissionAt t i) (sheetAt s i)
 
 -- what is right in the sheets s is right in s′, and no first identity is lost
 pub record Still (t s s′ : List ℕ) : Type 0 where
-  pub right : (k : ℕ) → k < maxTransmissions → Knows (blockAt t k) (sheetAt s k) → Knows (blockAt t k) (sheetAt s′ k)
+  pub right : (k : ℕ) → k < maxTransmissions → Knows (transmissionAt t k) (sheetAt s k) → Knows (transmissionAt t k) (sheetAt s′ k)
   pub first : (k : ℕ) → k < maxTransmissions → 1 ≤ knownCount (sheetAt s k) → 1 ≤ knownCount (sheetAt s′ k)
 
 -- the time of the first fix that is held

@@ -12,10 +12,10 @@ ghost use mathlib.Core.List.{[], _∷_, _++_};
 ghost use Prim.Native.Nat.{_+_, _*_, _-_, _<_, _≤_};
 ghost use lib.Dec.{ltb};
 ghost use lib.ListN.{length, getD, take, drop};
-ghost use Rattle.tracked.specs.Layout.{transmissionSize, knownSize};
+ghost use Rattle.tracked.specs.Layout.{transmissionSize};
 ghost use Rattle.tracked.specs.Bytes.{fixCount};
 ghost use Rattle.tracked.specs.Parts.{Sound};
-ghost use Rattle.tracked.specs.Known.{knownCount, knownIdentity, Knows};
+ghost use Rattle.tracked.specs.Known.{knownSize, knownCount, knownIdentity, Knows};
 ghost use Rattle.arrange.specs.Arranged.{maxTransmissions};
 ghost use Rattle.arrange.specs.Blocks as B;
 
@@ -46,7 +46,7 @@ fn earlier(a: &[u8], b: &[u8]) -> bool
 
 // Works out the identity of the first fix of transmission i, unless it is known.
 fn learn(t: &[u8], known: &mut [u8], i: usize)
-    requires { ⌜ B.Ready (now t) (now known) i ⌝ }
+    requires { ⌜ B.Comparable (now t) (now known) i ⌝ }
     ensures { λ _. ⌜ B.Still (now (t .entry)) (now (known .entry)) (now (known .exit)) × (1 ≤ knownCount (B.sheetAt (now (known .exit)) i)) ⌝ }
 {
     let a = i * KNOWN_SIZE;
@@ -66,8 +66,8 @@ fn first_identity(known: &[u8], i: usize) -> &[u8]
 
 // Whether transmission j is older than transmission i: by time, then by identity, which is worked out only where the times are equal.
 fn older_at(t: &[u8], known: &mut [u8], j: usize, i: usize) -> bool
-    requires { ⌜ B.Ready (now t) (now known) j × B.Ready (now t) (now known) i ⌝ }
-    ensures { λ r. ⌜ r ≡ B.olderBlock (B.blockAt (now (t .entry)) j) (B.blockAt (now (t .entry)) i) ⌝ }
+    requires { ⌜ B.Comparable (now t) (now known) j × B.Comparable (now t) (now known) i ⌝ }
+    ensures { λ r. ⌜ r ≡ B.olderBlock (B.transmissionAt (now (t .entry)) j) (B.transmissionAt (now (t .entry)) i) ⌝ }
     ensures { λ _. ⌜ B.Still (now (t .entry)) (now (known .entry)) (now (known .exit)) ⌝ }
 {
     let a = block(t, j);
@@ -85,8 +85,8 @@ fn older_at(t: &[u8], known: &mut [u8], j: usize, i: usize) -> bool
 
 // Whether transmission b, whose sheet is s, is older than the first of a table: in the same way.
 fn older_than_first(t: &[u8], known: &mut [u8], b: &[u8], s: &mut [u8]) -> bool
-    requires { ⌜ B.Ready (now t) (now known) 0 × Sound (now b) × (1 ≤ fixCount (now b)) × Knows (now b) (now s) ⌝ }
-    ensures { λ r. ⌜ r ≡ B.olderBlock (now (b .entry)) (B.blockAt (now (t .entry)) 0) ⌝ }
+    requires { ⌜ B.Comparable (now t) (now known) 0 × Sound (now b) × (1 ≤ fixCount (now b)) × Knows (now b) (now s) ⌝ }
+    ensures { λ r. ⌜ r ≡ B.olderBlock (now (b .entry)) (B.transmissionAt (now (t .entry)) 0) ⌝ }
     ensures { λ _. ⌜ B.Still (now (t .entry)) (now (known .entry)) (now (known .exit)) × Knows (now (b .entry)) (now (s .exit)) ⌝ }
 {
     let a = block(t, 0);

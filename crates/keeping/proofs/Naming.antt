@@ -16,7 +16,7 @@ use Rattle.items.specs.Layout.{itemSize, hashSize, itemIdentityAt}
 use Rattle.items.specs.Items.{itemIdentity}
 use Rattle.items.proofs.Pairing.{taken}
 use Rattle.tracked.specs.Layout as L
-use Rattle.tracked.specs.Known.{knownCount}
+use Rattle.tracked.specs.Known.{maxHeld, identitiesAt, knownSize, knownCount}
 use Rattle.tracked.proofs.Encoding.{map-wide}
 use Rattle.keeping.specs.declared.Kept.{Kept}
 use Rattle.keeping.specs.Working.{unread, Lies, Named, lowestIn, Keeps, refusedOf, heldItems, Names}
@@ -82,29 +82,29 @@ place-in : (w : ℕ) (ps : List (List ℕ)) (z : List ℕ) (k : ℕ) → wide w 
 place-in w ps z k h l = sym (place-of w (length ps) k (flat ps ++ z) l) ∙ ap (λ (x : List (List ℕ)). getD x k []) (places-flat w ps z h)
 
 -- how many, and then the identities
-named : (s : List ℕ) (n : ℕ) (ns : List (List ℕ)) → length s ≡ L.knownSize → n ≡ length ns → length ns ≤ L.maxHeld → wide hashSize ns
-    → {r : ℕ} {s′ : List ℕ} → Put (set s 0 n) L.identitiesAt (flat ns) r s′ → Names s′ ns
+named : (s : List ℕ) (n : ℕ) (ns : List (List ℕ)) → length s ≡ knownSize → n ≡ length ns → length ns ≤ maxHeld → wide hashSize ns
+    → {r : ℕ} {s′ : List ℕ} → Put (set s 0 n) identitiesAt (flat ns) r s′ → Names s′ ns
 named s n ns size count few w {r} {s′} p =
-    let l : length (set s 0 n) ≡ L.knownSize = length-set s 0 n ∙ size in
-    let rest = drop (L.identitiesAt + length (flat ns)) (set s 0 n) in
+    let l : length (set s 0 n) ≡ knownSize = length-set s 0 n ∙ size in
+    let rest = drop (identitiesAt + length (flat ns)) (set s 0 n) in
     let e : s′ ≡ n ∷ (flat ns ++ rest) = put-whole p (omega (arith, l, flat-length hashSize ns w, few)) ∙ ap (λ (x : List ℕ). x ++ (flat ns ++ rest)) (front s size) in
     record {
       size = put-length p ∙ l;
       count = ap knownCount e ∙ count;
       right = λ k h.
-          ap (take hashSize) (sym (drop-drop (k * hashSize) L.identitiesAt s′))
-          ∙ ap (λ (x : List ℕ). take hashSize (drop (k * hashSize) (drop L.identitiesAt x))) e
+          ap (take hashSize) (sym (drop-drop (k * hashSize) identitiesAt s′))
+          ∙ ap (λ (x : List ℕ). take hashSize (drop (k * hashSize) (drop identitiesAt x))) e
           ∙ place-in hashSize ns rest k w h;
     }
   where
-    front : (x : List ℕ) → length x ≡ L.knownSize → take L.identitiesAt (set x 0 n) ≡ n ∷ []
+    front : (x : List ℕ) → length x ≡ knownSize → take identitiesAt (set x 0 n) ≡ n ∷ []
     front [] q = absurd (omega arith)
     front (y ∷ x) q = refl
 
 -- those that stand, and then the refused
-pub kept-named : (t s : List ℕ) (k : Kept) → Keeps s k → (l : List ℕ) → length t ≡ L.knownSize
+pub kept-named : (t s : List ℕ) (k : Kept) → Keeps s k → (l : List ℕ) → length t ≡ knownSize
     → take (k .refused .count) l ≡ map refusedOf (lowestIn (k .refused))
-    → {a r : ℕ} {t₁ t₂ : List ℕ} → Put (set t 0 (k .standing + k .refused .count)) L.identitiesAt (flat (map (itemIdentity s) (take (k .standing) (k .ranked)))) a t₁
+    → {a r : ℕ} {t₁ t₂ : List ℕ} → Put (set t 0 (k .standing + k .refused .count)) identitiesAt (flat (map (itemIdentity s) (take (k .standing) (k .ranked)))) a t₁
     → Put t₁ a (flat (map (itemIdentity s) (take (k .refused .count) l))) r t₂
     → Names t₂ (map (itemIdentity s) (heldItems k))
 kept-named t s k z l size e {a} {r} {t₁} {t₂} p q =

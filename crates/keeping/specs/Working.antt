@@ -16,7 +16,7 @@ use Rattle.decision.specs.Answer.{refusal, outcome}
 use Rattle.shown.specs.Fix.{Fix}
 use Rattle.tracked.specs.Layout as L
 use Rattle.tracked.specs.Held.{RefusedFix, HeldTransmission}
-use Rattle.tracked.specs.Known.{knownCount, knownIdentity}
+use Rattle.tracked.specs.Known.{knownSize, knownCount, knownIdentity}
 use Rattle.keeping.specs.declared.Lowest.{Lowest}
 use Rattle.keeping.specs.declared.Kept as D
 
@@ -103,6 +103,6 @@ heldItems k = take (k .standing) (k .ranked) ++ map refusedOf (lowestIn (k .refu
 
 -- the sheet s has these identities
 pub record Names (s : List ℕ) (ids : List (List ℕ)) : Type 0 where
-  pub size : length s ≡ L.knownSize
+  pub size : length s ≡ knownSize
   pub count : knownCount s ≡ length ids
   pub right : (k : ℕ) → k < length ids → knownIdentity s k ≡ getD ids k []

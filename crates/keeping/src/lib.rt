@@ -24,6 +24,7 @@ ghost use Rattle.items.specs.Items.{itemIdentity};
 ghost use Rattle.decision.specs.Answer.{bad};
 ghost use Rattle.tracked.specs.Layout as L;
 ghost use Rattle.tracked.specs.Bytes.{fixBytes, refusedBytes, transmissionBytes};
+ghost use Rattle.tracked.specs.Known.{knownSize};
 ghost use Rattle.keeping.specs.Working as K;
 
 // The refused of lowest identity: the first `count` of a list.
@@ -242,7 +243,7 @@ fn put_identities(t: &mut [u8], at: usize, s: &[u8], list: &[u8], count: u8) -> 
 
 // Writes the identities of the items that are kept, so that nothing of what was decided is hashed again.
 pub fn write_identities(t: &mut [u8], s: &[u8], k: Kept)
-    requires { ⌜ length (now t) ≡ L.knownSize ⌝ }
+    requires { ⌜ length (now t) ≡ knownSize ⌝ }
     requires { ⌜ K.Keeps (now s) k ⌝ }
     ensures { λ _. ⌜ K.Names (now (t .exit)) (map (itemIdentity (now (s .entry))) (K.heldItems k)) ⌝ }
 {

@@ -19,7 +19,7 @@ ghost use Rattle.tracked.specs.Layout.{fixSize};
 ghost use Rattle.tracked.specs.Bytes.{recordIn, fixIn, identityIn, fixCount, transmissionIn, transmissionBytes};
 ghost use Rattle.tracked.specs.Parts.{heldPlaces, heldCount, Sound};
 ghost use Rattle.tracked.specs.Known.{knownCount, Knows};
-ghost use Rattle.arrange.specs.Blocks.{blocks, blockTable, arrangedBlocks, Filled, Known, blockAt, Ready, Still};
+ghost use Rattle.arrange.specs.Blocks.{blocks, blockTable, arrangedBlocks, Filled, Known, transmissionAt, Comparable, Still};
 ghost use Rattle.merge.specs.Merged.{opened, merged};
 ghost use Rattle.merge.specs.Searching as S;
 
@@ -137,8 +137,8 @@ fn keeps_first(b: &[u8], s: &mut [u8], id: &[u8]) -> bool
 
 // The same of transmission i, whose sheet is in place i.
 fn keeps_at(t: &[u8], known: &mut [u8], i: usize, id: &[u8]) -> bool
-    requires { ⌜ Ready (now t) (now known) i ⌝ }
-    ensures { λ x. ⌜ x ≡ S.keepsIdentity (now (id .entry)) (blockAt (now (t .entry)) i) ⌝ }
+    requires { ⌜ Comparable (now t) (now known) i ⌝ }
+    ensures { λ x. ⌜ x ≡ S.keepsIdentity (now (id .entry)) (transmissionAt (now (t .entry)) i) ⌝ }
     ensures { λ _. ⌜ Still (now (t .entry)) (now (known .entry)) (now (known .exit)) ⌝ }
 {
     let a = i * KNOWN_SIZE;

@@ -20,7 +20,7 @@ ghost use Rattle.tracked.specs.Layout as L;
 ghost use Rattle.tracked.specs.Held.{heldIn};
 ghost use Rattle.tracked.specs.Bytes as B;
 ghost use Rattle.tracked.specs.Parts as P;
-ghost use Rattle.tracked.specs.Known.{Knows, knownCount};
+ghost use Rattle.tracked.specs.Known.{knownSize, Knows, knownCount};
 ghost use Rattle.keeping.specs.Working.{Lies, Keeps, Names};
 ghost use Rattle.normalize.specs.Normal as N;
 ghost use Rattle.normalize.specs.Joining.{withFix};
@@ -159,7 +159,7 @@ fn gather_held(
 
 // Decides n items, and writes what is kept of them into b, and their identities into s.
 fn settle(b: &mut [u8], items: &[u8], signers: &[u32], n: u8, s: &mut [u8]) -> Kept
-    requires { ⌜ (length (now b) ≡ L.transmissionSize) × (length (now s) ≡ L.knownSize) ⌝ }
+    requires { ⌜ (length (now b) ≡ L.transmissionSize) × (length (now s) ≡ knownSize) ⌝ }
     requires { ⌜ W.Laid (now items) (now signers) n (W.fixesIn (now items) (now signers) n) ⌝ }
     ensures { λ r. ⌜ (now (b .exit) ≡ B.transmissionBytes (W.kept (W.fixesIn (now (items .entry)) (now (signers .entry)) n))) × Keeps (take (n * itemSize) (now (items .entry))) r × Names (now (s .exit)) (map identityOf (heldIn (W.kept (W.fixesIn (now (items .entry)) (now (signers .entry)) n)))) ⌝ }
 {
@@ -285,7 +285,7 @@ pub fn normalize(b: &mut [u8], s: &mut [u8])
 pub fn join(b: &mut [u8], f: &[u8], id: &[u8], ids: &[u8], s: &mut [u8]) -> Joined
     requires { ⌜ P.Sound (now b) × (1 ≤ B.fixCount (now b)) × (allPlaces W.signedPlace (P.heldPlaces (now b)) ≡ true) × W.Listed (now b) (now ids) ⌝ }
     requires { ⌜ (length (now f) ≡ L.fixSize) × (wellFormed (B.recordIn (now f)) ≡ true) × (now id ≡ B.identityIn (now f)) ⌝ }
-    requires { ⌜ length (now s) ≡ L.knownSize ⌝ }
+    requires { ⌜ length (now s) ≡ knownSize ⌝ }
     ensures { λ r. ⌜ (now (b .exit) ≡ B.transmissionBytes (withFix (B.fixIn (now (f .entry))) (B.transmissionIn (now (b .entry))))) × (r ≡ did (B.fixIn (now (f .entry))) (B.transmissionIn (now (b .entry))) (withFix (B.fixIn (now (f .entry))) (B.transmissionIn (now (b .entry))))) × Knows (now (b .exit)) (now (s .exit)) × (knownCount (now (s .exit)) ≡ P.heldCount (now (b .exit))) ⌝ }
 {
     let mut items = item_room();

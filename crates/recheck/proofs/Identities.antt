@@ -11,15 +11,14 @@ use Rattle.ranges.proofs.Bools.{by}
 use Rattle.octets.proofs.Moves.{tail-lent, tail-back}
 use Rattle.places.proofs.Walks.{part-in}
 use Rattle.shown.specs.Fix.{Fix}
-use Rattle.tracked.specs.Layout.{transmissionSize, knownSize}
+use Rattle.tracked.specs.Layout.{transmissionSize}
 use Rattle.tracked.specs.Held.{heldIn}
 use Rattle.tracked.specs.Bytes.{identityIn, fixIn, transmissionIn}
 use Rattle.tracked.specs.Parts.{heldPlaces, heldCount}
-use Rattle.tracked.specs.Known.{Knows}
+use Rattle.tracked.specs.Known.{knownSize, Knows}
 use Rattle.tracked.proofs.Knowing.{known-still}
 use Rattle.arrange.specs.Arranged.{maxTransmissions}
-use Rattle.arrange.specs.Blocks.{Known, sheetAt}
-use Rattle.arrange.specs.Blocks as B
+use Rattle.arrange.specs.Blocks.{Known, transmissionAt, sheetAt}
 use Rattle.arrange.proofs.Sheets.{known-at, known-of, sheet-here, sheet-other}
 use Rattle.arrange.proofs.Sheets as A
 use Rattle.stored.specs.Layout.{transmissionsAt}
@@ -62,7 +61,7 @@ silenced-known ss = carried-known (silenced ss) (λ g. by (stands ss g) (λ t. r
 pub knows-same : {b b′ s s′ : List ℕ} → b′ ≡ b → s′ ≡ s → Knows b s → Knows b′ s′
 knows-same {b} {b′} {s} {s′} p q k = subst (λ (x : List ℕ). Knows x s′) (sym p) (subst (λ (x : List ℕ). Knows b x) (sym q) k)
 
-memory-block : (m : List ℕ) (j : ℕ) → B.blockAt (transmissionTable m) j ≡ blockAt (placeAt j) m
+memory-block : (m : List ℕ) (j : ℕ) → transmissionAt (transmissionTable m) j ≡ blockAt (placeAt j) m
 memory-block m j = ap (take transmissionSize) (drop-drop (j * transmissionSize) transmissionsAt m)
 
 pub known-block : (m s : List ℕ) (n : ℕ) → Known (transmissionTable m) s n → (i : ℕ) → i < n → Knows (blockAt (placeAt i) m) (sheetAt s i)
@@ -103,10 +102,10 @@ module _ (m s : List ℕ) (n : ℕ) (k : Known (transmissionTable m) s n) (few :
   size : length s′ ≡ maxTransmissions * knownSize
   size = let z = k .size in only-put (i * knownSize) knownSize s y s′ (w .size) (omega (arith, z, among)) q .size ∙ z
 
-  here : Knows (B.blockAt (transmissionTable m′) i) (sheetAt s′ i)
+  here : Knows (transmissionAt (transmissionTable m′) i) (sheetAt s′ i)
   here = knows-same (memory-block m′ i ∙ ap (λ (x : ℕ). blockAt x m′) (sym a)) (ap (λ (x : List ℕ). sheetAt x i) put ∙ sheet-here s y i (k .size) among (w .size)) w
 
-  other : (j : ℕ) → j < n → (j ≡ i → ⊥) → Knows (B.blockAt (transmissionTable m′) j) (sheetAt s′ j)
+  other : (j : ℕ) → j < n → (j ≡ i → ⊥) → Knows (transmissionAt (transmissionTable m′) j) (sheetAt s′ j)
   other j l d = knows-same (memory-block m′ j ∙ other-block (subst (λ (x : ℕ). OnlyAt x transmissionSize m m′) a o) j d) (ap (λ (x : List ℕ). sheetAt x j) put ∙ sheet-other s y i (k .size) among (w .size) j d) (known-block m s n k j l)
 
   pub known-put : Known (transmissionTable m′) s′ n
@@ -114,7 +113,7 @@ module _ (m s : List ℕ) (n : ℕ) (k : Known (transmissionTable m) s n) (few :
       known-of (transmissionTable m′) s′ n size
       (λ j l.
       by (eqb j i)
-      (λ e. subst (λ (x : ℕ). Knows (B.blockAt (transmissionTable m′) x) (sheetAt s′ x)) (sym (eqb-true j i e)) here)
+      (λ e. subst (λ (x : ℕ). Knows (transmissionAt (transmissionTable m′) x) (sheetAt s′ x)) (sym (eqb-true j i e)) here)
       (λ e. other j l (eqb-false j i e)))
 
 -- ---- a sheet as it is lent, and a transmission that was put in its place

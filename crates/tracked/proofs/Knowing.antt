@@ -8,13 +8,12 @@ use lib.Seq.{take-at}
 use Rattle.items.specs.Layout.{hashSize}
 use Rattle.text.specs.Buffer.{Put}
 use Rattle.text.proofs.Writing.{put-whole, put-length}
-use Rattle.tracked.specs.Layout as L
 use Rattle.tracked.specs.Bytes.{identityIn}
 use Rattle.tracked.specs.Parts.{heldPlaces, heldCount}
-use Rattle.tracked.specs.Known.{knownCount, knownIdentity, Knows}
+use Rattle.tracked.specs.Known.{identitiesAt, knownSize, knownCount, knownIdentity, Knows}
 
-pub nothing-known : (b : List ℕ) → Knows b (replicate L.knownSize 0)
-nothing-known b = record { size = length-replicate {A = ℕ} L.knownSize 0; few = omega arith; right = λ k h. absurd (omega (arith, h)) }
+pub nothing-known : (b : List ℕ) → Knows b (replicate knownSize 0)
+nothing-known b = record { size = length-replicate {A = ℕ} knownSize 0; few = omega arith; right = λ k h. absurd (omega (arith, h)) }
 
 -- a transmission of as many held fixes, each of the same identity
 pub known-still : {b c s : List ℕ} → Knows b s → heldCount c ≡ heldCount b
@@ -24,7 +23,7 @@ known-still {b} {c} {s} y n e =
     record { size = y .size; few = rw n (y .few); right = λ k h. y .right k h ∙ sym (e k (let f = y .few in omega (arith, f, h))) }
 
 -- an identity put behind a count of one
-put-first : (s id : List ℕ) → length s ≡ L.knownSize → length id ≡ hashSize → {r : ℕ} {s′ : List ℕ} → Put (set s 0 1) L.identitiesAt id r s′
+put-first : (s id : List ℕ) → length s ≡ knownSize → length id ≡ hashSize → {r : ℕ} {s′ : List ℕ} → Put (set s 0 1) identitiesAt id r s′
     → (knownCount s′ ≡ 1) × (knownIdentity s′ 0 ≡ id)
 put-first [] id n l p = absurd (omega (arith, n))
 put-first (x ∷ s) id n l {r} {s′} p =
@@ -32,7 +31,7 @@ put-first (x ∷ s) id n l {r} {s′} p =
     rw e (refl, take-at id _ hashSize l)
 
 pub first-known : (b s id : List ℕ) → Knows b s → 1 ≤ heldCount b → id ≡ identityIn (getD (heldPlaces b) 0 []) → length id ≡ hashSize
-    → {r : ℕ} {s′ : List ℕ} → Put (set s 0 1) L.identitiesAt id r s′ → length s′ ≡ L.knownSize
+    → {r : ℕ} {s′ : List ℕ} → Put (set s 0 1) identitiesAt id r s′ → length s′ ≡ knownSize
     → Knows b s′ × (1 ≤ knownCount s′)
 first-known b s id y h e l {r} {s′} p n =
     let q = put-first s id (y .size) l p in

@@ -60,14 +60,3 @@ refusedTableSize = maxRefused * refusedSize
 
 abbrev pub transmissionSize : ℕ
 transmissionSize = refusedAt + refusedTableSize
-
--- ---- the identities that a call has worked out of a transmission's held fixes: how many, and each. No claim rests on these
-
-abbrev pub maxHeld : ℕ
-maxHeld = maxStanding + maxRefused
-
-abbrev pub identitiesAt : ℕ
-identitiesAt = 1
-
-abbrev pub knownSize : ℕ
-knownSize = identitiesAt + maxHeld * hashSize

@@ -6,14 +6,13 @@ ghost use mathlib.Core.Path.{_≡_};
 ghost use Prim.Native.Nat.{_<_, _≤_};
 ghost use lib.ListN.{length};
 ghost use Rattle.items.specs.Layout.{hashSize};
-ghost use Rattle.tracked.specs.Layout as L;
 ghost use Rattle.tracked.specs.Bytes.{fixCount};
 ghost use Rattle.tracked.specs.Parts.{Sound};
 ghost use Rattle.tracked.specs.Known as K;
 
 // How many identities are known.
 pub fn count(s: &[u8]) -> u8
-    requires { ⌜ length (now s) ≡ L.knownSize ⌝ }
+    requires { ⌜ length (now s) ≡ K.knownSize ⌝ }
     ensures { λ r. ⌜ r ≡ K.knownCount (now (s .entry)) ⌝ }
 {
     s[0]
@@ -21,8 +20,8 @@ pub fn count(s: &[u8]) -> u8
 
 // The identity k of those that are known.
 pub fn identity_at(s: &[u8], k: u8) -> &[u8]
-    requires { ⌜ length (now s) ≡ L.knownSize ⌝ }
-    requires { ⌜ k < L.maxHeld ⌝ }
+    requires { ⌜ length (now s) ≡ K.knownSize ⌝ }
+    requires { ⌜ k < K.maxHeld ⌝ }
     ensures { λ r. ⌜ (now r ≡ K.knownIdentity (now (s .entry)) k) × (length (now r) ≡ hashSize) ⌝ }
 {
     let a = layout::IDENTITIES_AT + k as usize * HASH_SIZE;

@@ -5,7 +5,7 @@ use mathlib.Core.List.{List, [], _∷_, _++_}
 use native.Mathlib.Omega.{arith}
 use lib.ListN.{length, take, drop}
 use Rattle.text.proofs.Writing.{put-whole}
-use Rattle.tracked.specs.Layout.{knownSize}
+use Rattle.tracked.specs.Known.{knownSize}
 use Rattle.arrange.specs.Blocks.{blocks, blockTable, arrangedBlocks, Filled, Known}
 use Rattle.arrange.proofs.Admitting.{appended}
 use Rattle.arrange.proofs.Sheets.{known-appended}

@@ -3,8 +3,7 @@ use Prim.Native.Nat.{ℕ, _*_}
 use mathlib.Core.Path.{ap, _∙_}
 use lib.ListN.{take, drop}
 use Rattle.items.proofs.Pairing.{width}
-use Rattle.tracked.specs.Layout.{knownSize}
-use Rattle.tracked.specs.Known.{knownIdentity}
+use Rattle.tracked.specs.Known.{knownSize, knownIdentity}
 use borrow.Author.Needs.{needs}
 use Rattle.arrange.proofs.first_identity.Statement.{statement}
 use Rattle.arrange.proofs.first_identity.Tie as tie

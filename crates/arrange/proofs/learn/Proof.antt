@@ -2,7 +2,7 @@
 use Prim.Native.Nat.{_*_}
 use native.Mathlib.Omega.{arith}
 use Rattle.items.proofs.Pairing.{width}
-use Rattle.tracked.specs.Layout.{knownSize}
+use Rattle.tracked.specs.Known.{knownSize}
 use Rattle.arrange.proofs.Sheets.{learned, part-put}
 use borrow.Author.Needs.{needs}
 use Rattle.arrange.proofs.learn.Statement.{statement}

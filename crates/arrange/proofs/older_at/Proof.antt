@@ -5,7 +5,7 @@ use mathlib.Core.List.{List}
 use native.Mathlib.Omega.{arith}
 use lib.Dec.{ltb}
 use Rattle.octets.specs.Order.{isBefore}
-use Rattle.arrange.specs.Blocks.{blockAt, sheetAt, firstTime}
+use Rattle.arrange.specs.Blocks.{transmissionAt, sheetAt, firstTime}
 use Rattle.arrange.proofs.Kept.{older-early, older-late, older-tied}
 use Rattle.arrange.proofs.Sheets.{still-same, still-then, ready-on}
 use borrow.Author.Needs.{needs}
@@ -26,10 +26,10 @@ block-requires-2 : tie.Need-block-requires-2
 block-requires-2 c κs = let p = c .before .before .before .pre .1 in omega (arith, p .among, p .size)
 
 abbrev older : tie.Start → List ℕ
-older s = blockAt (s .args .t .now) (s .args .j)
+older s = transmissionAt (s .args .t .now) (s .args .j)
 
 abbrev other : tie.Start → List ℕ
-other s = blockAt (s .args .t .now) (s .args .i)
+other s = transmissionAt (s .args .t .now) (s .args .i)
 
 abbrev start : tie.After-block2 → tie.Start
 start o = o .before .before .before .before

@@ -4,7 +4,7 @@ use mathlib.Core.Path.{_≡_, sym, ap, ap₂, _∙_}
 use mathlib.Core.List.{List}
 use lib.Dec.{ltb}
 use Rattle.octets.specs.Order.{isBefore}
-use Rattle.arrange.specs.Blocks.{blockAt, sheetAt, firstTime}
+use Rattle.arrange.specs.Blocks.{transmissionAt, sheetAt, firstTime}
 use Rattle.arrange.proofs.Kept.{older-early, older-late, older-tied}
 use Rattle.arrange.proofs.Sheets.{still-same}
 use borrow.Author.Needs.{needs}
@@ -27,7 +27,7 @@ abbrev start : tie.After-block → tie.Start
 start o = o .before .before .before .before .before
 
 abbrev first : tie.Start → List ℕ
-first s = blockAt (s .args .t .now) 0
+first s = transmissionAt (s .args .t .now) 0
 
 -- what the times say
 early : (o : tie.After-earlier) → o .earlier .result ≡ ltb (firstTime (start (o .before) .args .b .now)) (firstTime (first (start (o .before))))

@@ -5,7 +5,7 @@ use mathlib.Core.List.{List}
 use native.Mathlib.Omega.{arith}
 use lib.ListN.{length, getD, set, length-set}
 use Rattle.text.proofs.Writing.{put-length}
-use Rattle.tracked.specs.Layout.{knownSize}
+use Rattle.tracked.specs.Known.{knownSize}
 use Rattle.keeping.specs.declared.Kept.{Kept}
 use Rattle.keeping.specs.Working.{Lies, Keeps}
 use Rattle.keeping.proofs.Naming.{refused-lie, kept-named}

@@ -2,7 +2,7 @@
 use Prim.Native.Nat.{_*_}
 use mathlib.Core.Path.{ap, _∙_}
 use Rattle.items.proofs.Pairing.{width}
-use Rattle.tracked.specs.Layout.{knownSize}
+use Rattle.tracked.specs.Known.{knownSize}
 use Rattle.arrange.proofs.Sheets.{learned, part-put}
 use Rattle.merge.specs.Searching.{keepsIdentity}
 use borrow.Author.Needs.{needs}

@@ -5,7 +5,7 @@ use mathlib.Core.List.{List, _++_}
 use native.Mathlib.Omega.{arith}
 use lib.ListN.{take, drop, replicate}
 use Rattle.text.proofs.Writing.{put-whole}
-use Rattle.tracked.specs.Layout.{knownSize}
+use Rattle.tracked.specs.Known.{knownSize}
 use Rattle.arrange.specs.Arranged.{maxTransmissions}
 use Rattle.merge.proofs.Sheets.{one-known}
 use borrow.Author.Needs.{needs}

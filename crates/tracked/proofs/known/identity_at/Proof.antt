@@ -4,7 +4,7 @@ use mathlib.Core.Path.{refl}
 use native.Mathlib.Omega.{arith}
 use Rattle.items.specs.Layout.{hashSize}
 use Rattle.items.proofs.Pairing.{width, taken}
-use Rattle.tracked.specs.Layout as L
+use Rattle.tracked.specs.Known.{identitiesAt}
 use borrow.Author.Needs.{needs}
 use Rattle.tracked.proofs.known.identity_at.Statement.{statement}
 use Rattle.tracked.proofs.known.identity_at.Tie as tie
@@ -32,7 +32,7 @@ part-result-end c = search needs
 returns : tie.Need-returns
 returns c =
     let a = c .before .args in
-    let at = L.identitiesAt + a .k * hashSize in
+    let at = identitiesAt + a .k * hashSize in
     rw (width hashSize at) (refl, taken hashSize at (a .s .now) (omega arith))
 
 pub identity-at-spec : {M : Type 1} → statement M
