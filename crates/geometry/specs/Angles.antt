@@ -1,28 +1,35 @@
--- The sine and the cosine of an angle v in 1e-7 degree: the stand-in of document 01, section 'Agreement', word by word.
-use Prim.Native.Nat.{ℕ, zero, suc, _+_, _-_, _*_, _/_, _%_, _^_}
-use mathlib.Core.Bool.{false}
-use mathlib.Core.List.{List, [], _∷_, foldl}
-use lib.IntN.{ℤ, pos, negsuc, _+ℤ_, _-ℤ_, _*ℤ_}
+-- The sine and the cosine of an angle v in 1e-7 degree: the stand-in of document 01, section 'Agreement', its quadrant chosen by ranges of v (document 02, A.3).
+-- Formula has 01's own way to the quadrant, and Claims that both give the same for every i32.
+use Prim.Native.Nat.{ℕ, zero, suc, _*_, _^_}
+use mathlib.Core.Bool.{false, cond}
+use mathlib.Core.List.{[], _∷_, foldl}
+use lib.IntN.{ℤ, pos, negℤ, _-ℤ_, _*ℤ_}
+use lib.Signed.{ltZ}
 use lib.Ieee.{Float, binary64, round, neg, ofInt}
 use Rattle.geometry.specs.Numbers.{_⊕_, _⊗_, _⊘_, whole, fromDecimal}
+use Rattle.geometry.specs.declared.angles.Quadrant.{Quadrant}
+use Rattle.geometry.specs.declared.angles.Quadrant.the-variants.{MinusTwo, MinusOne, Zero, One, Two}
 use Rattle.geometry.specs.declared.angles.Turn.{Turn}
 
--- the quotient rounded down, and the remainder from 0 up that it leaves: negsuc a is -(a + 1)
-abbrev pub floorDiv : ℤ → ℕ → ℤ
-floorDiv (pos a) d = pos (a / d)
-floorDiv (negsuc a) d = negsuc (a / d)
+-- the quadrant of v: five ranges, each up to the next one's first angle
+abbrev pub quadrantOf : ℤ → Quadrant
+quadrantOf v =
+    cond (ltZ v (negℤ (pos 1_350_000_000))) MinusTwo
+    (cond (ltZ v (negℤ (pos 450_000_000))) MinusOne
+    (cond (ltZ v (pos 450_000_000)) Zero
+    (cond (ltZ v (pos 1_350_000_000)) One Two)))
 
-abbrev pub floorMod : ℤ → ℕ → ℕ
-floorMod (pos a) d = a % d
-floorMod (negsuc a) d = d - 1 - a % d
-
--- q = floor((v + 450,000,000) / 900,000,000): the quadrant, counted in right angles
-abbrev pub quadrantOf : ℤ → ℤ
-quadrantOf v = floorDiv (v +ℤ pos 450_000_000) 900_000_000
+-- q, the number of right angles that the quadrant's angles are nearest to
+abbrev pub rightAngles : Quadrant → ℤ
+rightAngles MinusTwo = negℤ (pos 2)
+rightAngles MinusOne = negℤ (pos 1)
+rightAngles Zero = pos 0
+rightAngles One = pos 1
+rightAngles Two = pos 2
 
 -- r = v - 900,000,000 * q
-abbrev pub restOf : ℤ → ℤ
-restOf v = v -ℤ pos 900_000_000 *ℤ quadrantOf v
+abbrev pub restOf : ℤ → ℤ → ℤ
+restOf q v = v -ℤ pos 900_000_000 *ℤ q
 
 -- The value nearest to pi / 180, from pi's first 35 decimals. (Pi cut after them and the next number of 35 decimals give
 -- the same value: `nearest-pi` of proofs/Constants.antt.)
@@ -74,16 +81,23 @@ cosineSeries u =
     ∷ coefficient 0
     ∷ [])
 
--- By the remainder of q by 4: for 0, 1, 2, 3 the sine of v is s, c, -s, -c and its cosine c, -s, -c, s.
-abbrev pub turnOf : ℕ → Float → Float → Turn
-turnOf zero s c = record { sin = s; cos = c }
-turnOf (suc zero) s c = record { sin = c; cos = neg s }
-turnOf (suc (suc zero)) s c = record { sin = neg s; cos = neg c }
-turnOf (suc (suc (suc k))) s c = record { sin = neg c; cos = s }
+-- s and c: the sine and the cosine of t
+abbrev pub sineOf : Float → Float
+sineOf t = sineSeries (t ⊗ t) ⊗ t
 
--- the sine and the cosine of v
+abbrev pub cosineOf : Float → Float
+cosineOf t = cosineSeries (t ⊗ t)
+
+-- which of the two is the sine of v and which its cosine, and their signs
+abbrev pub turnOf : Quadrant → Float → Float → Turn
+turnOf MinusTwo s c = record { sin = neg s; cos = neg c }
+turnOf MinusOne s c = record { sin = neg c; cos = s }
+turnOf Zero s c = record { sin = s; cos = c }
+turnOf One s c = record { sin = c; cos = neg s }
+turnOf Two s c = record { sin = neg s; cos = neg c }
+
 unfoldable pub sincosOf : ℤ → Turn
 sincosOf v =
-    let t = radiansOf (restOf v) in
-    let u = t ⊗ t in
-    turnOf (floorMod (quadrantOf v) 4) (sineSeries u ⊗ t) (cosineSeries u)
+    let q = quadrantOf v in
+    let t = radiansOf (restOf (rightAngles q) v) in
+    turnOf q (sineOf t) (cosineOf t)

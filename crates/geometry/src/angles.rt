@@ -1,7 +1,15 @@
 // The sine and the cosine of an angle in 1e-7 degree.
 ghost use mathlib.Core.Path.{_≡_};
-ghost use lib.IntN.{pos, _+ℤ_};
-ghost use Rattle.geometry.specs.Angles.{floorMod, quadrantOf, restOf, radiansOf, sineSeries, cosineSeries, turnOf, sincosOf};
+ghost use Rattle.geometry.specs.Angles.{quadrantOf, rightAngles, restOf, radiansOf, sineSeries, cosineSeries, turnOf, sincosOf};
+
+// The number q of right angles that an angle is nearest to.
+pub enum Quadrant {
+    MinusTwo = -2,
+    MinusOne = -1,
+    Zero = 0,
+    One = 1,
+    Two = 2,
+}
 
 // The sine and the cosine of one angle.
 pub struct Turn {
@@ -14,25 +22,31 @@ pub const E7: f64 = 1e-7;
 
 pub const DEGREE: f64 = 0.017453292519943295;
 
-// v + 450,000,000 and three right angles more, which no i32 makes negative: a division of it rounds down.
-fn lifted(v: i32) -> u64
-    ensures { λ r. ⌜ pos r ≡ v +ℤ pos 3150000000 ⌝ }
+// The right angle nearest to v: five ranges, one for each number q of right angles from -2 to 2.
+fn quadrant_of(v: i32) -> Quadrant
+    ensures { λ q. ⌜ q ≡ quadrantOf v ⌝ }
 {
-    (v as i64 + 3_150_000_000) as u64
+    match v {
+        ..-1_350_000_000 => Quadrant::MinusTwo,
+        -1_350_000_000..-450_000_000 => Quadrant::MinusOne,
+        -450_000_000..450_000_000 => Quadrant::Zero,
+        450_000_000..1_350_000_000 => Quadrant::One,
+        1_350_000_000.. => Quadrant::Two,
+    }
 }
 
-// The remainder of v's quadrant by 4.
-fn quadrant(v: i32) -> u64
-    ensures { λ r. ⌜ r ≡ floorMod (quadrantOf v) 4 ⌝ }
+fn right_angles(q: Quadrant) -> i32
+    ensures { λ n. ⌜ n ≡ rightAngles q ⌝ }
 {
-    (lifted(v) / 900_000_000 + 1) % 4
+    q as i32
 }
 
-// What v has past the middle of its quadrant.
-fn rest(v: i32) -> i32
-    ensures { λ r. ⌜ r ≡ restOf v ⌝ }
+// What v has past that right angle.
+fn rest(q: Quadrant, v: i32) -> i32
+    requires { ⌜ q ≡ quadrantOf v ⌝ }
+    ensures { λ r. ⌜ r ≡ restOf (rightAngles q) v ⌝ }
 {
-    (lifted(v) % 900_000_000) as i32 - 450_000_000
+    v - 900_000_000 * right_angles(q)
 }
 
 fn radians(r: i32) -> f64
@@ -68,21 +82,23 @@ pub fn cosine_series(u: f64) -> f64
 }
 
 // The quadrant chooses which of the two is which, and its sign.
-fn turned(quadrant: u64, s: f64, c: f64) -> Turn
-    ensures { λ r. ⌜ r ≡ turnOf quadrant s c ⌝ }
+fn turned(q: Quadrant, s: f64, c: f64) -> Turn
+    ensures { λ r. ⌜ r ≡ turnOf q s c ⌝ }
 {
-    match quadrant {
-        0 => Turn { sin: s, cos: c },
-        1 => Turn { sin: c, cos: -s },
-        2 => Turn { sin: -s, cos: -c },
-        _ => Turn { sin: -c, cos: s },
+    match q {
+        Quadrant::MinusTwo => Turn { sin: -s, cos: -c },
+        Quadrant::MinusOne => Turn { sin: -c, cos: s },
+        Quadrant::Zero => Turn { sin: s, cos: c },
+        Quadrant::One => Turn { sin: c, cos: -s },
+        Quadrant::Two => Turn { sin: -s, cos: -c },
     }
 }
 
 pub fn sincos(v: i32) -> Turn
     ensures { λ r. ⌜ r ≡ sincosOf v ⌝ }
 {
-    let t = radians(rest(v));
+    let q = quadrant_of(v);
+    let t = radians(rest(q, v));
     let u = t * t;
-    turned(quadrant(v), sine_series(u) * t, cosine_series(u))
+    turned(q, sine_series(u) * t, cosine_series(u))
 }

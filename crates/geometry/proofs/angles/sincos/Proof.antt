@@ -6,14 +6,14 @@ use borrow.Author.Needs.{needs, sfits-of}
 use Rattle.geometry.proofs.angles.sincos.Statement.{statement}
 use Rattle.geometry.proofs.angles.sincos.Tie as tie
 
+quadrant-of-requires : tie.Need-quadrant-of-requires
+quadrant-of-requires c κs = search needs
+
 rest-requires : tie.Need-rest-requires
 rest-requires c κs = search needs
 
 radians-requires : tie.Need-radians-requires
 radians-requires c κs = search needs
-
-quadrant-requires : tie.Need-quadrant-requires
-quadrant-requires c κs = search needs
 
 sine-series-requires : tie.Need-sine-series-requires
 sine-series-requires c κs = search needs
@@ -27,25 +27,26 @@ turned-requires c κs = search needs
 returns : tie.Need-returns
 unfolding sincosOf
 returns c =
-    let at-rest = c .before .before .before .before .before in
+    let at-rest = c .before .before .before .before in
     rw (
       c .turned .ensures,
       c .before .cosine-series .ensures,
       c .before .before .sine-series .ensures,
-      c .before .before .before .quadrant .ensures,
-      c .before .before .before .before .radians .ensures,
+      c .before .before .before .radians .ensures,
       toZ-ofZ {w = w32} {z = at-rest .rest .result} (sfits-of (at-rest .rest .ok)),
       at-rest .rest .ensures,
-      toZ-ofZ {w = w32} {z = at-rest .before .args .v} (at-rest .before .fits .v),
+      toZ-ofZ {w = w32} {z = at-rest .before .before .args .v} (at-rest .before .before .fits .v),
+      at-rest .before .quadrant-of .ensures,
+      toZ-ofZ {w = w32} {z = at-rest .before .before .args .v} (at-rest .before .before .fits .v),
     )
 
 pub sincos-spec : {M : Type 1} → statement M
 sincos-spec =
     tie.close
     (tie.spec
+    quadrant-of-requires
     rest-requires
     radians-requires
-    quadrant-requires
     sine-series-requires
     cosine-series-requires
     turned-requires
