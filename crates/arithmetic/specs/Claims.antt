@@ -1,5 +1,5 @@
 -- What is claimed of agreement, beside that the code gives what document 01's section 'Agreement' says. Each statement is a type; the
--- theorem of it has its name, in proofs/Infinite and proofs/Positions.
+-- theorem of it has its name, in proofs/Infinite, proofs/Placed and proofs/Positions.
 use mathlib.Core.Path.{_≡_}
 use mathlib.Core.Bool.{true, false}
 use mathlib.Core.Logic.{_↔_}
@@ -9,8 +9,10 @@ use Prim.Native.Nat.{_+_}
 use lib.Ieee.{Float, inf, binary64, ofBits, toBits, isNan}
 use lib.Ieee.Scale.{finite}
 use Rattle.geometry.specs.Numbers.{whole, fromDecimal}
+use Rattle.geometry.specs.Formula.{formulaSincos}
+use Rattle.geometry.specs.Claims.{InI32}
 use Rattle.geometry.specs.Linalg.{choleskyOf}
-use Rattle.arithmetic.specs.Agree.{limitOf, rowsOf, matrixOf, lengthUnder, differenceOf, threeOf, agreementOf, agreesOf}
+use Rattle.arithmetic.specs.Agree.{limitOf, geodeticOf, rowsOf, matrixOf, lengthUnder, differenceOf, threeOf, agreementOf, agreesOf}
 use Rattle.geometry.specs.declared.linalg.Covariance.{Covariance}
 use Rattle.arithmetic.specs.declared.standing.Claimed.{Claimed}
 
@@ -42,6 +44,16 @@ ElseTheSum =
     → factorUnder smaller larger ≡ some factor
     → finite (sumUnder smaller larger factor) ≡ true
     → agreementOf smaller larger .chi2 ≡ sumUnder smaller larger factor
+
+-- ---- the position
+
+-- the sines and cosines that a fix is placed by are those of document 01's formula, for all angles of 32 bits
+abbrev pub PlacedByFormula : Type 0
+PlacedByFormula =
+    (claim : Claimed)
+    → InI32 (claim .lat)
+    → InI32 (claim .lon)
+    → (geodeticOf claim .lat ≡ formulaSincos (claim .lat)) × (geodeticOf claim .lon ≡ formulaSincos (claim .lon))
 
 -- ---- document 01, 'Positions to check', as far as they are of this crate
 
