@@ -48,6 +48,20 @@ const EDGES: [i64; 12] = [
     1,
 ];
 
+/// The last and the first angle on either side of each edge between quadrants, and the ends of the i32.
+pub const SIDES: [i32; 10] = [
+    i32::MIN,
+    -1_350_000_001,
+    -1_350_000_000,
+    -450_000_001,
+    -450_000_000,
+    449_999_999,
+    450_000_000,
+    1_349_999_999,
+    1_350_000_000,
+    i32::MAX,
+];
+
 pub fn pattern(random: &mut Random) -> f64 {
     match random.below(4) {
         0 => f64::from_bits(random.next()),

@@ -47,8 +47,34 @@ fn agreement_differs(a: &Claim, b: &Claim) -> bool {
     binding::agreement(a, b).is_some_and(|(c, l)| !same(c, chi2) || !same(l, limit) || (c <= l) != (chi2 <= limit))
 }
 
-fn compare_pair(a: &Claim, b: &Claim, at_limit: bool, counts: &mut Counts) {
+/// How many latitudes and longitudes stood at each of `claims::SIDES`.
+type Sides = [[u64; 2]; claims::SIDES.len()];
+
+fn count_sides(claim: &Claim, sides: &mut Sides) {
+    for (side, seen) in claims::SIDES.iter().zip(sides) {
+        seen[0] += u64::from(claim.lat == *side);
+        seen[1] += u64::from(claim.lon == *side);
+    }
+}
+
+/// Stops where an edge was not tried, unless there are so few pairs that none may have come.
+fn print_sides(sides: &Sides, pairs: u64) {
+    println!("  angles at the edges between quadrants and at the ends, of pairs whose chi-square is a number");
+    for (side, [lat, lon]) in claims::SIDES.iter().zip(sides) {
+        println!("  {lat:>9}  latitudes of {side}, {lon} longitudes");
+    }
+    if pairs >= 20_000 && sides.iter().flatten().any(|n| *n == 0) {
+        println!("NOT TRIED: an edge above");
+        std::process::exit(1);
+    }
+}
+
+fn compare_pair(a: &Claim, b: &Claim, at_limit: bool, counts: &mut Counts, sides: &mut Sides) {
     let (chi2, limit) = oracle::agreement(a, b);
+    if chi2.is_finite() {
+        count_sides(a, sides);
+        count_sides(b, sides);
+    }
     let three = a.height.is_some() && b.height.is_some();
     count(counts, kinds::kind(a, chi2, limit, three), 1);
     count(counts, if three { "(with both heights)" } else { "(without a height)" }, 1);
@@ -76,20 +102,22 @@ fn compare_pair(a: &Claim, b: &Claim, at_limit: bool, counts: &mut Counts) {
 
 fn compare_agreement(random: &mut Random, pairs: u64) {
     let mut counts = Counts::new();
+    let mut sides = Sides::default();
     let mut done = 0;
     while done < pairs {
         if random.one_in(64) {
             for (a, b) in claims::at_limit(random) {
-                compare_pair(&a, &b, true, &mut counts);
+                compare_pair(&a, &b, true, &mut counts, &mut sides);
                 done += 1;
             }
         } else {
             let (a, b) = claims::pair(random);
-            compare_pair(&a, &b, false, &mut counts);
+            compare_pair(&a, &b, false, &mut counts, &mut sides);
             done += 1;
         }
     }
     print(&format!("agreement: {done} pairs, {}", beside(binding::AGREEMENT)), &counts);
+    print_sides(&sides, done);
 }
 
 fn beside(has: bool) -> &'static str {
