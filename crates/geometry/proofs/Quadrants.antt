@@ -1,19 +1,19 @@
 -- The five ranges of an angle, the laws that document 01's floor division has, and that the ranges give what it gives.
 use mathlib.Core.Path.{_≡_, refl, sym, ap, _∙_}
-use Prim.Native.Nat.{ℕ, zero, suc, _+_, _-_, _*_, _/_, _≤_, _<_}
+use Prim.Native.Nat.{ℕ, zero, suc, _+_, _-_, _*_, _/_, _%_, _≤_, _<_}
 use native.Mathlib.Nat.{lt-trans, lt-of-le-of-lt, le-trans, le-of-lt}
 use native.Mathlib.Decide.{decLt}
 use native.Mathlib.Omega.{arith}
 use borrow.Author.Tests.{lt-ltb, le-ltb}
 use lib.Dec.{le→leb, lt→ltb, leb→le, ltb→lt, lit<}
-use lib.IntN.{ℤ, pos, negsuc, subℕ, negℤ-negℤ, _+ℤ_, _-ℤ_, _*ℤ_, +ℤ-comm, -ℤ-+ℤ-cancel}
+use lib.IntN.{ℤ, pos, negsuc, subℕ, negℤ, negℤ-negℤ, _+ℤ_, _-ℤ_, _*ℤ_, +ℤ-comm, -ℤ-+ℤ-cancel}
 use lib.Ieee.{Float}
 use lib.Signed.{_≤ℤ_, _<ℤ_}
 use mir.Syntax.{w32}
 use mir.Val.{SFits}
 use Rattle.geometry.specs.Angles.{quadrantOf, rightAngles, restOf, turnOf, sincosOf, radiansOf, sineOf, cosineOf}
-use Rattle.geometry.specs.Formula.{floorMod, formulaQ, formulaTurn, formulaSincos}
-use Rattle.geometry.specs.Claims.{InRange, CoveredOnce, InRest, QuadrantAndRest, InI32, InFive, RangesAreTheFormula, Edges}
+use Rattle.geometry.specs.Formula.{floorDiv, floorMod, formulaQ, formulaTurn, formulaSincos}
+use Rattle.geometry.specs.Claims.{InRange, CoveredOnce, QuadrantAndRest, InI32, InFive, RangesAreTheFormula, Edges}
 use Rattle.geometry.specs.declared.angles.Quadrant.{Quadrant}
 use Rattle.geometry.specs.declared.angles.Quadrant.the-variants.{MinusTwo, MinusOne, Zero, One, Two}
 
@@ -30,6 +30,10 @@ minus-is a (suc b) = refl
 neg-minus-is : (a b : ℕ) → negsuc a -ℤ pos b ≡ negsuc (a + b)
 neg-minus-is a zero = sub-down 0 (suc a) (omega arith) ∙ ap negsuc (omega arith)
 neg-minus-is a (suc b) = ap negsuc (omega arith)
+
+neg-plus-is : (a b : ℕ) → negℤ (pos a) +ℤ pos b ≡ subℕ b a
+neg-plus-is zero b = ap pos (omega arith) ∙ sym (sub-up b 0 (omega arith))
+neg-plus-is (suc a) b = refl
 
 -- ---- the order of integers, in the order of naturals: -(a + 1) is negsuc a
 
@@ -108,20 +112,20 @@ whole-law : (v : ℤ) → v ≡ pos 900000000 *ℤ formulaQ v +ℤ restOf (formu
 whole-law v =
     sym (-ℤ-+ℤ-cancel v (pos 900000000 *ℤ formulaQ v)) ∙ +ℤ-comm (restOf (formulaQ v) v) (pos 900000000 *ℤ formulaQ v)
 
-within : (a b : ℕ) → b ≤ a + 450000000 → a < b + 450000000 → InRest (subℕ a b)
+within : (a b : ℕ) → b ≤ a + 450000000 → a < b + 450000000 → InRange Zero (subℕ a b)
 within a b h l = go (decLt a b)
   where
-    go : Dec (a < b) → InRest (subℕ a b)
+    go : Dec (a < b) → InRange Zero (subℕ a b)
     go (yes d) = rw (sub-down a b d) (down (omega arith), across-below)
     go (no d) = rw (sub-up a b (omega arith)) (across, up-below (omega arith))
 
-rest-in : (v : ℤ) → InRest (restOf (formulaQ v) v)
+rest-in : (v : ℤ) → InRange Zero (restOf (formulaQ v) v)
 rest-in (pos n) =
     let q = (n + 450000000) / 900000000 in
     rw (minus-is n (900000000 * q)) (within n (900000000 * q) (omega arith) (omega arith))
 rest-in (negsuc n) = go (decLt 449999999 n)
   where
-    go : Dec (449999999 < n) → InRest (restOf (formulaQ (negsuc n)) (negsuc n))
+    go : Dec (449999999 < n) → InRange Zero (restOf (formulaQ (negsuc n)) (negsuc n))
     go (yes l) =
         let k = (suc n - suc 450000000) / 900000000 in
         rw (sub-down 450000000 (suc n) (omega arith), negℤ-negℤ)
@@ -131,8 +135,21 @@ rest-in (negsuc n) = go (decLt 449999999 n)
         rw (sub-up 450000000 (suc n) (omega arith), neg-minus-is n (900000000 * q))
         (down (omega arith), across-below)
 
+-- q = 4 (q / 4) + (q % 4)
+fours : (q : ℤ) → q ≡ pos 4 *ℤ floorDiv q 4 +ℤ pos (floorMod q 4)
+fours (pos n) = ap pos (omega arith)
+fours (negsuc n) =
+    sym
+    (neg-plus-is (4 * suc (n / 4)) (4 - 1 - n % 4)
+    ∙ sub-down (4 - 1 - n % 4) (4 * suc (n / 4)) (omega arith)
+    ∙ ap negsuc (omega arith))
+
+below-four : (q : ℤ) → floorMod q 4 < 4
+below-four (pos n) = omega arith
+below-four (negsuc n) = omega arith
+
 pub quadrant-and-rest : QuadrantAndRest
-quadrant-and-rest = record { whole-law = whole-law; rest-in = rest-in; remainders = (refl, refl, refl, refl, refl) }
+quadrant-and-rest = record { whole-law = whole-law; rest-in = rest-in; fours = fours; below-four = below-four }
 
 -- ---- the ranges give what the formula gives
 
@@ -182,7 +199,7 @@ no-other (negsuc n) e = go (decLt 2249999999 n)
         let same = inner 1 ((suc n - suc 450000000) / 900000000) (rw (two-below n (omega arith), sub-down 450000000 (suc n) (omega arith)) at e) in
         absurd (omega arith)
 
-rest : (v : ℤ) → InFive v → InRest (restOf (rightAngles (quadrantOf v)) v)
+rest : (v : ℤ) → InFive v → InRange Zero (restOf (rightAngles (quadrantOf v)) v)
 rest v h = rw (quadrant v h) (rest-in v)
 
 -- what a range takes is what the remainder of its q takes
@@ -239,6 +256,6 @@ in-i32 (negsuc n) h = (down (omega (arith, h .sfits)), across)
 pub rest-fits : (v : ℤ) → SFits w32 v → SFits w32 (restOf (rightAngles (quadrantOf v)) v)
 rest-fits v h = go (restOf (rightAngles (quadrantOf v)) v) (rest v (five v (in-i32 v h)))
   where
-    go : (r : ℤ) → InRest r → SFits w32 r
+    go : (r : ℤ) → InRange Zero r → SFits w32 r
     go (pos n) i = record { sfits = lt-trans (ltb→lt n 450000000 (i .1 .lt)) (lit< tt) }
     go (negsuc n) i = record { sfits = lt-of-le-of-lt (leb→le n 449999999 (i .0 .le)) (lit< tt) }

@@ -1,11 +1,12 @@
 -- What is claimed of the sine and the cosine of an angle, beside that the code gives what Angles says. Each statement is a type; the theorem of it has its
 -- name, in proofs/Quadrants and proofs/Positions.
 use mathlib.Core.Path.{_≡_}
+use Prim.Native.Nat.{_<_}
 use lib.IntN.{ℤ, pos, negℤ, _+ℤ_, _*ℤ_}
 use lib.Signed.{_≤ℤ_, _<ℤ_}
 use lib.Ieee.{Float}
 use Rattle.geometry.specs.Angles.{quadrantOf, rightAngles, restOf, turnOf, sincosOf}
-use Rattle.geometry.specs.Formula.{floorMod, formulaQ, formulaTurn, formulaSincos}
+use Rattle.geometry.specs.Formula.{floorDiv, floorMod, formulaQ, formulaTurn, formulaSincos}
 use Rattle.geometry.specs.declared.angles.Quadrant.{Quadrant}
 use Rattle.geometry.specs.declared.angles.Quadrant.the-variants.{MinusTwo, MinusOne, Zero, One, Two}
 
@@ -26,16 +27,14 @@ pub record CoveredOnce : Type 0 where
 
 -- ---- document 01's formula
 
--- -450,000,000 ≤ r < 450,000,000
-abbrev pub InRest : ℤ → Type 0
-InRest r = (negℤ (pos 450_000_000) ≤ℤ r) × (r <ℤ pos 450_000_000)
-
 -- which q and r the formula gives, for every whole number v
 pub record QuadrantAndRest : Type 0 where
   pub whole-law : (v : ℤ) → v ≡ pos 900_000_000 *ℤ formulaQ v +ℤ restOf (formulaQ v) v
-  pub rest-in : (v : ℤ) → InRest (restOf (formulaQ v) v)
-  -- the remainder by 4 is the one that is not negative
-  pub remainders : (floorMod (negℤ (pos 2)) 4 ≡ 2) × (floorMod (negℤ (pos 1)) 4 ≡ 3) × (floorMod (pos 0) 4 ≡ 0) × (floorMod (pos 1) 4 ≡ 1) × (floorMod (pos 2) 4 ≡ 2)
+  -- -450,000,000 ≤ r < 450,000,000, which is the range in the middle
+  pub rest-in : (v : ℤ) → InRange Zero (restOf (formulaQ v) v)
+  -- and which remainder by 4 it takes of q, for every whole number q
+  pub fours : (q : ℤ) → q ≡ pos 4 *ℤ floorDiv q 4 +ℤ pos (floorMod q 4)
+  pub below-four : (q : ℤ) → floorMod q 4 < 4
 
 -- ---- the ranges give what the formula gives
 
@@ -54,7 +53,7 @@ pub record RangesAreTheFormula : Type 0 where
   pub quadrant : (v : ℤ) → InFive v → rightAngles (quadrantOf v) ≡ formulaQ v
   pub no-other : (v : ℤ) → rightAngles (quadrantOf v) ≡ formulaQ v → InFive v
   -- so also an r of at most half a right angle, the remainder by 4, and what that chooses
-  pub rest : (v : ℤ) → InFive v → InRest (restOf (rightAngles (quadrantOf v)) v)
+  pub rest : (v : ℤ) → InFive v → InRange Zero (restOf (rightAngles (quadrantOf v)) v)
   pub remainder : (v : ℤ) → InFive v → floorMod (rightAngles (quadrantOf v)) 4 ≡ floorMod (formulaQ v) 4
   pub turn : (v : ℤ) → InFive v → (s c : Float) → turnOf (quadrantOf v) s c ≡ formulaTurn (floorMod (formulaQ v) 4) s c
   -- and the same sine and cosine
