@@ -64,9 +64,9 @@ pub record RangesAreTheFormula : Type 0 where
 -- 4: v = 450,000,000 gives q 1, 449,999,999 gives q 0, -450,000,001 gives q -1
 abbrev pub Position4 : Type 0
 Position4 =
-    (quadrantOf (pos 450_000_000) ≡ One)
-    × (quadrantOf (pos 449_999_999) ≡ Zero)
-    × (quadrantOf (negℤ (pos 450_000_001)) ≡ MinusOne)
+    (rightAngles (quadrantOf (pos 450_000_000)) ≡ pos 1)
+    × (rightAngles (quadrantOf (pos 449_999_999)) ≡ pos 0)
+    × (rightAngles (quadrantOf (negℤ (pos 450_000_001))) ≡ negℤ (pos 1))
 
 -- ---- the edges
 
