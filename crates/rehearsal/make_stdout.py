@@ -48,6 +48,27 @@ role=ranked time=1000 lat=500000000 lon=100000000 height=2 weight=2 signers=0000
 role=refused time=1000 lat=500000000 lon=100000000 height=none weight=3 signers=00000004 chi2=7ff0000000000000
 """
 
+# heights in millimetres and the whole metres written for them (document 02, A.4, whose own numbers come first); a row is one session
+HEIGHTS = (
+    {"500": "0", "1500": "2", "2500": "2", "-1500": "-2"},
+    {"499": "0", "501": "1", "0": "0", "none": "none"},
+    {"1499": "1", "1501": "2", "2499": "2", "2501": "3"},
+    {"3500": "4", "-3500": "-4", "1000": "1", "-1000": "-1"},
+    {"-1": "0", "-499": "0", "-500": "0", "-501": "-1"},
+    {"-1499": "-1", "-1501": "-2", "-2500": "-2", "-2501": "-3"},
+    {"2147483499": "2147483", "2147483500": "2147484", "2147483501": "2147484", "2147483647": "2147484"},
+    {"-2147483499": "-2147483", "-2147483500": "-2147484", "-2147483501": "-2147484", "-2147483648": "-2147484"},
+)
+
+
+def of_heights(row):
+    """A report for each height, each a transmission of its own, and what is printed of them."""
+    board = "".join(
+        f"transmission={i} ranked=1 dominated=0 refused=0\nrole=ranked time={i} lat=0 lon=0 height={metres} weight=1 signers=00000002\n"
+        for i, metres in enumerate(row.values(), 1)
+    )
+    return "".join(report(1, [i], time=i, height=height) for i, height in enumerate(row, 1)), "answer=0\n" * len(row) + board
+
 
 def bad(line):
     return f"refused=11 line={line}\n"
@@ -92,8 +113,7 @@ def cases():
     yield summary(1, 64) + summary(1, 255) + convict(1) + summary(1, 1) + report(1, [1]), "answer=9\nanswer=9\nanswer=0\nanswer=4\nanswer=4\n"
     yield summary(255, 255) + report(255, [2, 1]), "answer=2\nanswer=2\n"
     # heights and widths
-    for h in ("499", "500", "-499", "-500", "0", "-2147483648", "2147483647", "none"):
-        yield report(1, [1], height=h), None
+    yield from map(of_heights, HEIGHTS)
     yield report(31, range(16), -2147483648, 18446744073709551615, 2147483647, used=0), None
     yield report(1, [18446744073709551615], cov="7ff8000000000001" * 6) + report(1, [1, 18446744073709551615], cov="fff0000000000000" * 6), None
     # a full register: a 97th record is 5, a held one with a new signer 0; a conviction half way makes room

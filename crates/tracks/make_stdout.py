@@ -6,6 +6,7 @@
 FILE has lists in the form that src/main.rt reads. Without one the lists are few: document 01's position 9 in its two orders, and the same
 with a call more. The answers and the tracks come from target/oracle/oracle-program, which is the Rust (oracle/README.md); they are hashed by
 hashlib, and a listing is written here from the Rust's track. Nothing of what the program itself prints goes into them."""
+import fractions
 import hashlib
 import pathlib
 import struct
@@ -77,9 +78,8 @@ class Rust:
 
 
 def metres(height):
-    """Whole metres of millimetres, half away from zero."""
-    whole = (abs(height) + 500) // 1000
-    return -whole if height < 0 else whole
+    """Document 02, A.4: the nearest whole metre, and the even one of two equally near, which is how Python rounds a fraction."""
+    return round(fractions.Fraction(height, 1000))
 
 
 def line(role, fix, chi2=None):

@@ -22,7 +22,7 @@ pub record Positions : Type 0 where
   pub p3-only : OnlyTheEndsDisagree
   -- 450,000,000 gives q 1, 449,999,999 q 0, -450,000,001 q -1
   pub p4 : Position4
-  -- 499 mm is 0, 500 is 1, -500 is -1
+  -- 499 and 500 mm are 0, 1500 is 2, 2500 is 2, -1500 is -2: as document 02, A.4, amends it
   pub p5 : HeightTexts
   -- tags {1}, {2}, {1,2} make one transmission
   pub p6 : Position6

@@ -4,17 +4,18 @@ use mathlib.Core.Bool.{Bool, true, false, cond}
 use mathlib.Core.List.{List, [], _∷_, _++_}
 use Prim.Native.Nat.{ℕ, zero, suc, _+_, _-_, _*_, _/_, _%_, _^_, _≤_, _<_}
 use native.Mathlib.Omega.{arith}
-use native.Mathlib.Nat.{pow-suc, div-lt-iff-lt-mul}
+use native.Mathlib.Nat.{pow-suc, div-lt-iff-lt-mul, le-of-eq, not-le-of-lt}
 use borrow.Author.Tests.{lt-ltb, le-ltb, ltb-true, ltb-false}
 use lib.Dec.{ltb}
 use lib.IntN.{ℤ, pos, negsuc}
+use lib.Signed.{mag}
 use lib.ListN.{length, getD, length-append, List·getD-append}
 use Rattle.ranges.proofs.Bools.{by}
 use Rattle.octets.specs.Ascii.{ascii}
 use Rattle.text.specs.Numbers.{digits, decimal, signed, hex, hexDigit, decimalValue}
 use Rattle.text.specs.Heights.{metres}
-use Rattle.text.specs.Claims.{hexValue, hexDigitValue, DecimalReadsBack, NoLeadingZero, NoMinusZero, DecimalWidth, HexReadsBack, HeightTexts}
-use Rattle.text.proofs.Shapes.{digits-one}
+use Rattle.text.specs.Claims.{hexValue, hexDigitValue, DecimalReadsBack, NoLeadingZero, NoMinusZero, DecimalWidth, HexReadsBack, HeightNotMinusZero, HeightTexts}
+use Rattle.text.proofs.Shapes.{digits-one, metres-fits}
 
 -- ---- decimal
 
@@ -59,6 +60,15 @@ zero-text k = digits-one k 0 (omega arith)
 pub no-minus-zero : (n : ℕ) → suc n < 10 ^ 10 → signed (negsuc n) ≡ 45 ∷ 48 ∷ [] → ⊥
 unfolding signed
 no-minus-zero n h e = no-leading-zero 9 (suc n) h (omega arith) (ap (λ (t : List ℕ). getD t 1 0) e)
+
+-- so no number of 32 bits is '-0'
+pub never-minus-zero : (v : ℤ) → mag v < 2 ^ 31 → signed v ≡ 45 ∷ 48 ∷ [] → ⊥
+never-minus-zero (negsuc n) h e = no-minus-zero n (omega arith) e
+never-minus-zero (pos n) h e = unfold signed decimalValue in zero-is-one-digit (sym (digits-value 9 n (omega arith)) ∙ ap (decimalValue 0) e) e
+  where
+
+    zero-is-one-digit : n ≡ 0 → digits 9 n ≡ 45 ∷ 48 ∷ [] → ⊥
+    zero-is-one-digit z e = let l : 45 < 48 = omega arith in not-le-of-lt l (le-of-eq (ap (λ (t : List ℕ). getD t 0 0) (sym (zero-text 9) ∙ (rw z at e))))
 
 -- ---- hexadecimal
 
@@ -107,14 +117,24 @@ decimal-width n = digits-width 19 n
 pub hex-reads-back : HexReadsBack
 hex-reads-back k n h = (hex-value k n h, hex-width k n)
 
--- position 5 of document 01
-pub position-5 :
-    (signed (metres (pos 499)) ≡ 48 ∷ [])
-    × (signed (metres (pos 500)) ≡ 49 ∷ [])
-    × (signed (metres (negsuc 499)) ≡ 45 ∷ 49 ∷ [])
-unfolding signed digits
-position-5 = (refl, refl, refl)
+pub height-not-minus-zero : HeightNotMinusZero
+unfolding ascii
+height-not-minus-zero h f = never-minus-zero (metres h) (metres-fits h f)
 
 pub height-texts : HeightTexts
 unfolding signed digits ascii
-height-texts = (position-5 .0, position-5 .1, position-5 .2, refl)
+height-texts =
+    record {
+      under-half = refl;
+      half = refl;
+      one-and-half = refl;
+      two-and-half = refl;
+      minus-one-and-half = refl;
+      over-half = refl;
+      minus-half = refl;
+      minus-over-half = refl;
+      minus-two-and-half = refl;
+      greatest-half = refl;
+      greatest = refl;
+      least = refl;
+    }

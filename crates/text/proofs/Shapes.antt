@@ -49,7 +49,7 @@ pub metres-offset : (v : ℤ) → mag v < 2 ^ 31 → offsetMetres (offset v) ≡
 metres-offset (pos n) h = let e : n + 0x8000_0000 - 0x8000_0000 ≡ n = omega arith in rw (le-leb 0x8000_0000 (n + 0x8000_0000) (omega arith), e) (omega arith)
 metres-offset (negsuc n) h =
     let e : 0x8000_0000 - (0x8000_0000 - suc n) ≡ suc n = omega arith in
-    rw (lt-leb 0x8000_0000 (0x8000_0000 - suc n) (omega arith), e) (under ((suc n + 500) / 1000) (omega arith))
+    rw (lt-leb 0x8000_0000 (0x8000_0000 - suc n) (omega arith), e) (under (roundedMetres (suc n)) (omega arith))
   where
     under : (m : ℕ) → m < 0x8000_0000 → 0x8000_0000 - m ≡ offset (negℤ (pos m))
     under zero h = refl
@@ -57,7 +57,7 @@ metres-offset (negsuc n) h =
 
 pub metres-fits : (v : ℤ) → mag v < 2 ^ 31 → mag (metres v) < 2 ^ 31
 metres-fits (pos n) h = omega arith
-metres-fits (negsuc n) h = under ((suc n + 500) / 1000) (omega arith)
+metres-fits (negsuc n) h = under (roundedMetres (suc n)) (omega arith)
   where
     under : (m : ℕ) → m < 2 ^ 31 → mag (negℤ (pos m)) < 2 ^ 31
     under zero h = h

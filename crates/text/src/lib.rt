@@ -6,7 +6,7 @@ ghost use Prim.Native.Nat.{_+_, _-_, _*_, _≤_, _<_};
 ghost use lib.ListN.{length};
 ghost use Rattle.text.specs.Buffer.{Put};
 ghost use Rattle.text.specs.Numbers.{digits, decimal, signed, hexDigit, hex};
-ghost use Rattle.text.specs.Heights.{metres};
+ghost use Rattle.text.specs.Heights.{roundedMetres, metres};
 ghost use Rattle.text.specs.OffsetBinary as Binary;
 
 // A constant word.
@@ -77,15 +77,23 @@ pub fn put_i32(out: &mut [u8], at: usize, v: i32) -> usize
     put_offset(out, at, offset(v))
 }
 
+// How many metres n millimetres are: the nearest; of two equally near the even one.
+fn rounded_metres(n: u64) -> u64
+    requires { ⌜ n ≤ 0x8000_0000 ⌝ }
+    ensures { λ r. ⌜ r ≡ roundedMetres n ⌝ }
+{
+    (n + 499 + n / 1000 % 2) / 1000
+}
+
 // The offset of the whole metres of the height whose offset is n.
 fn offset_metres(n: u64) -> u64
     requires { ⌜ n < 0x1_0000_0000 ⌝ }
     ensures { λ r. ⌜ (r ≡ Binary.offsetMetres n) × (r < 0x1_0000_0000) ⌝ }
 {
-    if 0x8000_0000 <= n {
-        return 0x8000_0000 + (n - 0x8000_0000 + 500) / 1000;
+    if n < 0x8000_0000 {
+        return 0x8000_0000 - rounded_metres(0x8000_0000 - n);
     }
-    0x8000_0000 - (0x8000_0000 - n + 500) / 1000
+    0x8000_0000 + rounded_metres(n - 0x8000_0000)
 }
 
 // The whole metres of a height in millimetres, in decimal.

@@ -1,32 +1,40 @@
-use mathlib.Core.Path.{_≡_, refl, sym, ap, _∙_}
+use mathlib.Core.Path.{sym, ap}
+use Prim.Native.Nat.{ℕ, _+_, _-_}
 use native.Mathlib.Omega.{arith}
 use borrow.Author.Tests.{le-leb, lt-leb}
 use borrow.Author.Needs.{needs}
 use Rattle.text.proofs.offset_metres.Statement.{statement}
 use Rattle.text.proofs.offset_metres.Tie as tie
 
-add-result : tie.Need-add-result
-add-result c = search needs
+sub-rounded-metres : tie.Need-sub-rounded-metres
+sub-rounded-metres c = search needs
 
-add-result-2 : tie.Need-add-result-2
-add-result-2 c = search needs
-
-returns : tie.Need-returns
-returns c = (sym (rw (le-leb 0x8000_0000 (c .before .args .n) (c .if1 .taken)) refl), omega arith)
+rounded-metres-requires : tie.Need-rounded-metres-requires
+rounded-metres-requires c κs = search needs
 
 sub-result : tie.Need-sub-result
 sub-result c = search needs
 
-add-result-3 : tie.Need-add-result-3
-add-result-3 c = search needs
+returns : tie.Need-returns
+returns c = (sym (rw (lt-leb 0x8000_0000 (c .before .before .args .n) (c .before .if1 .taken)) (ap (λ (r : ℕ). 0x8000_0000 - r) (sym (c .rounded-metres .ensures)))), omega arith)
 
-sub-result-2 : tie.Need-sub-result-2
-sub-result-2 c = search needs
+rounded-metres-requires-2 : tie.Need-rounded-metres-requires-2
+rounded-metres-requires-2 c κs = search needs
+
+add-result : tie.Need-add-result
+add-result c = search needs
 
 returns-2 : tie.Need-returns-2
-returns-2 c = (sym (rw (lt-leb 0x8000_0000 (c .before .args .n) (c .if1 .left)) refl), omega arith)
+returns-2 c = (sym (rw (le-leb 0x8000_0000 (c .before .before .args .n) (c .before .if1 .left)) (ap (λ (r : ℕ). 0x8000_0000 + r) (sym (c .rounded-metres2 .ensures)))), omega arith)
 
 pub offset-metres-spec : {M : Type 1} → statement M
 offset-metres-spec =
     tie.close
-    (tie.spec add-result add-result-2 returns sub-result add-result-3 sub-result-2 returns-2)
+    (tie.spec
+    sub-rounded-metres
+    rounded-metres-requires
+    sub-result
+    returns
+    rounded-metres-requires-2
+    add-result
+    returns-2)
