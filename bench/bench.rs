@@ -6,6 +6,8 @@ mod binding;
 mod calls;
 #[path = "../oracle/driver/claims.rs"]
 mod claims;
+#[path = "../oracle/driver/heights.rs"]
+mod heights;
 #[path = "../oracle/driver/random.rs"]
 mod random;
 mod tracks;

@@ -1,5 +1,6 @@
 //! Lists of track calls: how they are made, and how they are run on the Rust and on the library.
 
+use crate::heights::EDGES;
 use crate::random::Random;
 use crate::{binding, claims};
 use oracle::track::{Answer, Track};
@@ -260,7 +261,7 @@ impl Growing {
             lon: style.lon.wrapping_add(if random.one_in(8) { 900 } else { 0 }),
             height: match random.below(24) {
                 0..=2 => None,
-                3 => Some(random.pick(&[i32::MIN, i32::MAX, -500, 499, 0])),
+                3 => Some(random.pick(&EDGES)),
                 _ => Some(1_500),
             },
             message,

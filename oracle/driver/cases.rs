@@ -1,6 +1,7 @@
 //! What came up in a track call, read from the track's bytes before and after it.
 
 use crate::calls::Call;
+use crate::heights;
 use oracle::decide::{self, Decision};
 use oracle::track::{
     Answer, FIX, FIXES, FIXES_AT, REFUSALS, REFUSED, REFUSED_AT, SUMMARIES_AT, SUMMARY, TRANSMISSION, TRANSMISSIONS,
@@ -42,6 +43,12 @@ fn blocks(b: &[u8]) -> impl Iterator<Item = Block<'_>> {
 
 fn held(b: &[u8]) -> impl Iterator<Item = &[u8]> {
     blocks(b).flat_map(Block::held)
+}
+
+/// The heights that a listing of this track writes.
+pub fn count_heights(b: &[u8], counts: &mut Counts) {
+    let height = |fix: &[u8]| (fix[16] == 1).then(|| i32::from_le_bytes(fix[17..21].try_into().unwrap()));
+    heights::kinds(held(b).filter_map(height)).for_each(|kind| *counts.entry(kind).or_default() += 1);
 }
 
 fn summaries(b: &[u8]) -> impl Iterator<Item = &[u8]> {

@@ -5,6 +5,7 @@ mod binding;
 mod calls;
 mod cases;
 mod claims;
+mod heights;
 mod kinds;
 mod lent;
 mod lists;

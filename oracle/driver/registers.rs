@@ -2,6 +2,7 @@
 //! library has one.
 
 use crate::binding::register as ours;
+use crate::heights::{self, EDGES};
 use crate::random::Random;
 use oracle::{Record, hex};
 use peer::register::{self as theirs, SIZE};
@@ -45,7 +46,11 @@ fn record(random: &mut Random, wide: u64) -> Vec<u8> {
         time: random.below(wide),
         lat: 2_700 * random.below(3) as i32,
         lon: 0,
-        height: if random.one_in(4) { None } else { Some(random.next() as i32 % 10_000) },
+        height: match random.below(4) {
+            0 => None,
+            1 => Some(random.pick(&EDGES)),
+            _ => Some(random.next() as i32 % 10_000),
+        },
         message: random.pick(&[&[0x8d, 0, 0, 0, 0, 0, 0][..], &[0x8d; 14][..]]).to_vec(),
         used: random.next() as u16 & ((1u16 << tags.len()) - 1),
         tags,
@@ -79,9 +84,17 @@ fn call(random: &mut Random, wide: u64, summaries: u64) -> Call {
     }
 }
 
-/// Both boards, where the library has one; the difference in words.
+/// What heights a board writes.
 #[cfg(has_board)]
-fn compare_boards(a: &[u8], b: &[u8], n: usize, counts: &mut Counts) -> Option<String> {
+fn count_heights(memory: &[u8], counts: &mut Counts) {
+    if let Some(register) = theirs::Register::read(memory) {
+        heights::kinds(peer::board::heights(&register).into_iter()).for_each(|kind| *counts.entry(kind.to_string()).or_default() += 1);
+    }
+}
+
+/// Both boards, where the library has one; the difference in words. Of the last board of a list the heights are counted.
+#[cfg(has_board)]
+fn compare_boards(a: &[u8], b: &[u8], n: usize, last: bool, counts: &mut Counts) -> Option<String> {
     let (mut c, mut d) = (vec![7u8; 16_384], vec![7u8; 16_384]);
     let (x, y) = (ours::board(a, &mut c), peer::board::board(b, &mut d));
     if x != y || c != d {
@@ -95,6 +108,9 @@ fn compare_boards(a: &[u8], b: &[u8], n: usize, counts: &mut Counts) -> Option<S
         _ => "boards of 10 lines or more",
     };
     *counts.entry(kind.to_string()).or_default() += 1;
+    if last {
+        count_heights(b, counts);
+    }
     None
 }
 
@@ -136,7 +152,7 @@ fn run(size: usize, calls: &[Call], counts: &mut Counts) -> Option<String> {
         *counts.entry(format!("{kind} answered {x}")).or_default() += 1;
         #[cfg(has_board)]
         if (n % 8 == 0 || n + 1 == calls.len() || back.is_some())
-            && let Some(words) = compare_boards(&a, &b, n, counts)
+            && let Some(words) = compare_boards(&a, &b, n, n + 1 == calls.len(), counts)
         {
             return Some(words);
         }
@@ -189,5 +205,8 @@ pub fn compare(random: &mut Random, lists: u64) {
     println!("register{boards}: {lists} lists of calls, library and peer alike");
     for (what, times) in &counts {
         println!("  {times:>9}  {what}");
+    }
+    if cfg!(has_board) {
+        heights::tried(|kind| counts.contains_key(kind), lists);
     }
 }

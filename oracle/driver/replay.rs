@@ -9,6 +9,8 @@ mod calls;
 mod cases;
 #[path = "claims.rs"]
 mod claims;
+#[path = "heights.rs"]
+mod heights;
 #[path = "kinds.rs"]
 mod kinds;
 #[path = "lists.rs"]

@@ -2,7 +2,7 @@
 //! README.md has the formats.
 
 use crate::calls::{self, Call};
-use crate::cases::{Counts, Seen};
+use crate::cases::{self, Counts, Seen};
 use crate::random::Random;
 use oracle::track::{SIZE, Track};
 use oracle::{Record, blake2s256, hex};
@@ -50,6 +50,7 @@ fn seen(calls: &[Call]) -> Counts {
         track.write(&mut after);
         Seen { before: &before, after: &after, counts: &mut counts }.call(call, told);
     }
+    cases::count_heights(&after, &mut counts);
     counts
 }
 

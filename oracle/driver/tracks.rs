@@ -3,6 +3,7 @@
 use crate::binding;
 use crate::calls::{self, Call};
 use crate::cases::{self, Counts, Seen};
+use crate::heights;
 use crate::random::Random;
 use oracle::formed::formed;
 use oracle::track::{Answer, SIZE, Track};
@@ -52,6 +53,7 @@ impl Both {
         let expected = self.rust.listing();
         let lines = expected.bytes().filter(|&b| b == b'\n').count();
         *counts.entry(listed(lines)).or_default() += 1;
+        cases::count_heights(&self.after, counts);
         if !binding::TRACK {
             return Ok(());
         }
@@ -105,4 +107,5 @@ pub fn compare(random: &mut Random, lists: u64) {
     }
     println!("track: {lists} lists of {made} calls from a fresh track, {}", crate::beside(binding::TRACK));
     cases::print(&counts);
+    heights::tried(|kind| counts.contains_key(kind), lists);
 }

@@ -1,9 +1,9 @@
 //! The lines of document 01's board, which a listing has too.
 
-/// Whole metres, half away from zero.
+/// The nearest whole metre, and the even one of two equally near (document 02, A.4), by the standard library's rounding. The quotient is
+/// a half where the height is an exact half, and every other height is a thousandth of a metre or more from one, far more than it is off.
 pub fn metres(height: i32) -> i64 {
-    let mm = i64::from(height);
-    (mm.abs() + 500) / 1000 * mm.signum()
+    (f64::from(height) / 1000.0).round_ties_even() as i64
 }
 
 /// What a line says of a fix.

@@ -111,18 +111,28 @@ fn line(role: &str, fix: &Fix) -> String {
     lines::line(role, &said)
 }
 
-/// The board of a well-formed register.
-pub fn text(register: &Register) -> String {
-    let fixes = representatives(register);
+/// The latest transmissions, oldest first, each with what is decided of its fixes.
+fn latest(fixes: &[Fix]) -> Vec<(Vec<usize>, Decision)> {
     let mut decisions: Vec<(Vec<usize>, Decision)> =
-        transmissions(&fixes).into_iter().map(|one| (one.clone(), decided(&fixes, &one))).collect();
+        transmissions(fixes).into_iter().map(|one| (one.clone(), decided(fixes, &one))).collect();
     decisions.sort_by_key(|(one, d)| {
         let first = &fixes[one[usize::from(d.ranked[0])]];
         (first.record.time, first.identity)
     });
-    let skipped = decisions.len().saturating_sub(SHOWN);
+    decisions.split_off(decisions.len().saturating_sub(SHOWN))
+}
+
+/// The heights, in millimetres, that the board of a well-formed register writes: each fix of the latest transmissions has a line.
+pub fn heights(register: &Register) -> Vec<i32> {
+    let fixes = representatives(register);
+    latest(&fixes).iter().flat_map(|(one, _)| one).filter_map(|&at| fixes[at].record.height).collect()
+}
+
+/// The board of a well-formed register.
+pub fn text(register: &Register) -> String {
+    let fixes = representatives(register);
     let mut out = String::new();
-    for (n, (one, d)) in decisions.iter().skip(skipped).enumerate() {
+    for (n, (one, d)) in latest(&fixes).iter().enumerate() {
         let fix = |at: u8| &fixes[one[usize::from(at)]];
         let counts = (d.ranked.len(), d.dominated.len(), d.refusals.len());
         out += &lines::header(n + 1, counts.0, counts.1, counts.2);

@@ -97,6 +97,13 @@ pub fn nine() -> String {
     (0..9).map(|i| Report { time: 900 - i, ..Report::new(1, &[100 + i], 0) }.text()).collect()
 }
 
+/// Exact halves of a metre on both sides of zero, and the least height, each a transmission.
+pub fn halves() -> String {
+    let heights = [500, 1_500, 2_500, -500, -1_500, -2_500, 2_147_483_500, i32::MIN];
+    let one = |(i, height): (u64, i32)| Report { time: i, height: height.to_string(), ..Report::new(1, &[i + 1], 0) }.text();
+    (0..).zip(heights).map(one).collect()
+}
+
 /// 97 records, the last one too many; then a held one by another engine.
 pub fn full() -> String {
     let one = |i: u64| Report { time: i, cov: ZERO.to_string(), ..Report::new(1, &[1], 0) };
@@ -144,6 +151,7 @@ pub fn cases() -> Vec<(&'static str, String)> {
         ("one-identity-two-positions", texts(&[at(1, 2700), at(2, 0)])),
         ("tied-to-two", texts(&[Report::new(1, &[1], 0), Report::new(1, &[2], 0), Report::new(1, &[1, 2], 0)])),
         ("nine", nine()),
+        ("halves", halves()),
         ("disputed", summary(1, 5, 0, 1) + &cites(1).text() + &summary(2, 5, 0, 2)),
         ("settled", summary(1, 5, 0, 1) + &cites(1).text() + &summary(2, 5, 0, 2) + &convict(2)),
         ("full", full()),

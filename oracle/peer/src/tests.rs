@@ -191,8 +191,33 @@ fn refusals_leave_the_memory_alone() {
     assert!(Register::read(&fresh[1..]).is_none());
 }
 
+/// Document 02, A.4.
 #[test]
 fn whole_metres() {
-    let told: Vec<i64> = [499, 500, -499, -500, 1499, 1500, i32::MAX, i32::MIN].map(metres).to_vec();
-    assert_eq!(told, [0, 1, 0, -1, 1, 2, 2_147_484, -2_147_484]);
+    for (height, whole) in [
+        (499, 0),
+        (500, 0),
+        (501, 1),
+        (1_499, 1),
+        (1_500, 2),
+        (2_500, 2),
+        (2_501, 3),
+        (-499, 0),
+        (-500, 0),
+        (-501, -1),
+        (-1_500, -2),
+        (-2_500, -2),
+        (2_147_483_500, 2_147_484),
+        (i32::MAX, 2_147_484),
+        (i32::MIN, -2_147_484),
+    ] {
+        assert_eq!(metres(height), whole, "{height} mm");
+    }
+}
+
+#[test]
+fn exact_halves_on_a_board() {
+    let out = session(halves().as_bytes());
+    let written: Vec<&str> = out.split(' ').filter_map(|word| word.strip_prefix("height=")).collect();
+    assert_eq!(written, ["0", "2", "2", "0", "-2", "-2", "2147484", "-2147484"]);
 }
