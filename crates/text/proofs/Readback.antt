@@ -66,7 +66,6 @@ pub never-minus-zero : (v : ℤ) → mag v < 2 ^ 31 → signed v ≡ 45 ∷ 48 �
 never-minus-zero (negsuc n) h e = no-minus-zero n (omega arith) e
 never-minus-zero (pos n) h e = unfold signed decimalValue in zero-is-one-digit (sym (digits-value 9 n (omega arith)) ∙ ap (decimalValue 0) e) e
   where
-
     zero-is-one-digit : n ≡ 0 → digits 9 n ≡ 45 ∷ 48 ∷ [] → ⊥
     zero-is-one-digit z e = let l : 45 < 48 = omega arith in not-le-of-lt l (le-of-eq (ap (λ (t : List ℕ). getD t 0 0) (sym (zero-text 9) ∙ (rw z at e))))
 

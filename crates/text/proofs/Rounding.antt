@@ -69,7 +69,6 @@ asked-above n = record { nearest = near; even = tie }
     near (pos j) = rw (apart-above n (roundedMetres n), apart-above n j) (nearest-above n j)
     near (negsuc j) = rw (apart-above n (roundedMetres n), apart-across n j) (le-of-lt (nearest-across n j))
 
-
     tie : (k : ℤ) → (k ≡ pos (roundedMetres n) → ⊥) → apart (pos n) k ≡ apart (pos n) (pos (roundedMetres n)) → Even (pos (roundedMetres n))
     tie (pos j) d e = half-even n (equally-near n j (roundedMetres n) (λ q. d (ap pos q)) (sym (apart-above n j) ∙ e ∙ apart-above n (roundedMetres n)) (within-half n) .0)
     tie (negsuc j) d e = absurd (not-le-of-lt (nearest-across n j) (le-of-eq (sym (apart-across n j) ∙ e ∙ apart-above n (roundedMetres n))))

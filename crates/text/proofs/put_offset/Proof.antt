@@ -1,4 +1,5 @@
 use mathlib.Core.Path.{_≡_, refl, sym, ap, _∙_}
+use Prim.Native.Nat.{_≤_, _<_}
 use native.Mathlib.Omega.{arith}
 use lib.ListN.{length-set}
 use Rattle.text.proofs.Writing.{put-as, put-put, put-one}
@@ -14,7 +15,11 @@ same-length : tie.Need-same-length
 same-length c = search needs
 
 returns : tie.Need-returns
-returns c = let p = c .before .before .put-digits .ensures in (omega (arith, p .0), put-as (sym (offset-plain _ (c .before .before .before .before .if1 .taken))) (p .1))
+returns c =
+    let p = c .before .before .put-digits .ensures in
+    let n = c .before .before .before .before .before .before .args .n in
+    let h : 0x8000_0000 ≤ n = omega (arith, c .before .before .before .before .if1 .taken) in
+    (omega (arith, p .0), put-as (sym (offset-plain n h)) (p .1))
 
 slice-write-out : tie.Need-slice-write-out
 slice-write-out c = search needs
@@ -32,7 +37,11 @@ same-length-2 : tie.Need-same-length-2
 same-length-2 c = c .before .before .put-digits2 .kept .0 ∙ simp length-set
 
 returns-2 : tie.Need-returns-2
-returns-2 c = let p = c .before .before .put-digits2 .ensures in (omega (arith, p .0), put-as (sym (offset-minus _ (c .before .before .before .before .if1 .left))) (put-put (put-one _ _ _) (p .1)))
+returns-2 c =
+    let p = c .before .before .put-digits2 .ensures in
+    let n = c .before .before .before .before .before .before .args .n in
+    let h : n < 0x8000_0000 = omega (arith, c .before .before .before .before .if1 .left) in
+    (omega (arith, p .0), put-as (sym (offset-minus n h)) (put-put (put-one _ _ _) (p .1)))
 
 pub put-offset-spec : {M : Type 1} → statement M
 put-offset-spec =
