@@ -21,7 +21,7 @@ header number ranked dominated refused =
 unfoldable pub whereWhen : List ℕ → List ℕ
 whereWhen r = (ascii " time=" ++ decimal (time r)) ++ ((ascii " lat=" ++ signed (latitude r)) ++ (ascii " lon=" ++ signed (longitude r)))
 
--- "Height is whole metres, half away from zero, or `none`"
+-- "Height is whole metres, .. or `none`"; the rule of rounding is that of text specs/Heights
 unfoldable pub heightText : List ℕ → List ℕ
 heightText r = ascii " height=" ++ cond (hasHeight r) (signed (metres (height r))) (ascii "none")
 
