@@ -34,13 +34,14 @@ extern "C" {
 
 /* ---- version of this header and of the library that comes with it
  *
- * With major 0 every change of the minor number may change names, layouts and answers. */
+ * With major 0 every change of the minor number may change names, layouts, answers and texts. Two rooms that show one board have the
+ * same one. */
 
 #define TL_VERSION_MAJOR 0
-#define TL_VERSION_MINOR 6
+#define TL_VERSION_MINOR 7
 #define TL_VERSION_PATCH 0
 #define TL_VERSION (TL_VERSION_MAJOR * 1000000 + TL_VERSION_MINOR * 1000 + TL_VERSION_PATCH)
-#define TL_VERSION_TEXT TL_VERSION_JOINED(TL_VERSION_MAJOR, TL_VERSION_MINOR, TL_VERSION_PATCH) /* "0.6.0" */
+#define TL_VERSION_TEXT TL_VERSION_JOINED(TL_VERSION_MAJOR, TL_VERSION_MINOR, TL_VERSION_PATCH) /* "0.7.0" */
 #define TL_VERSION_JOINED(major, minor, patch) TL_VERSION_QUOTED(major, minor, patch)
 #define TL_VERSION_QUOTED(major, minor, patch) #major "." #minor "." #patch
 
