@@ -34,8 +34,8 @@ extern "C" {
 
 /* ---- version of this header and of the library that comes with it
  *
- * With major 0 every change of the minor number may change names, layouts, answers and texts. Two rooms that show one board have the
- * same one. */
+ * With major 0 every change of the minor number may change names, layouts, answers and texts: rooms that are to show the same board
+ * have the same version. */
 
 #define TL_VERSION_MAJOR 0
 #define TL_VERSION_MINOR 7
