@@ -6,5 +6,6 @@ pub mod Pictured
 pub mod Fitting
 pub mod WholeLists
 pub mod Shows
+pub mod Nothing
 pub mod Positions
 pub mod Worked

@@ -3,5 +3,6 @@
 pub mod Board
 pub mod Claims
 pub mod Shows
+pub mod Nothing
 pub mod Positions
 pub mod Tables
