@@ -70,6 +70,15 @@ def of_heights(row):
     return "".join(report(1, [i], time=i, height=height) for i, height in enumerate(row, 1)), "answer=0\n" * len(row) + board
 
 
+# what is printed in place of a board without bytes (document 02, A.14)
+QUIET = "transmissions=0\n"
+
+
+def quiet(*numbers):
+    """The answers of a session without a board, and the line after them."""
+    return "".join(f"answer={n}\n" for n in numbers) + QUIET
+
+
 def bad(line):
     return f"refused=11 line={line}\n"
 
@@ -102,16 +111,31 @@ def cases():
     yield "".join(report(i, [10 * i], time=7) for i in range(1, 10)), None
     # a disputed model, settled by a conviction; a model of another spec; a model that is not there
     X, Y = "11" * 32, "22" * 32
-    yield summary(1, 5, 0, X) + report(1, [1], models="5") + summary(2, 5, 0, Y), None
+    yield summary(1, 5, 0, X) + report(1, [1], models="5") + summary(2, 5, 0, Y), quiet(0, 0, 0)
     yield summary(1, 5, 0, X) + report(1, [1], models="5") + summary(2, 5, 0, Y) + convict(2), None
-    yield summary(1, 5, 1, X) + report(1, [1], models="5"), None
-    yield report(1, [1], models="5"), None
+    yield summary(1, 5, 1, X) + report(1, [1], models="5"), quiet(0, 0)
+    yield report(1, [1], models="5"), quiet(0)
     yield summary(1, 5, 0, X) + summary(1, 6, 0, Y) + report(1, [1], models="5,6") + report(2, [1], models="6,5") + report(3, [1], models="5,5"), None
     # answers 2, 3, 4, 9
-    yield report(32, [1]) + report(255, [1]) + summary(32, 0) + convict(32) + convict(31), "answer=2\n" * 4 + "answer=0\n"
-    yield report(1, [2, 1]) + report(1, [1], used=2) + report(1, [1], models="64") + report(1, [1, 1]), "answer=3\n" * 4
-    yield summary(1, 64) + summary(1, 255) + convict(1) + summary(1, 1) + report(1, [1]), "answer=9\nanswer=9\nanswer=0\nanswer=4\nanswer=4\n"
-    yield summary(255, 255) + report(255, [2, 1]), "answer=2\nanswer=2\n"
+    yield report(32, [1]) + report(255, [1]) + summary(32, 0) + convict(32) + convict(31), quiet(2, 2, 2, 2, 0)
+    yield report(1, [2, 1]) + report(1, [1], used=2) + report(1, [1], models="64") + report(1, [1, 1]), quiet(3, 3, 3, 3)
+    yield summary(1, 64) + summary(1, 255) + convict(1) + summary(1, 1) + report(1, [1]), quiet(9, 9, 0, 4, 4)
+    yield summary(255, 255) + report(255, [2, 1]), quiet(2, 2)
+    # no board: no call; only a conviction; a report that is refused; all reports of a convicted engine, before and after; only summaries; a
+    # model that is missing, and the same once it is stated
+    yield "", QUIET
+    yield convict(1), quiet(0)
+    yield report(1, [2, 1]), quiet(3)
+    yield report(32, [1]), quiet(2)
+    yield S + report(1, [1, 2], 2700) + convict(1) + S, quiet(0, 0, 0, 4)
+    yield convict(1) + S + convict(1), quiet(0, 4, 0)
+    yield summary(1, 5) + summary(2, 5) + summary(2, 6, 1, Y), quiet(0, 0, 0)
+    yield report(1, [1], models="5,6") + summary(2, 5), quiet(0, 0)
+    yield (
+        report(1, [1], models="5,6") + summary(2, 5) + summary(2, 6),
+        "answer=0\n" * 3 + "transmission=1 ranked=1 dominated=0 refused=0\n"
+        "role=ranked time=1000 lat=0 lon=0 height=2 weight=1 signers=00000002\n",
+    )
     # heights and widths
     yield from map(of_heights, HEIGHTS)
     yield report(31, range(16), -2147483648, 18446744073709551615, 2147483647, used=0), None
@@ -124,8 +148,10 @@ def cases():
     yield many + summary(4, 0) + summary(3, 63), None
     yield many + summary(4, 0) + convict(2) + summary(4, 0), None
     # each kind of bad line
-    yield "", bad(1)
     yield "\n", bad(1)
+    yield "\n\n", bad(1)
+    yield "\x00", bad(1)
+    yield "transmissions=0\n", bad(1)
     yield S[:-1], bad(12)
     yield S + "op=convict\n", bad(14)
     yield S + "op=convict\nengine=1", bad(14)
@@ -152,7 +178,7 @@ def cases():
     yield report(1, range(16), models="1,2,3,4") + report(1, [0], message="8d" + "00" * 13) + report(1, [5], used=0), None
     # 65,536 bytes are read, one more is not
     yield convict(1) * 3276 + "op=convict\nengi", bad(6554)
-    yield convict(1) * 3274 + convict(10) * 2, "answer=0\n" * 3276
+    yield convict(1) * 3274 + convict(10) * 2, quiet(*[0] * 3276)
     yield convict(1) * 3277, "refused=12\n"
     yield "x" * 65537, "refused=12\n"
 

@@ -1,13 +1,13 @@
 -- A session is one operation and the session of the rest: how much each reading leaves, and the step from one operation to the next.
-use Prim.Native.Nat.{ℕ, zero, suc, _+_, _-_, _≤_}
+use Prim.Native.Nat.{ℕ, zero, suc, _+_, _-_, _≤_, _<_}
 use mathlib.Core.Path.{_≡_, refl, sym, ap, _∙_}
-use mathlib.Core.Bool.{cond, _&&_}
+use mathlib.Core.Bool.{_&&_}
 use mathlib.Core.List.{List, [], _∷_}
 use mathlib.Core.Option.{Option, none, some}
 use native.Mathlib.Omega.{arith}
 use native.Mathlib.Nat.{add-assoc}
-use borrow.Author.Tests.{ltb-true, ne-eqb}
-use lib.Dec.{ltb, eqb}
+use borrow.Author.Tests.{ltb-true}
+use lib.Dec.{ltb}
 use lib.ListN.{length, take, drop, length-drop, drop-of-length-le}
 use Rattle.octets.specs.Order.{isBefore, same}
 use Rattle.ranges.proofs.Bools.{by}
@@ -17,6 +17,7 @@ use Rattle.grammar.specs.Reading.{Reading, bad, good, addLines, _▸_, s
 use Rattle.values.specs.Values as Val
 use Rattle.grammar.specs.Grammar.{dueText, readLine, readEngine, readConviction, readSummary, readPlace, readSighting, readCited, readReport, Kind, isSummary, isConviction, isReport, readKind, readOperands, readOperation, Session, badAt, calls, readOperations, asSession, sessionOf}
 use Rattle.grammar.specs.Cursors.{badLineOf, firstBad, callsOf, callsFrom}
+use Rattle.grammar.specs.Claims.{andThen, ReadsSessions, SessionsRead, NoOtherReading}
 
 -- ---- a good reading of n lines takes n bytes at least
 
@@ -134,10 +135,10 @@ pub nothing-bad : readOperation [] ≡ bad 0
 unfolding readOperation dueText same isBefore ascii
 nothing-bad = refl
 
-none-left : (j : ℕ) → readOperations j [] ≡ bad 0
+pub none-left : (j : ℕ) → readOperations j [] ≡ succeed [] []
 unfolding readOperations
 none-left zero = refl
-none-left (suc j) = rw nothing-bad refl
+none-left (suc j) = refl
 
 empty : (s : List ℕ) → length s ≡ 0 → s ≡ []
 empty [] h = refl
@@ -145,72 +146,96 @@ empty (b ∷ s) h = absurd (omega arith)
 
 -- an operation, then what the rest gives
 abbrev next : (List ℕ → Reading (List Call)) → Call → List ℕ → Reading (List Call)
-next f c rest = cond (eqb (length rest) 0) (succeed (c ∷ []) rest) (f rest ▸ λ cs end. succeed (c ∷ cs) end)
+next f c rest = f rest ▸ λ cs end. succeed (c ∷ cs) end
 
 next-same : (l k j : ℕ) (m : Reading Call) → Shrinks l m → Starts m → l ≤ suc k → l ≤ suc j
     → ((r : List ℕ) → length r ≤ k → length r ≤ j → readOperations k r ≡ readOperations j r) → (m ▸ next (readOperations k)) ≡ (m ▸ next (readOperations j))
 next-same l k j (bad n) h p a b f = refl
 next-same l k j (good n c rest) h p a b f = rw (f rest (omega arith) (omega arith)) refl
 
+one-more : (i b : ℕ) (s : List ℕ) → readOperations (suc i) (b ∷ s) ≡ (readOperation (b ∷ s) ▸ next (readOperations i))
+unfolding readOperations
+one-more i b s = refl
+
 pub operations-same : (k j : ℕ) (s : List ℕ) → length s ≤ k → length s ≤ j → readOperations k s ≡ readOperations j s
 operations-same zero j s h e = let z = empty s (omega arith) in rw z (none-left zero ∙ sym (none-left j))
 operations-same (suc k) zero s h e = let z = empty s (omega arith) in rw z (none-left (suc k) ∙ sym (none-left zero))
-operations-same (suc k) (suc j) s h e = step k s ∙ next-same (length s) k j (readOperation s) (operation-shrinks s) (operation-starts s) h e (operations-same k j) ∙ sym (step j s)
-  where
-    step : (i : ℕ) (s : List ℕ) → readOperations (suc i) s ≡ (readOperation s ▸ next (readOperations i))
-    step i s = unfold readOperations in refl
+operations-same (suc k) (suc j) [] h e = none-left (suc k) ∙ sym (none-left (suc j))
+operations-same (suc k) (suc j) (b ∷ s) h e =
+    one-more k b s
+    ∙ next-same (length (b ∷ s)) k j (readOperation (b ∷ s)) (operation-shrinks (b ∷ s)) (operation-starts (b ∷ s)) h e (operations-same k j)
+    ∙ sym (one-more j b s)
 
 -- ---- one operation of a session
-
-abbrev pub andThen : ℕ → Call → Session → Session
-andThen n c (badAt k) = badAt (n + k)
-andThen n c (calls cs) = calls (c ∷ cs)
 
 session-any : (k : ℕ) (s : List ℕ) → length s ≤ k → sessionOf s ≡ asSession (readOperations k s)
 unfolding sessionOf
 session-any k s h = ap asSession (operations-same (length s) k s (omega arith) h)
 
-pub session-bad : (s : List ℕ) (n : ℕ) → readOperation s ≡ bad n → sessionOf s ≡ badAt (n + 1)
-unfolding readOperations
-session-bad s n e = session-any (suc (length s)) s (omega arith) ∙ rw e refl
+pub session-empty : sessionOf [] ≡ calls []
+session-empty = session-any 0 [] (omega arith) ∙ ap asSession (none-left 0)
+
+pub session-bad : (s : List ℕ) (n : ℕ) → 0 < length s → readOperation s ≡ bad n → sessionOf s ≡ badAt (n + 1)
+session-bad [] n h e = absurd (omega arith)
+session-bad (b ∷ s) n h e = session-any (suc (length s)) (b ∷ s) (omega arith) ∙ ap asSession (one-more (length s) b s) ∙ rw e refl
 
 then-session : (n : ℕ) (c : Call) (m : Reading (List Call)) → asSession (addLines n (m ▸ λ cs end. succeed (c ∷ cs) end)) ≡ andThen n c (asSession m)
 then-session n c (bad j) = ap badAt (add-assoc n j 1)
 then-session n c (good j cs rest) = refl
 
 -- the law of a session: a good operation's call, then the session of the rest
-pub session-step : (s : List ℕ) (n : ℕ) (c : Call) (rest : List ℕ) → readOperation s ≡ good n c rest
-    → sessionOf s ≡ cond (eqb (length rest) 0) (calls (c ∷ [])) (andThen n c (sessionOf rest))
-unfolding readOperations
-session-step s n c rest e =
-    let h : n + length rest ≤ length s = rw e at (operation-shrinks s) in
-    session-any (suc (length s)) s (omega arith) ∙ rw e
-    (by (eqb (length rest) 0) (λ k. rw k refl) (λ k. rw k (then-session n c (readOperations (length s) rest) ∙ ap (andThen n c) (sym (session-any (length s) rest (omega arith))))))
+pub session-step : (s : List ℕ) (n : ℕ) (c : Call) (rest : List ℕ) → readOperation s ≡ good n c rest → sessionOf s ≡ andThen n c (sessionOf rest)
+session-step [] n c rest e = absurd (let z : _≡_ {A = Reading Call} (bad 0) (good n c rest) = sym nothing-bad ∙ e in let q : _≡_ {A = ℕ} 0 1 = cc in omega arith)
+session-step (b ∷ s) n c rest e =
+    let h : n + length rest ≤ length (b ∷ s) = rw e at (operation-shrinks (b ∷ s)) in
+    let p : 1 ≤ n = rw e at (operation-starts (b ∷ s)) in
+    session-any (suc (length s)) (b ∷ s) (omega arith)
+    ∙ ap asSession (one-more (length s) b s)
+    ∙ rw e (then-session n c (readOperations (length s) rest) ∙ ap (andThen n c) (sym (session-any (length s) rest (omega arith))))
+
+pub sessions-read : SessionsRead
+sessions-read = record { empty = session-empty; bad-operation = session-bad; good-operation = session-step }
+
+-- ---- nothing else reads sessions so
+
+module _ (read : List ℕ → Session) (w : ReadsSessions read) where
+  -- by what the first operation was read as, where shorter sessions are read alike
+  first-alike : (s : List ℕ) → 0 < length s → (m : Reading Call) → readOperation s ≡ m
+      → ((n : ℕ) (c : Call) (rest : List ℕ) → readOperation s ≡ good n c rest → read rest ≡ sessionOf rest) → read s ≡ sessionOf s
+  first-alike s h (bad n) e f = w .bad-operation s n h e ∙ sym (session-bad s n h e)
+  first-alike s h (good n c rest) e f = w .good-operation s n c rest e ∙ ap (andThen n c) (f n c rest e) ∙ sym (session-step s n c rest e)
+
+  up-to : (k : ℕ) (s : List ℕ) → length s ≤ k → read s ≡ sessionOf s
+  up-to zero s h = let z = empty s (omega arith) in rw z (w .empty ∙ sym session-empty)
+  up-to (suc k) [] h = w .empty ∙ sym session-empty
+  up-to (suc k) (b ∷ s) h =
+      first-alike (b ∷ s) (omega arith) (readOperation (b ∷ s)) refl λ n c rest e.
+      let l : n + length rest ≤ length (b ∷ s) = rw e at (operation-shrinks (b ∷ s)) in
+      let p : 1 ≤ n = rw e at (operation-starts (b ∷ s)) in
+      up-to k rest (omega arith)
+
+pub no-other-reading : NoOtherReading
+no-other-reading read w s = up-to read w (length s) s (omega arith)
 
 -- ---- the first bad line, from a place on
 
--- what is left to find after so many good lines: nothing where no byte is left
+-- what is left to find after so many good lines
 abbrev pub badFrom : ℕ → List ℕ → Option ℕ
-badFrom n s = cond (eqb (length s) 0) none (Val.map (_+_ n) (firstBad s))
+badFrom n s = Val.map (_+_ n) (firstBad s)
 
-pub bad-start : (s : List ℕ) → (length s ≡ 0 → ⊥) → badFrom 0 s ≡ firstBad s
-bad-start s f = rw (ne-eqb (length s) 0 f) (plus-none (firstBad s))
+pub bad-start : (s : List ℕ) → badFrom 0 s ≡ firstBad s
+bad-start s = plus-none (firstBad s)
   where
     plus-none : (o : Option ℕ) → Val.map (_+_ 0) o ≡ o
     plus-none none = refl
     plus-none (some k) = ap some (let z : 0 + k ≡ k = omega arith in z)
 
-pub bad-empty : (s : List ℕ) → length s ≡ 0 → firstBad s ≡ some 1
-bad-empty s h = rw (empty s h) (ap badLineOf (session-bad [] 0 nothing-bad))
-
 pub bad-end : (n : ℕ) (input : List ℕ) (at : ℕ) → length input ≤ at → badFrom n (drop at input) ≡ none
-bad-end n input at h = rw (drop-of-length-le input h) refl
+bad-end n input at h = rw (drop-of-length-le input h, session-empty) refl
 
 -- a bad operation ends the search
-pub bad-here : (n : ℕ) (s : List ℕ) (k : ℕ) → (length s ≡ 0 → ⊥) → readOperation s ≡ bad k → badFrom n s ≡ some (n + k + 1)
-bad-here n s k f e =
-    let b : firstBad s ≡ some (k + 1) = ap badLineOf (session-bad s k e) in
-    rw (ne-eqb (length s) 0 f, b) (ap some (sym (add-assoc n k 1)))
+pub bad-here : (n : ℕ) (s : List ℕ) (k : ℕ) → 0 < length s → readOperation s ≡ bad k → badFrom n s ≡ some (n + k + 1)
+bad-here n s k h e = rw (session-bad s k h e) (ap some (sym (add-assoc n k 1)))
 
 -- a good one goes on after its lines
 then-bad : (n : ℕ) (c : Call) (m : Session) → badLineOf (andThen n c m) ≡ Val.map (_+_ n) (badLineOf m)
@@ -218,20 +243,14 @@ then-bad n c (badAt j) = refl
 then-bad n c (calls cs) = refl
 
 first-step : (s : List ℕ) (n : ℕ) (c : Call) (rest : List ℕ) → readOperation s ≡ good n c rest → firstBad s ≡ badFrom n rest
-first-step s n c rest e =
-    ap badLineOf (session-step s n c rest e)
-    ∙ by (eqb (length rest) 0) (λ k. rw k refl) (λ k. rw k (then-bad n c (sessionOf rest)))
+first-step s n c rest e = ap badLineOf (session-step s n c rest e) ∙ then-bad n c (sessionOf rest)
 
 from-again : (l n : ℕ) (o : Option ℕ) → Val.map (_+_ l) (Val.map (_+_ n) o) ≡ Val.map (_+_ (l + n)) o
 from-again l n none = refl
 from-again l n (some b) = ap some (sym (add-assoc l n b))
 
 pub bad-next : (l : ℕ) (s : List ℕ) (n : ℕ) (c : Call) (rest : List ℕ) → readOperation s ≡ good n c rest → badFrom l s ≡ badFrom (l + n) rest
-bad-next l s n c rest e =
-    let h : n + length rest ≤ length s = rw e at (operation-shrinks s) in
-    let p : 1 ≤ n = rw e at (operation-starts s) in
-    rw (ne-eqb (length s) 0 (λ z. omega arith), first-step s n c rest e)
-    (by (eqb (length rest) 0) (λ k. rw k refl) (λ k. rw k (from-again l n (firstBad rest))))
+bad-next l s n c rest e = ap (Val.map (_+_ l)) (first-step s n c rest e) ∙ from-again l n (firstBad rest)
 
 -- how far a good operation goes
 pub goes-on : (input : List ℕ) (at next n : ℕ) (c : Call) → readOperation (drop at input) ≡ good n c (drop next input)
@@ -248,24 +267,15 @@ not-bad : (n : ℕ) (o : Option ℕ) → Val.map (_+_ n) o ≡ none → o ≡ no
 not-bad n none e = refl
 not-bad n (some k) e = absurd (let z : _≡_ {A = ℕ} 0 1 = cc in omega arith)
 
--- where nothing is bad after n lines, nothing is bad
-later-good : (n : ℕ) (s : List ℕ) → badFrom n s ≡ none → badFrom 0 s ≡ none
-later-good n s e =
-    by (eqb (length s) 0) (λ z. rw z refl)
-    (λ z. let o = not-bad n (firstBad s) (rw z at e) in rw (z, o) refl)
-
 then-calls : (n : ℕ) (c : Call) (m : Session) → badLineOf m ≡ none → callsOf (andThen n c m) ≡ c ∷ callsOf m
 then-calls n c (badAt k) h = absurd (let z : _≡_ {A = ℕ} 0 1 = cc in omega arith)
 then-calls n c (calls cs) h = refl
 
-pub calls-step : (s : List ℕ) (n : ℕ) (c : Call) (rest : List ℕ) → readOperation s ≡ good n c rest → badFrom 0 s ≡ none
-    → (callsFrom s ≡ c ∷ callsFrom rest) × (badFrom 0 rest ≡ none)
+pub calls-none : callsFrom [] ≡ []
+calls-none = ap callsOf session-empty
+
+pub calls-step : (s : List ℕ) (n : ℕ) (c : Call) (rest : List ℕ) → readOperation s ≡ good n c rest → firstBad s ≡ none
+    → (callsFrom s ≡ c ∷ callsFrom rest) × (firstBad rest ≡ none)
 calls-step s n c rest e g =
-    let h : n + length rest ≤ length s = rw e at (operation-shrinks s) in
-    let p : 1 ≤ n = rw e at (operation-starts s) in
-    let o = later-good (0 + n) rest (sym (bad-next 0 s n c rest e) ∙ g) in (
-      rw (ne-eqb (length s) 0 (λ q. omega arith), session-step s n c rest e)
-          (by (eqb (length rest) 0) (λ k. rw k refl)
-          (λ k. rw k (then-calls n c (sessionOf rest) (not-bad 0 (firstBad rest) (rw k at o))))),
-      o,
-    )
+    let o = not-bad n (firstBad rest) (sym (first-step s n c rest e) ∙ g) in
+    (ap callsOf (session-step s n c rest e) ∙ then-calls n c (sessionOf rest) o, o)

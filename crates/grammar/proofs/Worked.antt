@@ -52,8 +52,9 @@ whole :
 unfolding worked first second sessionOf readOperations readOperation readKind readSummary readReport readPlace readSighting readCited dueText same isBefore indexOf readNumber digitsAfter allDigits decimalValue readSigned readHeight readMessage readNumbers readModels words wordBytes readHex hexBytes readCovariance swapBytes ascii
 whole = refl
 
+-- an empty file has no calls; where there is a byte, a line is due
 bad-lines :
-    (sessionOf [] ≡ badAt 1)
+    (sessionOf [] ≡ calls [])
     × (sessionOf (ascii "\n") ≡ badAt 1)
     × (sessionOf (ascii "op=convict\n") ≡ badAt 2)
     × (sessionOf (ascii "op=convict\nengine=7") ≡ badAt 2)

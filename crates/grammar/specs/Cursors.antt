@@ -4,8 +4,7 @@ use mathlib.Core.Path.{_≡_}
 use mathlib.Core.Bool.{Bool, true, false, cond}
 use mathlib.Core.List.{List, [], _∷_}
 use mathlib.Core.Option.{Option, none, some}
-use lib.Dec.{eqb}
-use lib.ListN.{length, take, drop}
+use lib.ListN.{take, drop}
 use Rattle.octets.specs.Words.{wordBytes}
 use Rattle.record.specs.Layout.{maxTags}
 use Rattle.register.specs.Calls.{Call, report, summary, conviction}
@@ -120,6 +119,5 @@ abbrev pub callsOf : Session → List Call
 callsOf (badAt n) = []
 callsOf (calls cs) = cs
 
--- the calls of the bytes from a place on; none where no byte is left
 abbrev pub callsFrom : List ℕ → List Call
-callsFrom s = cond (eqb (length s) 0) [] (callsOf (sessionOf s))
+callsFrom s = callsOf (sessionOf s)

@@ -1,9 +1,9 @@
--- A session's bytes as calls on a register (document 01, 'The track and the session').
+-- A session's bytes as calls on a register (document 01, 'The track and the session'; document 02, A.14).
 use Prim.Native.Nat.{ℕ, zero, suc, _+_}
 use mathlib.Core.Bool.{cond, _&&_}
 use mathlib.Core.List.{List, [], _∷_, _++_}
 use mathlib.Core.Option.{Option, none, some}
-use lib.Dec.{ltb, eqb}
+use lib.Dec.{ltb}
 use lib.ListN.{length, take, drop}
 use Rattle.octets.specs.Words.{wordBytes}
 use Rattle.octets.specs.Order.{same}
@@ -113,12 +113,14 @@ pub data Session : Type 0 where
   badAt : ℕ → Session
   calls : List Call → Session
 
--- one operation, then the others until no byte is left; no more of them than there are bytes
+-- operations until no byte is left: an empty file has none (document 02, A.14); no more of them than there are bytes
 unfoldable pub readOperations : ℕ → List ℕ → Reading (List Call)
-readOperations zero s = bad 0
-readOperations (suc most) s =
-    readOperation s ▸ λ c rest.
-    cond (eqb (length rest) 0) (succeed (c ∷ []) rest) (readOperations most rest ▸ λ cs end. succeed (c ∷ cs) end)
+readOperations zero s = succeed [] s
+readOperations (suc most) [] = succeed [] []
+readOperations (suc most) (b ∷ s) =
+    readOperation (b ∷ s) ▸ λ c rest.
+    readOperations most rest ▸ λ cs end.
+    succeed (c ∷ cs) end
 
 -- lines are numbered from 1
 abbrev pub asSession : Reading (List Call) → Session

@@ -34,9 +34,6 @@ pub fn first_bad(input: &[u8]) -> FirstBad
     requires { ⌜ length (now input) ≤ 65536 ⌝ }
     ensures { λ r. ⌜ C.badLineIn r ≡ C.firstBad (now (input .entry)) ⌝ }
 {
-    if input.len() == 0 {
-        return FirstBad::Line(1);
-    }
     let mut at: usize = 0;
     let mut lines: usize = 0;
     while at < input.len() {

@@ -5,9 +5,7 @@ use mathlib.Core.Bool.{true}
 use mathlib.Core.List.{List, [], _++_, append-assoc, append-nil}
 use mathlib.Core.Option.{none, some}
 use native.Mathlib.Omega.{arith}
-use lib.Dec.{eqb}
 use lib.ListN.{length, drop, length-drop, drop-of-length-le}
-use Rattle.ranges.proofs.Bools.{by}
 use Rattle.octets.specs.Bytes.{Bytes}
 use Rattle.text.specs.Buffer.{Put}
 use Rattle.text.proofs.Writing.{put-put, put-as, put-none}
@@ -17,9 +15,9 @@ use Rattle.register.specs.Calls.{Call, act, runs}
 use Rattle.register.proofs.Kept.{still-formed}
 use Rattle.grammar.specs.Reading.{bad, good}
 use Rattle.grammar.specs.Grammar.{readOperation}
-use Rattle.grammar.specs.Cursors.{firstBad, callsFrom}
+use Rattle.grammar.specs.Cursors.{badLineOf, firstBad, callsFrom}
 use Rattle.grammar.proofs.Shortest.{goes-far}
-use Rattle.grammar.proofs.Whole.{badFrom, bad-here, goes-on, calls-step}
+use Rattle.grammar.proofs.Whole.{session-bad, goes-on, calls-none, calls-step}
 use Rattle.sessions.specs.Output.{answerLine, answers}
 use Rattle.sessions.specs.Widths.{maxAnswer, answerWidth}
 use Rattle.sessions.proofs.Digits.{answer-digit, answer-width}
@@ -35,7 +33,7 @@ module _ (input m₀ out₀ : List ℕ) where
     pub answered : answers m₀ (callsFrom input) ≡ text ++ answers m (callsFrom (drop at input))
     pub left : runs m₀ (callsFrom input) ≡ runs m (callsFrom (drop at input))
     pub room : end + (length input - at) ≤ length input
-    pub rest : badFrom 0 (drop at input) ≡ none
+    pub rest : firstBad (drop at input) ≡ none
     pub formed : wellFormed m ≡ true
     pub bytes : Bytes m
 
@@ -46,7 +44,7 @@ module _ (input m₀ out₀ : List ℕ) where
     answered = refl;
     left = refl;
     room = omega arith;
-    rest = by (eqb (length input) 0) (λ k. rw k refl) (λ k. rw (k, h) refl);
+    rest = h;
     formed = w;
     bytes = b;
   }
@@ -55,7 +53,7 @@ module _ (input m₀ out₀ : List ℕ) where
   pub never-bad : (m out : List ℕ) (at end : ℕ) → at < length input → Answered m out at end → (n : ℕ) → readOperation (drop at input) ≡ bad n → ⊥
   never-bad m out at end h a n e =
       let d = length-drop at input in
-      let b : some (0 + n + 1) ≡ none = sym (bad-here 0 (drop at input) n (λ z. omega arith) e) ∙ a .rest in
+      let b : some (n + 1) ≡ none = sym (ap badLineOf (session-bad (drop at input) n (omega arith) e)) ∙ a .rest in
       let z : _≡_ {A = ℕ} 0 1 = cc in omega arith
 
   -- an answer is a digit, and its line no longer than its operation
@@ -91,8 +89,8 @@ module _ (input m₀ out₀ : List ℕ) where
 
   pub answered-put : (m out : List ℕ) (at end : ℕ) → length input ≤ at → Answered m out at end → Put out₀ 0 (answers m₀ (callsFrom input)) end out
   unfolding answers
-  answered-put m out at end h s = put-as (sym (s .answered ∙ rw (drop-of-length-le input h) (append-nil (s .text)))) (s .put)
+  answered-put m out at end h s = put-as (sym (s .answered ∙ rw (drop-of-length-le input h, calls-none) (append-nil (s .text)))) (s .put)
 
   pub answered-left : (m out : List ℕ) (at end : ℕ) → length input ≤ at → Answered m out at end → m ≡ runs m₀ (callsFrom input)
   unfolding runs
-  answered-left m out at end h s = sym (s .left ∙ rw (drop-of-length-le input h) refl)
+  answered-left m out at end h s = sym (s .left ∙ rw (drop-of-length-le input h, calls-none) refl)

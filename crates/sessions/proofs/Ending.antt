@@ -2,12 +2,12 @@
 use Prim.Native.Nat.{ℕ, _+_, _-_, _≤_, _<_}
 use mathlib.Core.Path.{_≡_, refl, sym, ap, _∙_}
 use mathlib.Core.Bool.{true}
-use mathlib.Core.List.{List, [], _++_, append-assoc}
-use mathlib.Core.Option.{Option, none, some}
+use mathlib.Core.List.{List, [], _∷_, _++_, append-assoc}
+use mathlib.Core.Option.{none, some}
 use native.Mathlib.Omega.{arith}
 use lib.ListN.{length, take, drop, length-drop}
 use lib.Seq.{sets-eq, drop-drop}
-use borrow.Author.Tests.{le-ltb, lt-ltb, ne-eqb}
+use borrow.Author.Tests.{le-ltb, lt-ltb}
 use Rattle.octets.specs.Bytes.{Bytes}
 use Rattle.octets.proofs.Moves.{tail-back, tail-lent}
 use Rattle.text.specs.Buffer.{Put}
@@ -21,8 +21,7 @@ use Rattle.board.proofs.Fitting.{fits-board}
 use Rattle.octets.specs.Ascii.{ascii}
 use Rattle.grammar.specs.Grammar.{Session, badAt, calls, sessionOf}
 use Rattle.grammar.specs.Cursors.{badLineOf, firstBad, callsOf, callsFrom}
-use Rattle.grammar.proofs.Whole.{bad-empty}
-use Rattle.sessions.specs.Output.{maxInput, answersThenBoard, badLineText, sessionText, outputOf}
+use Rattle.sessions.specs.Output.{maxInput, noTransmissions, printed, answersThenBoard, badLineText, sessionText, outputOf}
 
 pub fresh-formed : wellFormed fresh ≡ true
 unfolding runs noneFull
@@ -48,6 +47,15 @@ board-put m l y at n b₀ w h e =
           ∙ sym (sets-eq t l at (omega (arith, h, f)) ∙ append-assoc (take at l) t (drop (at + length t) l));
     }
 
+-- a board without bytes, then the line; and one with bytes
+pub printed-none : (t : List ℕ) → length t ≡ 0 → t ++ noTransmissions ≡ printed t
+printed-none [] h = refl
+printed-none (b ∷ t) h = absurd (omega arith)
+
+pub printed-some : (t : List ℕ) → 0 < length t → t ≡ printed t
+printed-some [] h = absurd (omega arith)
+printed-some (b ∷ t) h = refl
+
 -- what is printed, by the first bad line
 text-bad : (m : Session) (n : ℕ) → badLineOf m ≡ some n → sessionText m ≡ badLineText n
 text-bad (badAt k) n h = let z : k ≡ n = cc in ap badLineText z
@@ -65,10 +73,6 @@ pub output-bad : (s : List ℕ) (n : ℕ) → length s ≤ maxInput → firstBad
 unfolding outputOf
 output-bad s n h f = rw (le-ltb maxInput (length s) h) (text-bad (sessionOf s) n f)
 
--- where no line is bad there is one
-not-empty : (s : List ℕ) → firstBad s ≡ none → length s ≡ 0 → ⊥
-not-empty s e z = let b : _≡_ {A = Option ℕ} (some 1) none = sym (bad-empty s z) ∙ e in let q : _≡_ {A = ℕ} 0 1 = cc in omega arith
-
 pub output-good : (s : List ℕ) → length s ≤ maxInput → firstBad s ≡ none → outputOf s ≡ answersThenBoard fresh (callsFrom s)
 unfolding outputOf
-output-good s h f = rw (le-ltb maxInput (length s) h, ne-eqb (length s) 0 (not-empty s f)) (text-good (sessionOf s) f)
+output-good s h f = rw (le-ltb maxInput (length s) h) (text-good (sessionOf s) f)

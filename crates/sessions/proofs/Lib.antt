@@ -1,3 +1,4 @@
 pub mod Digits
 pub mod Answering
 pub mod Ending
+pub mod Quiet

@@ -1,5 +1,6 @@
 -- What a session prints (document 01, 'The track and the session' and 'Answers and refusals'): "Prints only `refused=12` if input is over 65,536 bytes, else
--- only `refused=11 line=N` for the first bad line"; else "Each operation prints `answer=` and its register answer, then comes the board".
+-- only `refused=11 line=N` for the first bad line"; else "Each operation prints `answer=` and its register answer, then comes the board". Where the board has
+-- no bytes, a line says so (document 02, A.14).
 use Prim.Native.Nat.{ℕ, _+_}
 use mathlib.Core.Bool.{cond}
 use mathlib.Core.List.{List, [], _∷_, _++_}
@@ -29,9 +30,18 @@ unfoldable pub answers : List ℕ → List Call → List ℕ
 answers m [] = []
 answers m (c ∷ cs) = answerLine (onMemory (act c) m .answer) ++ answers (onMemory (act c) m .left) cs
 
+-- the line in place of a board without bytes
+abbrev pub noTransmissions : List ℕ
+noTransmissions = ascii "transmissions=0\n"
+
+-- a board as it is printed
+abbrev pub printed : List ℕ → List ℕ
+printed [] = noTransmissions
+printed (b ∷ t) = b ∷ t
+
 -- the answers, then the board
 unfoldable pub answersThenBoard : List ℕ → List Call → List ℕ
-answersThenBoard m cs = answers m cs ++ boardIn (decode (runs m cs))
+answersThenBoard m cs = answers m cs ++ printed (boardIn (decode (runs m cs)))
 
 unfoldable pub badLineText : ℕ → List ℕ
 badLineText n = (ascii "refused=11 line=" ++ decimal n) ++ ascii "\n"

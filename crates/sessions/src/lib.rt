@@ -13,8 +13,9 @@ ghost use Rattle.octets.specs.Bytes.{Bytes};
 ghost use Rattle.text.specs.Buffer.{Put};
 ghost use Rattle.drawing.specs.Text.{boardSize};
 ghost use Rattle.held.specs.After.{after};
-ghost use Rattle.register.specs.Memory.{wellFormed, onMemory, fresh};
+ghost use Rattle.register.specs.Memory.{wellFormed, decode, onMemory, fresh};
 ghost use Rattle.register.specs.Calls.{act, runs};
+ghost use Rattle.board.specs.Board.{boardIn};
 ghost use Rattle.grammar.specs.Cursors.{callIn, firstBad, callsFrom};
 ghost use Rattle.sessions.specs.Output as O;
 ghost use Rattle.sessions.specs.Widths.{maxAnswer, answerWidth};
@@ -94,6 +95,20 @@ fn answer_all(input: &[u8], memory: &mut [u8], out: &mut [u8]) -> usize
     end
 }
 
+// The board of a register, and where it has no bytes the line that says so.
+fn put_board(memory: &[u8], out: &mut [u8], at: usize) -> usize
+    requires { ⌜ wellFormed (now memory) ≡ true ⌝ }
+    requires { ⌜ at + boardSize ≤ length (now out) ⌝ }
+    ensures { λ x. ⌜ (x ≤ at + boardSize) × Put (now (out .entry)) at (O.printed (boardIn (decode (now (memory .entry))))) x (now (out .exit)) ⌝ }
+{
+    let n = board::board(memory, &mut out[at..]);
+    let end = at + n as usize;
+    if n == 0 {
+        return text::put_bytes(out, end, b"transmissions=0\n");
+    }
+    end
+}
+
 // Runs a good session from a fresh register: the answers, then the board.
 fn perform_all(input: &[u8], out: &mut [u8]) -> usize
     requires { ⌜ firstBad (now input) ≡ none ⌝ }
@@ -102,8 +117,7 @@ fn perform_all(input: &[u8], out: &mut [u8]) -> usize
 {
     let mut memory = [0u8; REGISTER_SIZE];
     let at = answer_all(input, &mut memory, out);
-    let n = board::board(&memory, &mut out[at..]);
-    at + n as usize
+    put_board(&memory, out, at)
 }
 
 // What a session prints, at the start of `out`; the answer is its length.

@@ -5,6 +5,9 @@ use crate::register::{self, Register};
 
 const MOST: usize = 65_536;
 
+/// What is printed in place of a board without bytes (document 02, A.14).
+const QUIET: &str = "transmissions=0\n";
+
 /// An operation, read and not yet done.
 enum Operation {
     Summary { engine: u8, model: u8, spec: u16, inputs: Vec<u8> },
@@ -111,9 +114,10 @@ fn operation(lines: &mut Lines) -> Result<Operation, Bad> {
     }
 }
 
+/// Document 02, A.14: an empty file has none.
 fn operations(input: &[u8]) -> Result<Vec<Operation>, Bad> {
     let mut lines = Lines { rest: input, due: 1 };
-    let mut all = vec![operation(&mut lines)?];
+    let mut all = Vec::new();
     while !lines.rest.is_empty() {
         all.push(operation(&mut lines)?);
     }
@@ -144,5 +148,6 @@ pub fn session(input: &[u8]) -> String {
     for operation in &all {
         out += &format!("answer={}\n", answer(&mut memory, operation));
     }
-    out + &board::text(&Register::read(&memory).expect("a register"))
+    let board = board::text(&Register::read(&memory).expect("a register"));
+    out + if board.is_empty() { QUIET } else { &board }
 }

@@ -88,14 +88,29 @@ fn the_eight_latest_of_nine() {
 fn a_dispute_settled_by_a_conviction() {
     let all = cases();
     let of = |name: &str| board_of(&all.iter().find(|c| c.0 == name).unwrap().1);
-    assert_eq!(of("disputed"), "");
+    assert_eq!(of("disputed"), "transmissions=0\n");
     assert!(of("settled").contains("role=ranked"));
-    assert_eq!(of("nothing-counts"), "");
+}
+
+/// Document 02, A.14.
+#[test]
+fn a_quiet_aircraft() {
+    let all = cases();
+    let of = |name: &str| session(all.iter().find(|c| c.0 == name).unwrap().1.as_bytes());
+    assert_eq!(of("empty"), "transmissions=0\n");
+    assert_eq!(of("blank"), "refused=11 line=1\n");
+    assert_eq!(of("only-convicted"), "answer=0\ntransmissions=0\n");
+    assert_eq!(of("malformed"), "answer=3\nanswer=3\nanswer=3\ntransmissions=0\n");
+    assert_eq!(of("all-struck"), "answer=0\nanswer=0\nanswer=0\nanswer=4\ntransmissions=0\n");
+    assert_eq!(of("nothing-counts"), "answer=0\ntransmissions=0\n");
+    assert!(all.iter().all(|(_, input)| {
+        let out = session(input.as_bytes());
+        !(out.contains("transmission=") && out.contains("transmissions=0"))
+    }));
 }
 
 #[test]
 fn each_kind_of_bad_line() {
-    bad("", 1);
     bad("\n", 1);
     bad("op=convict\n", 2);
     bad("op=convict\nengine=1", 2);

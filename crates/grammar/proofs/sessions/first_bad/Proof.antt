@@ -9,7 +9,7 @@ use Rattle.grammar.specs.declared.keyed.Cursor.{Cursor}
 use Rattle.grammar.specs.Reading.{bad, good}
 use Rattle.grammar.specs.Grammar.{readOperation}
 use Rattle.grammar.specs.Cursors as C
-use Rattle.grammar.proofs.Whole.{goes-on, badFrom, bad-start, bad-empty, bad-end, bad-here, bad-next}
+use Rattle.grammar.proofs.Whole.{goes-on, badFrom, bad-start, bad-end, bad-here, bad-next}
 use Rattle.grammar.proofs.sessions.first_bad.Statement.{statement}
 use Rattle.grammar.proofs.sessions.first_bad.Tie as tie
 
@@ -19,11 +19,8 @@ Inv-loop input at₀ lines₀ at lines = (length input ≤ 65536) × (lines + (l
 abbrev μ-loop : tie.MeasureT-loop
 μ-loop input at₀ lines₀ at lines = length input - at
 
-returns : tie.Need-returns Inv-loop μ-loop
-returns c = sym (bad-empty (c .before .before .args .input .now) (c .if1 .taken))
-
 loop-holds : tie.Need-loop-holds Inv-loop μ-loop
-loop-holds c = (c .before .before .pre, omega arith, sym (bad-start (c .before .before .args .input .now) (c .if1 .left)))
+loop-holds c = (c .before .pre, omega arith, sym (bad-start (c .before .args .input .now)))
 
 operation-requires : tie.Need-operation-requires Inv-loop μ-loop
 operation-requires c κs = tt
@@ -34,7 +31,7 @@ module _ (p : tie.After-operation Inv-loop μ-loop) where
   at-loop = p .before .before
 
   abbrev i : List ℕ
-  i = at-loop .before .before .before .args .input .now
+  i = at-loop .before .before .args .input .now
 
   abbrev call : Call
   call = let q = p .operation .result in C.callIn (q .request) (q .inputs) (q .«record»)
@@ -90,22 +87,22 @@ module _ (e : tie.After-next2 Inv-loop μ-loop) where
 enum-known-next-2 : tie.Need-enum-known-next-2 Inv-loop μ-loop
 enum-known-next-2 c = search needs
 
-add-t13 : tie.Need-add-t13 Inv-loop μ-loop
-add-t13 c = let v = at-loop (b (c .before)) .loop .inv in omega (arith, few-good (c .before), v .0, v .1)
+add-t11 : tie.Need-add-t11 Inv-loop μ-loop
+add-t11 c = let v = at-loop (b (c .before)) .loop .inv in omega (arith, few-good (c .before), v .0, v .1)
 
-add-t14 : tie.Need-add-t14 Inv-loop μ-loop
-add-t14 c = let v = at-loop (b (c .before)) .loop .inv in omega (arith, few-good (c .before), v .0, v .1)
+add-t12 : tie.Need-add-t12 Inv-loop μ-loop
+add-t12 c = let v = at-loop (b (c .before)) .loop .inv in omega (arith, few-good (c .before), v .0, v .1)
+
+returns : tie.Need-returns Inv-loop μ-loop
+returns c =
+    let e = c .before in
+    let l = at-loop (b e) .loop in
+    sym (l .inv .2 ∙ bad-here (l .lines) (drop (l .at) (i (b e))) (e .next2 .given .0 .0) (let d = length-drop (l .at) (i (b e)) in omega arith) (is-bad e))
 
 returns-2 : tie.Need-returns-2 Inv-loop μ-loop
 returns-2 c =
-    let e = c .before in
-    let l = at-loop (b e) .loop in
-    sym (l .inv .2 ∙ bad-here (l .lines) (drop (l .at) (i (b e))) (e .next2 .given .0 .0) (let d = length-drop (l .at) (i (b e)) in λ z. omega arith) (is-bad e))
-
-returns-3 : tie.Need-returns-3 Inv-loop μ-loop
-returns-3 c =
     let l = c .before in
-    let i = c .before .before .before .before .args .input .now in
+    let i = c .before .before .before .args .input .now in
     sym (l .loop .inv .2 ∙ bad-end (l .loop .lines) i (l .loop .at) (omega arith))
 
 pub first-bad-spec : {M : Type 1} → statement M
@@ -114,7 +111,6 @@ first-bad-spec =
     (tie.spec
     Inv-loop
     μ-loop
-    returns
     loop-holds
     operation-requires
     enum-known-next
@@ -122,7 +118,7 @@ first-bad-spec =
     loop-less
     loop-again
     enum-known-next-2
-    add-t13
-    add-t14
-    returns-2
-    returns-3)
+    add-t11
+    add-t12
+    returns
+    returns-2)
