@@ -140,7 +140,7 @@ unfolding readOperations
 none-left zero = refl
 none-left (suc j) = refl
 
-empty : (s : List ℕ) → length s ≡ 0 → s ≡ []
+pub empty : (s : List ℕ) → length s ≡ 0 → s ≡ []
 empty [] h = refl
 empty (b ∷ s) h = absurd (omega arith)
 

@@ -1,14 +1,14 @@
 -- The line due in a session, from one operation to the next.
 use Prim.Native.Nat.{ℕ, zero, suc, _+_, _≤_}
 use mathlib.Core.Path.{_≡_, refl, sym, _∙_}
-use mathlib.Core.List.{List, [], _∷_}
+use mathlib.Core.List.{List, []}
 use native.Mathlib.Omega.{arith}
 use lib.ListN.{length}
 use Rattle.octets.specs.Ascii.{ascii}
 use Rattle.register.specs.Calls.{Call}
 use Rattle.grammar.specs.Reading.{Reading, bad, good}
 use Rattle.grammar.specs.Grammar.{Kind, readLine, readKind, readOperation}
-use Rattle.grammar.proofs.Whole.{Shrinks, Starts, operation-shrinks, operation-starts, nothing-bad}
+use Rattle.grammar.proofs.Whole.{Shrinks, Starts, operation-shrinks, operation-starts, nothing-bad, empty}
 use Rattle.reasons.specs.Lines.{op}
 use Rattle.reasons.specs.Reasons.{dueAfter, linesBy, dueIn, dueBy, dueAmong, lineDue}
 use Rattle.reasons.specs.Claims.{DueHere, DueLater}
@@ -26,10 +26,6 @@ none-left : (j : ℕ) → dueAmong j [] ≡ op
 unfolding dueAmong
 none-left zero = refl
 none-left (suc j) = rw nothing-bad (due-first [])
-
-empty : (s : List ℕ) → length s ≡ 0 → s ≡ []
-empty [] h = refl
-empty (b ∷ s) h = absurd (omega arith)
 
 pub due-empty : (s : List ℕ) → length s ≡ 0 → lineDue s ≡ op
 due-empty s h = rw (empty s h) (none-left 0)

@@ -1,6 +1,6 @@
 -- What a session prints (document 01, 'The track and the session' and 'Answers and refusals'): "Prints only `refused=12` if input is over 65,536 bytes, else
--- only `refused=11 line=N` for the first bad line"; else "Each operation prints `answer=` and its register answer, then comes the board". Where the board has
--- no bytes, a line says so (document 02, A.14).
+-- only `refused=11 line=N` for the first bad line"; else "Each operation prints `answer=` and its register answer, then comes the board". "A file with
+-- calls whose board has no bytes prints the answers and then the same line" as an empty one, `transmissions=0` (document 02, A.14).
 use Prim.Native.Nat.{ℕ, _+_}
 use mathlib.Core.Bool.{cond}
 use mathlib.Core.List.{List, [], _∷_, _++_}
