@@ -177,9 +177,11 @@ def cases():
     # good lines that look odd
     yield report(1, range(16), models="1,2,3,4") + report(1, [0], message="8d" + "00" * 13) + report(1, [5], used=0), None
     # 65,536 bytes are read, one more is not
-    yield convict(1) * 3276 + "op=convict\nengi", bad(6554)
-    yield convict(1) * 3274 + convict(10) * 2, quiet(*[0] * 3276)
-    yield convict(1) * 3277, "refused=12\n"
+    longest = convict(1) * 3260 + convict(10) * 16
+    assert len(longest) == 65536
+    yield convict(1) * 3276 + "op=convict\nengin", bad(6554)
+    yield longest, quiet(*[0] * 3276)
+    yield longest + "\n", "refused=12\n"
     yield "x" * 65537, "refused=12\n"
 
 
