@@ -1,11 +1,11 @@
 -- A board has no bytes exactly where no record counts.
 use Prim.Native.Nat.{ℕ, _-_, _<_}
-use mathlib.Core.Path.{_≡_, refl, sym, ap, _∙_, subst}
-use mathlib.Core.Bool.{Bool, true, false, cond, not}
-use mathlib.Core.List.{List, [], _∷_, _++_, map, List·Memᴰ, List·Memᴰ·head, List·Memᴰ·not-nil}
+use mathlib.Core.Path.{_≡_, refl}
+use mathlib.Core.Bool.{Bool, true, false, not}
+use mathlib.Core.List.{List, [], _∷_, map, List·Memᴰ, List·Memᴰ·head, List·Memᴰ·not-nil}
 use native.Mathlib.Omega.{arith}
 use lib.Dec.{eqb}
-use lib.ListN.{length, drop, length-drop, length-append}
+use lib.ListN.{length, length-drop}
 use borrow.Author.Tests.{ne-eqb}
 use Rattle.ranges.specs.Lists.{anyOf, filter, sort}
 use Rattle.ranges.proofs.Bools.{by}
@@ -23,15 +23,15 @@ use Rattle.links.proofs.Partition.{partition, map-of}
 use Rattle.links.proofs.Fitness.{all-self-linked}
 use Rattle.transmissions.specs.Picture.{olderThan, picture, maxShown, latestOf}
 use Rattle.drawing.specs.Lines.{header}
-use Rattle.drawing.specs.Text.{textOf, textFrom, boardText}
+use Rattle.drawing.specs.Text.{textOf, textFrom}
 use Rattle.register.specs.Register.{Register}
-use Rattle.register.specs.Memory.{wellFormed, decode}
+use Rattle.register.specs.Memory.{decode}
 use Rattle.register.proofs.Opened.{opened}
 use Rattle.register.proofs.Valid.{Valid}
 use Rattle.register.proofs.Kept.{decode-valid}
 use Rattle.board.specs.Board.{boardOf, boardIn}
 use Rattle.board.specs.Nothing.{anyCounts, NoBytesExactlyWhen}
-use Rattle.board.proofs.Pictured.{Fixed, valid-fixed}
+use Rattle.board.proofs.Pictured.{valid-fixed}
 
 -- ---- nothing counts
 

@@ -113,7 +113,7 @@ pub data Session : Type 0 where
   badAt : ℕ → Session
   calls : List Call → Session
 
--- operations until no byte is left: an empty file has none (document 02, A.14); no more of them than there are bytes
+-- operations until no byte is left: an empty file has none (document 02, A.14). At most so many are read; `Claims` says what a session is without this bound.
 unfoldable pub readOperations : ℕ → List ℕ → Reading (List Call)
 readOperations zero s = succeed [] s
 readOperations (suc most) [] = succeed [] []
@@ -127,5 +127,6 @@ abbrev pub asSession : Reading (List Call) → Session
 asSession (bad n) = badAt (n + 1)
 asSession (good n cs rest) = calls cs
 
+-- there are no more operations than bytes
 unfoldable pub sessionOf : List ℕ → Session
 sessionOf s = asSession (readOperations (length s) s)

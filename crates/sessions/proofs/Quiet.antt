@@ -2,7 +2,6 @@
 use Prim.Native.Nat.{ℕ, _≤_, _<_}
 use mathlib.Core.Path.{_≡_, refl, sym, ap, _∙_}
 use mathlib.Core.Logic.{⊎-elim}
-use mathlib.Core.Bool.{true}
 use mathlib.Core.List.{List, [], _∷_, _++_}
 use native.Mathlib.Omega.{arith}
 use lib.Dec.{ltb}
@@ -11,7 +10,7 @@ use borrow.Author.Tests.{le-ltb}
 use Rattle.ranges.specs.Lists.{anyOf}
 use Rattle.ranges.proofs.Bools.{by}
 use Rattle.octets.specs.Ascii.{ascii}
-use Rattle.register.specs.Memory.{wellFormed, decode, fresh}
+use Rattle.register.specs.Memory.{decode, fresh}
 use Rattle.register.specs.Calls.{Call, runs, noneFull}
 use Rattle.register.proofs.Opened.{opened}
 use Rattle.register.proofs.Kept.{decode-valid}
