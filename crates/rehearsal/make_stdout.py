@@ -3,6 +3,7 @@
 
 The expected output is the peer's, a second writing of document 01 in plain Rust (oracle/peer/build makes target/oracle/peer), and what is
 written here by hand beside some cases is compared with it. Nothing of ours is asked."""
+import hashlib
 import os
 import subprocess
 import sys
@@ -70,6 +71,77 @@ def of_heights(row):
     return "".join(report(1, [i], time=i, height=height) for i, height in enumerate(row, 1)), "answer=0\n" * len(row) + board
 
 
+# two times, and whether fixes of these times with a common tag are one transmission (document 02, A.5)
+SECOND = 10**9
+HOUR = 3600 * SECOND
+LAST = 2**64 - 1
+TIMES = (
+    (0, 1999999999, True), (0, 2000000000, True), (0, 2000000001, False),
+    (LAST - 2000000000, LAST, True), (LAST - 2000000001, LAST, False), (0, LAST, False), (1000, 1000 + HOUR, False),
+)
+
+
+def fix_line(role, time, weight, signers, lat=0):
+    return f"role={role} time={time} lat={lat} lon=0 height=2 weight={weight} signers={signers:08x}\n"
+
+
+def board(*transmissions):
+    """The lines of transmissions, each a list of lines whose roles are counted."""
+    out = ""
+    for number, lines in enumerate(transmissions, 1):
+        counts = (sum(line.startswith(f"role={role} ") for line in lines) for role in ("ranked", "dominated", "refused"))
+        out += "transmission=%d ranked=%d dominated=%d refused=%d\n" % (number, *counts) + "".join(lines)
+    return out
+
+
+def identity(tags):
+    """The identity of a fix of these tags that cites no model: dominated fixes are listed by it."""
+    heard = bytes.fromhex("07" + "8d000000000000") + bytes([len(tags)]) + b"".join(tag.to_bytes(8, "little") for tag in tags)
+    inputs = hashlib.blake2s(b"tally pair model cited inputs\0").digest()
+    return hashlib.blake2s(b"tally merge input set\0" + hashlib.blake2s(heard).digest() + inputs).digest()
+
+
+def of_times(early, late, one):
+    """A fix of one tag and one of two at the same place, the small one first or the large one, reported in both orders."""
+    for small, large in ((early, late), (late, early)):
+        reports = report(1, [1], time=small), report(2, [1, 2], time=large)
+        if one:
+            drawn = board([fix_line("ranked", large, 2, 4), fix_line("dominated", small, 1, 2)])
+        else:
+            alone = [(small, [fix_line("ranked", small, 1, 2)]), (large, [fix_line("ranked", large, 2, 4)])]
+            drawn = board(*(lines for _, lines in sorted(alone)))
+        yield "".join(reports), "answer=0\n" * 2 + drawn
+        yield "".join(reversed(reports)), "answer=0\n" * 2 + drawn
+
+
+def of_a_chain():
+    """Fixes at 0, 2 and 4 seconds, each linked to the next; then without the one between, whether the ends have a common tag or not."""
+    first, second, third = report(1, [1], time=0), report(2, [1, 2], time=2 * SECOND), report(3, [2], time=4 * SECOND)
+    ends = sorted([(identity([1]), fix_line("dominated", 0, 1, 2)), (identity([2]), fix_line("dominated", 4 * SECOND, 1, 8))])
+    joined = board([fix_line("ranked", 2 * SECOND, 2, 4)] + [line for _, line in ends])
+    for order in (first + second + third, third + first + second, second + third + first):
+        yield order, "answer=0\n" * 3 + joined
+    apart = board([fix_line("ranked", 0, 1, 2)], [fix_line("ranked", 4 * SECOND, 1, 8)])
+    yield first + third, "answer=0\n" * 2 + apart
+    yield third + first, "answer=0\n" * 2 + apart
+    far = report(3, [1, 3], time=4 * SECOND)
+    yield far + first, "answer=0\n" * 2 + board([fix_line("ranked", 0, 1, 2)], [fix_line("ranked", 4 * SECOND, 2, 8)])
+    ranked = sorted([(identity([1, 2]), fix_line("ranked", 2 * SECOND, 2, 4)), (identity([1, 3]), fix_line("ranked", 4 * SECOND, 2, 8))])
+    yield far + second + first, "answer=0\n" * 3 + board([line for _, line in ranked] + [fix_line("dominated", 0, 1, 2)])
+
+
+def of_one_identity(early):
+    """Two records of one identity an hour apart, the first at this time, and a larger fix at time 2. The record whose bytes come first
+    represents both: the earlier one if its lowest byte is 0, as that of an hour is, and else the later one."""
+    reports = report(1, [1], time=early), report(2, [1], time=HOUR), report(3, [1, 2], time=2)
+    if early == 0:
+        drawn = board([fix_line("ranked", 2, 2, 8), fix_line("dominated", 0, 1, 6)])
+    else:
+        drawn = board([fix_line("ranked", 2, 2, 8)], [fix_line("ranked", HOUR, 1, 6)])
+    yield "".join(reports), "answer=0\n" * 3 + drawn
+    yield "".join(reversed(reports)), "answer=0\n" * 3 + drawn
+
+
 # what is printed in place of a board without bytes (document 02, A.14)
 QUIET = "transmissions=0\n"
 
@@ -135,6 +207,17 @@ def cases():
         report(1, [1], models="5,6") + summary(2, 5) + summary(2, 6),
         "answer=0\n" * 3 + "transmission=1 ranked=1 dominated=0 refused=0\n"
         "role=ranked time=1000 lat=0 lon=0 height=2 weight=1 signers=00000002\n",
+    )
+    # times around the limit of a link, a chain that is longer than one, and one identity with two times
+    for row in TIMES:
+        yield from of_times(*row)
+    yield from of_a_chain()
+    yield from of_one_identity(0)
+    yield from of_one_identity(1)
+    # a subset an hour away, which would disagree, refuses nobody and is not dominated
+    yield (
+        S + report(3, [1, 2, 3], 5400, time=1000 + HOUR),
+        "answer=0\n" * 2 + board([fix_line("ranked", 1000, 1, 2)], [fix_line("ranked", 1000 + HOUR, 3, 8, 5400)]),
     )
     # heights and widths
     yield from map(of_heights, HEIGHTS)

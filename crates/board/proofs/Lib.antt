@@ -6,6 +6,7 @@ pub mod Pictured
 pub mod Fitting
 pub mod WholeLists
 pub mod Shows
+pub mod Bursts
 pub mod Nothing
 pub mod Positions
 pub mod Worked

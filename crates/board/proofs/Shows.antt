@@ -189,16 +189,19 @@ module _ (fs : List Fix) (d : Apart fs) (w : Partition fs) where
 
 -- ---- after a list of calls
 
+pub fixed-over : (cs : List Call) → noneFull fresh cs ≡ true → Fixed (summariesHeld (remaining cs)) (recordsHeld (remaining cs))
+fixed-over cs f =
+    let h = holds-in-order cs f in
+    subst (λ (z : List (List ℕ)). Fixed z (recordsHeld (remaining cs))) (h .0)
+    (subst (λ (z : List (List ℕ)). Fixed (decode (runs fresh cs) .summaries) z) (h .1) (valid-fixed (decode (runs fresh cs)) (valid cs f)))
+
 pub what-is-shown : WhatIsShown
 unfolding picture
 what-is-shown cs f =
-    let h = holds-in-order cs f in
     let ss = summariesHeld (remaining cs) in
     let ps = recordsHeld (remaining cs) in
     let fs = fixesOf ss ps in
-    let x : Fixed ss ps =
-    subst (λ (z : List (List ℕ)). Fixed z ps) (h .0)
-    (subst (λ (z : List (List ℕ)). Fixed (decode (runs fresh cs) .summaries) z) (h .1) (valid-fixed (decode (runs fresh cs)) (valid cs f))) in
+    let x = fixed-over cs f in
     let d : Apart fs = all-apart ss fs (x .fit) (x .wides) (x .gathered) in
     let w : Partition fs = partition fs (x .gathered .few) (all-self-linked ss fs (x .fit)) d in
     record {

@@ -1,8 +1,9 @@
--- The board of a register (Board), what is claimed of whole lists of calls (Claims) and of what is shown (Shows), the positions to check (Positions); and the board as
--- the code draws it (Tables).
+-- The board of a register (Board), what is claimed of whole lists of calls (Claims), of what is shown (Shows) and of bursts with a pause between them (Bursts), when
+-- it has no bytes (Nothing), the positions to check (Positions); and the board as the code draws it (Tables).
 pub mod Board
 pub mod Claims
 pub mod Shows
+pub mod Bursts
 pub mod Nothing
 pub mod Positions
 pub mod Tables

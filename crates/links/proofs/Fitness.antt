@@ -1,16 +1,16 @@
 -- The table of a board's fixes is fit for the walk over linked fixes, and two fixes link there as they do in the picture.
-use Prim.Native.Nat.{ℕ, zero, suc, _*_, _≤_, _<_}
+use Prim.Native.Nat.{ℕ, zero, suc, _-_, _*_, _≤_, _<_}
 use mathlib.Core.Path.{_≡_, refl, ap₂}
 use mathlib.Core.Bool.{true}
 use mathlib.Core.List.{List, map}
 use native.Mathlib.Omega.{arith}
 use lib.ListN.{length}
-use borrow.Author.Tests.{eq-eqb}
+use borrow.Author.Tests.{eq-eqb, le-ltb, le-leb}
 use Rattle.octets.specs.Order.{same}
 use Rattle.octets.proofs.Comparison.{same-refl}
 use Rattle.places.specs.Places.{allPlaces, tableOf}
 use Rattle.places.proofs.Tables.{wide}
-use Rattle.record.specs.Fields.{message, tags, tagCount, tagsFrom, tagAt}
+use Rattle.record.specs.Fields.{time, message, tags, tagCount, tagsFrom, tagAt}
 use Rattle.record.specs.Formed.{wellFormed}
 use Rattle.record.specs.Relations.{sharesTag, anyIn, member, tied}
 use Rattle.record.proofs.Parts.{formed}
@@ -23,7 +23,7 @@ use Rattle.fixes.proofs.Soundness.{gathered-long, record-formed, representative
 use Rattle.shown.specs.Items.{at}
 use Rattle.fixes.proofs.Encoded.{bytesOf, AllFit, table, record-is}
 use Rattle.links.specs.Links.{linkAt, Sound}
-use Rattle.links.specs.Transmissions.{recordsLink, linked}
+use Rattle.links.specs.Transmissions.{linkSpan, nearInTime, recordsLink, linked}
 use Rattle.links.proofs.Reaching.{SelfLinked}
 
 -- ---- a fix links to itself
@@ -33,9 +33,16 @@ unfolding anyIn member tagsFrom
 some-tag r zero p = absurd (omega arith)
 some-tag r (suc n) p = rw (eq-eqb (tagAt r 0) (tagAt r 0) refl) refl
 
+self-tied : (r : List ℕ) → wellFormed r ≡ true → tied r r ≡ true
+unfolding tied sharesTag
+self-tied r h = and-both (same (message r) (message r)) (anyIn (tags r) (tags r)) (same-refl (message r)) (some-tag r (tagCount r) (formed r h .some))
+
+self-near : (t : ℕ) → nearInTime t t ≡ true
+self-near t = rw (le-ltb t t (omega arith)) (le-leb (t - t) linkSpan (omega arith))
+
 pub self-linked : (r : List ℕ) → wellFormed r ≡ true → recordsLink r r ≡ true
-unfolding recordsLink tied sharesTag
-self-linked r h = and-both (same (message r) (message r)) (anyIn (tags r) (tags r)) (same-refl (message r)) (some-tag r (tagCount r) (formed r h .some))
+unfolding recordsLink
+self-linked r h = and-both (tied r r) (nearInTime (time r) (time r)) (self-tied r h) (self-near (time r))
 
 pub all-self-linked : (ss : List (List ℕ)) (fs : List Fix) → AllFit ss fs → SelfLinked fs
 all-self-linked ss fs w f m = self-linked (f .recordBytes) (w f m .form)

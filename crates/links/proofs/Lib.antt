@@ -9,3 +9,5 @@ pub mod Reaching
 pub mod Indexed
 pub mod Partition
 pub mod Fitness
+pub mod Limits
+pub mod Bursts

@@ -1,6 +1,9 @@
--- The fixes of document 01's sixth position to check: of tags {1}, {2} and {1,2}, and one of tag {3}.
-use mathlib.Core.List.{List, [], _∷_}
+-- The fixes of document 01's sixth position to check, all of one time: of tags {1}, {2} and {1,2}, and one of tag {3}. And fixes of any time.
+use mathlib.Core.List.{List, [], _∷_, _++_}
 use Prim.Native.Nat.{ℕ}
+use lib.ListN.{drop}
+use Rattle.octets.specs.Words.{wordBytes}
+use Rattle.record.specs.Layout.{latAt}
 use Rattle.record.specs.Worked.{recordWith}
 use Rattle.shown.specs.Fix.{Fix}
 
@@ -19,3 +22,7 @@ both = tagged 3 (1 ∷ 2 ∷ [])
 
 abbrev pub other : Fix
 other = tagged 4 (3 ∷ [])
+
+-- a fix of these tags that was sent at time t: its record's first field is the time, up to where the latitude begins
+abbrev pub sent : ℕ → List ℕ → ℕ → Fix
+sent identity tags t = record { identity = identity ∷ []; recordBytes = wordBytes 8 t ++ drop latAt (recordWith tags 0); inputs = []; signers = 1 }

@@ -1,18 +1,32 @@
 -- Transmissions (document 01, 'The board'): "Two representatives link when message and at least one tag are common; a transmission is everything linked
--- through any chain."
-use Prim.Native.Nat.{ℕ, zero, suc}
+-- through any chain." Document 02, A.5: they "now link only if, besides message and tag, their transmit times differ by at most 2,000,000,000 nanoseconds."
+use Prim.Native.Nat.{ℕ, zero, suc, _-_}
 use mathlib.Core.Path.{_≡_}
-use mathlib.Core.Bool.{Bool, true, false}
+use mathlib.Core.Bool.{Bool, true, false, cond, _&&_}
 use mathlib.Core.List.{List, [], _∷_, List·Memᴰ, map}
+use lib.Dec.{ltb, leb}
 use lib.ListN.{length}
 use Rattle.octets.specs.Order.{same}
+use Rattle.record.specs.Fields.{time}
 use Rattle.record.specs.Relations.{tied}
 use Rattle.ranges.specs.Lists.{anyOf, filter}
 use Rattle.shown.specs.Fix.{Fix}
 
--- "message and at least one tag are common"
+-- how much the times of two that link may differ, in nanoseconds
+abbrev pub linkSpan : ℕ
+linkSpan = 2_000_000_000
+
+-- by how much two times differ: the larger less the smaller
+abbrev pub difference : ℕ → ℕ → ℕ
+difference s t = cond (ltb s t) (t - s) (s - t)
+
+-- "differ by at most 2,000,000,000 nanoseconds"
+abbrev pub nearInTime : ℕ → ℕ → Bool
+nearInTime s t = leb (difference s t) linkSpan
+
+-- message and at least one tag are common, and the times are near
 unfoldable pub recordsLink : List ℕ → List ℕ → Bool
-recordsLink a b = tied a b
+recordsLink a b = tied a b && nearInTime (time a) (time b)
 
 abbrev pub linked : Fix → Fix → Bool
 linked f g = recordsLink (f .recordBytes) (g .recordBytes)

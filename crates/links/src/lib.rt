@@ -14,17 +14,34 @@ ghost use lib.ListN.{length};
 ghost use Rattle.record.specs.Formed.{wellFormed};
 ghost use Rattle.ranges.specs.Tables.{Cached, marked};
 ghost use Rattle.fixes.specs.Layout.{maxFixes, fixSize, fixRecord};
-ghost use Rattle.links.specs.Transmissions.{recordsLink};
+ghost use Rattle.links.specs.Transmissions.{nearInTime, recordsLink};
 ghost use Rattle.links.specs.Links as L;
 ghost use Rattle.links.specs.Walk as W;
 ghost use Rattle.links.specs.Labels.{relabel};
 
-// Whether two records link: message and at least one tag are common.
+// How much the times of two that link may differ, in nanoseconds.
+const LINK_SPAN: u64 = 2_000_000_000;
+
+// Whether two times differ by at most that much.
+fn near_in_time(s: u64, t: u64) -> bool
+    ensures { λ r. ⌜ r ≡ nearInTime s t ⌝ }
+{
+    if s < t {
+        return t - s <= LINK_SPAN;
+    }
+    s - t <= LINK_SPAN
+}
+
+// Whether two records link: message and at least one tag are common, and the times are near. The times are asked first, since
+// two numbers are compared sooner than messages and tags.
 fn records_link(a: &[u8], b: &[u8]) -> bool
     requires { ⌜ wellFormed (now a) ≡ true ⌝ }
     requires { ⌜ wellFormed (now b) ≡ true ⌝ }
     ensures { λ r. ⌜ r ≡ recordsLink (now (a .entry)) (now (b .entry)) ⌝ }
 {
+    if !near_in_time(record::fields::time(a), record::fields::time(b)) {
+        return false;
+    }
     record::relations::tied(a, b)
 }
 

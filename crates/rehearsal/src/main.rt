@@ -58,7 +58,7 @@ fn announce(number: u64) {
 
 fn main() {
     let mut number: u64 = 1;
-    while number <= 112 {
+    while number <= 152 {
         announce(number);
         rehearse(next_length());
         number += 1;

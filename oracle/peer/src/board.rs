@@ -7,6 +7,8 @@ use oracle::{Record, blake2s256};
 
 pub const ROOM: usize = 16_384;
 const SHOWN: usize = 8;
+/// How much the times of two that link may differ, in nanoseconds (document 02, A.5).
+pub const LINK_SPAN: u64 = 2_000_000_000;
 
 /// A representative: the first record, by bytes, of its identity.
 struct Fix {
@@ -15,6 +17,8 @@ struct Fix {
     inputs: [u8; 32],
     identity: [u8; 32],
     signers: u32,
+    /// Of all records of its identity.
+    times: Vec<u64>,
 }
 
 /// A model's spec and inputs, if it has a summary and all its summaries have the same.
@@ -60,16 +64,24 @@ fn representatives(register: &Register) -> Vec<Fix> {
         };
         let identity = identity(&record, &inputs);
         match fixes.iter_mut().find(|fix| fix.identity == identity) {
-            Some(fix) => fix.signers |= signers,
-            None => fixes.push(Fix { bytes: *bytes, record, inputs, identity, signers: *signers }),
+            Some(fix) => {
+                fix.signers |= signers;
+                fix.times.push(record.time);
+            }
+            None => fixes.push(Fix { bytes: *bytes, times: vec![record.time], record, inputs, identity, signers: *signers }),
         }
     }
     fixes.sort_by_key(|fix| fix.identity);
     fixes
 }
 
-fn linked(a: &Record, b: &Record) -> bool {
+/// Message and at least one tag are common.
+fn tied(a: &Record, b: &Record) -> bool {
     a.message == b.message && a.tags.iter().any(|tag| b.tags.contains(tag))
+}
+
+fn linked(a: &Record, b: &Record) -> bool {
+    tied(a, b) && a.time.abs_diff(b.time) <= LINK_SPAN
 }
 
 /// Everything linked through any chain, each transmission ascending by identity.
@@ -126,6 +138,30 @@ fn latest(fixes: &[Fix]) -> Vec<(Vec<usize>, Decision)> {
 pub fn heights(register: &Register) -> Vec<i32> {
     let fixes = representatives(register);
     latest(&fixes).iter().flat_map(|(one, _)| one).filter_map(|&at| fixes[at].record.height).collect()
+}
+
+/// How times lie in a well-formed register, in nanoseconds.
+pub struct Spans {
+    /// Between two fixes with a common message and tag.
+    pub tied: Vec<u64>,
+    /// From the first to the last of a transmission.
+    pub transmissions: Vec<u64>,
+    /// From the first to the last of the records of one identity.
+    pub identities: Vec<u64>,
+}
+
+fn span(times: impl Iterator<Item = u64> + Clone) -> u64 {
+    times.clone().max().unwrap_or(0) - times.min().unwrap_or(0)
+}
+
+pub fn spans(register: &Register) -> Spans {
+    let fixes = representatives(register);
+    let pairs = fixes.iter().enumerate().flat_map(|(i, a)| fixes[..i].iter().map(move |b| (&a.record, &b.record)));
+    Spans {
+        tied: pairs.filter(|(a, b)| tied(a, b)).map(|(a, b)| a.time.abs_diff(b.time)).collect(),
+        transmissions: transmissions(&fixes).iter().map(|one| span(one.iter().map(|&i| fixes[i].record.time))).collect(),
+        identities: fixes.iter().map(|fix| span(fix.times.iter().copied())).collect(),
+    }
 }
 
 /// The board of a well-formed register.

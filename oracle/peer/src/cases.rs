@@ -104,6 +104,20 @@ pub fn halves() -> String {
     (0..).zip(heights).map(one).collect()
 }
 
+/// A small fix at one time, and one with a further tag, at the same place, at another.
+pub fn apart(small: u64, large: u64) -> [Report; 2] {
+    [Report { time: small, ..Report::new(1, &[1], 0) }, Report { time: large, ..Report::new(2, &[1, 2], 0) }]
+}
+
+/// An hour, in nanoseconds.
+pub const HOUR: u64 = 3_600_000_000_000;
+
+/// Fixes at 0, 2 and 4 seconds, the second with a tag of each other.
+pub fn chain() -> [Report; 3] {
+    let at = |tags: &[u64], seconds: u64| Report { time: seconds * 1_000_000_000, ..Report::new(1, tags, 0) };
+    [at(&[1], 0), at(&[1, 2], 2), at(&[2], 4)]
+}
+
 /// 97 records, the last one too many; then a held one by another engine.
 pub fn full() -> String {
     let one = |i: u64| Report { time: i, cov: ZERO.to_string(), ..Report::new(1, &[1], 0) };
@@ -152,6 +166,8 @@ pub fn cases() -> Vec<(&'static str, String)> {
         ("tied-to-two", texts(&[Report::new(1, &[1], 0), Report::new(1, &[2], 0), Report::new(1, &[1, 2], 0)])),
         ("nine", nine()),
         ("halves", halves()),
+        ("restarted", texts(&apart(0, HOUR))),
+        ("chain", texts(&chain())),
         ("disputed", summary(1, 5, 0, 1) + &cites(1).text() + &summary(2, 5, 0, 2)),
         ("settled", summary(1, 5, 0, 1) + &cites(1).text() + &summary(2, 5, 0, 2) + &convict(2)),
         ("full", full()),

@@ -74,6 +74,47 @@ fn a_fix_tied_to_two_transmissions_joins_them() {
     assert!(board_of(&apart).contains("transmission=2 "));
 }
 
+/// Document 02, A.5.
+#[test]
+fn times_to_the_nanosecond() {
+    let board = |small: u64, large: u64| board_of(&apart(small, large).map(|r| r.text()).concat());
+    for (one, other, joined) in [
+        (0, 1_999_999_999, true),
+        (0, 2_000_000_000, true),
+        (0, 2_000_000_001, false),
+        (u64::MAX - 2_000_000_000, u64::MAX, true),
+        (u64::MAX - 2_000_000_001, u64::MAX, false),
+        (0, u64::MAX, false),
+        (0, HOUR, false),
+    ] {
+        let first = if joined { "transmission=1 ranked=1 dominated=1 refused=0\n" } else { "transmission=1 ranked=1 dominated=0 refused=0\n" };
+        assert!(board(one, other).starts_with(first) && board(other, one).starts_with(first), "{one} {other}");
+        assert_eq!(board(one, other).contains("transmission=2 "), !joined, "{one} {other}");
+    }
+}
+
+#[test]
+fn a_chain_is_longer_than_a_link() {
+    let [start, middle, end] = chain().map(|r| r.text());
+    for order in [[&start, &middle, &end], [&end, &start, &middle], [&middle, &end, &start]] {
+        let board = board_of(&order.map(String::as_str).concat());
+        assert!(board.starts_with("transmission=1 ranked=1 dominated=2 refused=0\n") && !board.contains("transmission=2 "), "{board}");
+    }
+    assert!(board_of(&(start + &end)).contains("transmission=2 "));
+}
+
+/// Records of one identity have one representative, whatever their times: the first by bytes, lowest byte of the time first.
+#[test]
+fn one_identity_with_two_times() {
+    let at = |engine: u32, time: u64| Report { time, ..Report::new(engine, &[1], 0) };
+    let large = Report { time: 2, ..Report::new(3, &[1, 2], 0) }.text();
+    let board = |early: u64| board_of(&(at(1, early).text() + &at(2, HOUR).text() + &large));
+    // 0 comes before an hour, whose lowest byte is 0 too; 1 does not.
+    assert!(board(0).starts_with("transmission=1 ranked=1 dominated=1 refused=0\nrole=ranked time=2 "));
+    assert!(board(1).contains("transmission=2 ranked=1 dominated=0 refused=0\nrole=ranked time=3600000000000 "));
+    assert!(board(0).contains("signers=00000006") && board(1).contains("signers=00000006"));
+}
+
 #[test]
 fn the_eight_latest_of_nine() {
     let board = board_of(&nine());

@@ -11,10 +11,10 @@ use Rattle.rehearsal.proofs.next_length.Reads as next-length-reads
 use Rattle.rehearsal.proofs.rehearse.Reads as rehearse-reads
 
 abbrev Inv-loop : tie.InvT-loop
-Inv-loop number₀ number = number ≤ 113
+Inv-loop number₀ number = number ≤ 153
 
 abbrev μ-loop : tie.MeasureT-loop
-μ-loop number₀ number = 113 - number
+μ-loop number₀ number = 153 - number
 
 loop-holds : tie.Need-loop-holds Inv-loop μ-loop
 loop-holds c = omega arith
