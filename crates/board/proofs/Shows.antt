@@ -1,11 +1,10 @@
 -- What a register shows after a list of calls: each fix is of one transmission and has one line there, and the oldest transmission comes first.
-use Prim.Native.Nat.{ℕ, zero, suc, _≤_, _<_}
+use Prim.Native.Nat.{ℕ, suc}
 use mathlib.Core.Path.{_≡_, refl, sym, ap, ap₂, _∙_, subst}
 use mathlib.Core.Bool.{Bool, true, false, not, false≢true}
 use mathlib.Core.Logic.{_⊎_, inl, inr}
-use mathlib.Core.List.{List, [], _∷_, map, List·Memᴰ, List·Memᴰ·head, List·Memᴰ·tail, List·Memᴰ·not-nil, List·Memᴰ·cases-cons, Memᴰ·append-left, List·Permᴰ, Permᴰ·symm}
+use mathlib.Core.List.{List, [], _∷_, map, List·Memᴰ, List·Memᴰ·head, List·Memᴰ·tail, List·Memᴰ·not-nil, Memᴰ·append-left, List·Permᴰ, Permᴰ·symm}
 use native.Mathlib.Omega.{arith}
-use lib.ListN.{length, getD}
 use Rattle.octets.specs.Order.{same}
 use Rattle.octets.proofs.Comparison.{same-eq}
 use Rattle.record.specs.Fields.{tagCount}
@@ -17,7 +16,6 @@ use Rattle.ranges.proofs.Orders.{perm-mem}
 use Rattle.ranges.proofs.Sorting as S
 use Rattle.ranges.proofs.Sorting.{sort-ascends}
 use Rattle.ranges.proofs.Bools.{by, or, and-left}
-use Rattle.rule.specs.Standing.{decide}
 use Rattle.rule.specs.Outcome.{Outcome}
 use Rattle.decision.specs.Claims.{listedIn}
 use Rattle.decision.proofs.Laws.{Sound, listed-once, some-ranked}
@@ -39,13 +37,11 @@ use Rattle.shown.specs.Claims.{fixRelations}
 use Rattle.shown.proofs.Plainly.{shown-is-decided}
 use Rattle.shown.proofs.Ages.{older-total}
 use Rattle.transmissions.proofs.Ages.{olderThan-trans}
-use Rattle.register.specs.Register.{Register}
 use Rattle.register.specs.Memory.{decode, fresh}
 use Rattle.register.specs.Calls.{Call, runs, noneFull, remaining}
 use Rattle.register.specs.Remains.{summariesHeld, recordsHeld}
-use Rattle.register.proofs.Valid.{Valid}
 use Rattle.register.proofs.Remaining.{holds-in-order}
-use Rattle.board.specs.Shows.{Shows, WhatIsShown}
+use Rattle.board.specs.Shows.{WhatIsShown}
 use Rattle.board.proofs.Pictured.{Fixed, valid-fixed}
 use Rattle.board.proofs.WholeLists.{valid}
 

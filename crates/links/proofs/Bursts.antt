@@ -1,20 +1,19 @@
 -- Bursts with a pause between them: no chain leads from one to the other, and each has the transmissions that it has alone.
-use Prim.Native.Nat.{ℕ, zero, suc, _+_, _≤_, _<_}
-use mathlib.Core.Path.{_≡_, refl, sym, ap, ap₂, _∙_, subst}
-use mathlib.Core.Bool.{Bool, true, false, _&&_}
+use Prim.Native.Nat.{ℕ, zero, suc, _≤_}
+use mathlib.Core.Path.{_≡_, refl, sym, ap, _∙_, subst}
+use mathlib.Core.Bool.{Bool, true, _&&_}
 use mathlib.Core.List.{List, [], _∷_, List·Memᴰ}
 use native.Mathlib.Omega.{arith}
-use native.Mathlib.Nat.{not-le-of-lt}
 use lib.Dec.{ltb, leb}
 use lib.ListN.{length}
-use borrow.Author.Tests.{leb-true, le-leb, lt-leb, ltb-true, lt-ltb, le-ltb}
+use borrow.Author.Tests.{leb-true, le-leb, ltb-true, lt-ltb}
 use Rattle.ranges.specs.Lists.{anyOf, filter}
 use Rattle.ranges.proofs.Lists.{filter-in, filter-of, filter-same}
 use Rattle.ranges.proofs.Bools.{by, or, and-left, and-right, and-both, same-test}
 use Rattle.shown.specs.Fix.{Fix}
 use Rattle.shown.specs.Ages.{timeOf}
-use Rattle.links.specs.Transmissions.{linkSpan, linked, Chain, here, more, reach, transmissionOf, transmissionsOf}
-use Rattle.links.specs.Bursts.{Pause, BurstsApart, BurstsStayApart}
+use Rattle.links.specs.Transmissions.{linked, Chain, here, more, reach, transmissionOf}
+use Rattle.links.specs.Bursts.{Pause, BurstsStayApart}
 use Rattle.links.proofs.Reaching.{SelfLinked, some-in, chain-in, transmission-is}
 use Rattle.links.proofs.Fitness.{self-linked}
 use Rattle.links.proofs.Limits.{link-exactly-when}

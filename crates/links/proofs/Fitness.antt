@@ -1,5 +1,5 @@
 -- The table of a board's fixes is fit for the walk over linked fixes, and two fixes link there as they do in the picture.
-use Prim.Native.Nat.{ℕ, zero, suc, _-_, _*_, _≤_, _<_}
+use Prim.Native.Nat.{ℕ, zero, suc, _-_, _≤_, _<_}
 use mathlib.Core.Path.{_≡_, refl, ap₂}
 use mathlib.Core.Bool.{true}
 use mathlib.Core.List.{List, map}

@@ -10,8 +10,7 @@ use Rattle.octets.specs.Words.{word, wordBytes}
 use Rattle.octets.specs.Order.{same, isBefore}
 use Rattle.octets.proofs.Comparison.{same-refl}
 use Rattle.record.specs.Fields.{time, tagsFrom}
-use Rattle.record.specs.Formed.{wellFormed}
-use Rattle.record.specs.Relations.{subset, sharesTag, anyIn, member, tied}
+use Rattle.record.specs.Relations.{sharesTag, anyIn, member, tied}
 use Rattle.record.proofs.Laws.{subset-irrefl}
 use Rattle.ranges.specs.Lists.{anyOf, filter, insert, sort}
 use Rattle.ranges.proofs.Bools.{by, and-left, and-right, and-both}
@@ -58,15 +57,9 @@ limit = record {
   ends = record { forwards = refl; backwards = refl };
 }
 
--- the last fix shares a tag with the second alone
-pub chains-join : ChainsJoin (2 ∷ [])
+pub chains-join : ChainsJoin
 unfolding transmissionsOf reach filter anyOf recordsLink tied sharesTag anyIn member same isBefore tagsFrom word wordBytes
-chains-join = record { joined = refl; ends-alone = refl }
-
--- it shares one with both, and is too far from the first
-pub times-chain : ChainsJoin (1 ∷ 3 ∷ [])
-unfolding transmissionsOf reach filter anyOf recordsLink tied sharesTag anyIn member same isBefore tagsFrom word wordBytes
-times-chain = record { joined = refl; ends-alone = refl }
+chains-join = record { by-tags = record { all = refl; ends = refl }; by-times = record { all = refl; ends = refl } }
 
 -- ---- further apart
 

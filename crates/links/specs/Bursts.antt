@@ -40,7 +40,7 @@ pub record Limit : Type 0 where
   pub over : AtTimes 0 2_000_000_001 false
   pub ends : AtTimes 0 (2 ^ 64 - 1) false
 
--- "Chains still join, so a transmission as a whole may be longer." Fixes at 0, 2 and 4 seconds; the last of them has the tag of the second alone, or that of all.
+-- fixes at 0, 2 and 4 seconds, the last with these tags
 abbrev pub start : Fix
 start = sent 1 (1 ∷ []) 0
 
@@ -50,9 +50,17 @@ middle = sent 2 (1 ∷ 2 ∷ []) 2_000_000_000
 abbrev pub end : List ℕ → Fix
 end tags = sent 3 tags 4_000_000_000
 
-pub record ChainsJoin (tags : List ℕ) : Type 0 where
-  pub joined : transmissionsOf (start ∷ middle ∷ end tags ∷ []) ≡ (start ∷ middle ∷ end tags ∷ []) ∷ []
-  pub ends-alone : transmissionsOf (start ∷ end tags ∷ []) ≡ (start ∷ []) ∷ (end tags ∷ []) ∷ []
+-- they are one transmission, and the ends alone are two
+pub record Joined (tags : List ℕ) : Type 0 where
+  pub all : transmissionsOf (start ∷ middle ∷ end tags ∷ []) ≡ (start ∷ middle ∷ end tags ∷ []) ∷ []
+  pub ends : transmissionsOf (start ∷ end tags ∷ []) ≡ (start ∷ []) ∷ (end tags ∷ []) ∷ []
+
+-- "Chains still join, so a transmission as a whole may be longer."
+pub record ChainsJoin : Type 0 where
+  -- where the last has a tag of the second alone
+  pub by-tags : Joined (2 ∷ [])
+  -- and where it has the tag of both others, and only the time is too far from the first
+  pub by-times : Joined (1 ∷ 3 ∷ [])
 
 -- ---- bursts
 
