@@ -12,6 +12,8 @@ mod lists;
 mod random;
 #[cfg(has_register)]
 mod registers;
+#[cfg(has_register)]
+mod spans;
 mod tracks;
 
 use oracle::decide::{Decision, SIZE};

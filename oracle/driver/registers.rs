@@ -4,6 +4,7 @@
 use crate::binding::register as ours;
 use crate::heights::{self, EDGES};
 use crate::random::Random;
+use crate::spans;
 use oracle::{Record, hex};
 use peer::register::{self as theirs, SIZE};
 use std::collections::BTreeMap;
@@ -40,10 +41,20 @@ fn engine(random: &mut Random) -> u32 {
     }
 }
 
-fn record(random: &mut Random, wide: u64) -> Vec<u8> {
+/// What the calls of a list are chosen from.
+struct Style {
+    /// How many times and first bytes of inputs there are.
+    wide: u64,
+    /// `summaries` of 60 calls are summaries.
+    summaries: u64,
+    /// Whether the times lie around the limit of a link.
+    spread: bool,
+}
+
+fn record(random: &mut Random, style: &Style) -> Vec<u8> {
     let tags: Vec<u64> = (0..1 + random.below(3)).map(|i| 4 * i + random.below(4)).collect();
     let one = Record {
-        time: random.below(wide),
+        time: if style.spread { spans::time(random) } else { random.below(style.wide) },
         lat: 2_700 * random.below(3) as i32,
         lon: 0,
         height: match random.below(4) {
@@ -68,31 +79,31 @@ fn record(random: &mut Random, wide: u64) -> Vec<u8> {
     bytes
 }
 
-/// `summaries` of 60 calls are summaries.
-fn call(random: &mut Random, wide: u64, summaries: u64) -> Call {
+fn call(random: &mut Random, style: &Style) -> Call {
     match random.below(60) {
         0 if random.one_in(4) => Call::Convict { engine: engine(random) },
         1 => Call::Spoil { at: random.below(SIZE as u64) as usize, byte: random.next() as u8 },
         2 => Call::Spoil { at: random.below(12) as usize, byte: random.below(4) as u8 },
-        n if n < 3 + summaries => {
+        n if n < 3 + style.summaries => {
             let mut inputs = vec![0u8; if random.one_in(60) { 31 } else { 32 }];
-            inputs[0] = random.below(wide.min(200)) as u8;
+            inputs[0] = random.below(style.wide.min(200)) as u8;
             let models = if random.one_in(20) { 66 } else { 3 };
             Call::Summary { engine: engine(random), model: random.below(models) as u32, spec: random.below(2) as u16, inputs }
         }
-        _ => Call::Report { engine: engine(random), record: record(random, wide) },
+        _ => Call::Report { engine: engine(random), record: record(random, style) },
     }
 }
 
-/// What heights a board writes.
+/// What heights a board writes, and how the times lie of what it is drawn from.
 #[cfg(has_board)]
-fn count_heights(memory: &[u8], counts: &mut Counts) {
+fn count_kinds(memory: &[u8], counts: &mut Counts) {
     if let Some(register) = theirs::Register::read(memory) {
-        heights::kinds(peer::board::heights(&register).into_iter()).for_each(|kind| *counts.entry(kind.to_string()).or_default() += 1);
+        let heights = heights::kinds(peer::board::heights(&register).into_iter());
+        heights.chain(spans::kinds(&peer::board::spans(&register))).for_each(|kind| *counts.entry(kind.to_string()).or_default() += 1);
     }
 }
 
-/// Both boards, where the library has one; the difference in words. Of the last board of a list the heights are counted.
+/// Both boards, where the library has one; the difference in words. Of the last board of a list heights and times are counted.
 #[cfg(has_board)]
 fn compare_boards(a: &[u8], b: &[u8], n: usize, last: bool, counts: &mut Counts) -> Option<String> {
     let (mut c, mut d) = (vec![7u8; 16_384], vec![7u8; 16_384]);
@@ -109,7 +120,7 @@ fn compare_boards(a: &[u8], b: &[u8], n: usize, last: bool, counts: &mut Counts)
     };
     *counts.entry(kind.to_string()).or_default() += 1;
     if last {
-        count_heights(b, counts);
+        count_kinds(b, counts);
     }
     None
 }
@@ -176,19 +187,20 @@ fn shrink(size: usize, mut calls: Vec<Call>) -> Vec<Call> {
     calls
 }
 
-/// Mostly short lists; one in forty is long enough to fill a register.
-fn list(random: &mut Random) -> Vec<Call> {
-    let wide = random.pick(&[2, 8, 300]);
+/// Mostly short lists; one in forty is long enough to fill a register. And whether the times of its records lie around the limit of a
+/// link.
+fn list(random: &mut Random) -> (Vec<Call>, bool) {
+    let style = Style { wide: random.pick(&[2, 8, 300]), summaries: random.pick(&[5, 20, 50]), spread: random.one_in(2) };
     let length = if random.one_in(40) { random.pick(&[300, 600]) } else { random.pick(&[4, 12, 30]) };
-    let summaries = random.pick(&[5, 20, 50]);
-    (0..length).map(|_| call(random, wide, summaries)).collect()
+    ((0..length).map(|_| call(random, &style)).collect(), style.spread)
 }
 
 pub fn compare(random: &mut Random, lists: u64) {
     let mut counts = Counts::new();
     for _ in 0..lists {
         let size = if random.one_in(400) { random.pick(&[0, 4, SIZE - 1, SIZE + 1]) } else { SIZE };
-        let calls = list(random);
+        let (calls, spread) = list(random);
+        *counts.entry("lists with times around the limit of a link".to_string()).or_default() += u64::from(spread);
         if run(size, &calls, &mut counts).is_some() {
             let least = shrink(size, calls);
             println!("DIFFERENT: register of {size} bytes, {}", run(size, &least, &mut Counts::new()).unwrap());
@@ -208,5 +220,6 @@ pub fn compare(random: &mut Random, lists: u64) {
     }
     if cfg!(has_board) {
         heights::tried(|kind| counts.contains_key(kind), lists);
+        spans::tried(|kind| counts.contains_key(kind), lists);
     }
 }
