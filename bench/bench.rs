@@ -251,16 +251,27 @@ fn register(alike: bool) {
     line(&name("summary"), against, 1.0, has, &mut summary, &mut compared);
 }
 
-/// Full boards: 96 records in so many transmissions. The tags of one transmission are nested, so that its fixes are compared.
-fn board(transmissions: u64) {
-    let mut memory = vec![0u8; peer::register::SIZE];
+/// The time and the tags of one of 96 fixes in so many transmissions. The tags of one transmission are nested, so that its fixes are
+/// compared.
+fn grouped(transmissions: u64, i: u64) -> (u64, Vec<u64>) {
     let each = 96 / transmissions;
+    let (group, depth) = (i / each, i % each);
+    // A chain: each fix has the group's first tag, and ever more others.
+    (1_000 + group, (0..=depth % 15).map(|k| 1_000 * group + if k == 0 { 0 } else { 16 * (depth / 15) + k }).collect())
+}
+
+/// The same of one that has a tag in common with all others, and is an hour from each.
+fn restarted(i: u64) -> (u64, Vec<u64>) {
+    (3_600_000_000_000 * i, vec![1, 2 + i])
+}
+
+/// Full boards: 96 records.
+fn board(what: &str, chosen: impl Fn(u64) -> (u64, Vec<u64>)) {
+    let mut memory = vec![0u8; peer::register::SIZE];
     for i in 0..96u64 {
-        let (group, depth) = (i / each, i % each);
-        // A chain: each fix has the group's first tag, and ever more others.
-        let tags: Vec<u64> = (0..=depth % 15).map(|k| 1_000 * group + if k == 0 { 0 } else { 16 * (depth / 15) + k }).collect();
+        let (time, tags) = chosen(i);
         let one = Record {
-            time: 1_000 + group,
+            time,
             lat: 480_000_000 + i as i32,
             lon: 110_000_000,
             height: Some(1_500_000),
@@ -282,7 +293,7 @@ fn board(transmissions: u64) {
     let mut theirs = || {
         black_box(peer::board::board(black_box(&memory), &mut b));
     };
-    line(&format!("board, 96 records in {transmissions} transmissions"), "the peer", 1.0, has, &mut ours, &mut theirs);
+    line(&format!("board, 96 records {what}"), "the peer", 1.0, has, &mut ours, &mut theirs);
 }
 
 /// All but the track's.
@@ -298,8 +309,9 @@ fn others(random: &mut Random) {
     register(false);
     register(true);
     for transmissions in [1, 8, 96] {
-        board(transmissions);
+        board(&format!("in {transmissions} transmissions"), |i| grouped(transmissions, i));
     }
+    board("with a common tag, an hour apart", restarted);
 }
 
 fn main() {
