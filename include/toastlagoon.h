@@ -38,10 +38,10 @@ extern "C" {
  * have the same version. */
 
 #define TL_VERSION_MAJOR 0
-#define TL_VERSION_MINOR 7
+#define TL_VERSION_MINOR 8
 #define TL_VERSION_PATCH 0
 #define TL_VERSION (TL_VERSION_MAJOR * 1000000 + TL_VERSION_MINOR * 1000 + TL_VERSION_PATCH)
-#define TL_VERSION_TEXT TL_VERSION_JOINED(TL_VERSION_MAJOR, TL_VERSION_MINOR, TL_VERSION_PATCH) /* "0.7.0" */
+#define TL_VERSION_TEXT TL_VERSION_JOINED(TL_VERSION_MAJOR, TL_VERSION_MINOR, TL_VERSION_PATCH) /* "0.8.0" */
 #define TL_VERSION_JOINED(major, minor, patch) TL_VERSION_QUOTED(major, minor, patch)
 #define TL_VERSION_QUOTED(major, minor, patch) #major "." #minor "." #patch
 
