@@ -63,9 +63,11 @@ write("cut-north", small, large)
 write("cut-south", large)
 
 # A parked helicopter repeats its message, and an hour later the receivers have been restarted and use the same tags. Then a fix between
-# two others, each two seconds away, of which the last is too far from the first.
+# two others, each two seconds away, of which the last is too far from the first. And the same tags five hours later: one identity, for
+# which the record of the earlier time stands, whose bytes come first.
 HOUR, SECOND = 3600 * 10**9, 10**9
 write("restarted", report(1, T), report(2, T + HOUR, 481375400, tags=(101, 102)))
+write("repeated", report(1, T), report(1, T + 5 * HOUR, 481375400))
 write("chained", report(1, T), report(2, T + 2 * SECOND, tags=(101, 102)), report(1, T + 4 * SECOND, tags=(101, 103)))
 write("unchained", report(1, T), report(1, T + 4 * SECOND, tags=(101, 103)))
 
