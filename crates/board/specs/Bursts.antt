@@ -1,5 +1,5 @@
--- Receivers that restart their tags (document 02, A.5), on every board: where nothing was sent for longer than a link, the transmissions before and after are what
--- they would be without each other. The theorem is `bursts-on-boards` in proofs/Bursts.
+-- Receivers that restart their tags (document 02, A.5), on every board: where no fix was sent for longer than a link, the transmissions before and after are what
+-- they would be without each other. A fix was sent when the record that represents it says. The theorem is `bursts-on-boards` in proofs/Bursts.
 use Prim.Native.Nat.{ℕ}
 use mathlib.Core.Path.{_≡_}
 use mathlib.Core.Bool.{true}

@@ -1,5 +1,5 @@
 -- What is claimed of the limit in time that a link has (document 02, A.5): when two records link, which fixes are one transmission by it, and that a later burst
--- does not touch what is shown of an earlier one, nor the earlier the later. The theorems are in proofs/Bursts and proofs/Limits.
+-- does not touch the transmissions of an earlier one, nor the earlier those of the later. The theorems are in proofs/Limits, proofs/Symmetry and proofs/Bursts.
 use Prim.Native.Nat.{ℕ, _+_, _-_, _^_, _≤_, _<_}
 use mathlib.Core.Path.{_≡_}
 use mathlib.Core.Bool.{Bool, true, false}
@@ -64,7 +64,7 @@ pub record ChainsJoin : Type 0 where
 
 -- ---- bursts
 
--- nothing was sent in the linkSpan after s: each fix was sent by then, or later than that
+-- no fix was sent in the linkSpan after s: each was sent by then, or later than that
 abbrev pub Pause : ℕ → List Fix → Type 0
 Pause s fs = (f : Fix) → List·Memᴰ f fs → (timeOf f ≤ s) ⊎ (s + linkSpan < timeOf f)
 
