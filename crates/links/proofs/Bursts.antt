@@ -50,7 +50,7 @@ module _ (fs : List Fix) (self : SelfLinked fs) (p : Fix → Bool)
   self-inside : SelfLinked (filter p fs)
   self-inside f m = self f (filter-in p fs f m .0)
 
-  pub as-alone : (a : Fix) → List·Memᴰ a fs → p a ≡ true → transmissionOf fs a ≡ transmissionOf (filter p fs) a
+  as-alone : (a : Fix) → List·Memᴰ a fs → p a ≡ true → transmissionOf fs a ≡ transmissionOf (filter p fs) a
   as-alone a m h =
       let k = filter-of p fs a m h in
       let q = tested fs a (length fs) (some-in a fs m) in

@@ -8,8 +8,10 @@ use lib.Dec.{ltb}
 use borrow.Author.Tests.{ltb-true, ltb-false, leb-true, le-leb, lt-leb}
 use Rattle.octets.specs.Words.{word, wordBytes}
 use Rattle.octets.specs.Order.{same, isBefore}
+use Rattle.octets.specs.Runs.{allZero}
 use Rattle.octets.proofs.Comparison.{same-refl}
 use Rattle.record.specs.Fields.{time, tagsFrom}
+use Rattle.record.specs.Formed.{wellFormed, ascends, ascendsFrom, allUpTo}
 use Rattle.record.specs.Relations.{sharesTag, anyIn, member, tied}
 use Rattle.record.proofs.Laws.{subset-irrefl}
 use Rattle.ranges.specs.Lists.{anyOf, filter, insert, sort}
@@ -18,13 +20,13 @@ use Rattle.shown.specs.Fix.{Fix}
 use Rattle.shown.specs.Ages.{timeOf}
 use Rattle.shown.specs.Shown.{Transmission, shown}
 use Rattle.links.specs.Transmissions.{linkSpan, difference, nearInTime, recordsLink, linked, reach, transmissionOf, leads, isFirst, transmissionsOf}
-use Rattle.links.specs.Bursts.{LinkExactlyWhen, Limit, ChainsJoin, ranksAlone, FarSubset}
+use Rattle.links.specs.Bursts.{LinkExactlyWhen, Limit, start, middle, end, ChainsJoin, ranksAlone, FarSubset}
 use Rattle.links.proofs.Symmetry.{linked-turned}
 use Rattle.links.proofs.Fitness.{self-linked}
 
 -- ---- near in time
 
-pub near-is : (s t : ℕ) → nearInTime s t ≡ true → (s ≤ t + linkSpan) × (t ≤ s + linkSpan)
+near-is : (s t : ℕ) → nearInTime s t ≡ true → (s ≤ t + linkSpan) × (t ≤ s + linkSpan)
 near-is s t h = let d = leb-true (difference s t) linkSpan h in by (ltb s t) (λ p. above (ltb-true s t p) (rw p at d)) (λ p. below (ltb-false s t p) (rw p at d))
   where
     above : s < t → t - s ≤ linkSpan → (s ≤ t + linkSpan) × (t ≤ s + linkSpan)
@@ -47,6 +49,11 @@ link-exactly-when a b = (
 )
 
 -- ---- by computation
+
+-- the fixes of these laws have well-formed records
+pub sent-formed : (wellFormed (start .recordBytes) ≡ true) × (wellFormed (middle .recordBytes) ≡ true) × (wellFormed (end (2 ∷ []) .recordBytes) ≡ true) × (wellFormed (end (1 ∷ 3 ∷ []) .recordBytes) ≡ true)
+unfolding wellFormed ascends ascendsFrom allUpTo allZero tagsFrom word wordBytes
+sent-formed = (refl, refl, refl, refl)
 
 pub limit : Limit
 unfolding recordsLink tied sharesTag anyIn member same isBefore tagsFrom word wordBytes
@@ -102,7 +109,7 @@ module _ (f g : Fix) (ff : linked f f ≡ true) (gg : linked g g ≡ true) (fg :
   unfolding filter
   both-first = rw (is-first f first-link, is-first g second-link) refl
 
-  pub two-alone : transmissionsOf both ≡ (f ∷ []) ∷ (g ∷ []) ∷ []
+  two-alone : transmissionsOf both ≡ (f ∷ []) ∷ (g ∷ []) ∷ []
   unfolding transmissionsOf
   two-alone = ap (map (transmissionOf both)) both-first ∙ ap₂ (λ (l m : List Fix). l ∷ m ∷ []) (two-links f first-link) (two-links g second-link)
 
