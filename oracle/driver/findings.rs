@@ -245,9 +245,9 @@ fn ties(f: &mut Findings) {
     f.see("R-07 {1} {2} {1,2}: transmissions", apart.transmissions().to_string(), "3");
     let again = f.reports(&[one.clone(), two.clone(), both.clone(), both.clone()]);
     f.see("R-07 {1,2} once more", format!("{} {}", again.answers[3], again.transmissions()), "Changed 4");
-    let late = Record { time: 1000 + 3_600_000_000_000, ..both.clone() };
-    let hour = f.reports(&[one.clone(), late]);
-    f.see("A.5 {1}, and {1,2} an hour later", hour.told(), "Changed,Changed contested=0 [{1,2}@0]");
+    let late = Record { time: one.time + 2_000_000_001, ..both.clone() };
+    let joined = f.reports(&[one.clone(), late]);
+    f.see("A.5 {1}, and {1,2} 2,000,000,001 ns later", joined.told(), "Changed,Changed contested=0 [{1,2}@0]");
     let mut many = vec![one, two];
     many.extend(std::iter::repeat_n(both.clone(), 10));
     let many = f.reports(&many);

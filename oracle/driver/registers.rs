@@ -99,7 +99,9 @@ fn call(random: &mut Random, style: &Style) -> Call {
 fn count_kinds(memory: &[u8], counts: &mut Counts) {
     if let Some(register) = theirs::Register::read(memory) {
         let heights = heights::kinds(peer::board::heights(&register).into_iter());
-        heights.chain(spans::kinds(&peer::board::spans(&register))).for_each(|kind| *counts.entry(kind.to_string()).or_default() += 1);
+        heights
+            .chain(spans::kinds(&peer::board::spans(&register)))
+            .for_each(|kind| *counts.entry(kind.to_string()).or_default() += 1);
     }
 }
 

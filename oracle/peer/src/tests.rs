@@ -87,7 +87,11 @@ fn times_to_the_nanosecond() {
         (0, u64::MAX, false),
         (0, HOUR, false),
     ] {
-        let first = if joined { "transmission=1 ranked=1 dominated=1 refused=0\n" } else { "transmission=1 ranked=1 dominated=0 refused=0\n" };
+        let first = if joined {
+            "transmission=1 ranked=1 dominated=1 refused=0\n"
+        } else {
+            "transmission=1 ranked=1 dominated=0 refused=0\n"
+        };
         assert!(board(one, other).starts_with(first) && board(other, one).starts_with(first), "{one} {other}");
         assert_eq!(board(one, other).contains("transmission=2 "), !joined, "{one} {other}");
     }
@@ -98,7 +102,10 @@ fn a_chain_is_longer_than_a_link() {
     let [start, middle, end] = chain().map(|r| r.text());
     for order in [[&start, &middle, &end], [&end, &start, &middle], [&middle, &end, &start]] {
         let board = board_of(&order.map(String::as_str).concat());
-        assert!(board.starts_with("transmission=1 ranked=1 dominated=2 refused=0\n") && !board.contains("transmission=2 "), "{board}");
+        assert!(
+            board.starts_with("transmission=1 ranked=1 dominated=2 refused=0\n") && !board.contains("transmission=2 "),
+            "{board}"
+        );
     }
     assert!(board_of(&(start + &end)).contains("transmission=2 "));
 }
