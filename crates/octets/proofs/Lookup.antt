@@ -5,13 +5,13 @@ use mathlib.Core.Bool.{Bool, true, false, cond, not, _&&_, _||_, true≢false, f
 use native.Mathlib.Omega.{arith}
 use native.Mathlib.Nat.{pow-suc, one-mul}
 use native.Mathlib.Numerals.{add-one, one-add}
-use lib.Dec.{eqb, eqb·zero-suc, eqb·suc-zero, eqb·suc-suc}
+use lib.Dec.{ltb, eqb, eqb·zero-suc, eqb·suc-zero, eqb·suc-suc}
 use lib.Bits.{bitAnd, bitOr, and-step, or-step, or-zero-r, and-mask}
-use lib.Pow.{shr-shr, shl-exact}
+use lib.Pow.{pow-mono, shr-shr, shl-exact}
 use lib.Arith.{bin-ind}
 use lib.Count.{ones, onesIn, ones-step}
 use Rattle.ranges.proofs.Bools.{by}
-use borrow.Author.Tests.{eq-eqb, ne-eqb, eqb-true, eqb-false}
+use borrow.Author.Tests.{eq-eqb, ne-eqb, eqb-true, eqb-false, ltb-true, ltb-false}
 use Rattle.octets.specs.Masks.{bit, withBit, withoutBit, bits}
 
 -- ---- the machine's operations
@@ -134,6 +134,13 @@ pub without-le : (m e : ℕ) → withoutBit m e ≤ m
 unfolding withoutBit
 without-le m zero = omega arith
 without-le m (suc e) = omega (arith, without-le (m / 2) e)
+
+-- and has no bit there or above
+pub bit-below : (w m e : ℕ) → m < 2 ^ w → bit m e ≡ true → e < w
+bit-below w m e h z =
+    by (ltb e w)
+    (λ q. ltb-true e w q)
+    (λ q. let p : 2 ^ w ≤ 2 ^ e = pow-mono (ltb-false e w q) in omega (arith, p, clear-set m e z, h))
 
 -- setting a bit that is clear counts one more, and one that is set no more
 pub bits-with : (n m e : ℕ) → e < n → bits n (withBit m e) ≡ bits n m + cond (bit m e) 0 1

@@ -1,9 +1,9 @@
 -- The register after a history of calls, the latest first: it holds what the history has, but for malformed calls and calls of convicted engines.
-use Prim.Native.Nat.{ℕ, _+_, _≤_}
+use Prim.Native.Nat.{ℕ, _≤_}
 use mathlib.Core.Path.{_≡_, refl, sym, ap, _∙_}
 use mathlib.Core.Bool.{Bool, true, false, not, _&&_, _||_, false≢true, and-false, and-true}
 use mathlib.Core.Logic.{_⊎_, inl, inr, ⊎-elim}
-use mathlib.Core.List.{List, [], _∷_, _++_, append-nil}
+use mathlib.Core.List.{List, [], _∷_}
 use native.Mathlib.Omega.{arith}
 use lib.Dec.{eqb, leb, ltb}
 use lib.ListN.{length}
@@ -16,7 +16,6 @@ use Rattle.octets.proofs.Comparison.{same-eq}
 use Rattle.octets.proofs.Lookup.{bit-set, bit-clear, bit-zero}
 use Rattle.places.specs.Places.{ascending, allPlaces, holds, lookup, putPlace}
 use Rattle.places.proofs.Putting.{holds-put}
-use Rattle.places.proofs.Keeping.{holds-kept}
 use Rattle.record.specs.Formed as R
 use Rattle.models.specs.Summary.{engineOf, modelOf, summaryOf, summarySize, inputsSize}
 use Rattle.record.specs.Layout.{recordSize, maxModel}
@@ -24,13 +23,13 @@ use Rattle.held.specs.After.{After}
 use Rattle.held.specs.Limits.{maxEngine, maxSummaries}
 use Rattle.held.specs.Summaries.{noValue, isOfAnother, summaryFormed}
 use Rattle.held.specs.Signed.{addSigner}
-use Rattle.held.proofs.Summarized.{all-of, none-more, summary-length, summary-longer}
+use Rattle.held.proofs.Summarized.{summary-length, summary-longer}
 use Rattle.register.specs.Layout.{maxRecords}
 use Rattle.register.specs.Register.{Register, strikeEngine}
 use Rattle.register.specs.Calls.{Call, report, summary, conviction, act, isSound, convicts, reports, summariesOf, elem}
 use Rattle.register.specs.Claims.{signersOf}
 use Rattle.register.proofs.Valid.{Valid}
-use Rattle.register.proofs.Steps.{with-report, report-signers, report-valid, with-summary, summary-valid, nothing-follows, struck-signers, struck-valid}
+use Rattle.register.proofs.Steps.{with-report, report-signers, report-valid, with-summary, summary-valid, struck-signers, struck-valid, struck-holds}
 
 abbrev pub start : Register
 start = record { convicted = 0; summaries = []; records = [] }
@@ -232,16 +231,11 @@ module _ (k : ℕ) (h : List Call) (s : Register) (u : Sum h s) where
   v = u .valid
 
   -- a summary stays where it is of another engine
-  pub struck-holds : (p : List ℕ) → holds summarySize p (strikeEngine k s .summaries) ≡ (not (eqb k (engineOf p)) && holds summarySize p (s .summaries))
-  struck-holds p =
-      holds-kept summarySize (isOfAnother k) noValue summarySize all-of none-more p (s .summaries) (v .summaries-wide) (v .summaries-ascend)
-      ∙ ap (λ (l : List ℕ). holds summarySize p (s .summaries) && isOfAnother k (p ++ l)) empty
-      ∙ ap (λ (l : List ℕ). holds summarySize p (s .summaries) && isOfAnother k l) (append-nil p)
+  another-holds : k ≤ maxEngine → (p : List ℕ) → holds summarySize p (strikeEngine k s .summaries) ≡ (not (eqb k (engineOf p)) && holds summarySize p (s .summaries))
+  another-holds a p =
+      struck-holds s v k a p
       ∙ and-swap (holds summarySize p (s .summaries)) (isOfAnother k p)
       ∙ ap (λ (b : Bool). not b && holds summarySize p (s .summaries)) (eqb-swap (engineOf p) k)
-    where
-      empty : lookup summarySize p (s .summaries) ≡ []
-      empty = nothing-follows p (s .summaries) (v .summaries-wide)
 
   conviction-step : Sum (conviction k ∷ h) (act (conviction k) s .left)
   unfolding convicts reports summariesOf elem
@@ -253,7 +247,7 @@ module _ (k : ℕ) (h : List Call) (s : Register) (u : Sum h s) where
         struck-off = λ e. rw b (bit-set (s .convicted) k e ∙ rw (u .struck-off e) refl);
         signed-by = λ e r. rw b (ap (λ (n : ℕ). bit n e) (struck-signers s v k (ltb-false maxEngine k a) r) ∙ bit-clear (signersOf r s) k e
             ∙ rw (u .signed-by e r) (struck-from (eqb k e) (reports h e r) (isSound (report e r)) (convicts h e)));
-        held = λ p. rw b (struck-holds p ∙ rw (u .held p) (struck-from (eqb k (engineOf p)) (elem p (summariesOf h)) (soundSummary p) (convicts h (engineOf p))));
+        held = λ p. rw b (another-holds (ltb-false maxEngine k a) p ∙ rw (u .held p) (struck-from (eqb k (engineOf p)) (elem p (summariesOf h)) (soundSummary p) (convicts h (engineOf p))));
       }))
 
 -- ---- a history

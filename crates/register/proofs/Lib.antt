@@ -10,5 +10,6 @@ pub mod History
 pub mod Whole
 pub mod Room
 pub mod Kept
+pub mod Further
 pub mod Remaining
 pub mod Numbered

@@ -1,12 +1,12 @@
 -- What bytes that are a register show: its parts, and that they are the bytes of what they hold.
-use Prim.Native.Nat.{ℕ, _+_, _*_, _-_, _≤_}
+use Prim.Native.Nat.{ℕ, _+_, _*_, _≤_}
 use mathlib.Core.Path.{_≡_, refl, sym, ap, ap₂, _∙_}
-use mathlib.Core.Bool.{true, _&&_}
+use mathlib.Core.Bool.{true, false, _&&_}
 use mathlib.Core.List.{List, _++_}
 use native.Mathlib.Omega.{arith}
 use lib.Dec.{leb, eqb}
 use lib.ListN.{length, drop, length-take, length-drop}
-use borrow.Author.Tests.{eqb-true, leb-true}
+use borrow.Author.Tests.{ne-eqb, eqb-true, leb-true}
 use Rattle.octets.specs.Words.{wordBytes, wordAt}
 use Rattle.octets.specs.Runs.{allZero}
 use Rattle.ranges.proofs.Bools.{and-left, and-right}
@@ -19,7 +19,6 @@ use Rattle.held.specs.Limits.{maxSummaries, placeSize, summariesSize}
 use Rattle.held.specs.Summaries.{summaryFormed}
 use Rattle.held.specs.Signed.{placeFormed}
 use Rattle.register.specs.Layout.{maxRecords, summariesAt, recordsSize, registerSize, summaryCountAt, recordCountAt}
-use Rattle.register.specs.Memory as M
 use Rattle.register.specs.Memory.{wellFormed, convictedIn, summaryCount, recordCount, summaryTable, recordTable, summariesIn, recordsIn, decode, encode}
 use Rattle.held.proofs.Framing.{cut, cut-word}
 use Rattle.register.proofs.Frames.{frame}
@@ -56,6 +55,11 @@ opened m h =
       record-table = and-left a₆ a₇ h₆;
       records-formed = and-right a₆ a₇ h₆;
     }
+
+-- bytes of another length are no register
+pub other-size : (m : List ℕ) → (length m ≡ registerSize → ⊥) → wellFormed m ≡ false
+unfolding wellFormed
+other-size m f = rw (ne-eqb (length m) registerSize f) refl
 
 module _ (m : List ℕ) (o : Opened m) where
   pub summary-bytes-length : length (summaryTable m) ≡ summariesSize

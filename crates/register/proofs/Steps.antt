@@ -1,7 +1,7 @@
--- What each operation does to a valid register: it stays valid, and which engines sign a record afterwards.
+-- What each operation does to a valid register: it stays valid, and which engines sign a record afterwards. Valid registers that hold the same are the same.
 use Prim.Native.Nat.{ℕ, _+_, _^_, _≤_, _<_}
 use mathlib.Core.Path.{_≡_, refl, sym, ap, ap₂, subst, _∙_}
-use mathlib.Core.Bool.{Bool, true, false, cond, not, _&&_, false≢true}
+use mathlib.Core.Bool.{Bool, true, false, cond, not, _&&_, false≢true, and-true}
 use mathlib.Core.List.{List, [], _∷_, _++_, append-nil}
 use native.Mathlib.Omega.{arith}
 use native.Mathlib.Nat.{le-trans}
@@ -14,21 +14,21 @@ use Rattle.octets.specs.Order.{same}
 use Rattle.octets.specs.Words.{word, wordBytes}
 use Rattle.ranges.proofs.Bools.{by, and-left, and-right}
 use Rattle.octets.proofs.Comparison.{same-eq}
-use Rattle.octets.proofs.Lookup.{without-le}
+use Rattle.octets.proofs.Lookup.{clear-unset, bit-zero, bit-below, without-le}
 use Rattle.octets.proofs.Numbers.{word-of-bytes}
 use Rattle.places.specs.Places.{allPlaces, holds, lookup, putPlace, keepPlaces}
 use Rattle.places.proofs.Tables.{wide}
-use Rattle.places.proofs.Keys.{holds-none, holds-later, lookup-here, lookup-later, absent}
+use Rattle.places.proofs.Keys.{holds-none, holds-later, lookup-here, lookup-later, absent, ascending-ext}
 use Rattle.places.proofs.Putting.{lookup-put, lookup-put-other, put-ascending, put-length, put-length-held, put-wide, put-all}
-use Rattle.places.proofs.Keeping.{kept-length, kept-wide, kept-ascending, kept-all, lookup-kept}
+use Rattle.places.proofs.Keeping.{kept-length, kept-wide, kept-ascending, kept-all, holds-kept, lookup-kept}
 use Rattle.record.specs.Formed as R
-use Rattle.models.specs.Summary.{summarySize}
-use Rattle.record.specs.Layout.{recordSize}
+use Rattle.models.specs.Summary.{engineOf, modelOf, summarySize}
+use Rattle.record.specs.Layout.{recordSize, maxModel}
 use Rattle.held.specs.Limits.{maxEngine, maxSummaries, placeSize}
 use Rattle.held.specs.Summaries.{noValue, isOfAnother, summaryFormed}
-use Rattle.held.specs.Signed.{addSigner, dropSigner, hasAnotherSigner}
+use Rattle.held.specs.Signed.{signersIn, addSigner, dropSigner, hasAnotherSigner}
 use Rattle.held.proofs.Summarized.{all-of, none-more, kept-summary}
-use Rattle.held.proofs.Signatures.{with-small, without-small, no-word, record-length, key-of, added-wide, signers-wide, placeHeld, Place, place, place-small, signed-first, signed-again, kept-record}
+use Rattle.held.proofs.Signatures.{apart, with-small, without-small, no-word, record-length, key-of, added-wide, signers-wide, placeHeld, Place, place, place-small, signed-first, signed-again, kept-record}
 use Rattle.register.specs.Layout.{maxRecords}
 use Rattle.register.specs.Register.{Register, strikeEngine}
 use Rattle.register.specs.Claims.{signersOf}
@@ -174,6 +174,23 @@ module _ (s : Register) (v : Valid s) (p : List ℕ) (l : length p ≡ summarySi
           (λ h. rw (put-length-held summarySize noValue p l (s .summaries) (v .summaries-ascend) h) (v .few-summaries))
           (λ h. let n = leb-false maxSummaries (length (s .summaries)) (sym (rw h refl) ∙ f) in let m = put-length summarySize noValue p l (s .summaries) in omega arith)
 
+pub whole-summary : (s : Register) → Valid s → (p : List ℕ) → p ++ lookup summarySize p (s .summaries) ≡ p
+whole-summary s v p = ap (λ (l : List ℕ). p ++ l) (nothing-follows p (s .summaries) (v .summaries-wide)) ∙ append-nil p
+
+-- ---- registers that hold the same
+
+module _ (s t : Register) (v : Valid s) (u : Valid t) where
+  pub summaries-same : ((p : List ℕ) → holds summarySize p (s .summaries) ≡ holds summarySize p (t .summaries)) → s .summaries ≡ t .summaries
+  summaries-same h =
+      ascending-ext summarySize (s .summaries) (t .summaries) (v .summaries-ascend) (u .summaries-ascend) h
+      (λ p. nothing-follows p (s .summaries) (v .summaries-wide) ∙ sym (nothing-follows p (t .summaries) (u .summaries-wide)))
+
+  pub records-same : ((r : List ℕ) → signersOf r s ≡ signersOf r t) → s .records ≡ t .records
+  records-same h =
+      ascending-ext recordSize (s .records) (t .records) (v .records-ascend) (u .records-ascend)
+      (λ r. held-signed s v r ∙ ap (λ (n : ℕ). not (eqb n 0)) (h r) ∙ sym (held-signed t u r))
+      (λ r. lookup-signed s v r ∙ ap (λ (n : ℕ). cond (eqb n 0) [] (wordBytes 4 n)) (h r) ∙ sym (lookup-signed t u r))
+
 -- ---- a conviction
 
 module _ (s : Register) (v : Valid s) (e : ℕ) (a : e ≤ maxEngine) where
@@ -204,3 +221,36 @@ module _ (s : Register) (v : Valid s) (e : ℕ) (a : e ≤ maxEngine) where
     summaries-formed = kept-all summarySize (isOfAnother e) noValue (summaryFormed (s .convicted)) (summaryFormed (withBit (s .convicted) e)) (kept-summary (s .convicted) e) (s .summaries) (v .summaries-formed);
     records-held = kept-all recordSize (hasAnotherSigner e) (dropSigner e) (placeHeld (s .convicted)) (placeHeld (withBit (s .convicted) e)) (kept-record (s .convicted) e) (s .records) (v .records-held);
   }
+
+  -- a summary stays where it is of another engine
+  pub struck-holds : (p : List ℕ) → holds summarySize p (strikeEngine e s .summaries) ≡ (holds summarySize p (s .summaries) && isOfAnother e p)
+  struck-holds p =
+      holds-kept summarySize (isOfAnother e) noValue summarySize all-of none-more p (s .summaries) (v .summaries-wide) (v .summaries-ascend)
+      ∙ ap (λ (l : List ℕ). holds summarySize p (s .summaries) && isOfAnother e l) (whole-summary s v p)
+
+  -- where nothing of the engine is held, the summaries and the records stay
+  pub summaries-stay : ((p : List ℕ) → holds summarySize p (s .summaries) ≡ true → isOfAnother e p ≡ true) → strikeEngine e s .summaries ≡ s .summaries
+  summaries-stay h = summaries-same (strikeEngine e s) s struck-valid v (λ p. struck-holds p ∙ by (holds summarySize p (s .summaries)) (λ g. rw (g, h p g) refl) (λ g. rw g refl))
+
+  pub records-stay : ((r : List ℕ) → bit (signersOf r s) e ≡ false) → strikeEngine e s .records ≡ s .records
+  records-stay h = records-same (strikeEngine e s) s struck-valid v (λ r. struck-signers r ∙ clear-unset (signersOf r s) e (h r))
+
+-- ---- an engine that is convicted
+
+module _ (s : Register) (v : Valid s) (e : ℕ) (z : bit (s .convicted) e ≡ true) where
+  pub convicted-engine : e ≤ maxEngine
+  convicted-engine = let h = bit-below 32 (s .convicted) e (v .small) z in omega arith
+
+  pub convicted-no-summary : (p : List ℕ) → holds summarySize p (s .summaries) ≡ true → isOfAnother e p ≡ true
+  convicted-no-summary p h =
+      let c = s .convicted in
+      let f : summaryFormed c p ≡ true = ap (summaryFormed c) (sym (whole-summary s v p)) ∙ held-passes summarySize p (summaryFormed c) (s .summaries) (v .summaries-formed) h in
+      let n : not (bit c (engineOf p)) ≡ true = and-right (leb (modelOf p) maxModel) (not (bit c (engineOf p))) (and-right (leb (engineOf p) maxEngine) (leb (modelOf p) maxModel && not (bit c (engineOf p))) f) in
+      by (eqb (engineOf p) e) (λ q. absurd (false≢true (sym (rw (eqb-true (engineOf p) e q, z) refl) ∙ n))) (λ q. rw q refl)
+
+  pub convicted-no-signature : (r : List ℕ) → bit (signersOf r s) e ≡ false
+  convicted-no-signature r =
+      by (holds recordSize r (s .records))
+      (λ h. sym (and-true (bit (signersOf r s) e)) ∙ ap (λ (b : Bool). bit (signersOf r s) e && b) (sym z)
+      ∙ subst (λ (n : ℕ). (bit n e && bit (s .convicted) e) ≡ false) (ap word (rest s v r h)) (apart (signersIn (r ++ lookup recordSize r (s .records))) (s .convicted) e (held-is s v r h .free)))
+      (λ h. rw (unsigned s v r h) (bit-zero e))

@@ -1,5 +1,5 @@
 -- The claims on whole lists, on the register's bytes: what they hold, and that lists of which the same remains leave the same.
-use Prim.Native.Nat.{ℕ, suc, _+_, _-_, _/_, _%_}
+use Prim.Native.Nat.{ℕ, suc, _+_, _/_, _%_}
 use mathlib.Core.Path.{_≡_, refl, sym, ap, ap₂, _∙_}
 use mathlib.Core.Bool.{Bool, true, false, cond, not, _&&_, _||_, false≢true, and-false, or-false, or-true}
 use mathlib.Core.List.{List, [], _∷_, _++_, reverse, reverseAux}
@@ -17,7 +17,6 @@ use Rattle.octets.proofs.Comparison.{same-eq}
 use Rattle.octets.proofs.Lookup.{bit-ext, bit-zero}
 use Rattle.octets.proofs.Numbers.{length-word-bytes}
 use Rattle.places.specs.Places.{flat, tableOf, holds}
-use Rattle.places.proofs.Keys.{ascending-ext}
 use Rattle.record.specs.Formed as R
 use Rattle.models.specs.Summary.{engineOf, summaryOf, summarySize, inputsSize}
 use Rattle.record.specs.Layout.{recordSize, maxModel}
@@ -29,7 +28,7 @@ use Rattle.register.specs.Memory.{decode, encode, fresh, commit, onMemor
 use Rattle.register.specs.Calls.{Call, report, summary, conviction, act, isSound, runs, noneFull, convicts, keep, remaining, reports, recordsOf, summariesOf, elem}
 use Rattle.register.specs.Claims.{signersOf, HoldsExactly, SameRemains, HoldsWhatRemains, SameBytes}
 use Rattle.register.proofs.Valid.{Valid, decode-encode, formed-encode, on-encode}
-use Rattle.register.proofs.Steps.{held-signed, lookup-signed, nothing-follows}
+use Rattle.register.proofs.Steps.{held-signed, summaries-same, records-same}
 use Rattle.register.proofs.History.{run, roomy, start, Sum, history, soundSummary, by-bytes}
 
 -- ---- bytes and registers go together
@@ -243,19 +242,13 @@ module _ (cs ds : List Call) (f : noneFull fresh cs ≡ true) (g : noneFull fres
   t = run (reverse ds)
 
   pub same-summaries : s .summaries ≡ t .summaries
-  same-summaries =
-      ascending-ext summarySize (s .summaries) (t .summaries) (sum cs f .valid .summaries-ascend) (sum ds g .valid .summaries-ascend)
-      (λ p. summarized cs f p ∙ q .summaries p ∙ sym (summarized ds g p))
-      (λ p. nothing-follows p (s .summaries) (sum cs f .valid .summaries-wide) ∙ sym (nothing-follows p (t .summaries) (sum ds g .valid .summaries-wide)))
+  same-summaries = summaries-same s t (sum cs f .valid) (sum ds g .valid) (λ p. summarized cs f p ∙ q .summaries p ∙ sym (summarized ds g p))
 
   same-signers : (r : List ℕ) → signersOf r s ≡ signersOf r t
   same-signers r = bit-ext (signersOf r s) (signersOf r t) (λ e. signs cs f e r ∙ q .reported e r ∙ sym (signs ds g e r))
 
   pub same-records : s .records ≡ t .records
-  same-records =
-      ascending-ext recordSize (s .records) (t .records) (sum cs f .valid .records-ascend) (sum ds g .valid .records-ascend)
-      (λ r. held-signed s (sum cs f .valid) r ∙ ap (λ (n : ℕ). not (eqb n 0)) (same-signers r) ∙ sym (held-signed t (sum ds g .valid) r))
-      (λ r. lookup-signed s (sum cs f .valid) r ∙ ap (λ (n : ℕ). cond (eqb n 0) [] (wordBytes 4 n)) (same-signers r) ∙ sym (lookup-signed t (sum ds g .valid) r))
+  same-records = records-same s t (sum cs f .valid) (sum ds g .valid) same-signers
 
   same-rest : drop 4 (runs fresh cs) ≡ drop 4 (runs fresh ds)
   same-rest =

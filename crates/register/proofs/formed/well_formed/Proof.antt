@@ -4,7 +4,7 @@ use mathlib.Core.Path.{_≡_, refl, sym, _∙_}
 use mathlib.Core.Bool.{Bool, false, _&&_}
 use mathlib.Core.List.{List}
 use lib.ListN.{length, take, drop}
-use borrow.Author.Tests.{le-leb, lt-leb, eq-eqb, ne-eqb, not-true, not-false}
+use borrow.Author.Tests.{le-leb, lt-leb, eq-eqb, not-true, not-false}
 use Rattle.ranges.proofs.Bools.{and-assoc}
 use Rattle.octets.proofs.Moves.{tail-lent}
 use Rattle.places.specs.Places.{places, isTable, allPlaces}
@@ -15,6 +15,7 @@ use Rattle.held.specs.Summaries.{summaryFormed}
 use Rattle.held.specs.Signed.{placeFormed}
 use Rattle.register.specs.Layout.{maxRecords, recordsAt, registerSize}
 use Rattle.register.specs.Memory.{convictedIn, summaryCount, recordCount, summaryTable, recordTable, summariesIn, wellFormed}
+use Rattle.register.proofs.Opened.{other-size}
 use borrow.Author.Needs.{needs}
 use Rattle.register.proofs.formed.well_formed.Statement.{statement}
 use Rattle.register.proofs.formed.well_formed.Tie as tie
@@ -27,28 +28,23 @@ summariesFormed c n t = isTable summarySize summarySize n t && allPlaces (summar
 abbrev recordsFormed : ℕ → ℕ → List ℕ → Bool
 recordsFormed c n t = isTable recordSize placeSize n t && allPlaces (placeFormed c) (places placeSize n t)
 
-module _ (m : List ℕ) where
-  other-size : (length m ≡ registerSize → ⊥) → wellFormed m ≡ false
+module _ (m : List ℕ) (size : length m ≡ registerSize) where
+  many-summaries : maxSummaries < summaryCount m → wellFormed m ≡ false
   unfolding wellFormed
-  other-size f = rw (ne-eqb (length m) registerSize f) refl
+  many-summaries h = rw (eq-eqb (length m) registerSize size, lt-leb (summaryCount m) maxSummaries h) refl
 
-  module _ (size : length m ≡ registerSize) where
-    many-summaries : maxSummaries < summaryCount m → wellFormed m ≡ false
+  module _ (few-summaries : summaryCount m ≤ maxSummaries) where
+    many-records : maxRecords < recordCount m → wellFormed m ≡ false
     unfolding wellFormed
-    many-summaries h = rw (eq-eqb (length m) registerSize size, lt-leb (summaryCount m) maxSummaries h) refl
+    many-records h = rw (eq-eqb (length m) registerSize size, le-leb (summaryCount m) maxSummaries few-summaries, lt-leb (recordCount m) maxRecords h) refl
 
-    module _ (few-summaries : summaryCount m ≤ maxSummaries) where
-      many-records : maxRecords < recordCount m → wellFormed m ≡ false
-      unfolding wellFormed
-      many-records h = rw (eq-eqb (length m) registerSize size, le-leb (summaryCount m) maxSummaries few-summaries, lt-leb (recordCount m) maxRecords h) refl
-
-      -- with what was read of the header
-      by-tables : (c n k : ℕ) (t : List ℕ) → c ≡ convictedIn m → n ≡ summaryCount m → k ≡ recordCount m → t ≡ recordTable m → k ≤ maxRecords
-          → wellFormed m ≡ (summariesFormed c n (summaryTable m) && recordsFormed c k t)
-      unfolding wellFormed
-      by-tables c n k t c-is n-is k-is t-is h =
-          rw (eq-eqb (length m) registerSize size, le-leb (summaryCount m) maxSummaries few-summaries, le-leb (recordCount m) maxRecords (rw k-is at h), c-is, n-is, k-is, t-is)
-          (sym (and-assoc (isTable summarySize summarySize (summaryCount m) (summaryTable m)) (allPlaces (summaryFormed (convictedIn m)) (summariesIn m)) (recordsFormed (convictedIn m) (recordCount m) (recordTable m))))
+    -- with what was read of the header
+    by-tables : (c n k : ℕ) (t : List ℕ) → c ≡ convictedIn m → n ≡ summaryCount m → k ≡ recordCount m → t ≡ recordTable m → k ≤ maxRecords
+        → wellFormed m ≡ (summariesFormed c n (summaryTable m) && recordsFormed c k t)
+    unfolding wellFormed
+    by-tables c n k t c-is n-is k-is t-is h =
+        rw (eq-eqb (length m) registerSize size, le-leb (summaryCount m) maxSummaries few-summaries, le-leb (recordCount m) maxRecords (rw k-is at h), c-is, n-is, k-is, t-is)
+        (sym (and-assoc (isTable summarySize summarySize (summaryCount m) (summaryTable m)) (allPlaces (summaryFormed (convictedIn m)) (summariesIn m)) (recordsFormed (convictedIn m) (recordCount m) (recordTable m))))
 
 -- ---- the places of the function
 
