@@ -5,6 +5,7 @@ pub mod Drawn
 pub mod Pictured
 pub mod Fitting
 pub mod WholeLists
+pub mod Previewed
 pub mod Shows
 pub mod Bursts
 pub mod Nothing

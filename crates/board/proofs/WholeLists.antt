@@ -1,37 +1,33 @@
 -- The claim about whole lists: both rooms hold and show the same.
-use Prim.Native.Nat.{ℕ, _≤_, _<_}
+use Prim.Native.Nat.{ℕ, _≤_}
 use mathlib.Core.Path.{_≡_, sym, ap, ap₂, _∙_, subst}
-use mathlib.Core.Logic.{_⊎_, inl, inr, ⊎-elim}
-use mathlib.Core.Bool.{Bool, true, cond}
+use mathlib.Core.Bool.{true}
 use mathlib.Core.List.{List}
-use native.Mathlib.Omega.{arith}
 use lib.ListN.{length}
 use borrow.Author.Tests.{le-ltb}
 use Rattle.drawing.specs.Text.{boardSize}
-use Rattle.held.specs.After.{After, writeText}
-use Rattle.register.specs.Register.{Register}
-use Rattle.register.specs.Memory.{wellFormed, decode, fresh}
-use Rattle.register.specs.Calls.{Call, runs, noneFull, remaining}
-use Rattle.register.specs.Remains.{summariesHeld, recordsHeld}
+use Rattle.held.specs.After.{writeText}
+use Rattle.register.specs.Memory.{decode, fresh}
+use Rattle.register.specs.Calls.{Call, runs, noneFull}
 use Rattle.register.specs.Claims.{SameRemains}
 use Rattle.register.proofs.Valid.{Valid}
 use Rattle.register.proofs.Whole.{sum, whole, same-bytes, decoded, same-summaries, same-records}
 use Rattle.register.proofs.Room.{none-full}
 use Rattle.register.proofs.Remaining.{holds-in-order}
 use Rattle.board.specs.Board.{boardOf, boardIn, drawBoard}
-use Rattle.board.specs.Claims.{boardOver, greatestRefusal, SameInBothRooms, WholeLists}
-use Rattle.board.proofs.Fitting.{long}
+use Rattle.board.specs.Claims.{boardOver, SameInBothRooms, WholeLists}
+use Rattle.board.proofs.Fitting.{no-refusal}
 
 module _ (cs : List Call) (f : noneFull fresh cs ≡ true) where
   pub valid : Valid (decode (runs fresh cs))
   valid = subst Valid (sym (decoded cs f)) (sum cs f .valid)
 
   -- the register's board is the board over what remains
-  board-over : boardIn (decode (runs fresh cs)) ≡ boardOver cs
+  pub board-over : boardIn (decode (runs fresh cs)) ≡ boardOver cs
   board-over = let h = holds-in-order cs f in ap₂ boardOf (h .0) (h .1)
 
   -- and a call draws it
-  drawn : (out : List ℕ) → boardSize ≤ length out → drawBoard (runs fresh cs) out ≡ writeText (boardOver cs) out
+  pub drawn : (out : List ℕ) → boardSize ≤ length out → drawBoard (runs fresh cs) out ≡ writeText (boardOver cs) out
   unfolding drawBoard
   drawn out h = rw (whole cs f .formed, le-ltb _ _ h) (ap (λ (t : List ℕ). writeText t out) board-over)
 
@@ -49,7 +45,7 @@ module _ (cs ds : List Call) (f : noneFull fresh cs ≡ true) (g : noneFull fres
     registers = same-bytes cs ds f g q;
     drawn-north = drawn cs f;
     drawn-south = λ out h. drawn ds g out h ∙ ap (λ (t : List ℕ). writeText t out) same-board;
-    no-refusal = rw (← board-over cs f) (⊎-elim (λ z. inl z) (λ z. inr (omega (arith, z))) (long (decode (runs fresh cs)) (valid cs f)));
+    no-refusal = rw (← board-over cs f) (no-refusal (decode (runs fresh cs)) (valid cs f));
   }
 
 pub whole-lists : WholeLists

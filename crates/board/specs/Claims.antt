@@ -3,7 +3,7 @@
 -- `whole-lists` in proofs/WholeLists.
 --
 -- register specs/Claims has the first two parts (`HoldsWhatRemains`, `FullExactlyWhen`), specs/Calls what is malformed, struck, remaining and refused as full,
--- and `runs`, which folds the very definitions that the contracts of report, summary and conviction cite; specs/Board has `boarded`, which the contract of
+-- and `runs`, which folds the very definitions that the contracts of report, summary and conviction cite; specs/Board has `drawBoard`, which the contract of
 -- board cites.
 use Prim.Native.Nat.{ℕ, _≤_, _<_}
 use mathlib.Core.Path.{_≡_}

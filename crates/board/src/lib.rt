@@ -2,6 +2,7 @@
 use fixes::layout::FIX_SIZE;
 use fixes::layout::MAX_FIXES;
 use register::layout;
+use register::layout::REGISTER_SIZE;
 ghost use mathlib.Core.Path.{_≡_};
 ghost use mathlib.Core.Bool.{true};
 ghost use Prim.Native.Nat.{_≤_};
@@ -11,6 +12,7 @@ ghost use Rattle.drawing.specs.Text.{boardSize};
 ghost use Rattle.held.specs.After.{after};
 ghost use Rattle.register.specs.Memory.{wellFormed, decode};
 ghost use Rattle.board.specs.Board.{boardIn, drawBoard};
+ghost use Rattle.board.specs.Preview.{drawPreview};
 
 // The least output that a board is written to: every board fits.
 pub const BOARD_SIZE: usize = 16384;
@@ -35,6 +37,17 @@ fn draw(memory: &[u8], out: &mut [u8]) -> usize
     drawing::draw(out, &t, &labels, n)
 }
 
+// The board of bytes that are a register: 10, or its length.
+fn draw_formed(memory: &[u8], out: &mut [u8]) -> u32
+    requires { ⌜ wellFormed (now memory) ≡ true ⌝ }
+    ensures { λ a. ⌜ after a (now (out .exit)) ≡ drawBoard (now (memory .entry)) (now (out .entry)) ⌝ }
+{
+    if out.len() < BOARD_SIZE {
+        return 10;
+    }
+    draw(memory, out) as u32
+}
+
 // The board of a register: 1 or 10, or its length.
 pub fn board(memory: &[u8], out: &mut [u8]) -> u32
     ensures { λ a. ⌜ after a (now (out .exit)) ≡ drawBoard (now (memory .entry)) (now (out .entry)) ⌝ }
@@ -42,8 +55,22 @@ pub fn board(memory: &[u8], out: &mut [u8]) -> u32
     if !register::formed::well_formed(memory) {
         return 1;
     }
-    if out.len() < BOARD_SIZE {
-        return 10;
+    draw_formed(memory, out)
+}
+
+// The board of a register as it would be if an engine were convicted: 1, 2 or 10, or its length. The engine is convicted on a copy, which
+// is well-formed then and is not tested again.
+pub fn preview(memory: &[u8], engine: u32, out: &mut [u8]) -> u32
+    ensures { λ a. ⌜ after a (now (out .exit)) ≡ drawPreview engine (now (memory .entry)) (now (out .entry)) ⌝ }
+{
+    if memory.len() != REGISTER_SIZE {
+        return 1;
     }
-    draw(memory, out) as u32
+    let mut copied = [0u8; REGISTER_SIZE];
+    bytes::copy(memory, &mut copied);
+    let refusal = register::convictions::conviction(&mut copied, engine);
+    if refusal != 0 {
+        return refusal;
+    }
+    draw_formed(&copied, out)
 }
