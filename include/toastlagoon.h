@@ -13,8 +13,9 @@
  * - A bool is 0 or 1.
  * - The floating-point environment that a thread begins with: rounding to nearest, no flush to zero and no denormals as zero (MXCSR
  *   1f80 but for its flags), no exception unmasked. Another changes chi-squares, and so which fixes are refused.
- * - Stack: 48 KB for tl_decide, 112 KB for tl_board and each function of a track, 4 KB for each other function (a KB is 1,024 bytes).
- *   bench/stack measures it; seen were 27 KB for a decision, 96 KB for a board, 45 KB for a call on a track and 1 KB for the others.
+ * - Stack: 48 KB for tl_decide, 112 KB for tl_board and each function of a track, 144 KB for tl_register_preview, 4 KB for each other
+ *   function (a KB is 1,024 bytes). bench/stack measures it; seen were 27 KB for a decision, 96 KB for a board, 126 KB for a preview,
+ *   which has a copy of the register there, 45 KB for a call on a track and 1 KB for the others.
  *   What a dynamic linker takes at a first call is not in these: bind names at the start (-Wl,-z,now).
  * - Threads: any number of them may call at once, as long as no two calls have memory in common that one of them may write. A register
  *   or a track that several threads use needs the caller's lock.
@@ -35,13 +36,13 @@ extern "C" {
 /* ---- version of this header and of the library that comes with it
  *
  * With major 0 every change of the minor number may change names, layouts, answers and texts: rooms that are to show the same board
- * have the same version. */
+ * have the same minor number. A change of the patch number adds names and changes nothing that was there. */
 
 #define TL_VERSION_MAJOR 0
 #define TL_VERSION_MINOR 8
-#define TL_VERSION_PATCH 0
+#define TL_VERSION_PATCH 1
 #define TL_VERSION (TL_VERSION_MAJOR * 1000000 + TL_VERSION_MINOR * 1000 + TL_VERSION_PATCH)
-#define TL_VERSION_TEXT TL_VERSION_JOINED(TL_VERSION_MAJOR, TL_VERSION_MINOR, TL_VERSION_PATCH) /* "0.8.0" */
+#define TL_VERSION_TEXT TL_VERSION_JOINED(TL_VERSION_MAJOR, TL_VERSION_MINOR, TL_VERSION_PATCH) /* "0.8.1" */
 #define TL_VERSION_JOINED(major, minor, patch) TL_VERSION_QUOTED(major, minor, patch)
 #define TL_VERSION_QUOTED(major, minor, patch) #major "." #minor "." #patch
 
@@ -58,7 +59,7 @@ extern "C" {
 #define TL_MODEL_DISPUTED 7     /* a track's summaries of a cited model disagree, or are of another spec */
 #define TL_BAD_ITEMS 8          /* over 96 items, a malformed item, or two with one identity */
 #define TL_BAD_SUMMARY 9        /* a model over 63, or inputs that are not of 32 bytes */
-#define TL_OUTPUT_TOO_SMALL 10  /* an output of under TL_BOARD_SIZE bytes for a board, of under TL_LISTING_SIZE for a listing */
+#define TL_OUTPUT_TOO_SMALL 10  /* an output of under TL_BOARD_SIZE bytes for a board or a preview, of under TL_LISTING_SIZE for a listing */
 
 /* What a report did to a track. */
 #define TL_CHANGED 20   /* the fix stands, or another fix is first in its transmission than before */
@@ -66,8 +67,8 @@ extern "C" {
 #define TL_DUPLICATE 22 /* its identity was held in the one transmission that it is tied to, and gained the signer */
 #define TL_DROPPED 23   /* it is not kept */
 
-/* What an answer says, in words. Not for the lengths that tl_board and tl_track_listing answer: a length can be any number but those
- * of their refusals. The text is part of the program that includes this header, not of the library. */
+/* What an answer says, in words. Not for the lengths that tl_board, tl_register_preview and tl_track_listing answer: a length can be any
+ * number but those of their refusals. The text is part of the program that includes this header, not of the library. */
 static inline const char *tl_answer_name(uint32_t answer) {
     switch (answer) {
     case TL_OK: return "done";
@@ -257,6 +258,13 @@ uint32_t tl_register_conviction(uint8_t *memory, size_t memory_len, uint32_t eng
  * end. Bytes past the length, and all bytes of a refused call, stay as found. Every board fits TL_BOARD_SIZE bytes. Registers that hold
  * the same records, signers and summaries have the same board. */
 uint32_t tl_board(const uint8_t *memory, size_t memory_len, uint8_t *out, size_t out_len);
+
+/* Writes the board of a register as it would be if an engine were convicted, and only reads the register: what tl_board writes after
+ * tl_register_conviction on a copy. Answers the length, as tl_board does; or TL_MALFORMED_REGISTER, TL_ENGINE_OVER_31,
+ * TL_OUTPUT_TOO_SMALL, the first that holds. An engine that is convicted already may be previewed too, and gives the present board. If
+ * the engine is convicted next, tl_board writes what was previewed. Bytes past the length, and all bytes of a refused call, stay as
+ * found. */
+uint32_t tl_register_preview(const uint8_t *memory, size_t memory_len, uint32_t engine, uint8_t *out, size_t out_len);
 
 /* A track is what the merge of sky-commons/tally holds of one aircraft, decided report by report: it depends on the order of the
  * calls, as a register does not. */

@@ -1,5 +1,5 @@
-/* The sizes of the layouts, a hash, a decision over three fixes of one transmission, reports into a register, and the same three fixes in two orders into
- * tracks, called from C. */
+/* The sizes of the layouts, a hash, a decision over three fixes of one transmission, reports into a register, a conviction that is shown first, and the
+ * same three fixes in two orders into tracks, called from C. */
 #include <inttypes.h>
 #include <stdio.h>
 #include <string.h>
@@ -108,6 +108,10 @@ static void reports(void) {
     show("report by engine 4", tl_register_report(memory, sizeof memory, 4, r, sizeof r));
     show("report by engine 7", tl_register_report(memory, sizeof memory, 7, r, sizeof r));
     show("report by engine 32", tl_register_report(memory, sizeof memory, TL_MAX_ENGINE + 1, r, sizeof r));
+    /* The board as it would be, and then the conviction: the board at the end is the one that was previewed. */
+    show_text("preview without engine 4", tl_register_preview(memory, sizeof memory, 4, out, sizeof out), out);
+    show("preview without engine 32", tl_register_preview(memory, sizeof memory, TL_MAX_ENGINE + 1, out, TOO_LITTLE));
+    show("preview into too little", tl_register_preview(memory, sizeof memory, 4, out, TOO_LITTLE));
     show("conviction of engine 4", tl_register_conviction(memory, sizeof memory, 4));
     show("report by engine 4", tl_register_report(memory, sizeof memory, 4, r, sizeof r));
     const uint8_t *first = memory + TL_REGISTER_RECORDS_AT;

@@ -12,6 +12,7 @@ ghost use Rattle.held.specs.After.{after};
 ghost use Rattle.register.specs.Register.{takeReport, takeSummary, takeConviction};
 ghost use Rattle.register.specs.Memory.{onMemory};
 ghost use Rattle.board.specs.Board.{drawBoard};
+ghost use Rattle.board.specs.Preview.{drawPreview};
 ghost use Rattle.stored.specs.Memory as T;
 ghost use Rattle.track.specs.Track.{trackReport, trackSummary, trackConviction};
 ghost use Rattle.listing.specs.Listing.{listTrack};
@@ -173,6 +174,15 @@ pub extern "C" fn tl_board(memory: &[u8], out: &mut [u8]) -> u32
     ensures { λ a. ⌜ after a (now (out .exit)) ≡ drawBoard (now (memory .entry)) (now (out .entry)) ⌝ }
 {
     board::board(memory, out)
+}
+
+// The board of a register as it would be if an engine were convicted, into `out`: 1, 2 or 10, or its length, which is 0 or greater than
+// every refusal's number. The register is only read.
+#[no_mangle]
+pub extern "C" fn tl_register_preview(memory: &[u8], engine: u32, out: &mut [u8]) -> u32
+    ensures { λ a. ⌜ after a (now (out .exit)) ≡ drawPreview engine (now (memory .entry)) (now (out .entry)) ⌝ }
+{
+    board::preview(memory, engine, out)
 }
 
 // Reports a record for an engine into a track.
