@@ -10,9 +10,10 @@ if [ -f "$library" ]; then
     for name in tl_blake2s256 tl_root tl_horizontal_sigma tl_agreement tl_decide; do
         if nm "$library" 2>/dev/null | grep -q " T $name\$"; then library_flags="$library_flags --cfg has_$name"; fi
     done
-    if nm "$library" 2>/dev/null | grep -q " T tl_register_report\$"; then library_flags="$library_flags --cfg has_register"; fi
-    if nm "$library" 2>/dev/null | grep -q " T tl_board\$"; then library_flags="$library_flags --cfg has_board"; fi
-    if nm "$library" 2>/dev/null | grep -q " T tl_track_report\$"; then library_flags="$library_flags --cfg has_track"; fi
+    # A symbol, and what is there where the library has it.
+    for pair in tl_register_report:register tl_board:board tl_register_preview:preview tl_track_report:track; do
+        if nm "$library" 2>/dev/null | grep -q " T ${pair%:*}\$"; then library_flags="$library_flags --cfg has_${pair#*:}"; fi
+    done
     library_flags="$library_flags -C link-arg=$library"
 else
     echo "no static library at $library (run 'rt staticlib toastlagoon', or set TOASTLAGOON_LIB): the Rust runs alone"

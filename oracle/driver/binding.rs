@@ -72,6 +72,11 @@ unsafe extern "C" {
     fn tl_board(memory: *const u8, len: usize, out: *mut u8, out_len: usize) -> u32;
 }
 
+#[cfg(has_preview)]
+unsafe extern "C" {
+    fn tl_register_preview(memory: *const u8, len: usize, engine: u32, out: *mut u8, out_len: usize) -> u32;
+}
+
 #[cfg(has_register)]
 pub mod register {
     pub fn report(m: &mut [u8], engine: u32, record: &[u8]) -> u32 {
@@ -89,6 +94,11 @@ pub mod register {
     #[cfg(has_board)]
     pub fn board(m: &[u8], out: &mut [u8]) -> usize {
         unsafe { super::tl_board(m.as_ptr(), m.len(), out.as_mut_ptr(), out.len()) as usize }
+    }
+
+    #[cfg(has_preview)]
+    pub fn preview(m: &[u8], engine: u32, out: &mut [u8]) -> usize {
+        unsafe { super::tl_register_preview(m.as_ptr(), m.len(), engine, out.as_mut_ptr(), out.len()) as usize }
     }
 }
 
@@ -153,7 +163,7 @@ pub mod track {
     }
 }
 
-/// The register's report and summary for the bench, which also runs without them (and then calls neither).
+/// The register's calls for the bench and for previews, which are compiled without them too (and then make none).
 pub const REGISTER: bool = cfg!(has_register);
 
 #[inline(always)]
@@ -172,6 +182,14 @@ pub fn summary(m: &mut [u8], engine: u32, model: u32, spec: u16, inputs: &[u8]) 
     unreachable!("{} {engine} {model} {spec} {}", m.len(), inputs.len())
 }
 
+#[inline(always)]
+pub fn convict(m: &mut [u8], engine: u32) -> u32 {
+    #[cfg(has_register)]
+    return register::convict(m, engine);
+    #[cfg(not(has_register))]
+    unreachable!("{} {engine}", m.len())
+}
+
 pub const BOARD: bool = cfg!(has_board);
 
 #[inline(always)]
@@ -180,6 +198,17 @@ pub fn board(m: &[u8], out: &mut [u8]) -> usize {
     return register::board(m, out);
     #[cfg(not(has_board))]
     unreachable!("{} {}", m.len(), out.len())
+}
+
+/// Of a conviction. A library that has it also has the register and the board.
+pub const PREVIEW: bool = cfg!(has_preview);
+
+#[inline(always)]
+pub fn preview(m: &[u8], engine: u32, out: &mut [u8]) -> usize {
+    #[cfg(has_preview)]
+    return register::preview(m, engine, out);
+    #[cfg(not(has_preview))]
+    unreachable!("{} {engine} {}", m.len(), out.len())
 }
 
 pub const HASH: bool = cfg!(has_tl_blake2s256);

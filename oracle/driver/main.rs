@@ -9,12 +9,15 @@ mod heights;
 mod kinds;
 mod lent;
 mod lists;
+#[cfg(has_register)]
+mod previews;
 mod random;
 #[cfg(has_register)]
 mod registers;
 #[cfg(has_register)]
 mod spans;
 mod tracks;
+mod tried;
 
 use oracle::decide::{Decision, SIZE};
 use oracle::{Claim, hex};

@@ -1,15 +1,19 @@
-//! The library's register beside the peer's: lists of calls on two memories, each answer and all bytes; and the boards, where the
-//! library has one.
+//! The library's register beside the peer's: lists of calls on two memories, each answer and all bytes; and the boards and previews,
+//! where the library has them.
 
-use crate::binding::register as ours;
+use crate::binding::{self, register as ours};
 use crate::heights::{self, EDGES};
 use crate::random::Random;
-use crate::spans;
+use crate::{previews, spans, tried};
 use oracle::{Record, hex};
 use peer::register::{self as theirs, SIZE};
 use std::collections::BTreeMap;
 
 type Counts = BTreeMap<String, u64>;
+
+fn count(kinds: impl IntoIterator<Item = &'static str>, counts: &mut Counts) {
+    kinds.into_iter().for_each(|kind| *counts.entry(kind.to_string()).or_default() += 1);
+}
 
 /// One call, kept so that a list can be run again.
 #[derive(Clone, Debug)]
@@ -26,6 +30,11 @@ enum Call {
     },
     Convict {
         engine: u32,
+    },
+    /// Of a conviction, into an output of so many bytes.
+    Preview {
+        engine: u32,
+        room: usize,
     },
     /// Changes a byte of the memory, which is then mostly malformed; it is changed back after the next call.
     Spoil {
@@ -45,7 +54,7 @@ fn engine(random: &mut Random) -> u32 {
 struct Style {
     /// How many times and first bytes of inputs there are.
     wide: u64,
-    /// `summaries` of 60 calls are summaries.
+    /// `summaries` of 60 calls that are no previews are summaries.
     summaries: u64,
     /// Whether the times lie around the limit of a link.
     spread: bool,
@@ -80,6 +89,9 @@ fn record(random: &mut Random, style: &Style) -> Vec<u8> {
 }
 
 fn call(random: &mut Random, style: &Style) -> Call {
+    if binding::PREVIEW && random.one_in(24) {
+        return Call::Preview { engine: previews::engine(random), room: previews::room(random) };
+    }
     match random.below(60) {
         0 if random.one_in(4) => Call::Convict { engine: engine(random) },
         1 => Call::Spoil { at: random.below(SIZE as u64) as usize, byte: random.next() as u8 },
@@ -99,9 +111,7 @@ fn call(random: &mut Random, style: &Style) -> Call {
 fn count_kinds(memory: &[u8], counts: &mut Counts) {
     if let Some(register) = theirs::Register::read(memory) {
         let heights = heights::kinds(peer::board::heights(&register).into_iter());
-        heights
-            .chain(spans::kinds(&peer::board::spans(&register)))
-            .for_each(|kind| *counts.entry(kind.to_string()).or_default() += 1);
+        count(heights.chain(spans::kinds(&peer::board::spans(&register))), counts);
     }
 }
 
@@ -120,29 +130,43 @@ fn compare_boards(a: &[u8], b: &[u8], n: usize, last: bool, counts: &mut Counts)
         (_, 1..10) => "boards of less than 10 lines",
         _ => "boards of 10 lines or more",
     };
-    *counts.entry(kind.to_string()).or_default() += 1;
+    count([kind], counts);
     if last {
         count_kinds(b, counts);
     }
     None
 }
 
-/// One call on both memories: what each answers, and what kind of call it was.
-fn answers(call: &Call, a: &mut [u8], b: &mut [u8]) -> (u32, u32, &'static str) {
-    match call {
+/// A preview on both memories: what both answer, or the difference in words.
+fn preview(engine: u32, room: usize, a: &[u8], b: &[u8], counts: &mut Counts) -> Result<usize, String> {
+    let (answer, kinds) = previews::compare(a, b, engine, room)?;
+    count(kinds, counts);
+    Ok(answer)
+}
+
+/// One call on both memories: what both answer, or the difference in words.
+fn answer(call: &Call, a: &mut [u8], b: &mut [u8], counts: &mut Counts) -> Result<usize, String> {
+    let (x, y, kind) = match call {
         Call::Report { engine, record } => (ours::report(a, *engine, record), theirs::report(b, *engine, record), "report"),
         Call::Summary { engine, model, spec, inputs } => {
             let x = ours::summary(a, *engine, *model, *spec, inputs);
             (x, theirs::summary(b, *engine, *model, *spec, inputs), "summary")
         }
         Call::Convict { engine } => (ours::convict(a, *engine), theirs::convict(b, *engine), "conviction"),
+        Call::Preview { engine, room } => return preview(*engine, *room, a, b, counts),
         Call::Spoil { at, byte } => {
             if let (Some(x), Some(y)) = (a.get_mut(*at), b.get_mut(*at)) {
                 (*x, *y) = (*byte, *byte);
             }
             (0, 0, "spoiling")
         }
+    };
+    if x != y || a != b {
+        let alike = if a == b { "alike" } else { "differ" };
+        return Err(format!("library answers {x}, peer {y}; memories {alike}"));
     }
+    *counts.entry(format!("{kind} answered {x}")).or_default() += 1;
+    Ok(x as usize)
 }
 
 /// What a list of calls comes to on two memories of `size` bytes; the first difference in words. A spoilt byte is put back after the
@@ -157,20 +181,18 @@ fn run(size: usize, calls: &[Call], counts: &mut Counts) -> Option<String> {
             }
             back = a.get(*at).map(|held| (*at, *held));
         }
-        let (x, y, kind) = answers(call, &mut a, &mut b);
-        if x != y || a != b {
-            let alike = if a == b { "alike" } else { "differ" };
-            return Some(format!("call {n}: library answers {x}, peer {y}; memories {alike}"));
-        }
-        *counts.entry(format!("{kind} answered {x}")).or_default() += 1;
+        let answer = match answer(call, &mut a, &mut b, counts) {
+            Ok(answer) => answer,
+            Err(words) => return Some(format!("call {n}: {words}")),
+        };
         #[cfg(has_board)]
         if (n % 8 == 0 || n + 1 == calls.len() || back.is_some())
             && let Some(words) = compare_boards(&a, &b, n, n + 1 == calls.len(), counts)
         {
             return Some(words);
         }
-        if kind != "spoiling"
-            && let (Some((at, byte)), 1) = (back.take(), x)
+        if !matches!(call, Call::Spoil { .. })
+            && let (Some((at, byte)), 1) = (back.take(), answer)
         {
             (a[at], b[at]) = (byte, byte);
         }
@@ -197,6 +219,14 @@ fn list(random: &mut Random) -> (Vec<Call>, bool) {
     ((0..length).map(|_| call(random, &style)).collect(), style.spread)
 }
 
+fn compared() -> &'static str {
+    match (cfg!(has_board), binding::PREVIEW) {
+        (false, _) => "register, no board in the library",
+        (true, false) => "register and board, no preview in the library",
+        (true, true) => "register, board and preview",
+    }
+}
+
 pub fn compare(random: &mut Random, lists: u64) {
     let mut counts = Counts::new();
     for _ in 0..lists {
@@ -215,13 +245,16 @@ pub fn compare(random: &mut Random, lists: u64) {
             std::process::exit(1);
         }
     }
-    let boards = if cfg!(has_board) { " and board" } else { ", no board in the library" };
-    println!("register{boards}: {lists} lists of calls, library and peer alike");
+    println!("{}: {lists} lists of calls, library and peer alike", compared());
     for (what, times) in &counts {
         println!("  {times:>9}  {what}");
     }
+    let came = |kind: &str| counts.contains_key(kind);
     if cfg!(has_board) {
-        heights::tried(|kind| counts.contains_key(kind), lists);
-        spans::tried(|kind| counts.contains_key(kind), lists);
+        tried::all(heights::KINDS, came, lists);
+        tried::all(spans::KINDS, came, lists);
+    }
+    if binding::PREVIEW {
+        tried::all(previews::kinds(), came, lists);
     }
 }

@@ -5,6 +5,7 @@ use crate::calls::{self, Call};
 use crate::cases::{self, Counts, Seen};
 use crate::heights;
 use crate::random::Random;
+use crate::tried;
 use oracle::formed::formed;
 use oracle::track::{Answer, SIZE, Track};
 
@@ -107,5 +108,5 @@ pub fn compare(random: &mut Random, lists: u64) {
     }
     println!("track: {lists} lists of {made} calls from a fresh track, {}", crate::beside(binding::TRACK));
     cases::print(&counts);
-    heights::tried(|kind| counts.contains_key(kind), lists);
+    tried::all(heights::KINDS, |kind| counts.contains_key(kind), lists);
 }

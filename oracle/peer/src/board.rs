@@ -1,6 +1,6 @@
-//! The board: what a register's counting records come to.
+//! The board: what a register's counting records come to; and the board as it would be after a conviction.
 
-use crate::register::Register;
+use crate::register::{Register, struck};
 use oracle::decide::Decision;
 use oracle::lines::{self, Said};
 use oracle::{Record, blake2s256};
@@ -28,8 +28,8 @@ fn agreed(register: &Register, model: u8) -> Option<&[u8]> {
     said.all(|other| other == first).then_some(first)
 }
 
-/// The model inputs of a record, if it counts.
-fn model_inputs(register: &Register, record: &Record) -> Option<[u8; 32]> {
+/// What the model inputs of a record are the hash of, if it counts.
+fn cited(register: &Register, record: &Record) -> Option<Vec<u8>> {
     let mut bytes = b"tally pair model cited inputs\0".to_vec();
     for &model in &record.models {
         let (spec, inputs) = agreed(register, model)?.split_at(2);
@@ -38,7 +38,7 @@ fn model_inputs(register: &Register, record: &Record) -> Option<[u8; 32]> {
         }
         bytes.extend_from_slice(inputs);
     }
-    Some(blake2s256(&bytes))
+    Some(bytes)
 }
 
 fn identity(record: &Record, inputs: &[u8; 32]) -> [u8; 32] {
@@ -59,7 +59,7 @@ fn representatives(register: &Register) -> Vec<Fix> {
     let mut fixes: Vec<Fix> = Vec::new();
     for (bytes, signers) in &register.records {
         let record = Record::read(bytes).expect("a well-formed record");
-        let Some(inputs) = model_inputs(register, &record) else {
+        let Some(inputs) = cited(register, &record).map(|bytes| blake2s256(&bytes)) else {
             continue;
         };
         let identity = identity(&record, &inputs);
@@ -134,6 +134,12 @@ fn latest(fixes: &[Fix]) -> Vec<(Vec<usize>, Decision)> {
     decisions.split_off(decisions.len().saturating_sub(SHOWN))
 }
 
+/// The records of a well-formed register that count.
+pub fn counting(register: &Register) -> Vec<[u8; 222]> {
+    let counts = |bytes: &[u8; 222]| cited(register, &Record::read(bytes).expect("a well-formed record")).is_some();
+    register.records.iter().map(|(bytes, _)| *bytes).filter(counts).collect()
+}
+
 /// The heights, in millimetres, that the board of a well-formed register writes: each fix of the latest transmissions has a line.
 pub fn heights(register: &Register) -> Vec<i32> {
     let fixes = representatives(register);
@@ -185,15 +191,29 @@ pub fn text(register: &Register) -> String {
     out
 }
 
-/// Board: 1, 10, or the length of what was written.
-pub fn board(memory: &[u8], out: &mut [u8]) -> usize {
-    let Some(register) = Register::read(memory) else {
-        return 1;
-    };
+/// Writes the board of a well-formed register: 10, or the length of what was written.
+fn draw(register: &Register, out: &mut [u8]) -> usize {
     if out.len() < ROOM {
         return 10;
     }
-    let text = text(&register);
+    let text = text(register);
     out[..text.len()].copy_from_slice(text.as_bytes());
     text.len()
+}
+
+/// Board: 1, 10, or the length of what was written.
+pub fn board(memory: &[u8], out: &mut [u8]) -> usize {
+    match Register::read(memory) {
+        Some(register) => draw(&register, out),
+        None => 1,
+    }
+}
+
+/// Preview of a conviction (document 02, A.1): the board of what the conviction would leave. It is refused as the conviction is, then
+/// as the board is: 1, 2, 10, or the length of what was written.
+pub fn preview(memory: &[u8], engine: u32, out: &mut [u8]) -> usize {
+    match struck(memory, engine) {
+        Ok(register) => draw(&register, out),
+        Err(refused) => refused as usize,
+    }
 }

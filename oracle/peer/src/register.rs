@@ -63,6 +63,16 @@ impl Register {
             && self.records.windows(2).all(|w| w[0].0 < w[1].0)
     }
 
+    /// Takes an engine out: its summaries go, its signature goes from every record, and so does a record that has no signer left.
+    fn strike(&mut self, engine: u32) {
+        self.convicted |= 1 << engine;
+        self.summaries.retain(|s| u32::from(s[0]) != engine);
+        for (_, signers) in &mut self.records {
+            *signers &= !(1 << engine);
+        }
+        self.records.retain(|(_, signers)| *signers != 0);
+    }
+
     pub fn write(&self, b: &mut [u8]) {
         b.fill(0);
         b[..4].copy_from_slice(&self.convicted.to_le_bytes());
@@ -132,20 +142,23 @@ pub fn summary(memory: &mut [u8], engine: u32, model: u32, spec: u16, inputs: &[
     0
 }
 
+/// The register that a conviction leaves, or the number that it is refused with. The memory keeps its bytes.
+pub fn struck(memory: &[u8], engine: u32) -> Result<Register, u32> {
+    let mut register = Register::read(memory).ok_or(1u32)?;
+    if engine > 31 {
+        return Err(2);
+    }
+    register.strike(engine);
+    Ok(register)
+}
+
 /// Register conviction.
 pub fn convict(memory: &mut [u8], engine: u32) -> u32 {
-    let Some(mut register) = Register::read(memory) else {
-        return 1;
-    };
-    if engine > 31 {
-        return 2;
+    match struck(memory, engine) {
+        Ok(register) => {
+            register.write(memory);
+            0
+        }
+        Err(refused) => refused,
     }
-    register.convicted |= 1 << engine;
-    register.summaries.retain(|s| u32::from(s[0]) != engine);
-    for (_, signers) in &mut register.records {
-        *signers &= !(1 << engine);
-    }
-    register.records.retain(|(_, signers)| *signers != 0);
-    register.write(memory);
-    0
 }

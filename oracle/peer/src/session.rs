@@ -134,6 +134,19 @@ fn answer(memory: &mut [u8], operation: &Operation) -> u32 {
     }
 }
 
+/// The register that operations leave, and what each of them answered.
+fn done(all: &[Operation]) -> (Vec<u8>, Vec<u32>) {
+    let mut memory = vec![0u8; register::SIZE];
+    let answers = all.iter().map(|operation| answer(&mut memory, operation)).collect();
+    (memory, answers)
+}
+
+/// The register that a session leaves, if its lines are good.
+#[cfg(test)]
+pub fn register_after(input: &[u8]) -> Option<Vec<u8>> {
+    operations(input).ok().map(|all| done(&all).0)
+}
+
 /// What the program prints for an input.
 pub fn session(input: &[u8]) -> String {
     if input.len() > MOST {
@@ -143,11 +156,8 @@ pub fn session(input: &[u8]) -> String {
         Ok(all) => all,
         Err(Bad(line)) => return format!("refused=11 line={line}\n"),
     };
-    let mut memory = vec![0u8; register::SIZE];
-    let mut out = String::new();
-    for operation in &all {
-        out += &format!("answer={}\n", answer(&mut memory, operation));
-    }
+    let (memory, answers) = done(&all);
+    let out: String = answers.iter().map(|answer| format!("answer={answer}\n")).collect();
     let board = board::text(&Register::read(&memory).expect("a register"));
     out + if board.is_empty() { QUIET } else { &board }
 }

@@ -1,9 +1,9 @@
-//! What the peer must do on the sessions that document 01, or a reading of it, settles.
+//! What the peer must do on the sessions that document 01, or a reading of it, settles; and on 02's previews.
 
 use crate::board;
 use crate::cases::*;
 use crate::register::{self, Register, SIZE};
-use crate::session::session;
+use crate::session::{register_after, session};
 use oracle::lines::metres;
 
 /// What comes after the answers.
@@ -252,6 +252,115 @@ fn refusals_leave_the_memory_alone() {
     assert_eq!(register::summary(&mut fresh, 31, 63, 0, &[0; 31]), 9);
     assert_eq!(fresh, vec![0u8; SIZE]);
     assert!(Register::read(&fresh[1..]).is_none());
+}
+
+/// What a preview of an engine shows after a session. Past the text the output stays as it was.
+fn preview_of(input: &str, engine: u32) -> String {
+    let memory = register_after(input.as_bytes()).expect("good lines");
+    let mut out = vec![7u8; board::ROOM];
+    let length = board::preview(&memory, engine, &mut out);
+    assert!(out[length..].iter().all(|&b| b == 7), "{input}");
+    String::from_utf8(out[..length].to_vec()).expect("text")
+}
+
+/// Document 02, A.1: refused as the conviction is, then as the board is. The register has a board, so that something could be written.
+#[test]
+fn refusals_of_a_preview() {
+    let shown = register_after(worked().as_bytes()).expect("good lines");
+    let mut malformed = shown.clone();
+    malformed[8] = 32;
+    for (memory, engine, room, answer) in [
+        (&malformed[..], 1, 16_384, 1),
+        (&malformed, 1, 16_383, 1),
+        (&malformed, 32, 16_384, 1),
+        (&malformed, 32, 0, 1),
+        (&shown[1..], 1, 16_384, 1),
+        (&[], 32, 0, 1),
+        (&shown, 32, 16_384, 2),
+        (&shown, 32, 16_383, 2),
+        (&shown, 32, 0, 2),
+        (&shown, 255, 16_384, 2),
+        (&shown, 256, 16_384, 2),
+        (&shown, u32::MAX, 16_384, 2),
+        (&shown, 31, 16_383, 10),
+        (&shown, 2, 0, 10),
+    ] {
+        let mut out = vec![7u8; room];
+        assert_eq!(board::preview(memory, engine, &mut out), answer, "{engine} {room}");
+        assert!(out.iter().all(|&b| b == 7), "{engine} {room}");
+    }
+}
+
+#[test]
+fn previews_of_the_worked_session() {
+    let first = "role=ranked time=1000 lat=500000000 lon=100000000 height=2 weight=2 signers=00000002\n";
+    let second =
+        "role=refused time=1000 lat=500000000 lon=100000000 height=none weight=3 signers=00000004 chi2=7ff0000000000000\n";
+    let alone = format!("transmission=1 ranked=1 dominated=0 refused=0\n{first}");
+    assert_eq!(preview_of(&worked(), 2), alone);
+    // The only summary is engine 1's: without it the other's record does not count, and nothing is written.
+    assert_eq!(preview_of(&worked(), 1), "");
+    // Engines of which nothing is held.
+    for idle in [0, 3, 31] {
+        assert_eq!(preview_of(&worked(), idle), format!("transmission=1 ranked=1 dominated=0 refused=1\n{first}{second}"));
+    }
+    // One that is convicted: the present board.
+    assert_eq!(preview_of(&(worked() + &convict(2)), 2), alone);
+    assert_eq!(preview_of(&(worked() + &convict(1)), 1), "");
+    // A fresh register has no board, and no preview.
+    assert_eq!(preview_of("", 5), "");
+}
+
+#[test]
+fn a_dispute_settled_by_a_preview() {
+    let (_, input) = cases().into_iter().find(|c| c.0 == "disputed").unwrap();
+    let line = "role=ranked time=1000 lat=0 lon=0 height=2 weight=1 signers=00000002\n";
+    assert_eq!(preview_of(&input, 2), format!("transmission=1 ranked=1 dominated=0 refused=0\n{line}"));
+    // With engine 1 the only record goes, and with an idle one the dispute stays.
+    assert_eq!(preview_of(&input, 1), "");
+    assert_eq!(preview_of(&input, 3), "");
+}
+
+#[test]
+fn a_preview_without_the_representative() {
+    let (_, input) = cases().into_iter().find(|c| c.0 == "one-identity-two-positions").unwrap();
+    let board = |lat: u32, signers: u32| {
+        format!(
+            "transmission=1 ranked=1 dominated=0 refused=0\n\
+             role=ranked time=1000 lat={lat} lon=0 height=2 weight=1 signers={signers:08x}\n"
+        )
+    };
+    assert_eq!(preview_of(&input, 0), board(0, 6));
+    assert_eq!(preview_of(&input, 1), board(0, 4));
+    assert_eq!(preview_of(&input, 2), board(2700, 2));
+}
+
+#[test]
+fn a_preview_without_a_signature() {
+    let [small, _, _] = nested();
+    let both = small.text() + &Report { engine: 2, ..small }.text();
+    let line = "role=ranked time=1000 lat=0 lon=0 height=2 weight=1 signers=00000004\n";
+    assert_eq!(preview_of(&both, 1), format!("transmission=1 ranked=1 dominated=0 refused=0\n{line}"));
+}
+
+/// For every case and engine, also in an output longer than it must be; the register stays as it is.
+#[test]
+fn a_preview_is_the_board_after_the_conviction() {
+    let good = cases().into_iter().filter_map(|(name, input)| Some((name, register_after(input.as_bytes())?)));
+    let mut tried = 0;
+    for (name, memory) in good {
+        for engine in 0..32 {
+            let mut copy = memory.clone();
+            assert_eq!(register::convict(&mut copy, engine), 0);
+            let (mut preview, mut drawn) = (vec![7u8; 20_000], vec![7u8; 20_000]);
+            let before = memory.clone();
+            let length = board::preview(&memory, engine, &mut preview);
+            assert_eq!(length, board::board(&copy, &mut drawn), "{name} {engine}");
+            assert!(preview == drawn && memory == before, "{name} {engine}");
+            tried += 1;
+        }
+    }
+    assert!(tried >= 20 * 32, "{tried}");
 }
 
 /// Document 02, A.4.
