@@ -265,8 +265,8 @@ fn restarted(i: u64) -> (u64, Vec<u64>) {
     (3_600_000_000_000 * i, vec![1, 2 + i])
 }
 
-/// Full boards: 96 records.
-fn board(what: &str, chosen: impl Fn(u64) -> (u64, Vec<u64>)) {
+/// A register of 96 records, made by the peer: the time and the tags of each, and the engine that reports it.
+fn reported(chosen: impl Fn(u64) -> (u64, Vec<u64>), engine: impl Fn(u64) -> u32) -> Vec<u8> {
     let mut memory = vec![0u8; peer::register::SIZE];
     for i in 0..96u64 {
         let (time, tags) = chosen(i);
@@ -282,8 +282,14 @@ fn board(what: &str, chosen: impl Fn(u64) -> (u64, Vec<u64>)) {
             spec: 3,
             covariance: [100.0, 10.0, 5.0, 90.0, -7.0, 400.0],
         };
-        assert_eq!(peer::register::report(&mut memory, 3, &one.write()), 0);
+        assert_eq!(peer::register::report(&mut memory, engine(i), &one.write()), 0);
     }
+    memory
+}
+
+/// Full boards: 96 records.
+fn board(what: &str, chosen: impl Fn(u64) -> (u64, Vec<u64>)) {
+    let memory = reported(chosen, |_| 3);
     let (mut a, mut b) = (vec![0u8; 16_384], vec![0u8; 16_384]);
     let has = binding::BOARD;
     assert!(!has || binding::board(&memory, &mut a) == peer::board::board(&memory, &mut b) && a == b);
@@ -294,6 +300,43 @@ fn board(what: &str, chosen: impl Fn(u64) -> (u64, Vec<u64>)) {
         black_box(peer::board::board(black_box(&memory), &mut b));
     };
     line(&format!("board, 96 records {what}"), "the peer", 1.0, has, &mut ours, &mut theirs);
+}
+
+/// A preview of a conviction, beside the library's own conviction and board on a copy that is made each time.
+fn preview(what: &str, memory: &[u8], engine: u32) {
+    let (name, against) = (format!("preview, {what}"), "conviction and board on a copy by memcpy");
+    if !binding::PREVIEW {
+        return println!("| {name} | {against} | not in the library | - | - | - |");
+    }
+    let on_copy = |copy: &mut [u8], out: &mut [u8]| {
+        copy.copy_from_slice(black_box(memory));
+        assert_eq!(binding::convict(copy, engine), 0);
+        binding::board(copy, out)
+    };
+    let (mut copy, mut a, mut b) = (memory.to_vec(), vec![7u8; 16_384], vec![7u8; 16_384]);
+    assert!(binding::preview(memory, engine, &mut a) == on_copy(&mut copy, &mut b) && a == b);
+    let mut ours = || {
+        black_box(binding::preview(black_box(memory), engine, &mut a));
+    };
+    let mut theirs = || {
+        black_box(on_copy(&mut copy, &mut b));
+    };
+    line(&name, against, 1.0, true, &mut ours, &mut theirs);
+}
+
+/// Previews of registers in which nothing goes, half of the records go, or all do.
+fn previews() {
+    preview("empty register", &vec![0u8; peer::register::SIZE], 3);
+    for transmissions in [1, 8, 96] {
+        let memory = reported(|i| grouped(transmissions, i), |i| 3 + i as u32 % 2);
+        preview(&format!("96 records in {transmissions} transmissions, half of them go"), &memory, 3);
+    }
+    let memory = reported(|i| grouped(8, i), |_| 3);
+    preview("96 records in 8 transmissions, none goes", &memory, 4);
+    preview("96 records in 8 transmissions, all go", &memory, 3);
+    let (memory, _, _) = full_register(false);
+    preview("full register, 64 of 256 summaries go", &memory, 0);
+    preview("full register, 64 of 256 summaries and all records go", &memory, 3);
 }
 
 /// All but the track's.
@@ -312,6 +355,7 @@ fn others(random: &mut Random) {
         board(&format!("in {transmissions} transmissions"), |i| grouped(transmissions, i));
     }
     board("with a common tag, an hour apart", restarted);
+    previews();
 }
 
 fn main() {

@@ -74,6 +74,12 @@ static void decide(void) { tl_decide(items, (size_t)count * TL_ITEM_SIZE, answer
 
 static void board(void) { tl_board(memory, sizeof memory, out, sizeof out); }
 
+/* Without engine 4 all records are still on the board, and without engine 3 every other one; the deeper call counts. */
+static void preview(void) {
+    tl_register_preview(memory, sizeof memory, 4, out, sizeof out);
+    tl_register_preview(memory, sizeof memory, 3, out, sizeof out);
+}
+
 static void write_items(void) {
     for (int i = 0; i < TL_MAX_ITEMS; i++) {
         uint8_t *item = items + i * TL_ITEM_SIZE;
@@ -83,12 +89,14 @@ static void write_items(void) {
     }
 }
 
+/* Engine 3 signs all records, and engine 4 every other one, the first among them. */
 static void write_register(void) {
     uint8_t r[TL_RECORD_SIZE];
     memset(memory, 0, sizeof memory);
     for (int i = 0; i < count; i++) {
         write_record(r, i);
         if (tl_register_report(memory, sizeof memory, 3, r, sizeof r) != TL_OK) exit(1);
+        if (i % 2 == 0 && tl_register_report(memory, sizeof memory, 4, r, sizeof r) != TL_OK) exit(1);
     }
 }
 
@@ -169,6 +177,7 @@ int main(void) {
         count = counts[i];
         write_register();
         line("board", "records", board);
+        line("preview", "records", preview);
     }
     write_track();
     row("track report that joins 9 fixes, 72 held", join);
