@@ -1,5 +1,5 @@
--- A whole board and a whole preview, by computation. The session program prints these lines for the same reports, for the preview with a conviction after them,
--- and so does the second writing of the board in plain Rust (oracle/peer).
+-- A whole board and a whole preview, by computation. The session program prints these lines for the same reports, for the preview with a conviction after
+-- them, and so does the second writing of the board in plain Rust (oracle/peer).
 use Prim.Native.Nat.{ℕ}
 use mathlib.Core.Path.{_≡_, refl}
 use mathlib.Core.List.{List, [], _∷_, _++_, flatMap}
@@ -61,16 +61,15 @@ pub whole-board : boardOf [] slots ≡ lines
 unfolding of-boards
 whole-board = refl
 
--- The same register previewed without engine 2, which alone signed M: S disagrees with L and stands now, with both of its signers, and the other transmission is the
--- later one. So the second writing of conviction and board has it.
+-- A preview without engine 2, which alone signed M, and the other fix beside engine 5: M goes, and so does its signature. So the second writing of conviction and
+-- board has it.
 abbrev held : Register
-held = record { convicted = 0; summaries = []; records = slots }
+held = record { convicted = 0; summaries = []; records = slot S 2 ∷ slot M 4 ∷ slot (recordWith (9 ∷ []) 7) 36 ∷ [] }
 
 abbrev lines-without : List ℕ
 lines-without =
-    ascii "transmission=1 ranked=1 dominated=0 refused=1\n"
-    ++ ascii "role=ranked time=1000 lat=0 lon=0 height=2 weight=1 signers=00000012\n"
-    ++ ascii "role=refused time=1000 lat=5400 lon=0 height=2 weight=3 signers=00000008 chi2=4041d3951c37e7a3\n"
+    ascii "transmission=1 ranked=1 dominated=0 refused=0\n"
+    ++ ascii "role=ranked time=1000 lat=0 lon=0 height=2 weight=1 signers=00000002\n"
     ++ ascii "transmission=2 ranked=1 dominated=0 refused=0\n"
     ++ ascii "role=ranked time=1000 lat=7 lon=0 height=2 weight=1 signers=00000020\n"
 
