@@ -2,7 +2,7 @@
  * `rt staticlib toastlagoon`, for x86-64; `package` makes a shared one of it. It allocates nothing, keeps nothing between calls, and
  * of other libraries needs only the C library's memcpy, memmove and memset.
  *
- * Every function takes any bytes and any numbers and is proved to answer what document 01 says of them
+ * Every function takes any bytes and any numbers and is proved to answer what documents 01 and 02 say of them
  * (crates/toastlagoon/src/lib.rt has the contracts, docs/REFERENCE.md says the same in words, docs/OPERATION.md how to run it). What
  * the caller owes is what C cannot say:
  *
@@ -39,10 +39,10 @@ extern "C" {
  * have the same minor number. A change of the patch number adds names and changes nothing that was there. */
 
 #define TL_VERSION_MAJOR 0
-#define TL_VERSION_MINOR 8
-#define TL_VERSION_PATCH 1
+#define TL_VERSION_MINOR 9
+#define TL_VERSION_PATCH 0
 #define TL_VERSION (TL_VERSION_MAJOR * 1000000 + TL_VERSION_MINOR * 1000 + TL_VERSION_PATCH)
-#define TL_VERSION_TEXT TL_VERSION_JOINED(TL_VERSION_MAJOR, TL_VERSION_MINOR, TL_VERSION_PATCH) /* "0.8.1" */
+#define TL_VERSION_TEXT TL_VERSION_JOINED(TL_VERSION_MAJOR, TL_VERSION_MINOR, TL_VERSION_PATCH) /* "0.9.0" */
 #define TL_VERSION_JOINED(major, minor, patch) TL_VERSION_QUOTED(major, minor, patch)
 #define TL_VERSION_QUOTED(major, minor, patch) #major "." #minor "." #patch
 
@@ -67,8 +67,14 @@ extern "C" {
 #define TL_DUPLICATE 22 /* its identity was held in the one transmission that it is tied to, and gained the signer */
 #define TL_DROPPED 23   /* it is not kept */
 
-/* What an answer says, in words. Not for the lengths that tl_board, tl_register_preview and tl_track_listing answer: a length can be any
- * number but those of their refusals. The text is part of the program that includes this header, not of the library. */
+/* Outcomes of tl_agreement, and of nothing else. Answers above have the same numbers; tl_answer_name does not name these. */
+#define TL_INSIDE 0       /* the chi-square is at most the limit: the two agree */
+#define TL_OUTSIDE 1      /* the chi-square is above the limit: they disagree */
+#define TL_UNMEASURABLE 2 /* there is no chi-square: they count as disagreeing */
+
+/* What an answer says, in words. Not for the outcomes of tl_agreement, and not for the lengths that tl_board, tl_register_preview and
+ * tl_track_listing answer: a length can be any number but those of their refusals. The text is part of the program that includes this
+ * header, not of the library. */
 static inline const char *tl_answer_name(uint32_t answer) {
     switch (answer) {
     case TL_OK: return "done";
@@ -164,7 +170,8 @@ static inline const char *tl_answer_name(uint32_t answer) {
 #define TL_FIX_INPUTS_AT (TL_FIX_SIGNERS_AT + TL_SIGNERS_SIZE)
 #define TL_FIX_SIZE (TL_FIX_INPUTS_AT + TL_INPUTS_SIZE)               /* 258 */
 
-/* A refused fix of a track, the identity that it is refused against, and the chi-square between them. */
+/* A refused fix of a track, the identity that it is refused against, and the chi-square between them: positive infinity where there is
+ * none (TL_UNMEASURABLE). */
 #define TL_REFUSED_FIX_AT 0
 #define TL_REFUSED_AGAINST_AT (TL_REFUSED_FIX_AT + TL_FIX_SIZE)
 #define TL_REFUSED_CHI2_AT (TL_REFUSED_AGAINST_AT + TL_IDENTITY_SIZE) /* f64 */
@@ -199,19 +206,21 @@ static inline const char *tl_answer_name(uint32_t answer) {
 #define TL_PASSED 1
 #define TL_FAILED 2
 
-/* A refusal in the answer of a decision. */
+/* A refusal in the answer of a decision. Where there is no chi-square between the two (TL_UNMEASURABLE), its bytes are zero: look at
+ * TL_REFUSAL_MEASURED_AT before them. */
 #define TL_REFUSAL_INDEX_AT 0                                         /* u8, the refused item */
 #define TL_REFUSAL_AGAINST_AT (TL_REFUSAL_INDEX_AT + 1)               /* u8, the item that it is refused against */
 #define TL_REFUSAL_SUPERSEDED_AT (TL_REFUSAL_AGAINST_AT + 1)          /* u8, 1 if that one supersedes it, 0 if it is contested */
-#define TL_REFUSAL_CHI2_AT (TL_REFUSAL_SUPERSEDED_AT + 1)             /* f64, between the two */
-#define TL_REFUSAL_SIZE (TL_REFUSAL_CHI2_AT + TL_F64_SIZE)            /* 11 */
+#define TL_REFUSAL_MEASURED_AT (TL_REFUSAL_SUPERSEDED_AT + 1)         /* u8, 1 if there is a chi-square, 0 if there is none */
+#define TL_REFUSAL_CHI2_AT (TL_REFUSAL_MEASURED_AT + 1)               /* f64, between the two; zero where there is none */
+#define TL_REFUSAL_SIZE (TL_REFUSAL_CHI2_AT + TL_F64_SIZE)            /* 12 */
 
 /* The answer of a decision. Ranked: a count u8, and that many indices u8, the first in rank first. Dominated and refusals: the same,
  * ascending. What is not used is zero. */
 #define TL_RANKED_AT 0
 #define TL_DOMINATED_AT (TL_RANKED_AT + 1 + TL_MAX_ITEMS)
 #define TL_REFUSALS_AT (TL_DOMINATED_AT + 1 + TL_MAX_ITEMS)
-#define TL_ANSWER_SIZE (TL_REFUSALS_AT + 1 + TL_MAX_ITEMS * TL_REFUSAL_SIZE) /* 1,251 */
+#define TL_ANSWER_SIZE (TL_REFUSALS_AT + 1 + TL_MAX_ITEMS * TL_REFUSAL_SIZE) /* 1,347 */
 
 /* What a board, or a listing, is written to: every one fits. */
 #define TL_BOARD_SIZE 16384
@@ -228,9 +237,11 @@ double tl_root(double x);
 /* The horizontal deviation in metres of a covariance. */
 double tl_horizontal_sigma(double xx, double xy, double xz, double yy, double yz, double zz);
 
-/* Whether a larger fix lies within a smaller one's uncertainty: they agree where *chi2 <= *limit. The smaller fix first; a height
- * counts only where its flag is set. The chi-square is never NaN; it is infinite where the smaller fix's covariance has no Cholesky
- * factor or the sum is not finite. Answers TL_OK. */
+/* Whether a larger fix lies within a smaller one's uncertainty. The smaller fix first; a height counts only where its flag is set.
+ * Answers TL_INSIDE and writes a *chi2 <= *limit, or TL_OUTSIDE and writes a *chi2 > *limit: the chi-square that is written is never NaN
+ * and never infinite. Answers TL_UNMEASURABLE, and leaves *chi2 and *limit as found, where the smaller fix's covariance has no Cholesky
+ * factor (one of zeros has none), or the sum is not finite, be it infinite or NaN. This is no measure of how far the two fixes lie from
+ * each other; often it says that the smaller fix's covariance is of no use. */
 uint32_t tl_agreement(int32_t lat, int32_t lon, bool has_height, int32_t height, double xx, double xy, double xz, double yy,
                       double yz, double zz, int32_t lat2, int32_t lon2, bool has_height2, int32_t height2, double xx2, double xy2,
                       double xz2, double yy2, double yz2, double zz2, double *chi2, double *limit);

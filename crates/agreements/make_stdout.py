@@ -150,13 +150,26 @@ def horizontal_sigma_m(c):
 # ---- the program's inputs
 
 
+SOURCE = open(os.path.join(HERE, "src", "main.rt")).read()
+NAMED = dict(re.findall(r"^const ([A-Z_]+): u64 = (\w+);$", SOURCE, re.M))
+
+
+def body(name):
+    """The text of a function of the program."""
+    start = SOURCE[SOURCE.index("fn %s(" % name) :]
+    return start[: start.index("\n}\n")]
+
+
+def numbers(text):
+    """The numbers in a text, some of which have names; or in a function, where the text only calls it."""
+    called = re.fullmatch(r"(\w+)\(\)", text)
+    words = re.findall(r"-?\b(?:0x[0-9a-f_]+|\d[\d_]*|[A-Z][A-Z_]*)\b", body(called[1]) if called else text)
+    return [int(NAMED.get(word, word).replace("_", ""), 0) for word in words]
+
+
 def table(name):
     """The numbers of a function of the program that is one `match`, in order."""
-    source = open(os.path.join(HERE, "src", "main.rt")).read()
-    body = source[source.index("fn %s(" % name) :]
-    body = body[: body.index("\n}\n")]
-    rows = re.findall(r"^ +(?:\d+|_) => (.*),$", body, re.M)
-    return [[int(w.replace("_", ""), 0) for w in re.findall(r"-?\b(?:0x[0-9a-f_]+|\d[\d_]*)\b", row)] for row in rows]
+    return [numbers(row) for row in re.findall(r"^ +(?:\d+|_) => (.*),$", body(name), re.M)]
 
 
 def next_of(x):
@@ -166,13 +179,23 @@ def next_of(x):
     return x
 
 
+def digits(x):
+    return "%016x" % to_bits(x)
+
+
 def line(numbers, out):
-    print(" ".join("%016x" % to_bits(x) for x in numbers), file=out)
+    print(" ".join(digits(x) for x in numbers), file=out)
+
+
+def outcome(chi2, limit):
+    """Document 02, A.7: where the chi-square is infinite, nothing was measured, and there is no limit either."""
+    return ["none", "none"] if chi2 == INFINITY else [digits(chi2), digits(limit)]
 
 
 def pair(smaller, larger, out):
     chi2, limit = agreement(smaller, larger)
-    line([chi2, limit, chi2, limit, 1.0 if chi2 <= limit else 0.0, horizontal_sigma_m(smaller[3])], out)
+    agrees = 1.0 if chi2 <= limit else 0.0
+    print(" ".join(outcome(chi2, limit) * 2 + [digits(agrees), digits(horizontal_sigma_m(smaller[3]))]), file=out)
 
 
 def covariance(kind, x, pool):

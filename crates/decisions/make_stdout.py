@@ -188,6 +188,11 @@ def decide(items):
     return ranked, dominated, refusals
 
 
+def measured(chi2):
+    """Document 02, A.7: no number where the chi-square is infinite."""
+    return "none" if chi2 == math.inf else "%016x" % to_bits(chi2)
+
+
 def show(answer):
     if answer is None:
         return "answer 8 ranked dominated refused\n"
@@ -195,7 +200,7 @@ def show(answer):
     out = "answer 0 ranked" + "".join(" %d" % i for i in ranked) + " dominated" + "".join(" %d" % i for i in dominated) + " refused"
     for at in sorted(refusals):
         kept, chi2, taken = refusals[at]
-        out += " %s %d %d %016x" % ("superseded" if taken else "contested", at, kept, to_bits(chi2))
+        out += " %s %d %d %s" % ("superseded" if taken else "contested", at, kept, measured(chi2))
     return out + "\n"
 
 
@@ -203,7 +208,7 @@ def show_verdict(a, b):
     chi2, agrees = agreement(a, b)
     if agrees:
         return "agrees added\n"
-    return "contested %016x added" % to_bits(chi2) + "".join(" %d" % t for t in b["tags"] if t not in a["tags"]) + "\n"
+    return "contested %s added" % measured(chi2) + "".join(" %d" % t for t in b["tags"] if t not in a["tags"]) + "\n"
 
 
 def rec(tags, lat, cov=100.0, height=1500, message=b"\x8d" + bytes(6), used=None):

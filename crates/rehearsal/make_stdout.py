@@ -46,7 +46,7 @@ answer=0
 answer=0
 transmission=1 ranked=1 dominated=0 refused=1
 role=ranked time=1000 lat=500000000 lon=100000000 height=2 weight=2 signers=00000002
-role=refused time=1000 lat=500000000 lon=100000000 height=none weight=3 signers=00000004 chi2=7ff0000000000000
+role=refused time=1000 lat=500000000 lon=100000000 height=none weight=3 signers=00000004 chi2=none
 """
 
 # heights in millimetres and the whole metres written for them (document 02, A.4, whose own numbers come first); a row is one session

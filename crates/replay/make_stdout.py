@@ -11,12 +11,20 @@ import sys
 
 HERE = pathlib.Path(__file__).resolve().parent
 CLAIMS = 122
+AGREEMENT = CLAIMS + 17
+REFUSAL = 12
+
+
+def digits(measured, bits):
+    """Document 02, A.7: no number where none was measured."""
+    assert measured or bits == 0
+    return f"{bits:016x}" if measured else "none"
 
 
 def agreements(data):
-    for at in range(0, len(data), CLAIMS + 16):
-        chi2, limit = struct.unpack_from("<QQ", data, at + CLAIMS)
-        yield b"a" + data[at : at + CLAIMS], f"agreement {chi2:016x} {limit:016x}"
+    for at in range(0, len(data), AGREEMENT):
+        measured, chi2, limit = struct.unpack_from("<?QQ", data, at + CLAIMS)
+        yield b"a" + data[at : at + CLAIMS], f"agreement {digits(measured, chi2)} {digits(measured, limit)}"
 
 
 def words(answer):
@@ -32,9 +40,9 @@ def words(answer):
     count = answer[at]
     line.append("refused")
     for k in range(count):
-        refused, kept, superseded, chi2 = struct.unpack_from("<BBBQ", answer, at + 1 + 11 * k)
-        line += ["superseded" if superseded else "contested", str(refused), str(kept), f"{chi2:016x}"]
-    assert answer[0] == 0 and at + 1 + 11 * count == len(answer)
+        refused, kept, superseded, measured, chi2 = struct.unpack_from("<BB??Q", answer, at + 1 + REFUSAL * k)
+        line += ["superseded" if superseded else "contested", str(refused), str(kept), digits(measured, chi2)]
+    assert answer[0] == 0 and at + 1 + REFUSAL * count == len(answer)
     return " ".join(line)
 
 

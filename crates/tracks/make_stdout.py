@@ -18,6 +18,7 @@ ORACLE = HERE.parent.parent / "target" / "oracle" / "oracle-program"
 NUMBERS = {"Changed": 20, "Contested": 21, "Duplicate": 22, "Dropped": 23}
 SIZES = {0: 223, 1: 36, 2: 1, 3: 0}
 TRANSMISSIONS_AT, TRANSMISSION, FIX, REFUSED_AT, REFUSED = 9232, 2484, 258, 1292, 298
+INFINITY = 0x7FF0_0000_0000_0000
 
 
 def record(tags, lat):
@@ -82,13 +83,18 @@ def metres(height):
     return round(fractions.Fraction(height, 1000))
 
 
+def measured(bits):
+    """Document 02, A.7: no number where the stored chi-square is infinite, which says that none was measured."""
+    return "none" if bits == INFINITY else f"{bits:016x}"
+
+
 def line(role, fix, chi2=None):
     time, lat, lon, has_height, height = struct.unpack_from("<QiiBi", fix)
     (used,) = struct.unpack_from("<H", fix, 37)
     (signers,) = struct.unpack_from("<I", fix, 222)
     shown = metres(height) if has_height else "none"
     text = f"role={role} time={time} lat={lat} lon={lon} height={shown} weight={used.bit_count()} signers={signers:08x}"
-    return text + ("\n" if chi2 is None else f" chi2={chi2:016x}\n")
+    return text + ("\n" if chi2 is None else f" chi2={measured(chi2)}\n")
 
 
 def listing(state):

@@ -3,6 +3,7 @@
 // smaller's horizontal sigma. make_stdout.py works out the same from document 01 and the Rust's text.
 use arithmetic::standing::Agreement;
 use arithmetic::standing::Claimed;
+use arithmetic::standing::Measure;
 use geometry::linalg::Covariance;
 use libc::STDOUT_FILENO;
 ghost use Prim.Native.Nat.{_≤_};
@@ -251,11 +252,24 @@ fn random(kind: u64, x: u64) -> Covariance {
     )
 }
 
+fn show_measure(m: Measure) {
+    show(m.chi2);
+    gap();
+    show(m.limit);
+    gap();
+}
+
+// Where nothing was measured there is no number.
+fn show_no_measure() {
+    io::write_all(STDOUT_FILENO, b"none none ");
+}
+
 fn show_agreement(a: Agreement) {
-    show(a.chi2);
-    gap();
-    show(a.limit);
-    gap();
+    match a {
+        Agreement::Inside(m) => show_measure(m),
+        Agreement::Outside(m) => show_measure(m),
+        Agreement::Unmeasurable => show_no_measure(),
+    }
 }
 
 // 1.0 where the two agree.

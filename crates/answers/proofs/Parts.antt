@@ -7,14 +7,16 @@ use native.Mathlib.Nat.{sub-zero}
 use native.Mathlib.Omega.{arith}
 use native.Mathlib.Numerals.{add-one}
 use mir.Val.{boolByte}
-use lib.Ieee.{binary64, toBits}
+use lib.Ieee.{Float, binary64, toBits}
 use lib.ListN.{length, take, drop, set, length-set, length-append, length-replicate, length-take, replicate}
 use lib.Seq.{sets, sets-eq, set-comm, take-at, drop-at}
 use Rattle.octets.specs.Words.{wordBytes}
 use Rattle.octets.specs.Writes.{putWord}
 use Rattle.octets.proofs.Numbers.{length-word-bytes}
 use Rattle.text.specs.Buffer.{Put}
-use Rattle.text.proofs.Writing.{put-put, put-whole}
+use Rattle.text.proofs.Writing.{put-put, put-one, put-as, put-whole}
+use Rattle.arithmetic.specs.declared.standing.ChiSquare.{ChiSquare}
+use Rattle.arithmetic.specs.declared.standing.ChiSquare.the-variants.{Measured, Unmeasured}
 use Rattle.items.specs.Layout.{maxItems}
 use Rattle.rule.specs.Outcome.{Outcome}
 use Rattle.decision.specs.declared.Refusal.{Refusal}
@@ -23,9 +25,9 @@ use Rattle.decision.specs.declared.Indices.{Indices}
 use Rattle.decision.specs.declared.Decision.{Decision}
 use Rattle.decision.specs.Answer.{indices, refusal, noRefusal, refusals, decision}
 use Rattle.decision.specs.Working.{plainly}
-use Rattle.answers.specs.Layout.{refusalSize}
+use Rattle.answers.specs.Layout.{chiSquareSize, refusalSize}
 use Rattle.answers.specs.Offsets.{indicesSize, refusalsSize, rankedAt, dominatedAt, refusalsAt, answerSize, listBytes}
-use Rattle.answers.specs.Answer.{indicesBytes, refusalBytes, eachBytes, countedBytes, refusalsBytes, answerBytes}
+use Rattle.answers.specs.Answer.{indicesBytes, chiSquareBytes, refusalBytes, eachBytes, countedBytes, refusalsBytes, answerBytes}
 
 -- a number put at a place is a text of its bytes
 pub word-put : (n at x : ℕ) (s : List ℕ) → at + n ≤ length s → Put s at (wordBytes n x) (at + n) (putWord n at x s)
@@ -48,17 +50,36 @@ flag : (b : Bool) → boolByte b ≡ cond b 1 0
 flag true = refl
 flag false = refl
 
-pub length-refusal : (x : Refusal) → length (refusalBytes x) ≡ refusalSize
-length-refusal x = rw (length-word-bytes 8) refl
+-- a byte before a number that is put after it
+pub measured-put : (l : List ℕ) (at b x : ℕ) → at + chiSquareSize ≤ length l → Put l at (b ∷ wordBytes 8 x) (at + chiSquareSize) (putWord 8 (at + 1) x (set l at b))
+measured-put l at b x h =
+    let n = length-word-bytes 8 x in
+    let p = put-put (put-one l at b) (word-put 8 (at + 1) x (set l at b) (simp length-set (omega arith))) in
+    record { next = omega arith; bytes = p .bytes }
 
--- a refusal's three bytes, and its chi-square's bits after them
-pub refusal-put : (l : List ℕ) (at : ℕ) (x : Refusal) → at + refusalSize ≤ length l
-    → Put l at (refusalBytes x) (at + refusalSize) (putWord 8 (at + 3) (toBits binary64 (x .chi2)) (set (set (set l at (x .refused)) (at + 1) (x .kept)) (at + 2) (boolByte (x .superseded))))
-refusal-put l at x h =
-    let m = set (set (set l at (x .refused)) (at + 1) (x .kept)) (at + 2) (boolByte (x .superseded)) in
-    let p = put-put (three-put l at (x .refused) (x .kept) (boolByte (x .superseded))) (word-put 8 (at + 3) (toBits binary64 (x .chi2)) m (simp length-set (omega arith))) in
-    let n : length (refusalBytes x) ≡ refusalSize = length-refusal x in
-    record { next = omega arith; bytes = p .bytes ∙ ap (λ (b : ℕ). sets l at (x .refused ∷ x .kept ∷ b ∷ wordBytes 8 (toBits binary64 (x .chi2)))) (flag (x .superseded)) }
+-- a byte and bits that were written are those of a chi-square, a number or none
+pub number-put : {l l′ : List ℕ} {at r b n : ℕ} {c : ChiSquare} {x : Float} → Put l at (b ∷ wordBytes 8 n) r l′ → c ≡ Measured x → b ≡ 1 → n ≡ toBits binary64 x → Put l at (chiSquareBytes c) r l′
+unfolding chiSquareBytes
+number-put p e f g = put-as (ap₂ (λ (b n : ℕ). b ∷ wordBytes 8 n) f g ∙ sym (ap chiSquareBytes e)) p
+
+pub none-put : {l l′ : List ℕ} {at r b n : ℕ} {c : ChiSquare} → Put l at (b ∷ wordBytes 8 n) r l′ → c ≡ Unmeasured → b ≡ 0 → n ≡ 0 → Put l at (chiSquareBytes c) r l′
+unfolding chiSquareBytes
+none-put p e f g = put-as (ap₂ (λ (b n : ℕ). b ∷ wordBytes 8 n) f g ∙ sym (ap chiSquareBytes e)) p
+
+length-chi-square : (c : ChiSquare) → length (chiSquareBytes c) ≡ chiSquareSize
+unfolding chiSquareBytes
+length-chi-square (Measured x) = rw (length-word-bytes 8) refl
+length-chi-square Unmeasured = rw (length-word-bytes 8) refl
+
+pub length-refusal : (x : Refusal) → length (refusalBytes x) ≡ refusalSize
+length-refusal x = rw (length-chi-square (x .chi2)) refl
+
+-- a refusal's three bytes, and its chi-square after them
+pub refusal-put : (l : List ℕ) (at : ℕ) (x : Refusal) {r : ℕ} {l′ : List ℕ}
+    → Put (set (set (set l at (x .refused)) (at + 1) (x .kept)) (at + 2) (boolByte (x .superseded))) (at + 3) (chiSquareBytes (x .chi2)) r l′ → Put l at (refusalBytes x) r l′
+refusal-put l at x p =
+    put-as (ap (λ (b : ℕ). x .refused ∷ x .kept ∷ b ∷ chiSquareBytes (x .chi2)) (flag (x .superseded)))
+    (put-put (three-put l at (x .refused) (x .kept) (boolByte (x .superseded))) p)
 
 drop-zeros : (k n : ℕ) → drop k (replicate {A = ℕ} n 0) ≡ replicate (n - k) 0
 drop-zeros zero n = ap (λ (m : ℕ). replicate m 0) (sym (sub-zero n))
@@ -116,7 +137,7 @@ unfolding refusals
 all-counted l = ap eachBytes (take-at l (replicate (maxItems - length l) noRefusal) (length l) refl)
 
 -- its three parts, and zeros after them
-answer-of : (o : Outcome ℕ) (k : ℕ) → k ≡ maxItems * refusalSize - length (eachBytes (map refusal (o .refused)))
+answer-of : (o : Outcome ℕ ChiSquare) (k : ℕ) → k ≡ maxItems * refusalSize - length (eachBytes (map refusal (o .refused)))
     → indicesBytes (indices (o .ranked)) ++ (indicesBytes (indices (o .dominated)) ++ (listBytes (map refusal (o .refused)) ++ replicate k 0)) ≡ answerBytes (decision o)
 unfolding answerBytes decision refusals
 answer-of o k e =
@@ -125,7 +146,7 @@ answer-of o k e =
     (ap (λ (j : ℕ). eachBytes l ++ replicate j 0) e ∙ ap (λ (t : List ℕ). t ++ replicate (maxItems * refusalSize - length t) 0) (sym (all-counted l)))
 
 -- as they are written into zeros one after another
-pub answer-put : (o : Outcome ℕ) {z l₁ l₂ l₃ : List ℕ} {a b : Indices} {r₁ r₂ r₃ : ℕ} → z ≡ replicate answerSize 0 → a ≡ indices (o .ranked) → b ≡ indices (o .dominated)
+pub answer-put : (o : Outcome ℕ ChiSquare) {z l₁ l₂ l₃ : List ℕ} {a b : Indices} {r₁ r₂ r₃ : ℕ} → z ≡ replicate answerSize 0 → a ≡ indices (o .ranked) → b ≡ indices (o .dominated)
     → Put z 0 (indicesBytes a) r₁ l₁ → Put l₁ r₁ (indicesBytes b) r₂ l₂ → Put l₂ r₂ (listBytes (map refusal (o .refused))) r₃ l₃ → r₂ ≡ refusalsAt → r₃ ≤ answerSize → l₃ ≡ answerBytes (decision o)
 answer-put o {z} {l₁} {l₂} {l₃} {a} {b} {r₁} {r₂} {r₃} e f g p q r h k =
     let n = r .next in

@@ -7,6 +7,8 @@ use lib.Dec.{eqb}
 use lib.Ieee.{binary64, toBits}
 use lib.ListN.{length, take, replicate}
 use Rattle.octets.specs.Words.{wordBytes}
+use Rattle.arithmetic.specs.declared.standing.ChiSquare.{ChiSquare}
+use Rattle.arithmetic.specs.declared.standing.ChiSquare.the-variants.{Measured, Unmeasured}
 use Rattle.items.specs.Layout.{maxItems}
 use Rattle.decision.specs.declared.Refusal.{Refusal}
 use Rattle.decision.specs.declared.Refusals.{Refusals}
@@ -18,9 +20,14 @@ use Rattle.answers.specs.Layout.{refusalSize}
 abbrev pub indicesBytes : Indices → List ℕ
 indicesBytes x = x .count ∷ x .list
 
--- the chi-square's bits have their lowest byte first
+-- Document 02, A.7: "No number where none was measured". Whether there is a chi-square, and its bits with their lowest byte first, which are all zero where
+-- there is none.
+unfoldable pub chiSquareBytes : ChiSquare → List ℕ
+chiSquareBytes (Measured x) = 1 ∷ wordBytes 8 (toBits binary64 x)
+chiSquareBytes Unmeasured = 0 ∷ wordBytes 8 0
+
 abbrev pub refusalBytes : Refusal → List ℕ
-refusalBytes x = x .refused ∷ x .kept ∷ cond (x .superseded) 1 0 ∷ wordBytes 8 (toBits binary64 (x .chi2))
+refusalBytes x = x .refused ∷ x .kept ∷ cond (x .superseded) 1 0 ∷ chiSquareBytes (x .chi2)
 
 unfoldable pub eachBytes : List Refusal → List ℕ
 eachBytes [] = []

@@ -2,6 +2,7 @@
 //
 // Each writer puts its part at a position of a lent buffer and returns the position after it. The parts are asked for one by
 // one, so that no whole decision is made and copied.
+use arithmetic::standing::ChiSquare;
 use decision::Finding;
 use decision::Indices;
 use decision::Refusal;
@@ -10,9 +11,10 @@ use items::layout::MAX_ITEMS;
 use rule::Marks;
 ghost use mathlib.Core.Path.{_≡_};
 ghost use mathlib.Core.Bool.{false};
-ghost use mathlib.Core.List.{map};
+ghost use mathlib.Core.List.{_∷_, map};
 ghost use Prim.Native.Nat.{_+_, _*_, _≤_};
 ghost use lib.ListN.{length, replicate};
+ghost use Rattle.octets.specs.Words.{wordBytes};
 ghost use Rattle.text.specs.Buffer.{Put};
 ghost use Rattle.arithmetic.specs.Stages.{preparedSize};
 ghost use Rattle.items.specs.Layout.{itemSize, maxItems};
@@ -20,16 +22,19 @@ ghost use Rattle.items.specs.Pairs.{stride, Prepared};
 ghost use Rattle.decision.specs.Working.{few, Settled};
 ghost use Rattle.decision.specs.Answer.{bad, outcome, refusal, decision, decided};
 ghost use Rattle.held.specs.After.{after};
-ghost use Rattle.answers.specs.Layout.{refusalSize};
+ghost use Rattle.answers.specs.Layout.{chiSquareSize, refusalSize};
 ghost use Rattle.answers.specs.Offsets.{indicesSize, refusalsSize, answerSize};
-ghost use Rattle.answers.specs.Answer.{indicesBytes, refusalBytes, answerBytes, handOut};
+ghost use Rattle.answers.specs.Answer.{indicesBytes, chiSquareBytes, refusalBytes, answerBytes, handOut};
 ghost use Rattle.answers.specs.Offsets.{listBytes};
 
 // A count and room for an index of each item.
 pub const INDICES_SIZE: usize = 1 + MAX_ITEMS;
 
-// The refused, the kept, whether it is superseded, and the bits of the chi-square.
-pub const REFUSAL_SIZE: usize = 3 + 8;
+// Whether there is a chi-square, and its bits.
+const CHI_SQUARE_SIZE: usize = 1 + 8;
+
+// The refused, the kept, whether it is superseded, and the chi-square.
+pub const REFUSAL_SIZE: usize = 3 + CHI_SQUARE_SIZE;
 
 pub const REFUSALS_SIZE: usize = 1 + MAX_ITEMS * REFUSAL_SIZE;
 
@@ -49,6 +54,27 @@ fn put_indices(out: &mut [u8], at: usize, x: Indices) -> usize
     text::put_bytes(out, at + 1, &list)
 }
 
+// Whether there is a chi-square, and its bits.
+fn put_measured(out: &mut [u8], at: usize, measured: u8, bits: u64) -> usize
+    requires { ⌜ at + chiSquareSize ≤ length (now out) ⌝ }
+    ensures { λ r. ⌜ Put (now (out .entry)) at (measured ∷ wordBytes 8 bits) r (now (out .exit)) ⌝ }
+{
+    out[at] = measured;
+    octets::words::put_u64(out, at + 1, bits);
+    at + CHI_SQUARE_SIZE
+}
+
+// No number where none was measured.
+fn put_chi_square(out: &mut [u8], at: usize, c: ChiSquare) -> usize
+    requires { ⌜ at + chiSquareSize ≤ length (now out) ⌝ }
+    ensures { λ r. ⌜ Put (now (out .entry)) at (chiSquareBytes c) r (now (out .exit)) ⌝ }
+{
+    match c {
+        ChiSquare::Measured(x) => put_measured(out, at, 1, floats::to_bits(x)),
+        ChiSquare::Unmeasured => put_measured(out, at, 0, 0),
+    }
+}
+
 fn put_refusal(out: &mut [u8], at: usize, x: Refusal) -> usize
     requires { ⌜ at + refusalSize ≤ length (now out) ⌝ }
     ensures { λ r. ⌜ Put (now (out .entry)) at (refusalBytes x) r (now (out .exit)) ⌝ }
@@ -56,8 +82,8 @@ fn put_refusal(out: &mut [u8], at: usize, x: Refusal) -> usize
     out[at] = x.refused;
     out[at + 1] = x.kept;
     out[at + 2] = x.superseded as u8;
-    octets::words::put_u64(out, at + 3, floats::to_bits(x.chi2));
-    at + REFUSAL_SIZE
+    let chi2 = x.chi2;
+    put_chi_square(out, at + 3, chi2)
 }
 
 // The refusals, with their count before them.

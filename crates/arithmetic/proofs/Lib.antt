@@ -1,6 +1,6 @@
 pub mod Comparing
 pub mod Constants
-pub mod Infinite
+pub mod Outcomes
 pub mod Placed
 pub mod Positions
 pub mod Sigma

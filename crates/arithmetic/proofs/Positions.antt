@@ -2,16 +2,17 @@
 use mathlib.Core.Path.{refl, ap}
 use lib.Ieee.{ofBits, toBits, round, le, isNan, ofInt}
 use Rattle.geometry.specs.Numbers.{fromDecimal, notAbove}
-use Rattle.arithmetic.specs.Agree.{limitOf, agreesOf}
+use Rattle.arithmetic.specs.Agree.{limitOf, outcomeOf, agreesOf}
 use Rattle.arithmetic.specs.Claims.{Position1, Position2}
 use Rattle.geometry.specs.declared.linalg.Covariance.{Covariance}
-use Rattle.arithmetic.proofs.Infinite.{refused-first, infinite-disagrees}
+use Rattle.arithmetic.proofs.Outcomes.{refused-first}
 
 pub position-1 : Position1
-unfolding agreesOf limitOf fromDecimal round ofBits toBits le
-position-1 = (refl, refl)
+unfolding outcomeOf agreesOf limitOf fromDecimal round ofBits toBits le
+position-1 = (refl, refl, refl, refl)
 
 pub position-2 : Position2
-unfolding isNan le ofInt
+unfolding agreesOf isNan le ofInt
 position-2 smaller larger e =
-    infinite-disagrees smaller larger (refused-first smaller larger (ap (λ (c : Covariance). notAbove (c .xx)) e))
+    let u = refused-first smaller larger (ap (λ (c : Covariance). notAbove (c .xx)) e) in
+    (u, ap agreesOf u)

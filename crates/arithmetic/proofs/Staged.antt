@@ -1,20 +1,21 @@
 -- The two stages together are the definition: the same operations on the same values. The laws of a table of prepared fixes.
 use mathlib.Core.Path.{_≡_, refl, sym, ap, _∙_}
 use Prim.Native.Nat.{ℕ, _+_, _-_, _*_, _≤_, _<_}
-use mathlib.Core.Bool.{Bool, true, false, cond}
+use mathlib.Core.Bool.{Bool, true, false}
 use mathlib.Core.List.{List, _++_, append-nil, append-assoc}
+use mathlib.Core.Option.{Option}
 use native.Mathlib.Omega.{arith}
 use native.Mathlib.Decide.{decLt}
 use lib.ListN.{length, take, drop, drop-of-length-le, length-append, length-drop, take-append-drop}
 use lib.Seq.{sets, sets-eq, drop-drop, drop-at, take-at, length-take-le, drop-append-le, take-append-le, drop-append-add}
-use lib.Ieee.{Float, inf, eq, ofInt}
+use lib.Ieee.{Float, eq, ofInt}
 use Rattle.floats.specs.Root.{root}
 use Rattle.geometry.specs.Numbers.{_⊖_, _⊗_, _⊘_, notAbove}
 use Rattle.geometry.specs.Geodesy.{toEcef}
 use Rattle.geometry.specs.Linalg.{less, rowsBelow, columns, choleskyOf, forwards, forward, backwards, backward, solveOf, plus}
-use Rattle.arithmetic.specs.Agree.{geodeticOf, matrixOf, lengthUnder, chiSquareOf, differenceOf, agreementOf}
-use Rattle.geometry.specs.Factors.{factorOf, factorOfTwo, factorOfThree, flatLength, fullLength, lengthOfTwo, lengthOfThree}
-use Rattle.arithmetic.specs.Stages.{measuredOf, enuOf, partsOf, judgedOf, coordinates, placeNumbers, twoRowsOf, thirdRowOf, flagsOf, factorNumbers, numbersOf, preparedOf, flagAt, twoRowsIn, thirdRowIn, factorIn, partsIn, comparedOf, preparedSize, entryOf, entered}
+use Rattle.arithmetic.specs.Agree.{limitOf, geodeticOf, matrixOf, sumUnder, lengthUnder, chiSquareOf, differenceOf, outcomeOf, agreementOf}
+use Rattle.geometry.specs.Factors.{factorOf, factorOfTwo, factorOfThree, flatLength, fullLength}
+use Rattle.arithmetic.specs.Stages.{withLimit, measuredOf, enuOf, partsOf, judgedOf, coordinates, placeNumbers, twoRowsOf, thirdRowOf, flagsOf, factorNumbers, numbersOf, preparedOf, flagAt, twoRowsIn, thirdRowIn, factorIn, partsIn, comparedOf, preparedSize, entryOf, entered}
 use Rattle.geometry.specs.declared.geodesy.Vec3.{Vec3}
 use Rattle.geometry.specs.declared.geodesy.Basis.{Basis}
 use Rattle.geometry.specs.declared.linalg.Factor.{Factor}
@@ -22,6 +23,7 @@ use Rattle.geometry.specs.declared.linalg.Factor.the-variants.{None, Flat, Full
 use Rattle.arithmetic.specs.declared.stages.Prepared.{Prepared}
 use Rattle.geometry.specs.declared.linalg.Covariance.{Covariance}
 use Rattle.arithmetic.specs.declared.standing.Claimed.{Claimed}
+use Rattle.arithmetic.specs.declared.standing.Agreement.the-variants.{Unmeasurable}
 use Rattle.arithmetic.proofs.Comparing.{by, flag-back}
 
 -- ---- the linear algebra at two rows and at three
@@ -56,39 +58,48 @@ module _ (c : Covariance) where
   unfolding matrixOf choleskyOf columns rowsBelow less factorOf
   three-is = cases _ (λ x. rw x) (λ x y. rw (x, y)) (λ x y z. rw (x, y, z)) (λ x y z. rw (x, y, z))
 
--- the length under it is the length under the factor that it has
-two-under : (f : Factor) (v : Vec3) → lengthUnder 2 (coordinates v) (factorOfTwo f) ≡ lengthOfTwo f v
-unfolding lengthUnder solveOf forward forwards backward backwards less plus lengthOfTwo flatLength
+-- what is measured by it is what is measured by the factor that it has
+two-under : (f : Factor) (v : Vec3) → outcomeOf (limitOf false) (lengthUnder 2 (coordinates v) (factorOfTwo f)) ≡ measuredOf false f v
+unfolding outcomeOf lengthUnder sumUnder solveOf forward forwards backward backwards less plus measuredOf flatLength
 two-under None v = refl
 two-under (Flat r) v = refl
 two-under (Full r t) v = refl
 
-three-under : (f : Factor) (v : Vec3) → lengthUnder 3 (coordinates v) (factorOfThree f) ≡ lengthOfThree f v
-unfolding lengthUnder solveOf forward forwards backward backwards less plus lengthOfThree fullLength
+three-under : (f : Factor) (v : Vec3) → outcomeOf (limitOf true) (lengthUnder 3 (coordinates v) (factorOfThree f)) ≡ measuredOf true f v
+unfolding outcomeOf lengthUnder sumUnder solveOf forward forwards backward backwards less plus measuredOf fullLength
 three-under None v = refl
 three-under (Flat r) v = refl
 three-under (Full r t) v = refl
 
-pub chi-is : (three : Bool) (c : Covariance) (v : Vec3) → chiSquareOf three c (coordinates v) ≡ cond three (lengthOfThree (factorOf c) v) (lengthOfTwo (factorOf c) v)
+pub measured-is : (three : Bool) (c : Covariance) (v : Vec3)
+    → outcomeOf (limitOf three) (chiSquareOf three c (coordinates v)) ≡ measuredOf three (factorOf c) v
 unfolding chiSquareOf
-chi-is true c v = ap (lengthUnder 3 (coordinates v)) (sym (three-is c)) ∙ three-under (factorOf c) v
-chi-is false c v = ap (lengthUnder 2 (coordinates v)) (sym (two-is c)) ∙ two-under (factorOf c) v
+measured-is true c v = ap (λ (l : Option (List Float)). outcomeOf (limitOf true) (lengthUnder 3 (coordinates v) l)) (sym (three-is c)) ∙ three-under (factorOf c) v
+measured-is false c v = ap (λ (l : Option (List Float)). outcomeOf (limitOf false) (lengthUnder 2 (coordinates v) l)) (sym (two-is c)) ∙ two-under (factorOf c) v
 
--- the factor that a prepared fix keeps, read where it stands
+-- by the factor that a prepared fix keeps, read where it stands
 module _ (p : List Float) (v : Vec3) where
-  pub two-in : lengthOfTwo (factorIn p) v ≡ cond (flagAt p 18) (flatLength (twoRowsIn p) v) (inf false)
-  unfolding lengthOfTwo
-  two-in = by (flagAt p 18) (λ e. rw e (by (flagAt p 19) (λ f. rw f refl) (λ f. rw f refl))) (λ e. rw e refl)
+  pub none-in : (three : Bool) → flagAt p 18 ≡ false → measuredOf three (factorIn p) v ≡ Unmeasurable
+  unfolding measuredOf
+  none-in three e = rw e
 
-  pub three-in : lengthOfThree (factorIn p) v ≡ cond (flagAt p 18) (cond (flagAt p 19) (fullLength (twoRowsIn p) (thirdRowIn p) v) (inf false)) (inf false)
-  unfolding lengthOfThree
-  three-in = by (flagAt p 18) (λ e. rw e (by (flagAt p 19) (λ f. rw f refl) (λ f. rw f refl))) (λ e. rw e refl)
+  pub two-in : flagAt p 18 ≡ true → measuredOf false (factorIn p) v ≡ withLimit false (flatLength (twoRowsIn p) v)
+  unfolding measuredOf
+  two-in e = rw e (by (flagAt p 19) (λ f. rw f) (λ f. rw f))
+
+  pub flat-in : flagAt p 18 ≡ true → flagAt p 19 ≡ false → measuredOf true (factorIn p) v ≡ Unmeasurable
+  unfolding measuredOf
+  flat-in e f = rw (e, f)
+
+  pub three-in : flagAt p 18 ≡ true → flagAt p 19 ≡ true → measuredOf true (factorIn p) v ≡ withLimit true (fullLength (twoRowsIn p) (thirdRowIn p) v)
+  unfolding measuredOf
+  three-in e f = rw (e, f)
 
 -- ---- the two stages
 
 pub judged-is : (a b : Claimed) → judgedOf (partsOf a) (toEcef (geodeticOf b)) (b .«has_height») ≡ agreementOf a b
-unfolding judgedOf partsOf measuredOf enuOf agreementOf differenceOf
-judged-is a b = rw (← chi-is)
+unfolding judgedOf partsOf enuOf agreementOf differenceOf
+judged-is a b = rw (← measured-is)
 
 -- the numbers of a prepared fix read back
 factor-back : (ecef : Vec3) (basis : Basis) (f : Factor) (high : Bool) → factorIn (placeNumbers ecef basis ++ factorNumbers f high) ≡ f

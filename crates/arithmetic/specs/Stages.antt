@@ -1,15 +1,15 @@
 -- No claim rests on these definitions: they say how agreement is worked out in two stages, what depends on one fix alone, kept as `preparedSize` numbers, and
 -- the comparison of two prepared fixes. `staged`, in proofs/Staged.antt, says that the two together are `agreementOf`, of document 01's section 'Agreement'.
 use Prim.Native.Nat.{ℕ, _+_, _*_}
-use mathlib.Core.Bool.{Bool, cond, _&&_}
+use mathlib.Core.Bool.{Bool, true, false, cond, _&&_}
 use mathlib.Core.List.{List, [], _∷_, _++_}
 use lib.ListN.{take, drop}
 use lib.Ieee.{Float, eq}
 use Rattle.geometry.specs.Numbers.{whole}
 use Rattle.geometry.specs.Geodesy.{toEcef, enuBasis, subOf, dotOf}
 use Rattle.geometry.specs.Linalg.{item}
-use Rattle.geometry.specs.Factors.{factorOf, lengthOfTwo, lengthOfThree}
-use Rattle.arithmetic.specs.Agree.{geodeticOf, finiteOr, limitOf}
+use Rattle.geometry.specs.Factors.{factorOf, flatLength, fullLength}
+use Rattle.arithmetic.specs.Agree.{geodeticOf, finitely, outcomeOf, limitOf}
 use Rattle.geometry.specs.declared.geodesy.Vec3.{Vec3}
 use Rattle.geometry.specs.declared.geodesy.Basis.{Basis}
 use Rattle.geometry.specs.declared.linalg.TwoRows.{TwoRows}
@@ -19,13 +19,17 @@ use Rattle.geometry.specs.declared.linalg.Factor.the-variants.{None, Flat, Full
 use Rattle.arithmetic.specs.declared.stages.Prepared.{Prepared}
 use Rattle.arithmetic.specs.declared.standing.Claimed.{Claimed}
 use Rattle.arithmetic.specs.declared.standing.Agreement.{Agreement}
+use Rattle.arithmetic.specs.declared.standing.Agreement.the-variants.{Unmeasurable}
 
--- the agreement of a difference with both heights, and without
+-- the outcome of a sum, with both heights and without
 abbrev pub withLimit : Bool → Float → Agreement
-withLimit three chi2 = record { chi2 = finiteOr chi2; limit = limitOf three }
+withLimit three chi2 = outcomeOf (limitOf three) (finitely chi2)
 
+-- by the factor for three rows where both fixes have a height, else by that for two; nothing is measured without it
 unfoldable pub measuredOf : Bool → Factor → Vec3 → Agreement
-measuredOf three f v = withLimit three (cond three (lengthOfThree f v) (lengthOfTwo f v))
+measuredOf three None v = Unmeasurable
+measuredOf three (Flat r) v = cond three Unmeasurable (withLimit false (flatLength r v))
+measuredOf three (Full r t) v = cond three (withLimit true (fullLength r t v)) (withLimit false (flatLength r v))
 
 -- a difference in east, north and up
 unfoldable pub enuOf : Basis → Vec3 → Vec3

@@ -3,7 +3,8 @@
 ghost use mathlib.Core.Path.{_≡_};
 ghost use Prim.Native.Nat.{_+_, _*_, _≤_};
 ghost use lib.ListN.{length};
-ghost use Rattle.arithmetic.specs.Agree.{agreementOf, agreesOf, sigmaOf};
+ghost use Rattle.arithmetic.specs.Agree.{agreementOf, agreesOf, chiSquareIn, sigmaOf};
+ghost use Rattle.arithmetic.specs.Bits.{storedBits, storedChiSquare};
 ghost use Rattle.arithmetic.specs.Stages.{preparedSize, preparedOf, comparedOf, entryOf, entered};
 
 mod stages;
@@ -11,10 +12,14 @@ pub mod standing;
 
 use geometry::linalg::Covariance;
 use standing::Agreement;
+use standing::ChiSquare;
 use standing::Claimed;
 
 // How many numbers a prepared fix has.
 pub const PREPARED: usize = 21;
+
+// The bits of the infinity.
+const INFINITY: u64 = 0x7ff0_0000_0000_0000;
 
 pub fn agreement(smaller: Claimed, larger: Claimed) -> Agreement
     ensures { λ r. ⌜ r ≡ agreementOf smaller larger ⌝ }
@@ -27,7 +32,41 @@ pub fn agreement(smaller: Claimed, larger: Claimed) -> Agreement
 pub fn agrees(a: Agreement) -> bool
     ensures { λ r. ⌜ r ≡ agreesOf a ⌝ }
 {
-    a.chi2 <= a.limit
+    match a {
+        Agreement::Inside(_) => true,
+        Agreement::Outside(_) => false,
+        Agreement::Unmeasurable => false,
+    }
+}
+
+pub fn chi_square(a: Agreement) -> ChiSquare
+    ensures { λ r. ⌜ r ≡ chiSquareIn a ⌝ }
+{
+    match a {
+        Agreement::Inside(m) => ChiSquare::Measured(m.chi2),
+        Agreement::Outside(m) => ChiSquare::Measured(m.chi2),
+        Agreement::Unmeasurable => ChiSquare::Unmeasured,
+    }
+}
+
+// A chi-square in 64 bits: the infinity stands where there is no number.
+pub fn stored_bits(c: ChiSquare) -> u64
+    ensures { λ r. ⌜ r ≡ storedBits c ⌝ }
+{
+    match c {
+        ChiSquare::Measured(x) => floats::to_bits(x),
+        ChiSquare::Unmeasured => INFINITY,
+    }
+}
+
+// What any stored bits say.
+pub fn stored_chi_square(bits: u64) -> ChiSquare
+    ensures { λ r. ⌜ r ≡ storedChiSquare bits ⌝ }
+{
+    if bits == INFINITY {
+        return ChiSquare::Unmeasured;
+    }
+    ChiSquare::Measured(floats::of_bits(bits))
 }
 
 pub fn horizontal_sigma_m(c: Covariance) -> f64

@@ -1,15 +1,17 @@
 // What depends on one fix alone, as a struct and as `PREPARED` numbers, and the comparison of two prepared fixes.
 ghost use mathlib.Core.Path.{_≡_};
-ghost use mathlib.Core.Bool.{_&&_};
+ghost use mathlib.Core.Bool.{true, false, _&&_};
 ghost use Prim.Native.Nat.{_+_, _≤_};
 ghost use lib.ListN.{length};
+ghost use lib.Ieee.Scale.{finite};
 ghost use lib.Seq.{sets};
 ghost use Rattle.geometry.specs.Geodesy.{subOf};
-ghost use Rattle.arithmetic.specs.Agree.{metresOf, geodeticOf, finiteOr};
-ghost use Rattle.geometry.specs.Factors.{lengthOfTwo, lengthOfThree};
+ghost use Rattle.arithmetic.specs.Agree.{metresOf, geodeticOf, finitely, outcomeOf};
+ghost use Rattle.geometry.specs.declared.linalg.Factor.the-variants.{Flat, Full};
 ghost use Rattle.arithmetic.specs.Stages.{preparedSize, enuOf, partsOf, withLimit, measuredOf, judgedOf, heightFlag, zeroVector, twoRowsOf, thirdRowOf, flagsOf, coordinates, placeNumbers, factorNumbers, numbersOf, flagAt, vec3At, basisIn, twoRowsIn, thirdRowIn, factorIn, comparedOf};
 use crate::standing::Agreement;
 use crate::standing::Claimed;
+use crate::standing::Measure;
 use geometry::geodesy::Basis;
 use geometry::geodesy::Geodetic;
 use geometry::geodesy::Vec3;
@@ -68,17 +70,13 @@ fn enu(basis: Basis, d: Vec3) -> Vec3
     Vec3 { x, y, z }
 }
 
-// What is not finite is infinite.
-fn finite_or(x: f64) -> f64
-    ensures { λ r. ⌜ r ≡ finiteOr x ⌝ }
+fn is_finite(x: f64) -> bool
+    ensures { λ r. ⌜ r ≡ finite x ⌝ }
 {
     if !(x < 1.0 / 0.0) {
-        return 1.0 / 0.0;
+        return false;
     }
-    if !(x > -(1.0 / 0.0)) {
-        return 1.0 / 0.0;
-    }
-    x
+    x > -(1.0 / 0.0)
 }
 
 fn both(a: bool, b: bool) -> bool
@@ -90,30 +88,60 @@ fn both(a: bool, b: bool) -> bool
     false
 }
 
-// A chi-square and its limit: with both heights, and without.
-fn with_limit(three: bool, chi2: f64) -> Agreement
-    ensures { λ r. ⌜ r ≡ withLimit three chi2 ⌝ }
+// The outcome of a sum under a limit. A sum that is not finite measures nothing.
+fn outcome(chi2: f64, limit: f64) -> Agreement
+    ensures { λ r. ⌜ r ≡ outcomeOf limit (finitely chi2) ⌝ }
 {
-    if three {
-        return Agreement {
-            chi2: finite_or(chi2),
-            limit: crate::standing::AGREE_CHI2,
-        };
+    if !is_finite(chi2) {
+        return Agreement::Unmeasurable;
     }
-    Agreement {
-        chi2: finite_or(chi2),
-        limit: crate::standing::AGREE_CHI2_2D,
+    let m = Measure { chi2, limit };
+    if chi2 <= limit {
+        return Agreement::Inside(m);
     }
+    Agreement::Outside(m)
 }
 
-// By the factor for three rows where both fixes have a height, else by that for two.
+// With both heights, and without.
+fn of_three(chi2: f64) -> Agreement
+    ensures { λ r. ⌜ r ≡ withLimit true chi2 ⌝ }
+{
+    outcome(chi2, crate::standing::AGREE_CHI2)
+}
+
+fn of_two(chi2: f64) -> Agreement
+    ensures { λ r. ⌜ r ≡ withLimit false chi2 ⌝ }
+{
+    outcome(chi2, crate::standing::AGREE_CHI2_2D)
+}
+
+// By the factor for three rows where both fixes have a height, else by that for two; without it nothing is measured.
+fn measured_flat(three: bool, rows: TwoRows, v: Vec3) -> Agreement
+    ensures { λ r. ⌜ r ≡ measuredOf three (Flat rows) v ⌝ }
+{
+    if three {
+        return Agreement::Unmeasurable;
+    }
+    of_two(geometry::linalg::flat_length(rows, v))
+}
+
+fn measured_full(three: bool, rows: TwoRows, third: ThirdRow, v: Vec3) -> Agreement
+    ensures { λ r. ⌜ r ≡ measuredOf three (Full rows third) v ⌝ }
+{
+    if three {
+        return of_three(geometry::linalg::full_length(rows, third, v));
+    }
+    of_two(geometry::linalg::flat_length(rows, v))
+}
+
 fn measured(three: bool, f: Factor, v: Vec3) -> Agreement
     ensures { λ r. ⌜ r ≡ measuredOf three f v ⌝ }
 {
-    if three {
-        return with_limit(three, geometry::linalg::length_of_three(f, v));
+    match f {
+        Factor::None => Agreement::Unmeasurable,
+        Factor::Flat(rows) => measured_flat(three, rows, v),
+        Factor::Full(rows, third) => measured_full(three, rows, third, v),
     }
-    with_limit(three, geometry::linalg::length_of_two(f, v))
 }
 
 pub fn judged(from: Prepared, to: Vec3, high: bool) -> Agreement
@@ -277,39 +305,21 @@ fn third_row_in(p: &[f64]) -> ThirdRow
     }
 }
 
-// The squared length under the factor that a prepared fix keeps. The factor is read where it stands and not made again: pairs are
-// compared most.
-fn length_of_two_in(p: &[f64], v: Vec3) -> f64
-    requires { ⌜ length (now p) ≡ preparedSize ⌝ }
-    ensures { λ r. ⌜ r ≡ lengthOfTwo (factorIn (now (p .entry))) v ⌝ }
-{
-    if !flag_at(p, 18) {
-        return 1.0 / 0.0;
-    }
-    geometry::linalg::flat_length(two_rows_in(p), v)
-}
-
-fn length_of_three_in(p: &[f64], v: Vec3) -> f64
-    requires { ⌜ length (now p) ≡ preparedSize ⌝ }
-    ensures { λ r. ⌜ r ≡ lengthOfThree (factorIn (now (p .entry))) v ⌝ }
-{
-    if !flag_at(p, 18) {
-        return 1.0 / 0.0;
-    }
-    if !flag_at(p, 19) {
-        return 1.0 / 0.0;
-    }
-    geometry::linalg::full_length(two_rows_in(p), third_row_in(p), v)
-}
-
+// The same by the factor that a prepared fix keeps. It is read where it stands and not made again: pairs are compared most.
 fn measured_in(three: bool, p: &[f64], v: Vec3) -> Agreement
     requires { ⌜ length (now p) ≡ preparedSize ⌝ }
     ensures { λ r. ⌜ r ≡ measuredOf three (factorIn (now (p .entry))) v ⌝ }
 {
-    if three {
-        return with_limit(three, length_of_three_in(p, v));
+    if !flag_at(p, 18) {
+        return Agreement::Unmeasurable;
     }
-    with_limit(three, length_of_two_in(p, v))
+    if !three {
+        return of_two(geometry::linalg::flat_length(two_rows_in(p), v));
+    }
+    if !flag_at(p, 19) {
+        return Agreement::Unmeasurable;
+    }
+    of_three(geometry::linalg::full_length(two_rows_in(p), third_row_in(p), v))
 }
 
 fn basis_in(p: &[f64]) -> Basis

@@ -7,7 +7,6 @@ use mathlib.Core.List.{List, [], _∷_, _++_, map, flatMap, append-nil, List·Me
 use native.Mathlib.Omega.{arith}
 use native.Mathlib.Numerals.{add-one}
 use lib.Dec.{ltb, eqb}
-use lib.Ieee.{binary64, toBits}
 use lib.ListN.{length, getD, drop, replicate, length-map, length-replicate, getD-replicate, List·getD-eq-default}
 use lib.Seq.{take-at, getD-append-add}
 use borrow.Author.Tests.{ltb-true, ltb-false, eqb-true, eqb-false}
@@ -62,6 +61,7 @@ use Rattle.drawing.specs.Drawing.{linesOf, refusedLines, decidedText, transmiss
 use Rattle.board.specs.Tables.{labelsOf}
 use Rattle.board.proofs.Labelled.{label-at, tabled-at}
 use Rattle.board.proofs.Members.{members-are}
+use Rattle.arithmetic.specs.declared.standing.ChiSquare.{ChiSquare}
 
 -- ---- small laws
 
@@ -71,7 +71,7 @@ drop-in (suc k) [] x m = m
 drop-in (suc k) (y ∷ l) x m = List·Memᴰ·tail (drop-in k l x m)
 
 -- what is decided is decided of the items
-module _ {A : Type 0} (r : Relations A) (all : List A) where
+module _ {A C : Type 0} (r : Relations A C) (all : List A) where
   ranked-of : (x : A) → List·Memᴰ x (decide r all .ranked) → List·Memᴰ x all
   unfolding decide
   ranked-of x m = let p : A → Bool = λ f. not (isRefused r all f) && not (isCovered r all f) in filter-in p all x (sort-in (r .ahead) (filter p all) x m) .0
@@ -80,15 +80,15 @@ module _ {A : Type 0} (r : Relations A) (all : List A) where
   unfolding decide
   dominated-of x m = filter-in (λ f. not (isRefused r all f) && isCovered r all f) all x m .0
 
-  replaced-item : (f : A) (l : List A) (x : Refused A) → List·Memᴰ x (replaced r all f l) → x .item ≡ f
+  replaced-item : (f : A) (l : List A) (x : Refused A C) → List·Memᴰ x (replaced r all f l) → x .item ≡ f
   replaced-item f [] x m = absurd (List·Memᴰ·not-nil m)
-  replaced-item f (g ∷ gs) x m = or (List·Memᴰ·cases-cons m) (λ e. ap (λ (z : Refused A). z .item) e) (λ k. absurd (List·Memᴰ·not-nil k))
+  replaced-item f (g ∷ gs) x m = or (List·Memᴰ·cases-cons m) (λ e. ap (λ (z : Refused A C). z .item) e) (λ k. absurd (List·Memᴰ·not-nil k))
 
-  opposed-item : (f : A) (l : List A) (x : Refused A) → List·Memᴰ x (opposed r all f l) → x .item ≡ f
+  opposed-item : (f : A) (l : List A) (x : Refused A C) → List·Memᴰ x (opposed r all f l) → x .item ≡ f
   opposed-item f [] x m = absurd (List·Memᴰ·not-nil m)
-  opposed-item f (g ∷ gs) x m = or (List·Memᴰ·cases-cons m) (λ e. ap (λ (z : Refused A). z .item) e) (λ k. absurd (List·Memᴰ·not-nil k))
+  opposed-item f (g ∷ gs) x m = or (List·Memᴰ·cases-cons m) (λ e. ap (λ (z : Refused A C). z .item) e) (λ k. absurd (List·Memᴰ·not-nil k))
 
-  refusal-item : (f : A) (x : Refused A) → List·Memᴰ x (refusalOf r all f) → x .item ≡ f
+  refusal-item : (f : A) (x : Refused A C) → List·Memᴰ x (refusalOf r all f) → x .item ≡ f
   unfolding refusalOf
   refusal-item f x m =
       by (isSuperseded r all f)
@@ -97,7 +97,7 @@ module _ {A : Type 0} (r : Relations A) (all : List A) where
       (λ u. opposed-item f (filter (opposes r all f) all) x (rw (t, u) at m))
       (λ u. absurd (List·Memᴰ·not-nil (rw (t, u) at m))))
 
-  refused-of : (x : Refused A) → List·Memᴰ x (decide r all .refused) → List·Memᴰ (x .item) all
+  refused-of : (x : Refused A C) → List·Memᴰ x (decide r all .refused) → List·Memᴰ (x .item) all
   unfolding decide
   refused-of x m = let q = flat-in (refusalOf r all) all x m in subst (λ (y : A). List·Memᴰ y all) (sym (refusal-item (q .0) x (q .2))) (q .1)
 
@@ -175,7 +175,7 @@ module _ (ss : List (List ℕ)) (fs : List Fix) (w : AllFit ss fs) (wides : wide
     count = let e = members-length t l n s (g .size) (g .few) in let z = same-length in omega arith
 
     -- what is decided of them, by their indices
-    abbrev o : Outcome ℕ
+    abbrev o : Outcome ℕ ChiSquare
     o = decide (R.itemRelations (itemsFor gs)) (upTo (length gs))
 
     outcome-is : outcome (itemsOf t ms) ≡ o
@@ -185,7 +185,7 @@ module _ (ss : List (List ℕ)) (fs : List Fix) (w : AllFit ss fs) (wides : wide
     unfolding outcomeOf decided
     outcome-of = rw decides (ap decision outcome-is)
 
-    shown-is : shown gs ≡ carriedOutcome (at gs) o
+    shown-is : shown gs ≡ carriedOutcome (at gs) (λ c. c) o
     shown-is = shown-of-items gs (fits ms below)
 
     -- ---- its text
@@ -213,13 +213,13 @@ module _ (ss : List (List ℕ)) (fs : List Fix) (w : AllFit ss fs) (wides : wide
         let p = c i (List·Memᴰ·head refl) in
         ap₂ _++_ (ap₂ (line role) (line-record i p) (line-signers i p)) (lines-are role is (λ j k. c j (List·Memᴰ·tail k)))
 
-    refused-lines-are : (rs : List (Refused ℕ)) → ((r : Refused ℕ) → List·Memᴰ r rs → r .item < length gs)
-        → refusedLines t m (map refusal rs) ≡ flatMap refusedText (map (carriedRefusal (at gs)) rs)
+    refused-lines-are : (rs : List (Refused ℕ ChiSquare)) → ((r : Refused ℕ ChiSquare) → List·Memᴰ r rs → r .item < length gs)
+        → refusedLines t m (map refusal rs) ≡ flatMap refusedText (map (carriedRefusal (at gs) (λ c. c)) rs)
     unfolding refusedLines flatMap
     refused-lines-are [] c = refl
     refused-lines-are (r ∷ rs) c =
         let p = c r (List·Memᴰ·head refl) in
-        ap₂ _++_ (ap₂ (λ a k. refusedLine a k (toBits binary64 (r .chi2))) (line-record (r .item) p) (line-signers (r .item) p)) (refused-lines-are rs (λ j k. c j (List·Memᴰ·tail k)))
+        ap₂ _++_ (ap₂ (λ a k. refusedLine a k (r .chi2)) (line-record (r .item) p) (line-signers (r .item) p)) (refused-lines-are rs (λ j k. c j (List·Memᴰ·tail k)))
 
     ranked-in : (i : ℕ) → List·Memᴰ i (o .ranked) → i < length gs
     ranked-in i k = up-in (length gs) i (ranked-of (R.itemRelations (itemsFor gs)) (upTo (length gs)) i k)
@@ -227,10 +227,10 @@ module _ (ss : List (List ℕ)) (fs : List Fix) (w : AllFit ss fs) (wides : wide
     dominated-in : (i : ℕ) → List·Memᴰ i (o .dominated) → i < length gs
     dominated-in i k = up-in (length gs) i (dominated-of (R.itemRelations (itemsFor gs)) (upTo (length gs)) i k)
 
-    refused-in : (r : Refused ℕ) → List·Memᴰ r (o .refused) → r .item < length gs
+    refused-in : (r : Refused ℕ ChiSquare) → List·Memᴰ r (o .refused) → r .item < length gs
     refused-in r k = up-in (length gs) (r .item) (refused-of (R.itemRelations (itemsFor gs)) (upTo (length gs)) r k)
 
-    decided-text : (number : ℕ) → decidedText number t m (decision o) ≡ textOf number (carriedOutcome (at gs) o)
+    decided-text : (number : ℕ) → decidedText number t m (decision o) ≡ textOf number (carriedOutcome (at gs) (λ c. c) o)
     unfolding decidedText decision indices refusals textOf
     decided-text number =
         let A = o .ranked in
@@ -242,7 +242,7 @@ module _ (ss : List (List ℕ)) (fs : List Fix) (w : AllFit ss fs) (wides : wide
           take-at F (replicate (maxItems - length F) noRefusal) (length F) refl,
           length-map A (at gs),
           length-map K (at gs),
-          length-map (o .refused) (carriedRefusal (at gs)),
+          length-map (o .refused) (carriedRefusal (at gs) (λ c. c)),
           length-map (o .refused) refusal,
           lines-are (ascii "ranked") A ranked-in,
           lines-are (ascii "dominated") K dominated-in,
@@ -269,7 +269,7 @@ module _ (ss : List (List ℕ)) (fs : List Fix) (w : AllFit ss fs) (wides : wide
     -- some fix is ranked, since there is one
     never : o .ranked ≡ [] → ⊥
     never e =
-        let q = lawful (itemsOf t ms) decides .some-ranked (ap (λ (z : Outcome ℕ). z .ranked) outcome-is ∙ e) in
+        let q = lawful (itemsOf t ms) decides .some-ranked (ap (λ (z : Outcome ℕ ChiSquare). z .ranked) outcome-is ∙ e) in
         let k = some-member in
         let z = count in
         let y = same-length in

@@ -44,6 +44,7 @@ use Rattle.register.proofs.Remaining.{holds-in-order}
 use Rattle.board.specs.Shows.{WhatIsShown}
 use Rattle.board.proofs.Pictured.{Fixed, valid-fixed}
 use Rattle.board.proofs.WholeLists.{valid}
+use Rattle.arithmetic.specs.declared.standing.ChiSquare.{ChiSquare}
 
 -- ---- a transmission
 
@@ -58,10 +59,10 @@ sound = record {
 }
 
 lines : (c : List Fix) → List·Permᴰ (listedIn (shown c)) c
-lines c = subst (λ (o : Outcome Fix). List·Permᴰ (listedIn o) c) (sym (shown-is-decided c)) (listed-once fixRelations c)
+lines c = subst (λ (o : Outcome Fix ChiSquare). List·Permᴰ (listedIn o) c) (sym (shown-is-decided c)) (listed-once fixRelations c)
 
 first-of : (c : List Fix) (f : Fix) → List·Memᴰ f c → (g : Fix) × List·Memᴰ g (shown c .ranked)
-first-of c f m = subst (λ (o : Outcome Fix). (g : Fix) × List·Memᴰ g (o .ranked)) (sym (shown-is-decided c)) (some-ranked fixRelations c sound f m)
+first-of c f m = subst (λ (o : Outcome Fix ChiSquare). (g : Fix) × List·Memᴰ g (o .ranked)) (sym (shown-is-decided c)) (some-ranked fixRelations c sound f m)
 
 -- the ranked are fixes of the transmission
 ranked-in : (c : List Fix) (f : Fix) → List·Memᴰ f (shown c .ranked) → List·Memᴰ f c

@@ -20,7 +20,7 @@ use Rattle.geometry.specs.Numbers.{fromDecimal}
 use Rattle.geometry.specs.Angles.{degree, radiansOf, factorial, coefficient, sineSeries, cosineSeries, sincosOf}
 use Rattle.geometry.specs.Geodesy.{flattening, eccentricity2, toEcef, enuBasis, subOf, dotOf}
 use Rattle.geometry.specs.Linalg.{less, rowsBelow, columns, choleskyOf, forwards, forward, backwards, backward, solveOf, plus}
-use Rattle.arithmetic.specs.Agree.{limitOf, geodeticOf, matrixOf, lengthUnder, chiSquareOf, finiteOr, differenceOf, agreementOf, agreesOf}
+use Rattle.arithmetic.specs.Agree.{limitOf, geodeticOf, matrixOf, sumUnder, finitely, lengthUnder, chiSquareOf, differenceOf, outcomeOf, agreementOf, agreesOf, chiSquareIn}
 use Rattle.ranges.specs.Lists.{anyOf, filter, insert, sort, foremost}
 use Rattle.items.specs.Claimed.{claimOf}
 use Rattle.decision.specs.Positions.{S, M, L}
@@ -30,7 +30,7 @@ use Rattle.fixes.specs.Fixes.{enter, enterAll, fixesOf}
 use Rattle.links.specs.Transmissions.{recordsLink, reach, transmissionsOf}
 use Rattle.shown.specs.Shown.{shown}
 use Rattle.transmissions.specs.Picture.{picture}
-use Rattle.drawing.specs.Lines.{header, line, refusedLine, fixText, whereWhen, heightText}
+use Rattle.drawing.specs.Lines.{header, line, chiSquareText, refusedLine, fixText, whereWhen, heightText}
 use Rattle.drawing.specs.Text.{textOf, textFrom}
 use Rattle.register.specs.Register.{Register, strikeEngine}
 use Rattle.board.specs.Board.{boardOf, boardIn}
@@ -54,7 +54,7 @@ lines =
 
 -- what a board is computed from
 of-boards : Unit {0}
-unfolding boardOf shown textFrom textOf picture transmissionsOf reach fixesOf enter enterAll anyOf filter insert sort foremost flatMap recordsLink tied sharesTag anyIn ascii header line refusedLine fixText whereWhen heightText digits signed hex allAgreed stateFrom summariesFor citedInputs setHash identityFrom inputsInOrder B.rotateRight B.iv B.sigma B.addWord B.turnWord B.halfMix B.mixWords B.mixColumns B.mixDiagonals B.roundBy B.rounds B.startState B.compressBlock B.wordsOf B.padBlock B.firstState B.chainBlocks B.hashWords B.bytesOfWords B.blake2s256 subset allIn member same isBefore bits tagsFrom claimOf wordBytes word limitOf geodeticOf matrixOf lengthUnder chiSquareOf finiteOr differenceOf agreementOf agreesOf degree radiansOf factorial coefficient sineSeries cosineSeries sincosOf flattening eccentricity2 toEcef enuBasis subOf dotOf less rowsBelow columns choleskyOf forwards forward backwards backward solveOf plus fromDecimal isqrt digitsOf rootOf rootFinite rootBits root leadingZeros ofBits toBits round le lt eq ofInt div mul add sub neg isNan
+unfolding boardOf shown textFrom textOf picture transmissionsOf reach fixesOf enter enterAll anyOf filter insert sort foremost flatMap recordsLink tied sharesTag anyIn ascii header line chiSquareText refusedLine fixText whereWhen heightText digits signed hex allAgreed stateFrom summariesFor citedInputs setHash identityFrom inputsInOrder B.rotateRight B.iv B.sigma B.addWord B.turnWord B.halfMix B.mixWords B.mixColumns B.mixDiagonals B.roundBy B.rounds B.startState B.compressBlock B.wordsOf B.padBlock B.firstState B.chainBlocks B.hashWords B.bytesOfWords B.blake2s256 subset allIn member same isBefore bits tagsFrom claimOf wordBytes word limitOf geodeticOf matrixOf sumUnder finitely lengthUnder chiSquareOf differenceOf outcomeOf agreementOf agreesOf chiSquareIn degree radiansOf factorial coefficient sineSeries cosineSeries sincosOf flattening eccentricity2 toEcef enuBasis subOf dotOf less rowsBelow columns choleskyOf forwards forward backwards backward solveOf plus fromDecimal isqrt digitsOf rootOf rootFinite rootBits root leadingZeros ofBits toBits round le lt eq ofInt div mul add sub neg isNan
 of-boards = tt
 
 pub whole-board : boardOf [] slots ≡ lines

@@ -15,10 +15,11 @@ use Rattle.decision.specs.Answer.{bad, outcome, decided, decision, refus
 use Rattle.decision.specs.Claims.{listedIn}
 use Rattle.decision.specs.Working.{plainly}
 use Rattle.decision.proofs.Decided.{decided-is, lawful}
+use Rattle.arithmetic.specs.declared.standing.ChiSquare.{ChiSquare}
 
 -- three lists that are at most one item, of which the first is empty only without items
 module _ (n : ℕ) (few : n ≤ 1) where
-  total : (rs ds : List ℕ) (xs : List (Refused ℕ)) → List·Permᴰ (rs ++ (ds ++ map (λ x. x .item) xs)) (upTo n) → length rs + (length ds + length xs) ≡ n
+  total : (rs ds : List ℕ) (xs : List (Refused ℕ ChiSquare)) → List·Permᴰ (rs ++ (ds ++ map (λ x. x .item) xs)) (upTo n) → length rs + (length ds + length xs) ≡ n
   total rs ds xs p =
       let l = perm-length p in
       let a = length-append rs (ds ++ map (λ x. x .item) xs) in
@@ -27,7 +28,7 @@ module _ (n : ℕ) (few : n ≤ 1) where
       let d = count-length 0 n in
       omega arith
 
-  only : (rs ds : List ℕ) (xs : List (Refused ℕ)) → List·Permᴰ (rs ++ (ds ++ map (λ x. x .item) xs)) (upTo n) → (rs ≡ [] → n ≡ 0)
+  only : (rs ds : List ℕ) (xs : List (Refused ℕ ChiSquare)) → List·Permᴰ (rs ++ (ds ++ map (λ x. x .item) xs)) (upTo n) → (rs ≡ [] → n ≡ 0)
       → (rs ≡ upTo n) × (ds ≡ []) × (xs ≡ [])
   unfolding countFrom
   only [] [] [] p e = (ap upTo (sym (e refl)), refl, refl)
@@ -43,7 +44,7 @@ module _ (n : ℕ) (few : n ≤ 1) where
   only (r ∷ []) (d ∷ ds) xs p e = let t = total (r ∷ []) (d ∷ ds) xs p in absurd (omega arith)
   only (r ∷ []) [] (x ∷ xs) p e = let t = total (r ∷ []) [] (x ∷ xs) p in absurd (omega arith)
 
-ranks : (n : ℕ) → n ≤ 1 → (o : Outcome ℕ) → (o .ranked ≡ upTo n) × (o .dominated ≡ []) × (o .refused ≡ []) → plainly 0 n ≡ decision o
+ranks : (n : ℕ) → n ≤ 1 → (o : Outcome ℕ ChiSquare) → (o .ranked ≡ upTo n) × (o .dominated ≡ []) × (o .refused ≡ []) → plainly 0 n ≡ decision o
 unfolding plainly decision indices refusals countFrom
 ranks zero h o (a, b, c) = rw (a, b, c) refl
 ranks (suc zero) h o (a, b, c) = rw (a, b, c) refl

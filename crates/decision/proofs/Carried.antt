@@ -1,5 +1,5 @@
--- What is decided does not depend on what the items are, but on how they relate: where h carries the members of a list to items that relate in the same way,
--- what is decided of these is what is decided of the members, carried by h.
+-- What is decided does not depend on what the items are, but on how they relate, and of what is measured only which refusal carries it: where h carries the
+-- members of a list to items that relate in the same way, and u what is measured of them, what is decided of these is what is decided of the members, carried.
 use mathlib.Core.Path.{_≡_, refl, sym, ap, ap₂, _∙_}
 use mathlib.Core.Bool.{Bool, not, _&&_, _||_}
 use mathlib.Core.List.{List, [], _∷_, _++_, map, flatMap, List·Memᴰ, List·Memᴰ·head, List·Memᴰ·tail}
@@ -10,21 +10,21 @@ use Rattle.rule.specs.Standing.{Relations, supersedes, replaces, isSuperseded, 
 use Rattle.rule.specs.Outcome.{Refused, Outcome}
 
 -- members of l relate as what h makes of them
-pub record Alike {A B : Type 0} (a : Relations A) (b : Relations B) (h : A → B) (l : List A) : Type 0 where
+pub record Alike {A B C D : Type 0} (a : Relations A C) (b : Relations B D) (h : A → B) (u : C → D) (l : List A) : Type 0 where
   pub disagrees : (x y : A) → List·Memᴰ x l → List·Memᴰ y l → b .disagrees (h x) (h y) ≡ a .disagrees x y
-  pub chiSquare : (x y : A) → List·Memᴰ x l → List·Memᴰ y l → b .chiSquare (h x) (h y) ≡ a .chiSquare x y
+  pub chiSquare : (x y : A) → List·Memᴰ x l → List·Memᴰ y l → b .chiSquare (h x) (h y) ≡ u (a .chiSquare x y)
   pub outstands : (x y : A) → List·Memᴰ x l → List·Memᴰ y l → b .outstands (h x) (h y) ≡ a .outstands x y
   pub passed : (x : A) → List·Memᴰ x l → b .passed (h x) ≡ a .passed x
   pub within : (x y : A) → List·Memᴰ x l → List·Memᴰ y l → b .within (h x) (h y) ≡ a .within x y
   pub lower : (x y : A) → List·Memᴰ x l → List·Memᴰ y l → b .lower (h x) (h y) ≡ a .lower x y
   pub ahead : (x y : A) → List·Memᴰ x l → List·Memᴰ y l → b .ahead (h x) (h y) ≡ a .ahead x y
 
--- a refused item, and an outcome, with h of each item
-abbrev pub carriedRefusal : {A B : Type 0} → (A → B) → Refused A → Refused B
-carriedRefusal h x = record { item = h (x .item); against = h (x .against); chi2 = x .chi2; superseded = x .superseded }
+-- a refused item, and an outcome, with h of each item and u of what is measured
+abbrev pub carriedRefusal : {A B C D : Type 0} → (A → B) → (C → D) → Refused A C → Refused B D
+carriedRefusal h u x = record { item = h (x .item); against = h (x .against); chi2 = u (x .chi2); superseded = x .superseded }
 
-abbrev pub carriedOutcome : {A B : Type 0} → (A → B) → Outcome A → Outcome B
-carriedOutcome h o = record { ranked = map h (o .ranked); dominated = map h (o .dominated); refused = map (carriedRefusal h) (o .refused) }
+abbrev pub carriedOutcome : {A B C D : Type 0} → (A → B) → (C → D) → Outcome A C → Outcome B D
+carriedOutcome h u o = record { ranked = map h (o .ranked); dominated = map h (o .dominated); refused = map (carriedRefusal h u) (o .refused) }
 
 map-append : {A B : Type 0} (f : A → B) (l m : List A) → map f (l ++ m) ≡ map f l ++ map f m
 map-append f [] m = refl
@@ -38,7 +38,7 @@ flat-map h k f g (x ∷ l) e =
     ap₂ _++_ (e x (List·Memᴰ·head refl)) (flat-map h k f g l (λ y m. e y (List·Memᴰ·tail m)))
     ∙ sym (map-append k (f x) (flatMap f l))
 
-module _ {A B : Type 0} (a : Relations A) (b : Relations B) (h : A → B) (l : List A) (w : Alike a b h l) where
+module _ {A B C D : Type 0} (a : Relations A C) (b : Relations B D) (h : A → B) (u : C → D) (l : List A) (w : Alike a b h u l) where
   supersedes-to : (x : A) → List·Memᴰ x l → supersedes b (map h l) (h x) ≡ supersedes a l x
   unfolding supersedes
   supersedes-to x m =
@@ -80,19 +80,19 @@ module _ {A B : Type 0} (a : Relations A) (b : Relations B) (h : A → B) (l : L
   first-to : (x : A) (k : List A) → ((y : A) → List·Memᴰ y (x ∷ k) → List·Memᴰ y l) → foremost (b .lower) (h x) (map h k) ≡ h (foremost (a .lower) x k)
   first-to x k sub = foremost-map h (a .lower) (b .lower) x k (λ y z m n. w .lower y z (sub y m) (sub z n))
 
-  replaced-to : (x : A) → List·Memᴰ x l → (k : List A) → ((y : A) → List·Memᴰ y k → List·Memᴰ y l) → replaced b (map h l) (h x) (map h k) ≡ map (carriedRefusal h) (replaced a l x k)
+  replaced-to : (x : A) → List·Memᴰ x l → (k : List A) → ((y : A) → List·Memᴰ y k → List·Memᴰ y l) → replaced b (map h l) (h x) (map h k) ≡ map (carriedRefusal h u) (replaced a l x k)
   replaced-to x m [] sub = refl
   replaced-to x m (y ∷ k) sub =
       let z = foremost (a .lower) y k in
       rw (first-to y k sub, w .chiSquare z x (sub z (foremost-in (a .lower) y k)) m) refl
 
-  opposed-to : (x : A) → List·Memᴰ x l → (k : List A) → ((y : A) → List·Memᴰ y k → List·Memᴰ y l) → opposed b (map h l) (h x) (map h k) ≡ map (carriedRefusal h) (opposed a l x k)
+  opposed-to : (x : A) → List·Memᴰ x l → (k : List A) → ((y : A) → List·Memᴰ y k → List·Memᴰ y l) → opposed b (map h l) (h x) (map h k) ≡ map (carriedRefusal h u) (opposed a l x k)
   opposed-to x m [] sub = refl
   opposed-to x m (y ∷ k) sub =
       let z = foremost (a .lower) y k in
       rw (first-to y k sub, w .chiSquare x z m (sub z (foremost-in (a .lower) y k))) refl
 
-  refusal-to : (x : A) → List·Memᴰ x l → refusalOf b (map h l) (h x) ≡ map (carriedRefusal h) (refusalOf a l x)
+  refusal-to : (x : A) → List·Memᴰ x l → refusalOf b (map h l) (h x) ≡ map (carriedRefusal h u) (refusalOf a l x)
   unfolding refusalOf
   refusal-to x m =
       by (isSuperseded a l x)
@@ -105,7 +105,7 @@ module _ {A B : Type 0} (a : Relations A) (b : Relations B) (h : A → B) (l : L
 
   -- ---- the whole
 
-  pub carried : decide b (map h l) ≡ carriedOutcome h (decide a l)
+  pub carried : decide b (map h l) ≡ carriedOutcome h u (decide a l)
   unfolding decide
   carried =
       let stands : A → Bool = λ x. not (isRefused a l x) && not (isCovered a l x) in
@@ -116,5 +116,5 @@ module _ {A B : Type 0} (a : Relations A) (b : Relations B) (h : A → B) (l : L
       ∙ sort-map h (a .ahead) (b .ahead) (filter stands l) (λ x y m n. w .ahead x y (filter-in stands l x m .0) (filter-in stands l y n .0)) in
       let d = filter-map h (λ x. not (isRefused a l x) && isCovered a l x) (λ y. not (isRefused b (map h l) y) && isCovered b (map h l) y) l
       (λ x m. ap₂ (λ (p q : Bool). not p && q) (refused-to x m) (covered-to x m)) in
-      let f = flat-map h (carriedRefusal h) (refusalOf a l) (refusalOf b (map h l)) l refusal-to in
+      let f = flat-map h (carriedRefusal h u) (refusalOf a l) (refusalOf b (map h l)) l refusal-to in
       λ i. record { ranked = r i; dominated = d i; refused = f i }

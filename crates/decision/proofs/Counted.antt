@@ -14,12 +14,13 @@ use Rattle.decision.specs.declared.Decision.{Decision}
 use Rattle.decision.specs.Answer.{bad, outcome, decided, decision, refusedDecision, indices, refusals}
 use Rattle.decision.specs.Claims.{listedIn}
 use Rattle.decision.proofs.Decided.{decided-is, lawful}
+use Rattle.arithmetic.specs.declared.standing.ChiSquare.{ChiSquare}
 
 -- how many items a decision lists
 abbrev pub listed : Decision → ℕ
 listed d = d .ranked .count + d .dominated .count + d .refusals .count
 
-listed-is : (o : Outcome ℕ) → listed (decision o) ≡ length (listedIn o)
+listed-is : (o : Outcome ℕ ChiSquare) → listed (decision o) ≡ length (listedIn o)
 unfolding decision indices refusals
 listed-is o = simp (length-append, length-map) (omega arith)
 

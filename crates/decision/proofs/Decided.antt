@@ -23,16 +23,17 @@ use Rattle.decision.proofs.Carried.{Alike, carried, carriedOutcome}
 use Rattle.decision.proofs.Laws.{Named, opponent, successor, listed-once, refused-names, some-ranked, same-ranked, same-dominated, same-refused}
 use Rattle.decision.proofs.Passed.{good-items}
 use Rattle.decision.proofs.Sound.{rel-sound, by-identity, by-rank, rank-apart, ahead-trans, is-consistent, is-subset, is-apart}
+use Rattle.arithmetic.specs.declared.standing.ChiSquare.{ChiSquare}
 
 pub each-once : EachOnce
-each-once A r all = listed-once r all
+each-once A C r all = listed-once r all
 
 -- what is answered where nothing is bad
 pub decided-is : (s : List ℕ) → bad s ≡ false → decided s ≡ decision (outcome s)
 unfolding decided
 decided-is s e = rw e refl
 
-named : (s : List ℕ) (x : Refused ℕ) → Named (itemRelations s) (upTo (itemCount s)) x → Names s x
+named : (s : List ℕ) (x : Refused ℕ ChiSquare) → Named (itemRelations s) (upTo (itemCount s)) x → Names s x
 named s x (opponent p c m d u) =
     contest p c
     (record {
@@ -123,7 +124,7 @@ module _ (s t : List ℕ) (to : ℕ → ℕ) (w : Reordered s t to) where
   n = itemCount s
 
   -- the items relate as they did
-  alike : Alike (itemRelations s) (itemRelations t) to (upTo n)
+  alike : Alike (itemRelations s) (itemRelations t) to (λ c. c) (upTo n)
   unfolding disagreesAt withinAt subsetAt agreementAt aheadAt aheadByStanding aheadByWeight
   alike = record {
     disagrees = λ i j h l. rw (same-consistent s t j (to j) (at j l), same-record s t j (to j) (at j l), same-record s t i (to i) (at i h)) refl;
@@ -149,8 +150,8 @@ module _ (s t : List ℕ) (to : ℕ → ℕ) (w : Reordered s t to) where
       at : (i : ℕ) → List·Memᴰ i (upTo n) → itemAt t (to i) ≡ itemAt s i
       at i m = w .items i (up-in n i m)
 
-  moved-over : decide (itemRelations t) (map to (upTo n)) ≡ carriedOutcome to (outcome s)
-  moved-over = carried (itemRelations s) (itemRelations t) to (upTo n) alike
+  moved-over : decide (itemRelations t) (map to (upTo n)) ≡ carriedOutcome to (λ c. c) (outcome s)
+  moved-over = carried (itemRelations s) (itemRelations t) to (λ c. c) (upTo n) alike
 
   module _ (good : bad t ≡ false) where
     -- identity and rank order the items of t, in either order
@@ -164,12 +165,12 @@ module _ (s t : List ℕ) (to : ℕ → ℕ) (w : Reordered s t to) where
     same = record {
       ranked =
           sym (same-ranked (itemRelations t) (map to (upTo n)) (upTo (itemCount t)) (w .places) lower (turned (by-rank t (itemCount t) (good-items t good))))
-          ∙ ap (λ (o : Outcome ℕ). o .ranked) moved-over;
+          ∙ ap (λ (o : Outcome ℕ ChiSquare). o .ranked) moved-over;
       dominated =
-          subst (λ (o : Outcome ℕ). List·Permᴰ (outcome t .dominated) (o .dominated)) moved-over
+          subst (λ (o : Outcome ℕ ChiSquare). List·Permᴰ (outcome t .dominated) (o .dominated)) moved-over
           (Permᴰ·symm (same-dominated (itemRelations t) (map to (upTo n)) (upTo (itemCount t)) (w .places) lower));
       refused =
-          subst (λ (o : Outcome ℕ). List·Permᴰ (outcome t .refused) (o .refused)) moved-over
+          subst (λ (o : Outcome ℕ ChiSquare). List·Permᴰ (outcome t .refused) (o .refused)) moved-over
           (Permᴰ·symm (same-refused (itemRelations t) (map to (upTo n)) (upTo (itemCount t)) (w .places) lower));
     }
 

@@ -4,7 +4,6 @@ use mathlib.Core.Bool.{Bool, true, false, true≢false}
 use mathlib.Core.List.{List, [], _∷_, _++_, map, flatMap, append-nil}
 use Prim.Native.Nat.{ℕ, _+_, _*_, _≤_}
 use native.Mathlib.Omega.{arith}
-use lib.Ieee.{Float}
 use lib.ListN.{length}
 use Rattle.ranges.proofs.Bools.{by}
 use Rattle.ranges.specs.Lists.{filter, countFrom, upTo}
@@ -24,8 +23,9 @@ use Rattle.decision.specs.Answer.{refusal, noRefusal, outcome}
 use Rattle.decision.specs.Working.{finding}
 use Rattle.decision.proofs.Laws.{refused-one, refused-none}
 use Rattle.decision.proofs.Passed.{outcome-is}
+use Rattle.arithmetic.specs.declared.standing.ChiSquare.{ChiSquare}
 
-module _ (r : Relations ℕ) (all : List ℕ) (i : ℕ) where
+module _ (r : Relations ℕ ChiSquare) (all : List ℕ) (i : ℕ) where
   -- ---- a refusal by whom a search found
 
   pub none-replaces : (l : List ℕ) → choose (r .lower) Nobody l ≡ Nobody → Unrefused ≡ finding (replaced r all i l)
@@ -36,12 +36,12 @@ module _ (r : Relations ℕ) (all : List ℕ) (i : ℕ) where
   unfolding finding
   none-opposes l e = rw (chose-none (r .lower) l e) refl
 
-  pub one-replaces : (l : List ℕ) (k : ℕ) (c : Float) → choose (r .lower) Nobody l ≡ Item k → c ≡ r .chiSquare k i
+  pub one-replaces : (l : List ℕ) (k : ℕ) (c : ChiSquare) → choose (r .lower) Nobody l ≡ Item k → c ≡ r .chiSquare k i
       → Refused (record { refused = i; kept = k; chi2 = c; superseded = true }) ≡ finding (replaced r all i l)
   unfolding finding
   one-replaces l k c e q = let w = chose-item (r .lower) l k e in rw (w .2, w .3, q) refl
 
-  pub one-opposes : (l : List ℕ) (k : ℕ) (c : Float) → choose (r .lower) Nobody l ≡ Item k → c ≡ r .chiSquare i k
+  pub one-opposes : (l : List ℕ) (k : ℕ) (c : ChiSquare) → choose (r .lower) Nobody l ≡ Item k → c ≡ r .chiSquare i k
       → Refused (record { refused = i; kept = k; chi2 = c; superseded = false }) ≡ finding (opposed r all i l)
   unfolding finding
   one-opposes l k c e q = let w = chose-item (r .lower) l k e in rw (w .2, w .3, q) refl
@@ -70,21 +70,21 @@ theRefusal Unrefused = noRefusal
 theRefusal (Refused x) = x
 
 -- the refusals of the items before i, of n items
-abbrev pub refusedTo : Relations ℕ → ℕ → ℕ → List Refusal
+abbrev pub refusedTo : Relations ℕ ChiSquare → ℕ → ℕ → List Refusal
 refusedTo r n i = map refusal (flatMap (refusalOf r (upTo n)) (upTo i))
 
-pub none-refused : (r : Relations ℕ) (n : ℕ) → refusedTo r n 0 ≡ []
+pub none-refused : (r : Relations ℕ ChiSquare) (n : ℕ) → refusedTo r n 0 ≡ []
 unfolding countFrom flatMap
 none-refused r n = refl
 
-module _ (r : Relations ℕ) (n i : ℕ) (f : Finding) (e : f ≡ finding (refusalOf r (upTo n) i)) where
+module _ (r : Relations ℕ ChiSquare) (n i : ℕ) (f : Finding) (e : f ≡ finding (refusalOf r (upTo n) i)) where
   pub found-none : f ≡ Unrefused → refusedTo r n (i + 1) ≡ refusedTo r n i
   unfolding finding
   found-none q =
       let so = flatMap (refusalOf r (upTo n)) (upTo i) in
       ap (map refusal) (flat-more (refusalOf r (upTo n)) i ∙ ap (λ l. so ++ l) (empty (refusalOf r (upTo n) i) (sym e ∙ q)) ∙ append-nil so)
     where
-      empty : (l : List (O.Refused ℕ)) → finding l ≡ Unrefused → l ≡ []
+      empty : (l : List (O.Refused ℕ ChiSquare)) → finding l ≡ Unrefused → l ≡ []
       empty [] e = refl
       empty (x ∷ l) e = absurd (true≢false (ap isRefusal e))
 
@@ -97,7 +97,7 @@ module _ (r : Relations ℕ) (n i : ℕ) (f : Finding) (e : f ≡ finding (refus
       let so = flatMap (refusalOf r (upTo n)) (upTo i) in
       ap (map refusal) (flat-more (refusalOf r (upTo n)) i ∙ ap (λ l. so ++ l) (y .1)) ∙ map-snoc so (y .0) ∙ ap (λ v. map refusal so ++ (v ∷ [])) (sym z)
     where
-      map-snoc : (l : List (O.Refused ℕ)) (y : O.Refused ℕ) → map refusal (l ++ (y ∷ [])) ≡ map refusal l ++ (refusal y ∷ [])
+      map-snoc : (l : List (O.Refused ℕ ChiSquare)) (y : O.Refused ℕ ChiSquare) → map refusal (l ++ (y ∷ [])) ≡ map refusal l ++ (refusal y ∷ [])
       map-snoc [] y = refl
       map-snoc (x ∷ l) y = ap (λ k. refusal x ∷ k) (map-snoc l y)
 

@@ -44,11 +44,11 @@ module _ {A : Type 0} (R : A → A → Type 0) (tot : (a b : A) → R a b ⊎ R 
       at : (a y : A) {x : A} → x ≡ y → R a x → R a y
       at a y z w = subst (R a) z w
 
-module _ {A : Type 0} (r : Relations A) (all : List A) where
+module _ {A C : Type 0} (r : Relations A C) (all : List A) where
   -- ---- each item falls in one of the three
 
   -- a refused item has one refusal, another none
-  pub refused-one : (f : A) → isRefused r all f ≡ true → (x : Refused A) × (refusalOf r all f ≡ x ∷ []) × (x .item ≡ f)
+  pub refused-one : (f : A) → isRefused r all f ≡ true → (x : Refused A C) × (refusalOf r all f ≡ x ∷ []) × (x .item ≡ f)
   unfolding isRefused isContested isSuperseded refusalOf
   refused-one f e =
       by (anyOf (replaces r all f) all)
@@ -76,7 +76,7 @@ module _ {A : Type 0} (r : Relations A) (all : List A) where
   three (f ∷ l) =
       let a = filter (λ f. not (isRefused r all f) && not (isCovered r all f)) l in
       let b = filter (λ f. not (isRefused r all f) && isCovered r all f) l in
-      let c = map (λ (x : Refused A). x .item) (flatMap (refusalOf r all) l) in
+      let c = map (λ (x : Refused A C). x .item) (flatMap (refusalOf r all) l) in
       let w = three l in
       by (isRefused r all f)
       (λ p. let x = refused-one f p in
@@ -91,7 +91,7 @@ module _ {A : Type 0} (r : Relations A) (all : List A) where
   unfolding decide
   listed-once =
       let g : A → Bool = λ f. not (isRefused r all f) && not (isCovered r all f) in
-      List·Permᴰ·trans (Permᴰ·append-right (decide r all .dominated ++ map (λ (x : Refused A). x .item) (decide r all .refused)) (sort-perm (r .ahead) (filter g all))) (three all)
+      List·Permᴰ·trans (Permᴰ·append-right (decide r all .dominated ++ map (λ (x : Refused A C). x .item) (decide r all .refused)) (sort-perm (r .ahead) (filter g all))) (three all)
 
   -- ---- what a refusal names
 
@@ -115,16 +115,16 @@ module _ {A : Type 0} (r : Relations A) (all : List A) where
   passed-of f s = and-left (r .passed f) (anyOf (r .disagrees f) all && not (anyOf (λ g. r .disagrees f g && not (r .outstands f g)) all)) s
 
   -- one that opposes it, or one that takes its place
-  pub data Named (x : Refused A) : Type 0 where
+  pub data Named (x : Refused A C) : Type 0 where
     opponent : x .superseded ≡ false → x .chi2 ≡ r .chiSquare (x .item) (x .against) → List·Memᴰ (x .against) all
         → r .disagrees (x .item) (x .against) ≡ true → isSuperseded r all (x .against) ≡ false → Named x
     successor : x .superseded ≡ true → x .chi2 ≡ r .chiSquare (x .against) (x .item) → List·Memᴰ (x .against) all
         → r .disagrees (x .against) (x .item) ≡ true → r .passed (x .against) ≡ true → r .outstands (x .against) (x .item) ≡ true → Named x
 
-  single : {x y : Refused A} → List·Memᴰ x (y ∷ []) → x ≡ y
+  single : {x y : Refused A C} → List·Memᴰ x (y ∷ []) → x ≡ y
   single m = or (List·Memᴰ·cases-cons m) (λ e. e) (λ k. absurd (List·Memᴰ·not-nil k))
 
-  replaced-names : (f : A) → List·Memᴰ f all → (l : List A) → ((g : A) → List·Memᴰ g l → List·Memᴰ g all × (replaces r all f g ≡ true)) → (x : Refused A) → List·Memᴰ x (replaced r all f l) → Named x
+  replaced-names : (f : A) → List·Memᴰ f all → (l : List A) → ((g : A) → List·Memᴰ g l → List·Memᴰ g all × (replaces r all f g ≡ true)) → (x : Refused A C) → List·Memᴰ x (replaced r all f l) → Named x
   replaced-names f m [] w x n = absurd (List·Memᴰ·not-nil n)
   replaced-names f m (g ∷ l) w x n =
       let k = foremost (r .lower) g l in
@@ -133,7 +133,7 @@ module _ {A : Type 0} (r : Relations A) (all : List A) where
       let d = and-right (supersedes r all k) (r .disagrees k f) (u .1) in
       subst Named (sym (single n)) (successor refl refl (u .0) d (passed-of k s) (supersedes-over k f m s d))
 
-  opposed-names : (f : A) (l : List A) → ((g : A) → List·Memᴰ g l → List·Memᴰ g all × (opposes r all f g ≡ true)) → (x : Refused A) → List·Memᴰ x (opposed r all f l) → Named x
+  opposed-names : (f : A) (l : List A) → ((g : A) → List·Memᴰ g l → List·Memᴰ g all × (opposes r all f g ≡ true)) → (x : Refused A C) → List·Memᴰ x (opposed r all f l) → Named x
   opposed-names f [] w x n = absurd (List·Memᴰ·not-nil n)
   opposed-names f (g ∷ l) w x n =
       let k = foremost (r .lower) g l in
@@ -141,7 +141,7 @@ module _ {A : Type 0} (r : Relations A) (all : List A) where
       subst Named (sym (single n))
       (opponent refl refl (u .0) (and-left (r .disagrees f k) (not (isSuperseded r all k)) (u .1)) (not-t _ (and-right (r .disagrees f k) (not (isSuperseded r all k)) (u .1))))
 
-  refusal-names : (f : A) → List·Memᴰ f all → (x : Refused A) → List·Memᴰ x (refusalOf r all f) → Named x
+  refusal-names : (f : A) → List·Memᴰ f all → (x : Refused A C) → List·Memᴰ x (refusalOf r all f) → Named x
   unfolding refusalOf
   refusal-names f m x n =
       by (isSuperseded r all f)
@@ -150,21 +150,21 @@ module _ {A : Type 0} (r : Relations A) (all : List A) where
       (λ q. opposed-names f (filter (opposes r all f) all) (λ g k. filter-in (opposes r all f) all g k) x (rw (p, q) at n))
       (λ q. absurd (List·Memᴰ·not-nil (rw (p, q) at n))))
 
-  pub refused-names : (x : Refused A) → List·Memᴰ x (decide r all .refused) → Named x
+  pub refused-names : (x : Refused A C) → List·Memᴰ x (decide r all .refused) → Named x
   unfolding decide
   refused-names x m = let w = flat-in (refusalOf r all) all x m in refusal-names (w .0) (w .1) x (w .2)
 
 -- ---- ranked is empty only without items
 
 -- what is asked of the relations: standing and the number of tags are numbers
-pub record Sound {A : Type 0} (r : Relations A) : Type 0 where
+pub record Sound {A C : Type 0} (r : Relations A C) : Type 0 where
   pub standing : A → ℕ
   pub size : A → ℕ
   pub over-is : (f g : A) → r .outstands f g ≡ true → standing g < standing f
   pub dis-size : (f g : A) → r .disagrees f g ≡ true → size g < size f
   pub sub-size : (f g : A) → r .within f g ≡ true → size f < size g
 
-module _ {A : Type 0} (r : Relations A) (all : List A) (w : Sound r) where
+module _ {A C : Type 0} (r : Relations A C) (all : List A) (w : Sound r) where
   -- the highest standing is not superseded
   one-free : anyOf (λ f. true) all ≡ true → anyOf (λ f. not (isSuperseded r all f)) all ≡ true
   one-free some =
@@ -214,7 +214,7 @@ module _ {A : Type 0} (r : Relations A) (all : List A) (w : Sound r) where
 
 -- ---- the order of the items makes no difference
 
-module _ {A : Type 0} (r : Relations A) (l m : List A) (p : List·Permᴰ l m) where
+module _ {A C : Type 0} (r : Relations A C) (l m : List A) (p : List·Permᴰ l m) where
   supersedes-same : (f : A) → supersedes r l f ≡ supersedes r m f
   unfolding supersedes
   supersedes-same f = rw (any-perm (r .disagrees f) p, any-perm (λ g. r .disagrees f g && not (r .outstands f g)) p) refl

@@ -9,3 +9,4 @@ pub mod Decided
 pub mod Positions
 pub mod Counted
 pub mod Alone
+pub mod Remeasured

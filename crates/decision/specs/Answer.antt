@@ -4,7 +4,6 @@ use mathlib.Core.Bool.{Bool, false, not, cond, _||_}
 use mathlib.Core.List.{List, [], _++_, map}
 use Prim.Native.Nat.{ℕ, _-_, _*_, _/_, _%_}
 use lib.Dec.{ltb, eqb}
-use lib.Ieee.{binary64, ofBits}
 use lib.ListN.{length, replicate}
 use Rattle.ranges.specs.Lists.{anyOf, upTo}
 use Rattle.record.specs.Formed.{wellFormed}
@@ -17,6 +16,8 @@ use Rattle.decision.specs.declared.Refusal.{Refusal}
 use Rattle.decision.specs.declared.Refusals.{Refusals}
 use Rattle.decision.specs.declared.Indices.{Indices}
 use Rattle.decision.specs.declared.Decision.{Decision}
+use Rattle.arithmetic.specs.declared.standing.ChiSquare.{ChiSquare}
+use Rattle.arithmetic.specs.declared.standing.ChiSquare.the-variants.{Unmeasured}
 
 -- item i is malformed, or has the identity of one before it
 unfoldable pub badAt : List ℕ → ℕ → Bool
@@ -29,23 +30,23 @@ bad s =
     || (not (eqb (length s % itemSize) 0) || anyOf (badAt s) (upTo (length s / itemSize)))
 
 -- what is decided of the items in s, by their indices
-abbrev pub outcome : List ℕ → Outcome ℕ
+abbrev pub outcome : List ℕ → Outcome ℕ ChiSquare
 outcome s = decide (itemRelations s) (upTo (length s / itemSize))
 
 unfoldable pub indices : List ℕ → Indices
 indices l = record { list = l ++ replicate (maxItems - length l) 0; count = length l }
 
-abbrev pub refusal : Refused ℕ → Refusal
+abbrev pub refusal : Refused ℕ ChiSquare → Refusal
 refusal x = record { refused = x .item; kept = x .against; chi2 = x .chi2; superseded = x .superseded }
 
 -- what fills the unused places of the refusals
 abbrev pub noRefusal : Refusal
-noRefusal = record { refused = 0; kept = 0; chi2 = ofBits binary64 0; superseded = false }
+noRefusal = record { refused = 0; kept = 0; chi2 = Unmeasured; superseded = false }
 
 unfoldable pub refusals : List Refusal → Refusals
 refusals l = record { list = l ++ replicate (maxItems - length l) noRefusal; count = length l }
 
-unfoldable pub decision : Outcome ℕ → Decision
+unfoldable pub decision : Outcome ℕ ChiSquare → Decision
 decision o =
     record { answer = 0; ranked = indices (o .ranked); dominated = indices (o .dominated); refusals = refusals (map refusal (o .refused)) }
 

@@ -6,7 +6,7 @@ use mathlib.Core.List.{List, [], _∷_, _++_, map, List·Memᴰ, List·Permᴰ}
 use Prim.Native.Nat.{ℕ, _*_, _/_, _<_}
 use lib.ListN.{length, take, drop}
 use Rattle.ranges.specs.Lists.{Ascending, upTo}
-use Rattle.arithmetic.specs.Agree.{agreementOf, agreesOf}
+use Rattle.arithmetic.specs.Agree.{agreementOf, agreesOf, chiSquareIn}
 use Rattle.items.specs.Layout.{itemSize}
 use Rattle.items.specs.Items.{itemConsistent, subsetAt, agreementAt, outstandsAt, aheadAt, itemVerified, isPassed}
 use Rattle.items.specs.Claimed.{claimOf}
@@ -15,14 +15,15 @@ use Rattle.rule.specs.Outcome.{Refused, Outcome}
 use Rattle.rule.specs.Related.{itemRelations}
 use Rattle.decision.specs.Answer.{bad, outcome, decided, indices, refusals}
 use Rattle.decision.specs.Positions.{item, S, M, L}
+use Rattle.arithmetic.specs.declared.standing.ChiSquare.{ChiSquare}
 
 -- the items that an outcome lists
-abbrev pub listedIn : {A : Type 0} → Outcome A → List A
+abbrev pub listedIn : {A C : Type 0} → Outcome A C → List A
 listedIn o = o .ranked ++ (o .dominated ++ map (λ x. x .item) (o .refused))
 
 -- "Every index falls in exactly one of ranked, dominated, refused": together they are the items in another order. So it is of any items.
 abbrev pub EachOnce : Type 1
-EachOnce = (A : Type 0) (r : Relations A) (all : List A) → List·Permᴰ (listedIn (decide r all)) all
+EachOnce = (A C : Type 0) (r : Relations A C) (all : List A) → List·Permᴰ (listedIn (decide r all)) all
 
 -- the number of items in s
 abbrev pub itemCount : List ℕ → ℕ
@@ -45,9 +46,9 @@ pub record Succession (s : List ℕ) (item against : ℕ) : Type 0 where
   pub more-standing : outstandsAt s against item ≡ true
 
 -- which of the two a refusal is, with the chi-square between them
-pub data Names (s : List ℕ) (x : Refused ℕ) : Type 0 where
-  contest : x .superseded ≡ false → x .chi2 ≡ agreementAt s (x .item) (x .against) .chi2 → Contest s (x .item) (x .against) → Names s x
-  succession : x .superseded ≡ true → x .chi2 ≡ agreementAt s (x .against) (x .item) .chi2 → Succession s (x .item) (x .against) → Names s x
+pub data Names (s : List ℕ) (x : Refused ℕ ChiSquare) : Type 0 where
+  contest : x .superseded ≡ false → x .chi2 ≡ chiSquareIn (agreementAt s (x .item) (x .against)) → Contest s (x .item) (x .against) → Names s x
+  succession : x .superseded ≡ true → x .chi2 ≡ chiSquareIn (agreementAt s (x .against) (x .item)) → Succession s (x .item) (x .against) → Names s x
 
 pub record Lawful (s : List ℕ) : Type 0 where
   -- every index falls in exactly one of the three
@@ -57,7 +58,7 @@ pub record Lawful (s : List ℕ) : Type 0 where
   -- and each of them comes in rank before every later one
   pub by-rank : Ascending (aheadAt s) (outcome s .ranked)
   -- what a refusal names
-  pub names : (x : Refused ℕ) → List·Memᴰ x (outcome s .refused) → Names s x
+  pub names : (x : Refused ℕ ChiSquare) → List·Memᴰ x (outcome s .refused) → Names s x
 
 -- Every decision that is not refused keeps these laws.
 abbrev pub DecisionsLawful : Type 0
@@ -75,7 +76,7 @@ pub record Reordered (s t : List ℕ) (to : ℕ → ℕ) : Type 0 where
   pub items : (i : ℕ) → i < itemCount s → itemAt t (to i) ≡ itemAt s i
 
 -- a refusal with its items at their new places
-abbrev pub moved : (ℕ → ℕ) → Refused ℕ → Refused ℕ
+abbrev pub moved : (ℕ → ℕ) → Refused ℕ ChiSquare → Refused ℕ ChiSquare
 moved to x = record { item = to (x .item); against = to (x .against); chi2 = x .chi2; superseded = x .superseded }
 
 -- what is decided is the same, at the new places: ranked in the same order, the others in that of the new places
@@ -104,5 +105,5 @@ Position3 =
       answer = 0;
       ranked = indices (1 ∷ []);
       dominated = indices (0 ∷ []);
-      refusals = refusals (record { refused = 2; kept = 0; chi2 = agreementOf (claimOf S) (claimOf L) .chi2; superseded = false } ∷ []);
+      refusals = refusals (record { refused = 2; kept = 0; chi2 = chiSquareIn (agreementOf (claimOf S) (claimOf L)); superseded = false } ∷ []);
     }

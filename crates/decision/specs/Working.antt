@@ -14,6 +14,7 @@ use Rattle.decision.specs.declared.Decision.{Decision}
 use Rattle.decision.specs.declared.Finding.{Finding}
 use Rattle.decision.specs.declared.Finding.the-variants.{Unrefused, Refused}
 use Rattle.decision.specs.Answer.{badAt, indices, refusal, refusals}
+use Rattle.arithmetic.specs.declared.standing.ChiSquare.{ChiSquare}
 
 -- up to this many items have small tables
 abbrev pub few : ℕ
@@ -27,7 +28,7 @@ pub record Settled (s : List ℕ) (n : ℕ) (codes : List ℕ) (m : Marks) : Typ
   pub marked : Marked s n m
 
 -- a refusal, if there is one
-unfoldable pub finding : List (O.Refused ℕ) → Finding
+unfoldable pub finding : List (O.Refused ℕ ChiSquare) → Finding
 finding [] = Unrefused
 finding (x ∷ l) = Refused (refusal x)
 

@@ -2,6 +2,7 @@
 //
 // The work is done by the crate `rule`, over tables that `items::pairs` fills, and by `parts`. `decide` takes any bytes; `settled`
 // is for callers who lend the tables.
+use arithmetic::standing::ChiSquare;
 use items::layout::ITEM_SIZE;
 use items::layout::MAX_ITEMS;
 ghost use mathlib.Core.Path.{_≡_};
@@ -31,10 +32,10 @@ pub const MANY_NUMBERS: usize = MAX_ITEMS * arithmetic::PREPARED;
 
 pub const MANY_CODES: usize = MAX_ITEMS * MAX_ITEMS;
 
-// A refused item, the one that it is refused against, and the chi-square between them. `superseded`: it is the smaller,
+// A refused item, the one that it is refused against, and the chi-square between them where there is one. `superseded`: it is the smaller,
 // and a verified superset with more standing took its place; else it is the larger.
 pub struct Refusal {
-    pub chi2: f64,
+    pub chi2: ChiSquare,
     pub refused: u8,
     pub kept: u8,
     pub superseded: bool,
@@ -126,7 +127,7 @@ fn plain(answer: u8, n: u8) -> Decision
     ensures { λ r. ⌜ r ≡ plainly answer n ⌝ }
 {
     let none = Refusal {
-        chi2: 0.0,
+        chi2: ChiSquare::Unmeasured,
         refused: 0,
         kept: 0,
         superseded: false,

@@ -5,6 +5,7 @@ use crate::Indices;
 use crate::Refusal;
 use crate::Refusals;
 use crate::parts;
+use arithmetic::standing::ChiSquare;
 use items::layout::MAX_ITEMS;
 use rule::Marks;
 ghost use mathlib.Core.Path.{_≡_};
@@ -81,7 +82,7 @@ pub fn refusals(s: &[u8], n: u8, table: &[f64], codes: &[u8], m: Marks) -> Refus
     let sd = m.superseded;
     let rf = m.refused;
     let none = Refusal {
-        chi2: 0.0,
+        chi2: ChiSquare::Unmeasured,
         refused: 0,
         kept: 0,
         superseded: false,

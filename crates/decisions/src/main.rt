@@ -1,6 +1,7 @@
 // Decides lists of items read from standard input, each as its length in two bytes, lowest first, and its bytes, and prints what
 // is decided. Then, of the first two records of each list, the verdict. make_stdout.py writes the lists and works out the same
 // from document 01 and the Rust's text.
+use arithmetic::standing::ChiSquare;
 use decision::Decision;
 use decision::Refusal;
 use libc::STDIN_FILENO;
@@ -21,6 +22,14 @@ fn show(n: u64) {
 fn show_bits(x: f64) {
     word(b" ");
     io::print_hex(STDOUT_FILENO, floats::to_bits(x), 16);
+}
+
+// Where nothing was measured there is no number.
+fn show_chi_square(c: ChiSquare) {
+    match c {
+        ChiSquare::Measured(x) => show_bits(x),
+        ChiSquare::Unmeasured => word(b" none"),
+    }
 }
 
 fn wide(x: u8) -> u64 {
@@ -46,7 +55,8 @@ fn show_refusal(r: Refusal) {
     }
     show(wide(r.refused));
     show(wide(r.kept));
-    show_bits(r.chi2);
+    let chi2 = r.chi2;
+    show_chi_square(chi2);
 }
 
 fn show_refusals(list: [Refusal; 96], count: u8) {
@@ -97,9 +107,9 @@ fn show_verdict(v: SupersetVerdict) {
     }
 }
 
-fn show_contested(chi2: f64) {
+fn show_contested(chi2: ChiSquare) {
     word(b"contested");
-    show_bits(chi2);
+    show_chi_square(chi2);
 }
 
 fn show_comparison(c: Comparison) {

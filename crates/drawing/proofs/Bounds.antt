@@ -16,6 +16,7 @@ use Rattle.decision.proofs.Counted.{lists-few}
 use Rattle.transmissions.specs.Members.{itemsOf, membersOf, outcomeOf}
 use Rattle.transmissions.proofs.Items.{members-length}
 use Rattle.drawing.specs.Drawing.{Arrayed, linesIn}
+use Rattle.arithmetic.specs.declared.standing.ChiSquare.{ChiSquare}
 
 -- a transmission's decision lists no more than its fixes
 pub lists-members : (t l : List ℕ) (n s : ℕ) → length t ≡ maxFixes * fixSize → n ≤ maxFixes → linesIn (outcomeOf t l n s) ≤ length (membersOf l n s)
@@ -25,7 +26,7 @@ lists-members t l n s h f =
     let b = members-length t l n s h f in
     omega arith
 
-arrayed-decision : (o : Outcome ℕ) → linesIn (decision o) ≤ maxItems → Arrayed (decision o)
+arrayed-decision : (o : Outcome ℕ ChiSquare) → linesIn (decision o) ≤ maxItems → Arrayed (decision o)
 unfolding decision indices refusals
 arrayed-decision o h = record {
   ranked = (omega arith, padded-length maxItems 0 (o .ranked) (omega arith));

@@ -5,7 +5,6 @@ use mathlib.Core.Logic.{_⊎_, inl, inr}
 use Prim.Native.Nat.{ℕ, zero, suc, _+_, _*_, _≤_, _<_}
 use native.Mathlib.Omega.{arith}
 use native.Mathlib.Nat.{le-trans}
-use lib.Ieee.{binary64, toBits}
 use lib.ListN.{length, getD, take, length-append}
 use lib.Seq.{length-take-le}
 use Rattle.fixes.specs.Layout.{maxFixes, fixSize, fixRecord, fixSigners}
@@ -36,9 +35,9 @@ refused-length t m [] = omega arith
 refused-length t m (x ∷ rs) =
     let r = fixRecord t (getD m (x .refused) 0) in
     let s = fixSigners t (getD m (x .refused) 0) in
-    let a = refused-width r s (toBits binary64 (x .chi2)) in
+    let a = refused-width r s (x .chi2) in
     let b = refused-length t m rs in
-    rw (length-append (refusedLine r s (toBits binary64 (x .chi2))) (refusedLines t m rs)) (omega (arith, a, b))
+    rw (length-append (refusedLine r s (x .chi2)) (refusedLines t m rs)) (omega (arith, a, b))
 
 decided-length : (k : ℕ) (t m : List ℕ) (d : Decision) → Arrayed d → (46 ≤ length (decidedText k t m d)) × (length (decidedText k t m d) ≤ headerWidth + linesIn d * refusedWidth)
 unfolding decidedText

@@ -5,7 +5,6 @@ use Prim.Native.Nat.{ℕ, zero, suc, _+_, _<_}
 use native.Mathlib.Omega.{arith}
 use native.Mathlib.Nat.{add-zero}
 use native.Mathlib.Numerals.{add-one}
-use lib.Ieee.{binary64, toBits}
 use lib.ListN.{length, getD, take, drop}
 use lib.Seq.{take-suc, drop-cons}
 use Rattle.fixes.specs.Layout.{fixRecord, fixSigners}
@@ -34,16 +33,16 @@ refused-append : (t m : List ℕ) (rs qs : List Refusal) → refusedLines t m (r
 unfolding refusedLines
 refused-append t m [] qs = refl
 refused-append t m (r ∷ rs) qs =
-    ap (λ (x : List ℕ). refusedLine (fixRecord t (getD m (r .refused) 0)) (fixSigners t (getD m (r .refused) 0)) (toBits binary64 (r .chi2)) ++ x) (refused-append t m rs qs)
-    ∙ sym (append-assoc (refusedLine (fixRecord t (getD m (r .refused) 0)) (fixSigners t (getD m (r .refused) 0)) (toBits binary64 (r .chi2))) (refusedLines t m rs) (refusedLines t m qs))
+    ap (λ (x : List ℕ). refusedLine (fixRecord t (getD m (r .refused) 0)) (fixSigners t (getD m (r .refused) 0)) (r .chi2) ++ x) (refused-append t m rs qs)
+    ∙ sym (append-assoc (refusedLine (fixRecord t (getD m (r .refused) 0)) (fixSigners t (getD m (r .refused) 0)) (r .chi2)) (refusedLines t m rs) (refusedLines t m qs))
 
 pub refused-more : (t m : List ℕ) (l : List Refusal) (i : ℕ) (d : Refusal) → i < length l
     → let r = getD l i d in
-    refusedLines t m (take i l) ++ refusedLine (fixRecord t (getD m (r .refused) 0)) (fixSigners t (getD m (r .refused) 0)) (toBits binary64 (r .chi2)) ≡ refusedLines t m (take (i + 1) l)
+    refusedLines t m (take i l) ++ refusedLine (fixRecord t (getD m (r .refused) 0)) (fixSigners t (getD m (r .refused) 0)) (r .chi2) ≡ refusedLines t m (take (i + 1) l)
 unfolding refusedLines
 refused-more t m l i d h =
     let r = getD l i d in
-    ap (λ (x : List ℕ). refusedLines t m (take i l) ++ x) (sym (append-nil (refusedLine (fixRecord t (getD m (r .refused) 0)) (fixSigners t (getD m (r .refused) 0)) (toBits binary64 (r .chi2)))))
+    ap (λ (x : List ℕ). refusedLines t m (take i l) ++ x) (sym (append-nil (refusedLine (fixRecord t (getD m (r .refused) 0)) (fixSigners t (getD m (r .refused) 0)) (r .chi2))))
     ∙ sym (refused-append t m (take i l) (r ∷ []))
     ∙ ap (refusedLines t m) (sym (take-suc l i d h) ∙ ap (λ (k : ℕ). take k l) (sym (add-one i)))
 

@@ -1,10 +1,11 @@
 -- How long lines are: what a buffer must have room for, and that no board is so short that its length could be a refusal's number.
-use mathlib.Core.Path.{_≡_, refl}
+use mathlib.Core.Path.{_≡_, refl, ap}
 use mathlib.Core.Bool.{Bool, cond}
 use mathlib.Core.List.{List, [], _∷_, _++_}
 use Prim.Native.Nat.{ℕ, suc, _+_, _≤_, _<_}
 use native.Mathlib.Omega.{arith}
 use lib.IntN.{ℤ, pos, negsuc}
+use lib.Ieee.{binary64, toBits}
 use lib.ListN.{length, length-append}
 use Rattle.ranges.proofs.Bools.{by}
 use Rattle.text.specs.Numbers.{decimal, signed, hex}
@@ -12,7 +13,10 @@ use Rattle.text.specs.Heights.{metres}
 use Rattle.text.proofs.Readback.{digits-width, hex-width}
 use Rattle.record.specs.Fields.{time, latitude, longitude, hasHeight, height, weight}
 use Rattle.octets.specs.Ascii.{ascii}
-use Rattle.drawing.specs.Lines.{header, whereWhen, heightText, fixText, line, refusedLine}
+use Rattle.drawing.specs.Lines.{header, whereWhen, heightText, fixText, line, chiSquareText, refusedLine}
+use Rattle.arithmetic.specs.declared.standing.ChiSquare.{ChiSquare}
+use Rattle.arithmetic.specs.declared.standing.ChiSquare.the-variants.{Measured, Unmeasured}
+use Rattle.drawing.specs.Claims.{NoneExactlyWhen}
 use Rattle.drawing.specs.Widths.{roleWidth, headerWidth, lineWidth, refusedWidth}
 
 signed-width : (v : ℤ) → length (signed v) ≤ 11
@@ -72,11 +76,29 @@ line-width role r s h =
     let m : length (ascii "\n") ≡ 1 = unfold ascii in refl in
     simp length-append (omega arith)
 
-pub refused-width : (r : List ℕ) (s b : ℕ) → length (refusedLine r s b) ≤ refusedWidth
+-- 16 digits or `none`
+pub chi-square-width : (c : ChiSquare) → length (chiSquareText c) ≤ 16
+unfolding chiSquareText ascii
+chi-square-width (Measured x) = let w = hex-width 16 (toBits binary64 x) in omega arith
+chi-square-width Unmeasured = omega arith
+
+-- digits are sixteen, and `none` has four letters
+pub none-exactly-when : NoneExactlyWhen
+none-exactly-when chi2 = (only chi2, λ e. unfold chiSquareText in ap chiSquareText e)
+  where
+    only : (c : ChiSquare) → chiSquareText c ≡ ascii "none" → c ≡ Unmeasured
+    only (Measured x) e =
+        let h : length (hex 16 (toBits binary64 x)) ≡ length (ascii "none") = unfold chiSquareText in ap length e in
+        let w = hex-width 16 (toBits binary64 x) in
+        let n : length (ascii "none") ≡ 4 = unfold ascii in refl in
+        absurd (omega arith)
+    only Unmeasured e = refl
+
+pub refused-width : (r : List ℕ) (s : ℕ) (c : ChiSquare) → length (refusedLine r s c) ≤ refusedWidth
 unfolding refusedLine
-refused-width r s b =
+refused-width r s c =
     let p = fix-width (ascii "refused") r s (unfold ascii in omega arith) in
-    let x = hex-width 16 b in
+    let x = chi-square-width c in
     let i : length (ascii " chi2=") ≡ 6 = unfold ascii in refl in
     let m : length (ascii "\n") ≡ 1 = unfold ascii in refl in
     simp length-append (omega arith)

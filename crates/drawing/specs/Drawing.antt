@@ -3,7 +3,6 @@
 use Prim.Native.Nat.{ℕ, _+_, _*_, _≤_, _<_}
 use mathlib.Core.Path.{_≡_}
 use mathlib.Core.List.{List, [], _∷_, _++_}
-use lib.Ieee.{binary64, toBits}
 use lib.ListN.{length, getD, take}
 use Rattle.fixes.specs.Layout.{maxFixes, fixRecord, fixSigners}
 use Rattle.octets.specs.Ascii.{ascii}
@@ -40,7 +39,7 @@ linesOf role t m (i ∷ is) = line role (fixRecord t (getD m i 0)) (fixSigners t
 unfoldable pub refusedLines : List ℕ → List ℕ → List Refusal → List ℕ
 refusedLines t m [] = []
 refusedLines t m (r ∷ rs) =
-    refusedLine (fixRecord t (getD m (r .refused) 0)) (fixSigners t (getD m (r .refused) 0)) (toBits binary64 (r .chi2)) ++ refusedLines t m rs
+    refusedLine (fixRecord t (getD m (r .refused) 0)) (fixSigners t (getD m (r .refused) 0)) (r .chi2) ++ refusedLines t m rs
 
 -- what is written of the fixes m of a transmission, of which d was decided
 unfoldable pub decidedText : ℕ → List ℕ → List ℕ → Decision → List ℕ

@@ -3,10 +3,13 @@
 use Prim.Native.Nat.{ℕ}
 use mathlib.Core.Bool.{Bool, cond}
 use mathlib.Core.List.{List, _++_}
+use lib.Ieee.{binary64, toBits}
 use Rattle.text.specs.Numbers.{decimal, signed, hex}
 use Rattle.text.specs.Heights.{metres}
 use Rattle.record.specs.Fields.{time, latitude, longitude, hasHeight, height, weight}
 use Rattle.octets.specs.Ascii.{ascii}
+use Rattle.arithmetic.specs.declared.standing.ChiSquare.{ChiSquare}
+use Rattle.arithmetic.specs.declared.standing.ChiSquare.the-variants.{Measured, Unmeasured}
 
 -- "transmission=1 ranked=1 dominated=0 refused=1"
 unfoldable pub header : ℕ → ℕ → ℕ → ℕ → List ℕ
@@ -44,6 +47,10 @@ rankedLine r signers = line (ascii "ranked") r signers
 abbrev pub dominatedLine : List ℕ → ℕ → List ℕ
 dominatedLine r signers = line (ascii "dominated") r signers
 
--- "a refused one with its refusal's chi-square bits"
-unfoldable pub refusedLine : List ℕ → ℕ → ℕ → List ℕ
-refusedLine r signers bits = fixText (ascii "refused") r signers ++ ((ascii " chi2=" ++ hex 16 bits) ++ ascii "\n")
+-- "its refusal's chi-square bits", and `none` where there is no number (document 02, A.7)
+unfoldable pub chiSquareText : ChiSquare → List ℕ
+chiSquareText (Measured x) = hex 16 (toBits binary64 x)
+chiSquareText Unmeasured = ascii "none"
+
+unfoldable pub refusedLine : List ℕ → ℕ → ChiSquare → List ℕ
+refusedLine r signers chi2 = fixText (ascii "refused") r signers ++ ((ascii " chi2=" ++ chiSquareText chi2) ++ ascii "\n")

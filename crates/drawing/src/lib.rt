@@ -6,7 +6,6 @@ use fixes::layout::MAX_FIXES;
 use items::layout::ITEM_SIZE;
 ghost use mathlib.Core.Path.{_≡_};
 ghost use Prim.Native.Nat.{ℕ, _+_, _*_, _<_, _≤_};
-ghost use lib.Ieee.{binary64, toBits};
 ghost use lib.ListN.{length, getD, take};
 ghost use Rattle.text.specs.Buffer.{Put};
 ghost use Rattle.items.specs.Layout.{itemSize};
@@ -50,16 +49,11 @@ fn put_refusal(out: &mut [u8], at: usize, t: &[u8], m: &[u8], r: Refusal) -> usi
     requires { ⌜ length (now t) ≡ maxFixes * fixSize ⌝ }
     requires { ⌜ D.OfFixes (now m) ⌝ }
     requires { ⌜ at + refusedWidth ≤ length (now out) ⌝ }
-    ensures { λ x. ⌜ (x ≤ at + refusedWidth) × Put (now (out .entry)) at (refusedLine (fixRecord (now (t .entry)) (getD (now (m .entry)) (r .refused) 0)) (fixSigners (now (t .entry)) (getD (now (m .entry)) (r .refused) 0)) (toBits binary64 (r .chi2))) x (now (out .exit)) ⌝ }
+    ensures { λ x. ⌜ (x ≤ at + refusedWidth) × Put (now (out .entry)) at (refusedLine (fixRecord (now (t .entry)) (getD (now (m .entry)) (r .refused) 0)) (fixSigners (now (t .entry)) (getD (now (m .entry)) (r .refused) 0)) (r .chi2)) x (now (out .exit)) ⌝ }
 {
     let j = transmissions::nth(m, r.refused);
-    lines::put_refused(
-        out,
-        at,
-        fixes::record_of(t, j),
-        fixes::signers(t, j),
-        floats::to_bits(r.chi2),
-    )
+    let chi2 = r.chi2;
+    lines::put_refused(out, at, fixes::record_of(t, j), fixes::signers(t, j), chi2)
 }
 
 // The lines of the refused fixes.

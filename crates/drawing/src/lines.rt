@@ -1,11 +1,13 @@
 // The lines of a board into a lent buffer at a position. Each writer returns the position after its text
 // and leaves all other bytes alone. A caller shows that the widest text fits.
+use arithmetic::standing::ChiSquare;
 ghost use mathlib.Core.Path.{_≡_};
 ghost use mathlib.Core.List.{_++_};
 ghost use Prim.Native.Nat.{_+_, _≤_};
 ghost use lib.ListN.{length};
 ghost use Rattle.text.specs.Buffer.{Put};
 ghost use Rattle.text.specs.Numbers.{decimal, signed, hex};
+ghost use Rattle.octets.specs.Ascii.{ascii};
 ghost use Rattle.record.specs.Layout.{recordSize};
 ghost use Rattle.drawing.specs.Lines as L;
 ghost use Rattle.drawing.specs.Widths as W;
@@ -85,14 +87,25 @@ pub fn put_line(out: &mut [u8], at: usize, role: &[u8], r: &[u8], signers: u32) 
     text::put_bytes(out, a, b"\n")
 }
 
-// The line of a refused fix, with the bits of its refusal's chi-square.
-pub fn put_refused(out: &mut [u8], at: usize, r: &[u8], signers: u32, bits: u64) -> usize
+// The bits of a chi-square, or that there is none.
+fn put_chi_square(out: &mut [u8], at: usize, chi2: ChiSquare) -> usize
+    requires { ⌜ at + W.chiSquareWidth ≤ length (now out) ⌝ }
+    ensures { λ x. ⌜ (x ≤ at + W.chiSquareWidth) × Put (now (out .entry)) at (ascii " chi2=" ++ L.chiSquareText chi2) x (now (out .exit)) ⌝ }
+{
+    match chi2 {
+        ChiSquare::Measured(x) => put_digits(out, at, b" chi2=", 16, floats::to_bits(x)),
+        ChiSquare::Unmeasured => text::put_bytes(out, at, b" chi2=none"),
+    }
+}
+
+// The line of a refused fix, with its refusal's chi-square.
+pub fn put_refused(out: &mut [u8], at: usize, r: &[u8], signers: u32, chi2: ChiSquare) -> usize
     requires { ⌜ length (now r) ≡ recordSize ⌝ }
     requires { ⌜ at + W.refusedWidth ≤ length (now out) ⌝ }
-    ensures { λ x. ⌜ (x ≤ at + W.refusedWidth) × Put (now (out .entry)) at (L.refusedLine (now (r .entry)) signers bits) x (now (out .exit)) ⌝ }
+    ensures { λ x. ⌜ (x ≤ at + W.refusedWidth) × Put (now (out .entry)) at (L.refusedLine (now (r .entry)) signers chi2) x (now (out .exit)) ⌝ }
 {
     let a = put_fix(out, at, b"refused", r, signers);
-    let b = put_digits(out, a, b" chi2=", 16, bits);
+    let b = put_chi_square(out, a, chi2);
     text::put_bytes(out, b, b"\n")
 }
 

@@ -1,9 +1,9 @@
--- No claim rests on these definitions: they say how the Cholesky factor of a covariance and the squared length under it are worked out. `chi-is`, in
--- arithmetic's proofs/Staged.antt, says that they are `chiSquareOf`, of document 01's section 'Agreement'.
-use mathlib.Core.Bool.{false, cond}
+-- No claim rests on these definitions: they say how the Cholesky factor of a covariance and the squared length under it are worked out. `measured-is`, in
+-- arithmetic's proofs/Staged.antt, says that they are what `chiSquareOf` measures, of document 01's section 'Agreement'.
+use mathlib.Core.Bool.{cond}
 use mathlib.Core.List.{List, [], _∷_}
 use mathlib.Core.Option.{Option, none, some}
-use lib.Ieee.{Float, inf}
+use lib.Ieee.{Float}
 use Rattle.floats.specs.Root.{root}
 use Rattle.geometry.specs.Numbers.{_⊕_, _⊖_, _⊗_, _⊘_, whole, notAbove}
 use Rattle.geometry.specs.declared.geodesy.Vec3.{Vec3}
@@ -58,14 +58,3 @@ fullLength f g v =
     let x1 = (y1 ⊖ g .l21 ⊗ x2) ⊘ f .l11 in
     let x0 = (y0 ⊖ f .l10 ⊗ x1 ⊖ g .l20 ⊗ x2) ⊘ f .l00 in
     v .x ⊗ x0 ⊕ v .y ⊗ x1 ⊕ v .z ⊗ x2
-
--- infinite where there is no such factor
-unfoldable pub lengthOfTwo : Factor → Vec3 → Float
-lengthOfTwo None v = inf false
-lengthOfTwo (Flat r) v = flatLength r v
-lengthOfTwo (Full r t) v = flatLength r v
-
-unfoldable pub lengthOfThree : Factor → Vec3 → Float
-lengthOfThree None v = inf false
-lengthOfThree (Flat r) v = inf false
-lengthOfThree (Full r t) v = fullLength r t v

@@ -1,6 +1,6 @@
 // The Cholesky factor of a covariance, for two rows and for three, and the squared length of a difference under it.
 ghost use mathlib.Core.Path.{_≡_};
-ghost use Rattle.geometry.specs.Factors.{factorOf, flatLength, fullLength, lengthOfTwo, lengthOfThree};
+ghost use Rattle.geometry.specs.Factors.{factorOf, flatLength, fullLength};
 use crate::geodesy::Vec3;
 
 // A fix's covariance, square metres, in east (x), north (y) and up (z).
@@ -79,26 +79,4 @@ pub fn full_length(f: TwoRows, g: ThirdRow, v: Vec3) -> f64
     let x1 = (y1 - g.l21 * x2) / f.l11;
     let x0 = (y0 - f.l10 * x1 - g.l20 * x2) / f.l00;
     v.x * x0 + v.y * x1 + v.z * x2
-}
-
-// The squared length under the factor for two rows, infinite where there is none.
-pub fn length_of_two(f: Factor, v: Vec3) -> f64
-    ensures { λ r. ⌜ r ≡ lengthOfTwo f v ⌝ }
-{
-    match f {
-        Factor::None => 1.0 / 0.0,
-        Factor::Flat(rows) => flat_length(rows, v),
-        Factor::Full(rows, _) => flat_length(rows, v),
-    }
-}
-
-// The squared length under the factor for three rows, infinite where there is none.
-pub fn length_of_three(f: Factor, v: Vec3) -> f64
-    ensures { λ r. ⌜ r ≡ lengthOfThree f v ⌝ }
-{
-    match f {
-        Factor::None => 1.0 / 0.0,
-        Factor::Flat(_) => 1.0 / 0.0,
-        Factor::Full(rows, third) => full_length(rows, third, v),
-    }
 }

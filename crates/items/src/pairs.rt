@@ -3,9 +3,11 @@
 // out again where it is asked for: at most once for each item that is refused.
 use crate::layout::MAX_ITEMS;
 use arithmetic::standing::Agreement;
+use arithmetic::standing::ChiSquare;
 ghost use mathlib.Core.Path.{_≡_};
 ghost use Prim.Native.Nat.{_+_, _*_, _≤_, _<_};
 ghost use lib.ListN.{length};
+ghost use Rattle.arithmetic.specs.Agree.{chiSquareIn};
 ghost use Rattle.arithmetic.specs.Stages.{preparedSize};
 ghost use Rattle.items.specs.Layout.{itemSize};
 ghost use Rattle.items.specs.Items.{agreementAt};
@@ -82,10 +84,9 @@ pub fn code_all(s: &[u8], n: u8, table: &[f64], codes: &mut [u8])
 }
 
 // The chi-square of item i against its subset j.
-pub fn chi_square(s: &[u8], n: u8, table: &[f64], i: u8, j: u8) -> f64
+pub fn chi_square(s: &[u8], n: u8, table: &[f64], i: u8, j: u8) -> ChiSquare
     requires { ⌜ (i < n) × (j < n) × Prepared (now s) (now table) n ⌝ }
-    ensures { λ r. ⌜ r ≡ agreementAt (now (s .entry)) i j .chi2 ⌝ }
+    ensures { λ r. ⌜ r ≡ chiSquareIn (agreementAt (now (s .entry)) i j) ⌝ }
 {
-    let a = compared(s, n, table, i, j);
-    a.chi2
+    arithmetic::chi_square(compared(s, n, table, i, j))
 }

@@ -25,6 +25,7 @@ use Rattle.tracked.specs.Layout.{maxStanding, maxRefused}
 use Rattle.keeping.specs.declared.Lowest.{Lowest}
 use Rattle.keeping.specs.Working.{lesser, unread, lowerRefusal, lowerItem, Lies, lowestIn, Sized, refusedIn, Named, AllLie, Keeps}
 use Rattle.keeping.proofs.Lowering.{lesser-right, take-lesser, take-in, front-at}
+use Rattle.arithmetic.specs.declared.standing.ChiSquare.{ChiSquare}
 
 pub take-map : {A B : Type 0} (f : A → B) (k : ℕ) (l : List A) → map f (take k l) ≡ take k (map f l)
 take-map f zero l = refl
@@ -35,7 +36,7 @@ module _ (s : List ℕ) where
   abbrev n : ℕ
   n = itemCount s
 
-  abbrev o : Outcome ℕ
+  abbrev o : Outcome ℕ ChiSquare
   o = outcome s
 
   lies : (i : ℕ) → i < n → Lies s i
@@ -46,11 +47,11 @@ module _ (s : List ℕ) where
   listed i m = up-in n i (perm-mem (Permᴰ·symm (listed-once (itemRelations s) (upTo n))) m)
 
   pub ranked-lies : (i : ℕ) → List·Memᴰ i (o .ranked) → Lies s i
-  ranked-lies i m = lies i (listed i (Memᴰ·append-left (o .dominated ++ map (λ (x : Refused ℕ). x .item) (o .refused)) m))
+  ranked-lies i m = lies i (listed i (Memᴰ·append-left (o .dominated ++ map (λ (x : Refused ℕ ChiSquare). x .item) (o .refused)) m))
 
-  pub refused-lies : (x : Refused ℕ) → List·Memᴰ x (o .refused) → Named s (refusal x)
+  pub refused-lies : (x : Refused ℕ ChiSquare) → List·Memᴰ x (o .refused) → Named s (refusal x)
   refused-lies x m = (
-    lies (x .item) (listed (x .item) (Memᴰ·append-right (o .ranked) (Memᴰ·append-right (o .dominated) (Memᴰ·map (λ (y : Refused ℕ). y .item) m)))),
+    lies (x .item) (listed (x .item) (Memᴰ·append-right (o .ranked) (Memᴰ·append-right (o .dominated) (Memᴰ·map (λ (y : Refused ℕ ChiSquare). y .item) m)))),
     lies (x .against) (up-in n (x .against) (against (refused-names (itemRelations s) (upTo n) x m))),
   )
     where
@@ -64,11 +65,11 @@ module _ (s : List ℕ) where
   -- and there are no more than items
   counts : (length (o .ranked) ≤ n) × (length (o .refused) ≤ n)
   counts =
-      let m : List ℕ = map (λ (x : Refused ℕ). x .item) (o .refused) in
+      let m : List ℕ = map (λ (x : Refused ℕ ChiSquare). x .item) (o .refused) in
       let e = perm-length (listed-once (itemRelations s) (upTo n)) in
       let a = length-append (o .ranked) (o .dominated ++ m) in
       let b = length-append (o .dominated) m in
-      let c = length-map (o .refused) (λ (x : Refused ℕ). x .item) in
+      let c = length-map (o .refused) (λ (x : Refused ℕ ChiSquare). x .item) in
       let f = count-length 0 n in
       (omega arith, omega arith)
 
@@ -115,7 +116,7 @@ module _ (s : List ℕ) (good : bad s ≡ false) (d : Decision) (e : d ≡ decid
       ap (λ (x : Decision). take (lesser (x .ranked .count) maxStanding) (x .ranked .list)) is ∙ take-lesser (length l) maxStanding (l ++ replicate (maxItems - length l) 0) ∙ ap (take maxStanding) (take-at l (replicate (maxItems - length l) 0) (length l) refl)
 
   module _ (l : Lowest) (z : Sized l) (w : lowestIn l ≡ take maxRefused (sort (lowerRefusal s) (refusedIn (d .refusals)))) where
-    abbrev lows : List (Refused ℕ)
+    abbrev lows : List (Refused ℕ ChiSquare)
     lows = take maxRefused (sort (lowerItem s) (outcome s .refused))
 
     lowest-are : lowestIn l ≡ map refusal lows

@@ -4,11 +4,13 @@ use mathlib.Core.Path.{_≡_}
 use mathlib.Core.Bool.{Bool, false, cond}
 use mathlib.Core.List.{List, [], _∷_, _++_, map}
 use lib.Dec.{ltb}
-use lib.Ieee.{nan, binary64, toBits}
+use lib.Ieee.{nan}
 use lib.ListN.{length, getD, take}
 use Rattle.ranges.specs.Lists.{sort}
 use Rattle.items.specs.Layout.{itemSize, maxItems}
 use Rattle.items.specs.Items.{itemRecord, itemInputs, itemIdentity, lowerAt}
+use Rattle.arithmetic.specs.Bits.{storedBits}
+use Rattle.arithmetic.specs.declared.standing.ChiSquare.the-variants.{Measured}
 use Rattle.rule.specs.Outcome.{Refused}
 use Rattle.decision.specs.declared.Refusal.{Refusal}
 use Rattle.decision.specs.declared.Refusals.{Refusals}
@@ -19,6 +21,7 @@ use Rattle.tracked.specs.Held.{RefusedFix, HeldTransmission}
 use Rattle.tracked.specs.Known.{knownSize, knownCount, knownIdentity}
 use Rattle.keeping.specs.declared.Lowest.{Lowest}
 use Rattle.keeping.specs.declared.Kept as D
+use Rattle.arithmetic.specs.declared.standing.ChiSquare.{ChiSquare}
 
 -- the lesser of two numbers
 abbrev pub lesser : ℕ → ℕ → ℕ
@@ -26,7 +29,7 @@ lesser a b = cond (ltb b a) b a
 
 -- what a read past the end of an array of refusals would give: no law reads it
 abbrev pub unread : Refusal
-unread = record { refused = 0; kept = 0; chi2 = nan; superseded = false }
+unread = record { refused = 0; kept = 0; chi2 = Measured nan; superseded = false }
 
 -- ---- the refused of lowest identity
 
@@ -34,7 +37,7 @@ abbrev pub lowerRefusal : List ℕ → Refusal → Refusal → Bool
 lowerRefusal s x y = lowerAt s (x .refused) (y .refused)
 
 -- the same of what is decided by indices
-abbrev pub lowerItem : List ℕ → Refused ℕ → Refused ℕ → Bool
+abbrev pub lowerItem : List ℕ → Refused ℕ ChiSquare → Refused ℕ ChiSquare → Bool
 lowerItem s x y = lowerAt s (x .item) (y .item)
 
 -- x at the front of places; the last is lost
@@ -83,7 +86,7 @@ abbrev pub itemFix : List ℕ → List ℕ → ℕ → Fix
 itemFix s g i = record { identity = itemIdentity s i; recordBytes = itemRecord s i; inputs = itemInputs s i; signers = getD g i 0 }
 
 abbrev pub itemRefused : List ℕ → List ℕ → Refusal → RefusedFix
-itemRefused s g x = record { fix = itemFix s g (x .refused); against = itemIdentity s (x .kept); chi2 = toBits binary64 (x .chi2) }
+itemRefused s g x = record { fix = itemFix s g (x .refused); against = itemIdentity s (x .kept); chi2 = storedBits (x .chi2) }
 
 -- each item has its signers
 abbrev pub Signed : List ℕ → List ℕ → Type 0

@@ -1,5 +1,6 @@
 // What is kept of the items of a decision: the best of those that stand, and the refused of lowest identity; and how they are
 // written as a transmission of a track.
+use arithmetic::standing::ChiSquare;
 use decision::Refusal;
 use decision::Refusals;
 use items::layout::MAX_ITEMS;
@@ -106,7 +107,7 @@ fn lowest_of(s: &[u8], refusals: Refusals) -> Lowest
     let none = Refusal {
         refused: 0,
         kept: 0,
-        chi2: 0.0,
+        chi2: ChiSquare::Unmeasured,
         superseded: false,
     };
     let mut l = Lowest {
@@ -158,7 +159,8 @@ fn put_refusal(t: &mut [u8], at: usize, s: &[u8], g: &[u32], x: Refusal) -> usiz
 {
     let a = put_fix(t, at, s, g, x.refused);
     let b = text::put_bytes(t, a, items::hash_of(s, x.kept, items::layout::IDENTITY_AT));
-    octets::words::put_u64(t, b, floats::to_bits(x.chi2));
+    let chi2 = x.chi2;
+    octets::words::put_u64(t, b, arithmetic::stored_bits(chi2));
     b + 8
 }
 

@@ -23,13 +23,16 @@ use Rattle.tracked.specs.Layout.{fixSize, refusedSize, maxStanding, maxRefused}
 use Rattle.tracked.specs.Held.{HeldTransmission}
 use Rattle.tracked.specs.Bytes.{fixIn, refusedIn, fixCount, refusedCount, fixTable, refusedTable, fixPlaces, refusedPlaces, transmissionIn}
 use Rattle.tracked.specs.Parts.{Sound}
+use Rattle.arithmetic.specs.Bits.{storedChiSquare}
+use Rattle.arithmetic.specs.declared.standing.ChiSquare.{ChiSquare}
+use Rattle.drawing.proofs.Widths.{chi-square-width}
 use Rattle.drawing.specs.Lines.{header, whereWhen, heightText, fixText, line, refusedLine}
 use Rattle.drawing.specs.Text.{rankedText}
 use Rattle.arrange.specs.Arranged.{maxTransmissions}
 use Rattle.stored.specs.Track.{Track}
 use Rattle.stored.specs.Memory.{transmissionPlaces, decode}
 use Rattle.stored.proofs.Opened.{opened, block-sound, transmissions-length}
-use Rattle.listing.specs.Listing.{canonicalBits, refusedText, heldText, heldFrom, contestedLine, listingOf}
+use Rattle.listing.specs.Listing.{refusedText, heldText, heldFrom, contestedLine, listingOf}
 use Rattle.listing.specs.Claims.{widestFirst, widestHeader, widestRanked, widestRefused, shortest, longestHeld, longest, LengthNumbers, ListingLength}
 
 -- ---- numbers
@@ -100,11 +103,11 @@ module _ (r : List ℕ) where
   unfolding line ascii
   ranked-width s = let w = fix-width (ascii "ranked") s in simp length-append (omega arith)
 
-  refused-width : (s b : ℕ) → length (refusedLine r s b) ≤ length widestRefused
+  refused-width : (s : ℕ) (c : ChiSquare) → length (refusedLine r s c) ≤ length widestRefused
   unfolding refusedLine ascii
-  refused-width s b =
+  refused-width s c =
       let w = fix-width (ascii "refused") s in
-      let x = hex-width 16 b in
+      let x = chi-square-width c in
       simp length-append (omega arith)
 
 lines-width : {A : Type 0} (g : A → List ℕ) (w : ℕ) → ((x : A) → length (g x) ≤ w) → (l : List A) → length (flatMap g l) ≤ length l * w
@@ -140,7 +143,7 @@ unfolding heldText
 held-width number t h f =
     let a = header-width number (length (t .fixes)) (length (t .refused)) h (let x = f .fixes in omega arith) (let x = f .refused in omega arith) in
     let b = lines-width rankedText (length widestRanked) (λ g. ranked-width (g .recordBytes) (g .signers)) (t .fixes) in
-    let c = lines-width refusedText (length widestRefused) (λ x. refused-width (x .fix .recordBytes) (x .fix .signers) (canonicalBits (x .chi2))) (t .refused) in
+    let c = lines-width refusedText (length widestRefused) (λ x. refused-width (x .fix .recordBytes) (x .fix .signers) (storedChiSquare (x .chi2))) (t .refused) in
     let d = mul-le-mul-right (length widestRanked) (f .fixes) in
     let e = mul-le-mul-right (length widestRefused) (f .refused) in
     simp length-append (omega (arith, a, b, c, d, e))

@@ -1,11 +1,14 @@
--- What is claimed of the length of a listing (document 01, 'The track and the session'). proofs/Lengths has a theorem of
--- each of these types.
+-- What is claimed of the length of a listing (document 01, 'The track and the session') and of the text of a stored chi-square (document 02, A.7). proofs/Lengths
+-- and proofs/Stored have a theorem of each of these types.
 use Prim.Native.Nat.{ℕ, _+_, _*_, _≤_}
 use mathlib.Core.Path.{_≡_}
 use mathlib.Core.Bool.{true}
+use mathlib.Core.Logic.{_↔_}
 use mathlib.Core.List.{List}
 use lib.ListN.{length}
 use Rattle.octets.specs.Ascii.{ascii}
+use Rattle.arithmetic.specs.Bits.{storedChiSquare}
+use Rattle.drawing.specs.Lines.{chiSquareText}
 use Rattle.tracked.specs.Layout.{maxStanding, maxRefused}
 use Rattle.arrange.specs.Arranged.{maxTransmissions}
 use Rattle.stored.specs.Memory.{wellFormed, decode}
@@ -45,3 +48,7 @@ LengthNumbers = (shortest ≡ 12) × (longest ≡ 9271)
 -- every track that is well-formed has one of such a length, which is greater than 1 and 10, the numbers that refuse a listing
 abbrev pub ListingLength : Type 0
 ListingLength = (m : List ℕ) → wellFormed m ≡ true → (shortest ≤ length (listingOf (decode m))) × (length (listingOf (decode m)) ≤ longest)
+
+-- ---- a chi-square that is stored is listed as `none` exactly where its bits are those of the infinity
+abbrev pub ListedNoneExactlyWhen : Type 0
+ListedNoneExactlyWhen = (bits : ℕ) → (chiSquareText (storedChiSquare bits) ≡ ascii "none") ↔ (bits ≡ 0x7ff0_0000_0000_0000)

@@ -3,10 +3,10 @@ use Prim.Native.Nat.{ℕ, suc}
 use mathlib.Core.Bool.{cond}
 use mathlib.Core.List.{List, [], _∷_, _++_, flatMap}
 use lib.Dec.{ltb}
-use lib.Ieee.{binary64, ofBits, toBits}
 use lib.ListN.{length}
 use Rattle.octets.specs.Ascii.{ascii}
 use Rattle.text.specs.Numbers.{decimal}
+use Rattle.arithmetic.specs.Bits.{storedChiSquare}
 use Rattle.held.specs.After.{After, after, writeText}
 use Rattle.tracked.specs.Held.{RefusedFix, HeldTransmission}
 use Rattle.drawing.specs.Lines.{header, refusedLine}
@@ -14,12 +14,10 @@ use Rattle.drawing.specs.Text.{rankedText, boardSize}
 use Rattle.stored.specs.Track.{Track}
 use Rattle.stored.specs.Memory.{wellFormed, decode}
 
--- "a NaN chi-square, wherever it is stored or written, is 7ff8000000000000"
-abbrev pub canonicalBits : ℕ → ℕ
-canonicalBits n = toBits binary64 (ofBits binary64 n)
-
+-- `chi2=none` where the bits of the infinity are stored (document 02, A.7); "a NaN chi-square, wherever it is stored or written, is 7ff8000000000000", so any
+-- other bits are written as those of the number that they are
 abbrev pub refusedText : RefusedFix → List ℕ
-refusedText x = refusedLine (x .fix .recordBytes) (x .fix .signers) (canonicalBits (x .chi2))
+refusedText x = refusedLine (x .fix .recordBytes) (x .fix .signers) (storedChiSquare (x .chi2))
 
 -- a transmission with its number
 unfoldable pub heldText : ℕ → HeldTransmission → List ℕ

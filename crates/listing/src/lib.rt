@@ -50,14 +50,8 @@ fn put_refusal(out: &mut [u8], at: usize, b: &[u8], k: u8) -> usize
     ensures { λ x. ⌜ (x ≤ at + refusedWidth) × Put (now (out .entry)) at (T.refusedText (refusedIn (getD (refusedPlaces (now (b .entry))) k []))) x (now (out .exit)) ⌝ }
 {
     let p = tracked::refused_at(b, k);
-    let chi2 = floats::of_bits(octets::words::u64_at(p, CHI2_AT));
-    drawing::lines::put_refused(
-        out,
-        at,
-        tracked::record_of(p),
-        tracked::signers(p),
-        floats::to_bits(chi2),
-    )
+    let chi2 = arithmetic::stored_chi_square(octets::words::u64_at(p, CHI2_AT));
+    drawing::lines::put_refused(out, at, tracked::record_of(p), tracked::signers(p), chi2)
 }
 
 // The lines of the refused fixes.

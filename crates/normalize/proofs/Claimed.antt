@@ -29,8 +29,9 @@ use Rattle.normalize.specs.Normal.{gatherAll, distinct, refusedFix, lowe
 use Rattle.normalize.specs.Claims.{SomeStand, FewKept, Differ, identityOf, IdentitiesDiffer, SignersUnited, AloneStands}
 use Rattle.normalize.proofs.Differing.{perm-differ, take-differ, both-differ, front-differ, back-differ, cross-differ}
 use Rattle.normalize.proofs.United.{Gathered, gathered-all, gathered-none}
+use Rattle.arithmetic.specs.declared.standing.ChiSquare.{ChiSquare}
 
-abbrev pub itemOf : Refused Fix → Fix
+abbrev pub itemOf : Refused Fix ChiSquare → Fix
 itemOf x = x .item
 
 -- ---- what is shown lists every fix once
@@ -45,21 +46,21 @@ module _ (fs : List Fix) where
   abbrev pub o : Transmission
   o = shown (distinct fs)
 
-  abbrev pub lows : List (Refused Fix)
+  abbrev pub lows : List (Refused Fix ChiSquare)
   lows = take maxRefused (sort lowerRefused (o .refused))
 
   pub kept-are : heldIn (normalized fs) ≡ take maxStanding (o .ranked) ++ map itemOf lows
   unfolding normalized
   kept-are = ap (λ (l : List Fix). take maxStanding (o .ranked) ++ l) (map-map fixOf refusedFix lows)
 
-  pub low-in : (x : Refused Fix) → List·Memᴰ x lows → List·Memᴰ x (o .refused)
+  pub low-in : (x : Refused Fix ChiSquare) → List·Memᴰ x lows → List·Memᴰ x (o .refused)
   low-in x m = sort-in lowerRefused (o .refused) x (take-in maxRefused (sort lowerRefused (o .refused)) m)
 
   -- what is kept is among those that were gathered
   pub ranked-in : (g : Fix) → List·Memᴰ g (o .ranked) → List·Memᴰ g (distinct fs)
   ranked-in g m = perm-mem (Permᴰ·symm (once (distinct fs))) (Memᴰ·append-left (o .dominated ++ map itemOf (o .refused)) m)
 
-  pub refused-in : (x : Refused Fix) → List·Memᴰ x (o .refused) → List·Memᴰ (x .item) (distinct fs)
+  pub refused-in : (x : Refused Fix ChiSquare) → List·Memᴰ x (o .refused) → List·Memᴰ (x .item) (distinct fs)
   refused-in x m = perm-mem (Permᴰ·symm (once (distinct fs))) (Memᴰ·append-right (o .ranked) (Memᴰ·append-right (o .dominated) (Memᴰ·map itemOf m)))
 
   pub kept-in : (g : Fix) → List·Memᴰ g (heldIn (normalized fs)) → List·Memᴰ g (distinct fs)

@@ -2,7 +2,6 @@
 use mathlib.Core.Path.{_≡_, refl, sym, ap, _∙_, subst}
 use mathlib.Core.Bool.{false≢true}
 use mathlib.Core.List.{List, [], _∷_, _++_, map, map-append, append-assoc, List·Memᴰ, Memᴰ·of-map, List·Permᴰ, List·Permᴰ·cons, List·Permᴰ·trans, Permᴰ·refl, Permᴰ·symm, Permᴰ·append-left, Permᴰ·middle}
-use lib.Ieee.{binary64, toBits}
 use lib.ListN.{take, drop, take-append-drop}
 use Rattle.ranges.specs.Lists.{sort}
 use Rattle.ranges.proofs.Lists.{sort-perm}
@@ -17,6 +16,9 @@ use Rattle.normalize.specs.Normal.{signedBy, distinct, refusedFix, lower
 use Rattle.normalize.specs.Claims.{OneOfEach, NoneLost, KeptAsGiven, Against, RefusedAgainst}
 use Rattle.normalize.proofs.Claimed.{itemOf, once, gathered, o, lows, kept-are, low-in, kept-in}
 use Rattle.normalize.proofs.Validity.{all-distinct, named}
+use Rattle.arithmetic.specs.Agree.{chiSquareIn}
+use Rattle.arithmetic.specs.Bits.{storedBits}
+use Rattle.arithmetic.specs.declared.standing.ChiSquare.{ChiSquare}
 
 pub one-of-each : OneOfEach
 one-of-each fs = (gathered fs .differ, gathered fs .covered)
@@ -29,7 +31,7 @@ turned [] q r = Permᴰ·refl (q ++ r)
 turned (x ∷ p) q r = List·Permᴰ·trans (List·Permᴰ·cons refl (turned p q r)) (Permᴰ·symm (Permᴰ·middle x q (p ++ r)))
 
 module _ (fs : List Fix) where
-  abbrev sorted : List (Refused Fix)
+  abbrev sorted : List (Refused Fix ChiSquare)
   sorted = sort lowerRefused (o fs .refused)
 
   abbrev best : List Fix
@@ -75,7 +77,7 @@ module _ (fs : List Fix) where
   given =
       all-distinct AsGiven (λ f g p q. (q .0, q .1, ap (withSigners (signedBy f g .signers)) (q .2))) fs (λ f m. (f, m, refl))
 
-  against : (y : Refused Fix) → D.Named fixRelations (distinct fs) y → Against fs (refusedFix y)
+  against : (y : Refused Fix ChiSquare) → D.Named fixRelations (distinct fs) y → Against fs (refusedFix y)
   against y (D.opponent p c k d v) =
       let g = given (y .against) k in
       record {
@@ -83,7 +85,7 @@ module _ (fs : List Fix) where
         given = g .1;
         named = ap (λ (f : Fix). f .identity) (sym (g .2));
         disagreeing = ap (disagrees (y .item)) (g .2) ∙ d;
-        chi-square = ap (toBits binary64) c ∙ ap (λ (f : Fix). toBits binary64 (agreement (y .item) f .chi2)) (sym (g .2));
+        chi-square = ap storedBits c ∙ ap (λ (f : Fix). storedBits (chiSquareIn (agreement (y .item) f))) (sym (g .2));
       }
   against y (D.successor p c k d v q) = absurd (false≢true v)
 

@@ -4,7 +4,6 @@ use mathlib.Core.Path.{_≡_, refl, sym, ap, ap₂, _∙_, subst}
 use mathlib.Core.Bool.{false}
 use mathlib.Core.List.{List, _++_, map, map-append, map-map, List·Memᴰ}
 use native.Mathlib.Omega.{arith}
-use lib.Ieee.{binary64, toBits}
 use lib.ListN.{take}
 use Rattle.octets.specs.Order.{isBefore}
 use Rattle.ranges.specs.Lists.{sort, upTo}
@@ -31,6 +30,8 @@ use Rattle.normalize.specs.Normal.{distinct, refusedFix, lowerRefused, n
 use Rattle.normalize.specs.Claims.{identityOf}
 use Rattle.normalize.specs.Working.{Laid, kept, standingIn, refusedIn}
 use Rattle.normalize.proofs.Laying.{map-same, front-fix, laid-length, laid-few}
+use Rattle.arithmetic.specs.Bits.{storedBits}
+use Rattle.arithmetic.specs.declared.standing.ChiSquare.{ChiSquare}
 
 -- what is kept is of those with different identities
 pub normalized-is : (fs : List Fix) → normalized fs ≡ kept (distinct fs)
@@ -54,17 +55,17 @@ module _ {s g : List ℕ} {n : ℕ} {ks : List Fix} (w : Laid s g n ks) where
   identity-is : (i : ℕ) → Lies y i → itemIdentity y i ≡ at ks i .identity
   identity-is i h = ap (λ (f : Fix). f .identity) (front-fix w i (below i h))
 
-  decided : shown ks ≡ carriedOutcome (at ks) (outcome y)
-  decided = shown-of-items ks (w .formed) ∙ ap (λ (k : ℕ). carriedOutcome (at ks) (decide (itemRelations y) (upTo k))) (sym (items-count ks (w .formed)))
+  decided : shown ks ≡ carriedOutcome (at ks) (λ c. c) (outcome y)
+  decided = shown-of-items ks (w .formed) ∙ ap (λ (k : ℕ). carriedOutcome (at ks) (λ c. c) (decide (itemRelations y) (upTo k))) (sym (items-count ks (w .formed)))
 
   module _ (k : Kept) (z : Keeps y k) where
     abbrev ranked : List ℕ
     ranked = outcome y .ranked
 
-    abbrev all : List (Refused ℕ)
+    abbrev all : List (Refused ℕ ChiSquare)
     all = outcome y .refused
 
-    abbrev lows : List (Refused ℕ)
+    abbrev lows : List (Refused ℕ ChiSquare)
     lows = take maxRefused (sort (lowerItem y) all)
 
     fixes-are : map (itemFix y g) (standingIn k) ≡ take maxStanding (shown ks .ranked)
@@ -74,26 +75,26 @@ module _ {s g : List ℕ} {n : ℕ} {ks : List Fix} (w : Laid s g n ks) where
         ∙ take-map (at ks) maxStanding ranked
         ∙ ap (λ (o : Transmission). take maxStanding (o .ranked)) (sym decided)
 
-    each : (x : Refused ℕ) → List·Memᴰ x lows → itemRefused y g (refusal x) ≡ refusedFix (carriedRefusal (at ks) x)
+    each : (x : Refused ℕ ChiSquare) → List·Memᴰ x lows → itemRefused y g (refusal x) ≡ refusedFix (carriedRefusal (at ks) (λ c. c) x)
     each x m =
         let l = refused-lies y x (sort-in (lowerItem y) all x (take-in maxRefused (sort (lowerItem y) all) m)) in
         ap₂ (λ (f : Fix) (i : List ℕ). refusedAs f i x) (front-fix w (x .item) (below (x .item) (l .0))) (identity-is (x .against) (l .1))
       where
-        refusedAs : Fix → List ℕ → Refused ℕ → RefusedFix
-        refusedAs f i x = record { fix = f; against = i; chi2 = toBits binary64 (x .chi2) }
+        refusedAs : Fix → List ℕ → Refused ℕ ChiSquare → RefusedFix
+        refusedAs f i x = record { fix = f; against = i; chi2 = storedBits (x .chi2) }
 
-    ordered : sort lowerRefused (map (carriedRefusal (at ks)) all) ≡ map (carriedRefusal (at ks)) (sort (lowerItem y) all)
+    ordered : sort lowerRefused (map (carriedRefusal (at ks) (λ c. c)) all) ≡ map (carriedRefusal (at ks) (λ c. c)) (sort (lowerItem y) all)
     ordered =
-        sort-map (carriedRefusal (at ks)) (lowerItem y) lowerRefused all
+        sort-map (carriedRefusal (at ks) (λ c. c)) (lowerItem y) lowerRefused all
         (λ x v m l. ap₂ isBefore (sym (identity-is (x .item) (refused-lies y x m .0))) (sym (identity-is (v .item) (refused-lies y v l .0))))
 
     refused-are : map (itemRefused y g) (lowestIn (k .refused)) ≡ map refusedFix (take maxRefused (sort lowerRefused (shown ks .refused)))
     refused-are =
         ap (map (itemRefused y g)) (z .lowest)
         ∙ map-map (itemRefused y g) refusal lows
-        ∙ map-same (λ x. itemRefused y g (refusal x)) (λ x. refusedFix (carriedRefusal (at ks) x)) lows each
-        ∙ sym (map-map refusedFix (carriedRefusal (at ks)) lows)
-        ∙ ap (map refusedFix) (take-map (carriedRefusal (at ks)) maxRefused (sort (lowerItem y) all) ∙ ap (take maxRefused) (sym ordered))
+        ∙ map-same (λ x. itemRefused y g (refusal x)) (λ x. refusedFix (carriedRefusal (at ks) (λ c. c) x)) lows each
+        ∙ sym (map-map refusedFix (carriedRefusal (at ks) (λ c. c)) lows)
+        ∙ ap (map refusedFix) (take-map (carriedRefusal (at ks) (λ c. c)) maxRefused (sort (lowerItem y) all) ∙ ap (take maxRefused) (sym ordered))
         ∙ ap (λ (o : Transmission). map refusedFix (take maxRefused (sort lowerRefused (o .refused)))) (sym decided)
 
     whole : keptIn y g k ≡ kept ks

@@ -1,16 +1,11 @@
 -- What is kept of fixes that a track can hold, a track can hold: its bytes are sound, and hold it.
-use Prim.Native.Nat.{ℕ, suc, _+_, _-_, _^_, _<_}
+use Prim.Native.Nat.{ℕ, _+_, _-_, _^_, _<_}
 use mathlib.Core.Path.{_≡_, refl, sym, ap, ap₂, _∙_, subst}
-use mathlib.Core.Bool.{Bool, true, false}
-use mathlib.Core.Option.{Option, none, some}
+use mathlib.Core.Bool.{Bool, true}
 use mathlib.Core.List.{List, [], _∷_, _++_, map, map-append, map-map, append-nil, List·Memᴰ, List·Memᴰ·head, List·Memᴰ·tail, List·Memᴰ·not-nil, List·Memᴰ·cases-cons, List·Memᴰ·append-cases, List·Memᴰ·eq-of-singleton, Memᴰ·append-left, Memᴰ·append-right, Memᴰ·of-map}
 use native.Mathlib.Omega.{arith}
 use lib.Bits.{bitOr, or-lt}
-use lib.Dec.{T, eqb}
-use lib.Ieee.{Float, binary64, fits, toBits}
-use lib.Ieee.Bits.{toBits-lt}
-use lib.Ieee.Fits.{cond-fits, inf-fits, add-fits}
-use lib.Ieee.Scale.{finite}
+use lib.Dec.{eqb}
 use lib.ListN.{length, getD, take, drop, length-map}
 use lib.Seq.{take-at, length-take-le}
 use Rattle.octets.specs.Bytes.{Bytes}
@@ -21,10 +16,8 @@ use Rattle.places.specs.Places.{allPlaces}
 use Rattle.ranges.specs.Lists.{anyOf, filter}
 use Rattle.ranges.proofs.Bools.{by, or, and-both, not-f, not-t}
 use Rattle.ranges.proofs.Lists.{filter-in}
-use Rattle.geometry.specs.Numbers.{_⊗_}
-use Rattle.geometry.specs.Linalg.{item, plus, choleskyOf, solveOf}
-use Rattle.arithmetic.specs.Agree.{rowsOf, matrixOf, lengthUnder, chiSquareOf, finiteOr, differenceOf, threeOf, agreementOf}
-use Rattle.arithmetic.specs.declared.standing.Claimed.{Claimed}
+use Rattle.arithmetic.specs.Bits.{storedBits}
+use Rattle.arithmetic.proofs.Outcomes.{stored-bounded}
 use Rattle.record.specs.Layout.{recordSize}
 use Rattle.record.specs.Formed.{wellFormed}
 use Rattle.items.specs.Layout.{hashSize}
@@ -56,6 +49,7 @@ use Rattle.normalize.proofs.Distinct.{gather-held, gather-new}
 use Rattle.normalize.proofs.Laying.{map-same}
 use Rattle.normalize.proofs.Listing.{map-at}
 use Rattle.normalize.proofs.Claimed.{low-in, ranked-in, refused-in, kept-in, few-kept}
+use Rattle.arithmetic.specs.declared.standing.ChiSquare.{ChiSquare}
 
 -- ---- what holds of all that are given holds of those that are gathered
 
@@ -117,28 +111,6 @@ holdable-in p b h e = record {
   form = e;
 }
 
--- ---- a chi-square has 64 bits
-
-plus-fits : (p : ℕ → Float) (k : ℕ) → T (fits binary64 (plus p (suc k)))
-unfolding plus
-plus-fits p k = add-fits binary64 (plus p k) (p (suc k))
-
-rows-fit : (three : Bool) (enu : List Float) (m : Option (List Float)) → T (fits binary64 (lengthUnder (rowsOf three) enu m))
-unfolding lengthUnder
-rows-fit three enu none = inf-fits binary64 false
-rows-fit true enu (some l) = plus-fits (λ at. item enu at ⊗ item (solveOf 3 l enu) at) 1
-rows-fit false enu (some l) = plus-fits (λ at. item enu at ⊗ item (solveOf 2 l enu) at) 0
-
-chi-fits : (a b : Claimed) → T (fits binary64 (agreementOf a b .chi2))
-unfolding agreementOf finiteOr chiSquareOf
-chi-fits a b =
-    let three = threeOf a b in
-    let x = chiSquareOf three (a .covariance) (differenceOf a b) in
-    cond-fits binary64 (finite x) x _ (rows-fit three (differenceOf a b) (choleskyOf (rowsOf three) (matrixOf three (a .covariance)))) (inf-fits binary64 false)
-
-chi-bounded : (a b : Claimed) → toBits binary64 (agreementOf a b .chi2) < 2 ^ 64
-chi-bounded a b = toBits-lt binary64 (agreementOf a b .chi2) (chi-fits a b)
-
 -- ---- what is kept
 
 module _ (fs : List Fix) where
@@ -148,16 +120,16 @@ module _ (fs : List Fix) where
   abbrev o : Transmission
   o = shown (distinct fs)
 
-  pub named : (y : Refused Fix) → List·Memᴰ y (o .refused) → D.Named fixRelations (distinct fs) y
+  pub named : (y : Refused Fix ChiSquare) → List·Memᴰ y (o .refused) → D.Named fixRelations (distinct fs) y
   named y m = refused-names fixRelations (distinct fs) y (subst (λ (x : Transmission). List·Memᴰ y (x .refused)) (shown-is-decided (distinct fs)) m)
 
-  against-in : (y : Refused Fix) → D.Named fixRelations (distinct fs) y → List·Memᴰ (y .against) (distinct fs)
+  against-in : (y : Refused Fix ChiSquare) → D.Named fixRelations (distinct fs) y → List·Memᴰ (y .against) (distinct fs)
   against-in y (D.opponent p c k d v) = k
   against-in y (D.successor p c k d v q) = k
 
-  bounded-by : (y : Refused Fix) → D.Named fixRelations (distinct fs) y → toBits binary64 (y .chi2) < 2 ^ 64
-  bounded-by y (D.opponent p c k d v) = rw c (chi-bounded _ _)
-  bounded-by y (D.successor p c k d v q) = rw c (chi-bounded _ _)
+  bounded-by : (y : Refused Fix ChiSquare) → D.Named fixRelations (distinct fs) y → storedBits (y .chi2) < 2 ^ 64
+  bounded-by y (D.opponent p c k d v) = rw c (stored-bounded _ _)
+  bounded-by y (D.successor p c k d v q) = rw c (stored-bounded _ _)
 
   pub normalized-bounded : Bounded (normalized fs)
   unfolding normalized

@@ -4,11 +4,12 @@ use Prim.Native.Nat.{ℕ, _≤_}
 use mathlib.Core.Path.{_≡_}
 use mathlib.Core.Bool.{true, _&&_}
 use mathlib.Core.List.{List, [], _∷_, _++_, map, List·Memᴰ, List·Permᴰ}
-use lib.Ieee.{binary64, toBits}
 use lib.ListN.{length, drop}
 use Rattle.octets.specs.Masks.{bit}
 use Rattle.ranges.specs.Lists.{anyOf, sort}
 use Rattle.shown.specs.Fix.{Fix, withSigners}
+use Rattle.arithmetic.specs.Agree.{chiSquareIn}
+use Rattle.arithmetic.specs.Bits.{storedBits}
 use Rattle.shown.specs.Shown.{agreement, disagrees, shown}
 use Rattle.tracked.specs.Layout.{maxStanding, maxRefused}
 use Rattle.tracked.specs.Held.{RefusedFix, heldIn, isOf}
@@ -66,7 +67,7 @@ pub record Against (fs : List Fix) (x : RefusedFix) : Type 0 where
   pub given : List·Memᴰ other fs
   pub named : x .against ≡ other .identity
   pub disagreeing : disagrees (x .fix) other ≡ true
-  pub chi-square : x .chi2 ≡ toBits binary64 (agreement (x .fix) other .chi2)
+  pub chi-square : x .chi2 ≡ storedBits (chiSquareIn (agreement (x .fix) other))
 
 abbrev pub RefusedAgainst : Type 0
 RefusedAgainst = (fs : List Fix) (x : RefusedFix) → List·Memᴰ x (normalized fs .refused) → Against fs x

@@ -4,7 +4,6 @@ use Prim.Native.Nat.{ℕ}
 use mathlib.Core.Bool.{Bool, cond}
 use mathlib.Core.List.{List, [], _∷_, _++_, map}
 use lib.Bits.{bitOr}
-use lib.Ieee.{binary64, toBits}
 use lib.ListN.{take}
 use Rattle.ranges.specs.Lists.{anyOf, sort}
 use Rattle.rule.specs.Outcome.{Refused}
@@ -12,6 +11,8 @@ use Rattle.shown.specs.Fix.{Fix, withSigners}
 use Rattle.shown.specs.Shown.{lower, shown}
 use Rattle.tracked.specs.Layout.{maxStanding, maxRefused}
 use Rattle.tracked.specs.Held.{RefusedFix, HeldTransmission, isOf}
+use Rattle.arithmetic.specs.Bits.{storedBits}
+use Rattle.arithmetic.specs.declared.standing.ChiSquare.{ChiSquare}
 
 -- g, signed by the engines of f too
 abbrev pub signedBy : Fix → Fix → Fix
@@ -35,10 +36,10 @@ abbrev pub distinct : List Fix → List Fix
 distinct fs = gatherAll [] fs
 
 -- a refused fix as a track keeps it
-abbrev pub refusedFix : Refused Fix → RefusedFix
-refusedFix x = record { fix = x .item; against = x .against .identity; chi2 = toBits binary64 (x .chi2) }
+abbrev pub refusedFix : Refused Fix ChiSquare → RefusedFix
+refusedFix x = record { fix = x .item; against = x .against .identity; chi2 = storedBits (x .chi2) }
 
-abbrev pub lowerRefused : Refused Fix → Refused Fix → Bool
+abbrev pub lowerRefused : Refused Fix ChiSquare → Refused Fix ChiSquare → Bool
 lowerRefused x y = lower (x .item) (y .item)
 
 unfoldable pub normalized : List Fix → HeldTransmission

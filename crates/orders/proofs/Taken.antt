@@ -8,6 +8,7 @@ use Rattle.octets.specs.Ascii.{ascii}
 use Rattle.octets.specs.Words.{wordBytes, word}
 use Rattle.octets.specs.Order.{same, isBefore}
 use Rattle.octets.specs.Masks.{bits}
+use Rattle.arithmetic.specs.Bits.{storedBits}
 use Rattle.ranges.specs.Lists.{anyOf, filter, insert, sort, foremost}
 use Rattle.hashing.specs.Blake2s as B
 use Rattle.record.specs.Fields.{tagsFrom}
@@ -17,7 +18,7 @@ use Rattle.geometry.specs.Numbers.{fromDecimal}
 use Rattle.geometry.specs.Angles.{degree, radiansOf, factorial, coefficient, sineSeries, cosineSeries, sincosOf}
 use Rattle.geometry.specs.Geodesy.{flattening, eccentricity2, toEcef, enuBasis, subOf, dotOf}
 use Rattle.geometry.specs.Linalg.{less, rowsBelow, columns, choleskyOf, forwards, forward, backwards, backward, solveOf, plus}
-use Rattle.arithmetic.specs.Agree.{limitOf, geodeticOf, matrixOf, lengthUnder, chiSquareOf, finiteOr, differenceOf, agreementOf, agreesOf}
+use Rattle.arithmetic.specs.Agree.{limitOf, geodeticOf, matrixOf, sumUnder, finitely, lengthUnder, chiSquareOf, differenceOf, outcomeOf, agreementOf, agreesOf, chiSquareIn}
 use Rattle.items.specs.Claimed.{claimOf}
 use Rattle.models.specs.Identity.{citedDomain, citedInputs, setHash, identityFrom, identityOf, inputsInOrder}
 use Rattle.decision.specs.Positions.{S, M, L}
@@ -36,7 +37,7 @@ unfolding ascii inputsInOrder citedInputs setHash identityFrom wordBytes B.rotat
 of-hash = tt
 
 of-step : Unit {0}
-unfolding opened joined merged gatherAll signFirst normalized arranged shown anyOf filter insert sort foremost flatMap tied sharesTag anyIn subset allIn member same isBefore bits tagsFrom claimOf wordBytes word limitOf geodeticOf matrixOf lengthUnder chiSquareOf finiteOr differenceOf agreementOf agreesOf degree radiansOf factorial coefficient sineSeries cosineSeries sincosOf flattening eccentricity2 toEcef enuBasis subOf dotOf less rowsBelow columns choleskyOf forwards forward backwards backward solveOf plus fromDecimal isqrt digitsOf rootOf rootFinite rootBits root leadingZeros ofBits toBits round le lt eq ofInt div mul add sub neg isNan
+unfolding opened joined merged gatherAll signFirst normalized arranged shown anyOf filter insert sort foremost flatMap tied sharesTag anyIn subset allIn member same isBefore bits tagsFrom claimOf wordBytes word limitOf geodeticOf matrixOf sumUnder finitely lengthUnder chiSquareOf differenceOf outcomeOf agreementOf agreesOf chiSquareIn storedBits degree radiansOf factorial coefficient sineSeries cosineSeries sincosOf flattening eccentricity2 toEcef enuBasis subOf dotOf less rowsBelow columns choleskyOf forwards forward backwards backward solveOf plus fromDecimal isqrt digitsOf rootOf rootFinite rootBits root leadingZeros ofBits toBits round le lt eq ofInt div mul add sub neg isNan
 of-step = tt
 
 -- ---- the three fixes

@@ -3,14 +3,16 @@
 use answers::ANSWER_SIZE;
 use answers::INDICES_SIZE;
 use answers::REFUSAL_SIZE;
+use arithmetic::standing::Agreement;
 use arithmetic::standing::Claimed;
+use arithmetic::standing::Measure;
 use geometry::linalg::Covariance;
 use items::layout::MAX_ITEMS;
 use libc::STDIN_FILENO;
 use libc::STDOUT_FILENO;
 ghost use Prim.Native.Nat.{_+_, _<_, _≤_};
 ghost use lib.ListN.{length};
-ghost use Rattle.answers.specs.Layout.{refusalSize};
+ghost use Rattle.answers.specs.Layout.{chiSquareSize, refusalSize};
 ghost use Rattle.answers.specs.Offsets.{indicesSize, refusalsSize};
 
 // A claim: latitude, longitude, whether it has a height, the height, and the covariance.
@@ -85,6 +87,20 @@ fn claim(s: &[u8], at: usize) -> Claimed
 }
 
 // The bits of the chi-square and of its limit. Document 01 leaves a zero's sign free: a sum with zero has none.
+fn show_measure(m: Measure) {
+    show_bits(floats::to_bits(m.chi2 + 0.0));
+    show_bits(floats::to_bits(m.limit));
+}
+
+// Where nothing was measured there is no number.
+fn show_agreement(a: Agreement) {
+    match a {
+        Agreement::Inside(m) => show_measure(m),
+        Agreement::Outside(m) => show_measure(m),
+        Agreement::Unmeasurable => word(b" none none"),
+    }
+}
+
 fn agreement(s: &[u8])
     requires { ⌜ 122 ≤ length (now s) ⌝ }
 {
@@ -92,8 +108,7 @@ fn agreement(s: &[u8])
     let larger = claim(s, CLAIM_SIZE);
     let a = arithmetic::agreement(smaller, larger);
     word(b"agreement");
-    show_bits(floats::to_bits(a.chi2 + 0.0));
-    show_bits(floats::to_bits(a.limit));
+    show_agreement(a);
     word(b"\n");
 }
 
@@ -111,6 +126,17 @@ fn show_indices(s: &[u8], at: usize)
     }
 }
 
+// Whether there is a chi-square, and its bits.
+fn show_chi_square(s: &[u8], at: usize)
+    requires { ⌜ at + chiSquareSize ≤ length (now s) ⌝ }
+{
+    if s[at] == 0 {
+        word(b" none");
+        return;
+    }
+    show_bits(octets::words::u64_at(s, at + 1));
+}
+
 fn show_refusal(s: &[u8], at: usize)
     requires { ⌜ at + refusalSize ≤ length (now s) ⌝ }
 {
@@ -121,7 +147,7 @@ fn show_refusal(s: &[u8], at: usize)
     }
     show(wide(s[at]));
     show(wide(s[at + 1]));
-    show_bits(octets::words::u64_at(s, at + 3));
+    show_chi_square(s, at + 3);
 }
 
 fn show_refusals(s: &[u8], at: usize)

@@ -11,6 +11,7 @@ use Rattle.rule.specs.declared.Marks.{Marks}
 use Rattle.rule.specs.Standing as S
 use Rattle.rule.specs.Standing.{Relations}
 use Rattle.rule.specs.Related.{itemRelations}
+use Rattle.arithmetic.specs.declared.standing.ChiSquare.{ChiSquare}
 
 -- n items lie in s, and their pairs' codes in m
 pub record Ready (s m : List ℕ) (n : ℕ) : Type 0 where
@@ -26,16 +27,16 @@ pub record Marked (s : List ℕ) (n : ℕ) (m : Marks) : Type 0 where
 -- ---- tests that the rule makes of two items
 
 -- j is a disagreeing subset of i over which i does not stand
-abbrev pub resists : Relations ℕ → ℕ → ℕ → Bool
+abbrev pub resists : Relations ℕ ChiSquare → ℕ → ℕ → Bool
 resists r i j = r .disagrees i j && not (r .outstands i j)
 
 -- k is not refused, has i's model inputs, and i is a subset of it
-abbrev pub covers : Relations ℕ → List ℕ → ℕ → ℕ → Bool
+abbrev pub covers : Relations ℕ ChiSquare → List ℕ → ℕ → ℕ → Bool
 covers r all i k = not (S.isRefused r all k) && r .within i k
 
 -- i is ranked
-abbrev pub stands : Relations ℕ → List ℕ → ℕ → Bool
+abbrev pub stands : Relations ℕ ChiSquare → List ℕ → ℕ → Bool
 stands r all i = not (S.isRefused r all i) && not (S.isCovered r all i)
 
-abbrev pub dominated : Relations ℕ → List ℕ → ℕ → Bool
+abbrev pub dominated : Relations ℕ ChiSquare → List ℕ → ℕ → Bool
 dominated r all i = not (S.isRefused r all i) && S.isCovered r all i

@@ -132,7 +132,7 @@ module _ (gs : List Fix) (w : AllFormed gs) where
   abbrev n : ℕ
   n = length gs
 
-  alike : Alike (R.itemRelations s) fixRelations (at gs) (upTo n)
+  alike : Alike (R.itemRelations s) fixRelations (at gs) (λ c. c) (upTo n)
   unfolding disagreesAt withinAt subsetAt agreementAt aheadAt aheadByStanding aheadByWeight
   alike = record {
     disagrees = λ i j h l. let a = up-in n i h in let b = up-in n j l in sym (rw (consistent-at j b, record-at i a, record-at j b) refl);
@@ -146,8 +146,8 @@ module _ (gs : List Fix) (w : AllFormed gs) where
   }
 
   -- what is shown of the fixes is what is decided of their items, each index standing for its fix
-  pub shown-of-items : shown gs ≡ carriedOutcome (at gs) (decide (R.itemRelations s) (upTo n))
+  pub shown-of-items : shown gs ≡ carriedOutcome (at gs) (λ c. c) (decide (R.itemRelations s) (upTo n))
   shown-of-items =
       shown-is-decided gs
       ∙ ap (decide fixRelations) (sym (by-places noFix gs))
-      ∙ carried (R.itemRelations s) fixRelations (at gs) (upTo n) alike
+      ∙ carried (R.itemRelations s) fixRelations (at gs) (λ c. c) (upTo n) alike

@@ -2,15 +2,17 @@
 use mathlib.Core.Path.{_≡_}
 use mathlib.Core.Bool.{false}
 use mathlib.Core.List.{List}
+use Rattle.arithmetic.specs.Agree.{chiSquareIn}
 use Rattle.rule.specs.Standing.{Relations, decide}
 use Rattle.shown.specs.Fix.{Fix}
 use Rattle.shown.specs.Shown.{agreement, disagrees, within, lower, ahead, shown}
+use Rattle.arithmetic.specs.declared.standing.ChiSquare.{ChiSquare}
 
 -- "with standing 0, consistent, unverified, not preferred": no fix has more standing than another, and none passed
-abbrev pub fixRelations : Relations Fix
+abbrev pub fixRelations : Relations Fix ChiSquare
 fixRelations = record {
   disagrees = disagrees;
-  chiSquare = λ f g. agreement f g .chi2;
+  chiSquare = λ f g. chiSquareIn (agreement f g);
   outstands = λ f g. false;
   passed = λ f. false;
   within = within;

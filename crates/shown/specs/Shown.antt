@@ -6,16 +6,17 @@ use mathlib.Core.List.{List, [], _∷_, flatMap}
 use Rattle.octets.specs.Order.{isBefore, same}
 use Rattle.record.specs.Fields.{weight}
 use Rattle.record.specs.Relations.{subset}
-use Rattle.arithmetic.specs.Agree.{agreementOf, agreesOf}
+use Rattle.arithmetic.specs.Agree.{agreementOf, agreesOf, chiSquareIn}
 use Rattle.arithmetic.specs.declared.standing.Agreement.{Agreement}
 use Rattle.ranges.specs.Lists.{anyOf, filter, sort, foremost}
 use Rattle.items.specs.Claimed.{claimOf, moreFirst}
 use Rattle.rule.specs.Outcome.{Refused, Outcome}
 use Rattle.shown.specs.Fix.{Fix}
+use Rattle.arithmetic.specs.declared.standing.ChiSquare.{ChiSquare}
 
 -- the ranked in rank, the dominated and the refused in ascending identity
 abbrev pub Transmission : Type 0
-Transmission = Outcome Fix
+Transmission = Outcome Fix ChiSquare
 
 -- ---- how two fixes relate
 
@@ -45,11 +46,11 @@ ahead f g = moreFirst (weight (f .recordBytes)) (weight (g .recordBytes)) (lower
 -- ---- a transmission of the fixes fs
 
 -- f is refused against the lowest identity of those that it disagrees with, if there are any
-abbrev pub refuse : Fix → List Fix → List (Refused Fix)
+abbrev pub refuse : Fix → List Fix → List (Refused Fix ChiSquare)
 refuse f [] = []
 refuse f (g ∷ gs) =
     let k = foremost lower g gs in
-    record { item = f; against = k; chi2 = agreement f k .chi2; superseded = false } ∷ []
+    record { item = f; against = k; chi2 = chiSquareIn (agreement f k); superseded = false } ∷ []
 
 module _ (fs : List Fix) where
   -- some subset of f disagrees with it

@@ -1,7 +1,9 @@
 // What other products call by C names: one thin call each, for any bytes and any numbers. A refusal is the number that is answered;
 // include/toastlagoon.h says the same for C.
 use answers::ANSWER_SIZE;
+use arithmetic::standing::Agreement;
 use arithmetic::standing::Claimed;
+use arithmetic::standing::Measure;
 use geometry::linalg::Covariance;
 ghost use mathlib.Core.Path.{_≡_};
 ghost use Rattle.hashing.specs.Blake2s as Hash;
@@ -16,8 +18,15 @@ ghost use Rattle.board.specs.Preview.{drawPreview};
 ghost use Rattle.stored.specs.Memory as T;
 ghost use Rattle.track.specs.Track.{trackReport, trackSummary, trackConviction};
 ghost use Rattle.listing.specs.Listing.{listTrack};
-ghost use Rattle.toastlagoon.specs.Border.{covarianceFrom, claimFrom};
+ghost use Rattle.toastlagoon.specs.Border.{covarianceFrom, claimFrom, agreementOut};
 ghost use Rattle.answers.specs.Answer.{handOut};
+
+// The answers for how a larger fix stands to a smaller one.
+const INSIDE: u32 = 0;
+
+const OUTSIDE: u32 = 1;
+
+const UNMEASURABLE: u32 = 2;
 
 // The BLAKE2s-256 hash of any bytes. Answers 0.
 #[no_mangle]
@@ -82,7 +91,32 @@ fn claim(
     }
 }
 
-// The chi-square of a larger fix's position under a smaller one's covariance, and the most that agrees. Answers 0.
+fn put_measure(m: Measure, chi2: &mut f64, limit: &mut f64)
+    ensures { λ _. ⌜ record { chi2 = now (chi2 .exit); limit = now (limit .exit) } ≡ m ⌝ }
+{
+    *chi2 = m.chi2;
+    *limit = m.limit;
+}
+
+// The two numbers are written where they were measured, and stay as they are where they were not.
+fn put_agreement(g: Agreement, chi2: &mut f64, limit: &mut f64) -> u32
+    ensures { λ a. ⌜ after a (record { chi2 = now (chi2 .exit); limit = now (limit .exit) }) ≡ agreementOut g (record { chi2 = now (chi2 .entry); limit = now (limit .entry) }) ⌝ }
+{
+    match g {
+        Agreement::Inside(m) => {
+            put_measure(m, chi2, limit);
+            INSIDE
+        }
+        Agreement::Outside(m) => {
+            put_measure(m, chi2, limit);
+            OUTSIDE
+        }
+        Agreement::Unmeasurable => UNMEASURABLE,
+    }
+}
+
+// How a larger fix stands to a smaller one, with the chi-square of its position under the smaller one's covariance and the most that
+// agrees. Answers 0 where it is inside, 1 where it is outside, and 2 where nothing could be measured: then neither number is written.
 #[no_mangle]
 pub extern "C" fn tl_agreement(
     lat: i32,
@@ -108,8 +142,9 @@ pub extern "C" fn tl_agreement(
     chi2: &mut f64,
     limit: &mut f64,
 ) -> u32
-    ensures { λ a. ⌜ (a ≡ 0) × (record { chi2 = now (chi2 .exit); limit = now (limit .exit) }
-        ≡ agreementOf (claimFrom lat lon «has_height» height xx xy xz yy yz zz) (claimFrom lat2 lon2 «has_height2» height2 xx2 xy2 xz2 yy2 yz2 zz2)) ⌝ }
+    ensures { λ a. ⌜ after a (record { chi2 = now (chi2 .exit); limit = now (limit .exit) })
+        ≡ agreementOut (agreementOf (claimFrom lat lon «has_height» height xx xy xz yy yz zz) (claimFrom lat2 lon2 «has_height2» height2 xx2 xy2 xz2 yy2 yz2 zz2))
+        (record { chi2 = now (chi2 .entry); limit = now (limit .entry) }) ⌝ }
 {
     let smaller = claim(lat, lon, has_height, height, xx, xy, xz, yy, yz, zz);
     let larger = claim(
@@ -125,9 +160,7 @@ pub extern "C" fn tl_agreement(
         zz2,
     );
     let a = arithmetic::agreement(smaller, larger);
-    *chi2 = a.chi2;
-    *limit = a.limit;
-    0
+    put_agreement(a, chi2, limit)
 }
 
 // Decides items in bytes. The array is written where something is decided, and stays as it is on a refusal.

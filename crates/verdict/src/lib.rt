@@ -1,5 +1,5 @@
 // What comparing a superset with the smaller fix that it would replace finds.
-
+use arithmetic::standing::ChiSquare;
 ghost use mathlib.Core.Path.{_≡_};
 ghost use mathlib.Core.Bool.{true};
 ghost use Prim.Native.Nat.{_<_, _≤_};
@@ -15,7 +15,7 @@ ghost use Rattle.verdict.specs.Added.{hasTag, isAdded};
 pub enum SupersetVerdict {
     Malformed,
     Agrees,
-    Contested(f64),
+    Contested(ChiSquare),
 }
 
 // Tags, in their order.
@@ -91,9 +91,10 @@ fn compared(smaller: &[u8], larger: &[u8]) -> Comparison
     if arithmetic::agrees(a) {
         return plain(SupersetVerdict::Agrees);
     }
+    let chi2 = arithmetic::chi_square(a);
     let added = added(smaller, larger);
     Comparison {
-        verdict: SupersetVerdict::Contested(a.chi2),
+        verdict: SupersetVerdict::Contested(chi2),
         added,
     }
 }

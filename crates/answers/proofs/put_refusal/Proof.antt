@@ -25,25 +25,19 @@ add-out-2 c = search needs
 slice-write-out-3 : tie.Need-slice-write-out-3
 slice-write-out-3 c = simp length-set (omega arith)
 
-add-put-u64 : tie.Need-add-put-u64
-add-put-u64 c = search needs
+add-put-chi-square : tie.Need-add-put-chi-square
+add-put-chi-square c = search needs
 
-to-bits-requires : tie.Need-to-bits-requires
-to-bits-requires c κs = search needs
-
-put-u64-requires : tie.Need-put-u64-requires
-put-u64-requires c κs = simp length-set (omega arith)
-
-add-result : tie.Need-add-result
-add-result c = search needs
+put-chi-square-requires : tie.Need-put-chi-square-requires
+put-chi-square-requires c κs = simp length-set (omega arith)
 
 same-length : tie.Need-same-length
-same-length c = c .before .before .put-u64 .kept .0 ∙ simp length-set
+same-length c = c .before .before .put-chi-square .kept .0 ∙ simp length-set
 
 returns : tie.Need-returns
 returns c =
-    let s = c .before .before .before .before .before .before .before in
-    rw (c .before .before .put-u64 .ensures, c .before .before .before .to-bits .ensures) (refusal-put (s .args .out .now) (s .args .at) (s .args .x) (s .pre))
+    let s = c .before .before .before .before .before .before in
+    refusal-put (s .args .out .now) (s .args .at) (s .args .x) (c .before .before .put-chi-square .ensures)
 
 pub put-refusal-spec : {M : Type 1} → statement M
 put-refusal-spec =
@@ -55,9 +49,7 @@ put-refusal-spec =
     cast-out
     add-out-2
     slice-write-out-3
-    add-put-u64
-    to-bits-requires
-    put-u64-requires
-    add-result
+    add-put-chi-square
+    put-chi-square-requires
     same-length
     returns)

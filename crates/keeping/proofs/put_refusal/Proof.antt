@@ -1,20 +1,13 @@
 -- `put_refusal` meets its contract.
 use mathlib.Core.Path.{ap, _∙_}
 use native.Mathlib.Omega.{arith}
-use lib.Ieee.{binary64, toBits}
+use Rattle.arithmetic.specs.Bits.{storedBits}
 use Rattle.octets.specs.Writes.{putWord}
 use Rattle.text.proofs.Writing.{put-put, put-as, put-length}
 use Rattle.keeping.proofs.Tabled.{put-word}
 use borrow.Author.Needs.{needs}
 use Rattle.keeping.proofs.put_refusal.Statement.{statement}
 use Rattle.keeping.proofs.put_refusal.Tie as tie
-use Rattle.keeping.proofs.put_refusal.Reads as reads
-use Rattle.keeping.proofs.put_refusal.Lts as lts
-use Rattle.floats.proofs.to_bits.Reads as to-bits-reads
-use Rattle.items.proofs.hash_of.Reads as hash-of-reads
-use Rattle.keeping.proofs.put_fix.Reads as put-fix-reads
-use Rattle.octets.proofs.words.put_u64.Reads as put-u64-reads
-use Rattle.text.proofs.put_bytes.Reads as put-bytes-reads
 
 put-fix-requires : tie.Need-put-fix-requires
 put-fix-requires c κs = search needs
@@ -25,8 +18,8 @@ hash-of-requires c κs = search needs
 put-bytes-requires : tie.Need-put-bytes-requires
 put-bytes-requires c κs = search needs
 
-to-bits-requires : tie.Need-to-bits-requires
-to-bits-requires c κs = search needs
+stored-bits-requires : tie.Need-stored-bits-requires
+stored-bits-requires c κs = search needs
 
 put-u64-requires : tie.Need-put-u64-requires
 put-u64-requires c κs = search needs
@@ -48,8 +41,8 @@ returns c =
     let e = b .put-bytes .ensures in
     let l = put-length (p .1) in
     let m = put-length e in
-    let w = u .put-u64 .ensures ∙ ap (λ x. putWord 8 (b .put-bytes .result) x (b .put-bytes .last .0)) (u .before .to-bits .ensures) in
-    let q = put-word 8 (b .put-bytes .result) (toBits binary64 (s .args .x .chi2)) (b .put-bytes .last .0) w (omega (arith, p .0, e .next, i .1, s .pre .0)) in
+    let w = u .put-u64 .ensures ∙ ap (λ x. putWord 8 (b .put-bytes .result) x (b .put-bytes .last .0)) (u .before .stored-bits .ensures) in
+    let q = put-word 8 (b .put-bytes .result) (storedBits (s .args .x .chi2)) (b .put-bytes .last .0) w (omega (arith, p .0, e .next, i .1, s .pre .0)) in
     (omega (arith, p .0, e .next, i .1), put-put (p .1) (put-put (put-as (i .0) e) q))
 
 pub put-refusal-spec : {M : Type 1} → statement M
@@ -59,7 +52,7 @@ put-refusal-spec =
     put-fix-requires
     hash-of-requires
     put-bytes-requires
-    to-bits-requires
+    stored-bits-requires
     put-u64-requires
     add-result
     same-length

@@ -26,12 +26,29 @@ returns : tie.Need-returns
 unfolding comparisonOf
 returns c = rw (← c .before .before .before .before .before .claimed .ensures, ← c .before .before .before .before .claimed2 .ensures, ← c .before .before .before .agreement .ensures, ← c .before .before .agrees .ensures, c .before .if1 .taken) (c .plain .ensures)
 
+chi-square-requires : tie.Need-chi-square-requires
+chi-square-requires c κs = search needs
+
 added-requires : tie.Need-added-requires
-added-requires c κs = let f = formed _ (c .before .before .before .before .before .before .before .pre .0) in let g = formed _ (c .before .before .before .before .before .before .before .pre .1) in ((f .size, f .few), (g .size, g .few))
+added-requires c κs =
+    let s = c .before .before .before .before .before .before .before .before in
+    let f = formed _ (s .pre .0) in
+    let g = formed _ (s .pre .1) in
+    ((f .size, f .few), (g .size, g .few))
 
 returns-2 : tie.Need-returns-2
 unfolding comparisonOf
-returns-2 c = rw (← c .before .before .before .before .before .claimed .ensures, ← c .before .before .before .before .claimed2 .ensures, ← c .before .before .before .agreement .ensures, ← c .before .before .agrees .ensures, c .before .if1 .left, tags-of _ _ _ (c .added .ensures)) refl
+returns-2 c =
+    let b = c .before .before in
+    rw (
+      ← b .before .before .before .before .claimed .ensures,
+      ← b .before .before .before .claimed2 .ensures,
+      ← b .before .before .agreement .ensures,
+      ← b .before .agrees .ensures,
+      b .if1 .left,
+      ← c .before .chi-square .ensures,
+      tags-of _ _ _ (c .added .ensures),
+    ) refl
 
 pub compared-spec : {M : Type 1} → statement M
 compared-spec =
@@ -43,5 +60,6 @@ compared-spec =
     agrees-requires
     plain-requires
     returns
+    chi-square-requires
     added-requires
     returns-2)
