@@ -1,8 +1,9 @@
 //! The static library's functions, and the only place that knows how they are called (include/toastlagoon.h). A slice is passed as
 //! a pointer and a length. What the library at hand does not have is `None` (the `cfg`s are set from its symbols).
 
-use oracle::Claim;
 use oracle::decide::{Decision, Refusal};
+use oracle::measured::Outcome;
+use oracle::{Claim, hex};
 
 #[cfg(has_tl_blake2s256)]
 unsafe extern "C" {
@@ -253,14 +254,18 @@ pub fn horizontal_sigma(c: &[f64; 6]) -> Option<f64> {
     }
 }
 
+/// What the two numbers are that an agreement is lent: NaNs whose bits no agreement writes.
+const AS_FOUND: [u64; 2] = [0x7ff8_0000_0000_00c2, 0x7ff8_0000_0000_0011];
+
+/// What is answered, and the two lent numbers after the call: the chi-square and its limit, or as they were found.
 #[inline(always)]
-pub fn agreement(a: &Claim, b: &Claim) -> Option<(f64, f64)> {
+pub fn agreement(a: &Claim, b: &Claim) -> Option<(u32, f64, f64)> {
     #[cfg(has_tl_agreement)]
     {
         let (c, d) = (&a.covariance, &b.covariance);
-        let (mut chi2, mut limit) = (0.0, 0.0);
-        // Two numbers are written, nothing is kept.
-        unsafe {
+        let [mut chi2, mut limit] = AS_FOUND.map(f64::from_bits);
+        // Two numbers are written or none, nothing is kept.
+        let answer = unsafe {
             tl_agreement(
                 a.lat,
                 a.lon,
@@ -284,9 +289,9 @@ pub fn agreement(a: &Claim, b: &Claim) -> Option<(f64, f64)> {
                 d[5],
                 &mut chi2,
                 &mut limit,
-            );
-        }
-        Some((chi2, limit))
+            )
+        };
+        Some((answer, chi2, limit))
     }
     #[cfg(not(has_tl_agreement))]
     {
@@ -295,9 +300,29 @@ pub fn agreement(a: &Claim, b: &Claim) -> Option<(f64, f64)> {
     }
 }
 
-/// The bytes of an answer: ranked count and 96 indices; dominated count and 96 indices; refusal count and 96 refusals of 11 bytes
-/// (refused, kept, superseded, chi-square little-endian).
-pub const ANSWER: usize = 97 + 97 + 1 + 96 * 11;
+/// What an answer and the two lent numbers say; in words where they say nothing that the library may. A chi-square of zero has no sign.
+fn read_outcome((answer, chi2, limit): (u32, f64, f64)) -> Result<Outcome, String> {
+    let (chi2, limit) = (if chi2 == 0.0 { 0 } else { chi2.to_bits() }, limit.to_bits());
+    match answer {
+        0 => Ok(Outcome::Inside { chi2, limit }),
+        1 => Ok(Outcome::Outside { chi2, limit }),
+        2 if [chi2, limit] == AS_FOUND => Ok(Outcome::Unmeasurable),
+        _ => Err(format!("answer {answer}, lent numbers {chi2:016x} and {limit:016x}")),
+    }
+}
+
+/// The library's agreement of two claims, or what is wrong with it.
+pub fn outcome(a: &Claim, b: &Claim) -> Option<Result<Outcome, String>> {
+    agreement(a, b).map(read_outcome)
+}
+
+/// The bytes of a refusal: refused, kept, superseded, measured, chi-square little-endian (zeros where none was measured).
+const REFUSAL: usize = 12;
+const REFUSALS_AT: usize = 97 + 97;
+
+/// The bytes of an answer: ranked count and 96 indices; dominated count and 96 indices; refusal count and 96 refusals. What is not used
+/// is zero.
+pub const ANSWER: usize = REFUSALS_AT + 1 + 96 * REFUSAL;
 
 /// The number that the library answers; an answer is written into the lent bytes.
 #[inline(always)]
@@ -311,23 +336,48 @@ pub fn decide_into(items: &[u8], answer: &mut [u8; ANSWER]) -> Option<u32> {
     }
 }
 
-/// What the answer's bytes say.
-pub fn read_answer(b: &[u8; ANSWER]) -> Decision {
-    let list = |at: usize| b[at + 1..][..usize::from(b[at])].to_vec();
-    let refusal = |i: usize| {
-        let at = 195 + 11 * i;
-        let chi2 = f64::from_bits(u64::from_le_bytes(b[at + 3..at + 11].try_into().unwrap()));
-        Refusal { refused: b[at], kept: b[at + 1], superseded: b[at + 2] != 0, chi2: oracle::bits(chi2) }
-    };
-    Decision { ranked: list(0), dominated: list(97), refusals: (0..usize::from(b[194])).map(refusal).collect() }
+/// The bytes that an answer has before it is written.
+const PAINT: u8 = 7;
+
+fn put_list(b: &mut [u8], list: &[u8]) {
+    b[0] = list.len() as u8;
+    b[1..][..list.len()].copy_from_slice(list);
 }
 
-/// The library's decision, `Some(None)` where it answers 8.
-pub fn decide(items: &[u8]) -> Option<Option<Decision>> {
-    let mut answer = [0u8; ANSWER];
-    match decide_into(items, &mut answer)? {
-        0 => Some(Some(read_answer(&answer))),
-        8 => Some(None),
-        other => panic!("the library answers {other} to decide"),
+fn put_refusal(b: &mut [u8], r: &Refusal) {
+    b[..4].copy_from_slice(&[r.refused, r.kept, u8::from(r.superseded), u8::from(r.chi2.is_some())]);
+    b[4..REFUSAL].copy_from_slice(&r.chi2.unwrap_or(0).to_le_bytes());
+}
+
+/// All bytes of the answer that says this.
+fn write_answer(d: &Decision) -> [u8; ANSWER] {
+    let mut b = [0u8; ANSWER];
+    put_list(&mut b, &d.ranked);
+    put_list(&mut b[97..], &d.dominated);
+    b[REFUSALS_AT] = d.refusals.len() as u8;
+    for (place, refusal) in b[REFUSALS_AT + 1..].chunks_exact_mut(REFUSAL).zip(&d.refusals) {
+        put_refusal(place, refusal);
     }
+    b
+}
+
+/// The used bytes of any answer, in hex.
+fn used_bytes(b: &[u8; ANSWER]) -> String {
+    let list = |at: usize| hex::write(&b[at + 1..][..usize::from(b[at]).min(96)]);
+    let refusals: Vec<String> = b[REFUSALS_AT + 1..].chunks_exact(REFUSAL).map(hex::write).collect();
+    let count = usize::from(b[REFUSALS_AT]).min(96);
+    format!("ranked {} dominated {} refused {}", list(0), list(97), refusals[..count].join(" "))
+}
+
+/// What is wrong, in words, with the library's answer to items of which this is decided; without a decision they are refused with 8, and
+/// the answer stays as it is. All its bytes are compared.
+pub fn decide_differs(items: &[u8], decided: Option<&Decision>) -> Option<String> {
+    let mut answer = [PAINT; ANSWER];
+    let number = decide_into(items, &mut answer)?;
+    let (due, bytes) = decided.map_or((8, [PAINT; ANSWER]), |d| (0, write_answer(d)));
+    if number == due && answer == bytes {
+        return None;
+    }
+    let at = answer.iter().zip(&bytes).position(|(a, b)| a != b);
+    Some(format!("answer={number} first other byte {at:?}: {}", used_bytes(&answer)))
 }

@@ -155,6 +155,24 @@ pub fn at_limit(random: &mut Random) -> Vec<(Claim, Claim)> {
     (0..9).map(neighbour).collect()
 }
 
+/// Variances whose factor is not zero, and under which nine degrees have a quotient or a product that overflows.
+const TINY: [f64; 4] = [5e-324, 1e-320, 1e-306, 1e-300];
+
+/// Two rows with a common term of either sign: to the north, what is solved for the east overflows to either side, and the difference to
+/// the east is not zero but an error of rounding. Their product, and so the sum, is infinite with either sign.
+fn leaning(random: &mut Random) -> [f64; 6] {
+    [1e-320, random.pick(&[1e-306, -1e-306]), 0.0, 2e-292, 0.0, 1.0]
+}
+
+/// A pair whose covariance has a factor, mostly without a finite sum: nine degrees to the north, under tiny variances.
+pub fn overflowing(random: &mut Random) -> (Claim, Claim) {
+    let (mut smaller, mut larger) = pair(random);
+    let tiny = random.pick(&TINY);
+    smaller.covariance = if random.one_in(2) { leaning(random) } else { [tiny, 0.0, 0.0, tiny, 0.0, tiny] };
+    (larger.lat, larger.lon) = (smaller.lat.wrapping_add(90_000_000), smaller.lon);
+    (smaller, larger)
+}
+
 /// Tries simpler pairs that still differ.
 pub fn shrink(mut pair: (Claim, Claim), differs: &dyn Fn(&Claim, &Claim) -> bool) -> (Claim, Claim) {
     loop {

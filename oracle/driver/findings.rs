@@ -1,5 +1,6 @@
-//! Runs the Rust on the smallest inputs where its own comments, or a paper, say something else, and the library's track on those that
-//! concern a track. Each finding prints what was seen; the run fails where that is not what docs/DIFFERENCES.md says.
+//! Runs the Rust on the smallest inputs where its own comments, or a paper, say something else, and the library on those that concern a
+//! track or an agreement without a number. Each finding prints what was seen; the run fails where that is not what docs/DIFFERENCES.md
+//! says.
 //!
 //! `fix(tags, step)` has message 8d000000000000, time 1000, latitude `step`, longitude 0, height 1500 mm, all tags used, no
 //! models, spec 0, covariance diag(100, 100, 100). Steps 0, 2700 and 5400 are 0, about 30 and about 60 m north: neighbours agree,
@@ -9,6 +10,7 @@
 mod binding;
 
 use oracle::decide::{Decision, SIZE, decide};
+use oracle::measured::{Outcome, outcome};
 use oracle::track::{SIZE as TRACK_SIZE, Track};
 use oracle::{Claim, Record};
 
@@ -346,9 +348,15 @@ fn flat(variance: f64) -> [f64; 6] {
     [variance, 0.0, 0.0, variance, 0.0, variance]
 }
 
+fn here(covariance: [f64; 6]) -> Claim {
+    Claim { lat: 0, lon: 0, height: Some(0), covariance }
+}
+
+fn there(lat: i32) -> Claim {
+    Claim { lat, ..here([0.0; 6]) }
+}
+
 fn agreements(f: &mut Findings) {
-    let here = |covariance: [f64; 6]| Claim { lat: 0, lon: 0, height: Some(0), covariance };
-    let there = |lat: i32| Claim { lat, ..here([0.0; 6]) };
     // The variance whose chi-square is exactly the limit, found among the neighbours of the quotient.
     let (unit, limit) = oracle::agreement(&here(flat(1.0)), &there(100));
     let first = (unit / limit).to_bits() - 8;
@@ -368,6 +376,30 @@ fn agreements(f: &mut Findings) {
     f.see("R-14 (1e300, 1e300, 0, 1e300, 0, 1), which is singular, at its own place", format!("{seen:?}"), "0.0");
     let seen = oracle::agreement(&here([f64::INFINITY, 0.0, 0.0, 1.0, 0.0, 1.0]), &Claim { lon: 1000, ..there(0) }).0;
     println!("R-14 an infinite variance to the east, 1e-4 degree east\n    {seen:?}");
+}
+
+/// An outcome without its numbers.
+fn bare(outcome: Outcome) -> &'static str {
+    match outcome {
+        Outcome::Inside { .. } => "inside",
+        Outcome::Outside { .. } => "outside",
+        Outcome::Unmeasurable => "unmeasurable",
+    }
+}
+
+/// What the Rust's numbers are taken for, and what the library answers. Its bits are compared elsewhere.
+fn outcomes(f: &mut Findings) {
+    for (what, smaller, larger, expected) in [
+        ("a covariance of zeros, at its own place", here([0.0; 6]), there(0), "unmeasurable"),
+        ("diag(1e-320), at its own place", here(flat(1e-320)), there(0), "inside"),
+        ("diag(1e-320), 1e-7 degree away", here(flat(1e-320)), there(1), "unmeasurable"),
+        ("diag(100), 5400e-7 degree away", here(flat(100.0)), there(5400), "outside"),
+    ] {
+        f.see(&format!("A.7 {what}"), bare(outcome(&smaller, &larger)).to_string(), expected);
+        if let Some(ours) = binding::outcome(&smaller, &larger) {
+            f.see(&format!("A.7 {what}, the library"), ours.map_or_else(|words| words, |o| bare(o).to_string()), expected);
+        }
+    }
 }
 
 /// Items of these records: identity i + 1, consistent, unjudged, standing 0; `with` changes one.
@@ -394,13 +426,13 @@ fn decisions(f: &mut Findings) {
     f.see(
         "R-16 {1} {1,2} {1,2,3} with zero covariance, identities 2 1 3",
         line(told),
-        "ranked=0 dominated=none refused=1:0:7ff0000000000000:0,2:1:7ff0000000000000:0",
+        "ranked=0 dominated=none refused=1:0:none:0,2:1:none:0",
     );
     let told = decide(&items(&zero, |i, item| (item[286], item[296]) = (i as u8, u8::from(i > 0))));
     f.see(
         "R-16 the same, standing 0 1 2, the larger two verified",
         line(told),
-        "ranked=2 dominated=none refused=0:1:7ff0000000000000:1,1:2:7ff0000000000000:1",
+        "ranked=2 dominated=none refused=0:1:none:1,1:2:none:1",
     );
     let heavy = [fix(&[1, 3], 0), Record { used: 1, models: vec![5, 6, 7], ..fix(&[1, 2], 0) }];
     let told = decide(&items(&heavy, |i, item| item[254] = 9 - i as u8));
@@ -434,6 +466,7 @@ fn main() {
     let mut f = Findings { whose: Whose::Rust, wrong: 0 };
     tracks(&mut f);
     agreements(&mut f);
+    outcomes(&mut f);
     decisions(&mut f);
     if binding::TRACK {
         println!("The library's track:");

@@ -2,28 +2,33 @@
 
 use oracle::Claim;
 use oracle::decide::{Decision, Item, SIZE};
+use oracle::measured::measured;
+use solver::linalg::Matrix;
+
+/// The leading rows of a covariance.
+pub fn leading(c: &[f64; 6], rows: usize) -> Matrix {
+    let terms = [[c[0], c[1], c[2]], [c[1], c[3], c[4]], [c[2], c[4], c[5]]];
+    let mut matrix = Matrix::zeros(rows);
+    for (row, values) in terms.iter().enumerate().take(rows) {
+        for (column, value) in values.iter().enumerate().take(rows) {
+            matrix.set(row, column, *value);
+        }
+    }
+    matrix
+}
 
 /// The first diagonal of the Cholesky factor that is not above zero, found by the Rust on the leading blocks.
 fn failing_diagonal(c: &[f64; 6], n: usize) -> Option<usize> {
-    let terms = [[c[0], c[1], c[2]], [c[1], c[3], c[4]], [c[2], c[4], c[5]]];
-    (1..=n).find(|&k| {
-        let mut matrix = solver::linalg::Matrix::zeros(k);
-        for (row, values) in terms.iter().enumerate().take(k) {
-            for (column, value) in values.iter().enumerate().take(k) {
-                matrix.set(row, column, *value);
-            }
-        }
-        matrix.cholesky().is_none()
-    })
+    (1..=n).find(|&k| leading(c, k).cholesky().is_none())
 }
 
 pub fn kind(a: &Claim, chi2: f64, limit: f64, three: bool) -> &'static str {
-    if chi2.is_infinite() {
+    if measured(chi2).is_none() {
         return match failing_diagonal(&a.covariance, if three { 3 } else { 2 }) {
-            Some(1) => "infinite: first diagonal not above zero",
-            Some(2) => "infinite: second diagonal not above zero",
-            Some(_) => "infinite: third diagonal not above zero",
-            None => "infinite: a factor, but the sum is not finite",
+            Some(1) => "unmeasurable: first diagonal not above zero",
+            Some(2) => "unmeasurable: second diagonal not above zero",
+            Some(_) => "unmeasurable: third diagonal not above zero",
+            None => "unmeasurable: a factor, but the sum is not finite",
         };
     }
     let steps = chi2.to_bits() as i64 - limit.to_bits() as i64;

@@ -5,7 +5,7 @@ use crate::calls::{Call, Growing, inputs};
 use crate::cases::{self, Counts, Seen};
 use crate::random::Random;
 use crate::tracks::{Both, ROOM};
-use crate::{binding, claims};
+use crate::{binding, claims, measured, tried};
 use oracle::formed::formed;
 use oracle::track::{FIX, FIXES_AT, REFUSED, REFUSED_AT, SIZE, SUMMARIES_AT, SUMMARY, TRANSMISSION, TRANSMISSIONS_AT, Track};
 use oracle::{Record, hex};
@@ -199,14 +199,15 @@ fn features(lent: &Lent, counts: &mut Counts) {
         sets.windows(2).any(|two| two[0] == two[1])
     };
     let time = |one: &Parts| u64::from_le_bytes(one.0[0][..8].try_into().unwrap());
-    let nan = |place: &Vec<u8>| f64::from_le_bytes(place[290..298].try_into().unwrap()).is_nan();
     let all = &lent.transmissions;
     add("lent: one identity twice in a transmission", all.iter().any(twice));
     add("lent: transmissions not in the order of their times", all.windows(2).any(|two| time(&two[0]) > time(&two[1])));
-    add("lent: a chi-square that is a NaN", all.iter().any(|one| one.1.iter().any(nan)));
     add("lent: contested of 2^64 - 1", lent.contested == u64::MAX);
     add("lent: 256 summaries", lent.summaries.len() == 256);
     add("lent: 8 transmissions", all.len() == 8);
+    let bits = |place: &Vec<u8>| u64::from_le_bytes(place[290..298].try_into().unwrap());
+    let chi2s: Vec<u64> = all.iter().flat_map(|one| one.1.iter().map(bits)).collect();
+    measured::stored(&chi2s).for_each(|kind| add(kind, true));
 }
 
 /// Makes these calls on a lent track; what is wrong first, in words.
@@ -370,4 +371,7 @@ pub fn compare(random: &mut Random, calls: u64) {
     }
     println!("lent tracks: {made} calls on {tracks} tracks that nobody reached, {}", crate::beside(binding::TRACK));
     cases::print(&counts);
+    let came = |kind: &str| counts.contains_key(kind);
+    tried::all(measured::lent(), came, made);
+    tried::all(measured::lent_listings(), came, made);
 }

@@ -9,6 +9,7 @@ mod heights;
 mod kinds;
 mod lent;
 mod lists;
+mod measured;
 #[cfg(has_register)]
 mod previews;
 mod random;
@@ -20,6 +21,7 @@ mod tracks;
 mod tried;
 
 use oracle::decide::{Decision, SIZE};
+use oracle::measured::{Outcome, outcome};
 use oracle::{Claim, hex};
 use random::Random;
 use std::collections::BTreeMap;
@@ -48,9 +50,9 @@ fn claim_line(c: &Claim) -> String {
     format!("{} {} {height} {digits}", c.lat, c.lon)
 }
 
+/// The answer's number, the bits of both numbers, and that both stay as they were where nothing is measured.
 fn agreement_differs(a: &Claim, b: &Claim) -> bool {
-    let (chi2, limit) = oracle::agreement(a, b);
-    binding::agreement(a, b).is_some_and(|(c, l)| !same(c, chi2) || !same(l, limit) || (c <= l) != (chi2 <= limit))
+    binding::outcome(a, b).is_some_and(|ours| ours != Ok(outcome(a, b)))
 }
 
 /// How many latitudes and longitudes stood at each of `claims::SIDES`.
@@ -83,6 +85,7 @@ fn compare_pair(a: &Claim, b: &Claim, at_limit: bool, counts: &mut Counts, sides
     }
     let three = a.height.is_some() && b.height.is_some();
     count(counts, kinds::kind(a, chi2, limit, three), 1);
+    count(counts, measured::pair(a, b), 1);
     count(counts, if three { "(with both heights)" } else { "(without a height)" }, 1);
     count(counts, "(pairs set at the limit)", u64::from(at_limit));
     #[cfg(real_libm)]
@@ -98,11 +101,8 @@ fn compare_pair(a: &Claim, b: &Claim, at_limit: bool, counts: &mut Counts, sides
     }
     if agreement_differs(a, b) {
         let (a, b) = claims::shrink((*a, *b), &agreement_differs);
-        let ((chi2, limit), (c, l)) = (oracle::agreement(&a, &b), binding::agreement(&a, &b).unwrap());
-        println!("DIFFERENT: agreement {} {}", claim_line(&a), claim_line(&b));
-        println!("  Rust    chi2={:016x} limit={:016x}", oracle::bits(chi2), limit.to_bits());
-        println!("  library chi2={:016x} limit={:016x}", oracle::bits(c), l.to_bits());
-        std::process::exit(1);
+        let ours = binding::outcome(&a, &b).unwrap().map_or_else(|words| words, |ours: Outcome| ours.to_string());
+        different("agreement", format!("{} {}", claim_line(&a), claim_line(&b)), outcome(&a, &b).to_string(), ours);
     }
 }
 
@@ -111,33 +111,33 @@ fn compare_agreement(random: &mut Random, pairs: u64) {
     let mut sides = Sides::default();
     let mut done = 0;
     while done < pairs {
-        if random.one_in(64) {
-            for (a, b) in claims::at_limit(random) {
-                compare_pair(&a, &b, true, &mut counts, &mut sides);
-                done += 1;
-            }
-        } else {
-            let (a, b) = claims::pair(random);
-            compare_pair(&a, &b, false, &mut counts, &mut sides);
+        let (some, at_limit) = match random.below(64) {
+            0 => (claims::at_limit(random), true),
+            1..=3 => (vec![claims::overflowing(random)], false),
+            _ => (vec![claims::pair(random)], false),
+        };
+        for (a, b) in some {
+            compare_pair(&a, &b, at_limit, &mut counts, &mut sides);
             done += 1;
         }
     }
     print(&format!("agreement: {done} pairs, {}", beside(binding::AGREEMENT)), &counts);
     print_sides(&sides, done);
+    tried::all(measured::PAIRS, |kind| counts.contains_key(kind), done);
 }
 
 fn beside(has: bool) -> &'static str {
     if has { "library and Rust alike" } else { "the Rust alone (not in the library)" }
 }
 
-/// Everything but a zero chi-square's sign, which cannot be refused.
-fn decide_differs(bytes: &[u8]) -> bool {
-    binding::decide(bytes).is_some_and(|ours| ours != oracle::decide::decide(bytes))
+/// What is wrong with the library's answer, in words.
+fn decide_differs(bytes: &[u8]) -> Option<String> {
+    binding::decide_differs(bytes, oracle::decide::decide(bytes).as_ref())
 }
 
 fn no_chi2(decision: &Decision) -> Decision {
     let mut plain = decision.clone();
-    plain.refusals.iter_mut().for_each(|r| r.chi2 = 0);
+    plain.refusals.iter_mut().for_each(|r| r.chi2 = None);
     plain
 }
 
@@ -147,6 +147,7 @@ fn compare_list(bytes: &[u8], counts: &mut Counts) {
             for (what, times) in kinds::features(&items, &decision) {
                 count(counts, what, times);
             }
+            measured::refusals(&decision).for_each(|what| count(counts, what, 1));
             #[cfg(real_libm)]
             {
                 let real = oracle::decide::decide_real(bytes).unwrap();
@@ -155,15 +156,14 @@ fn compare_list(bytes: &[u8], counts: &mut Counts) {
         }
         _ => count(counts, kinds::refusal_kind(bytes), 1),
     }
-    if decide_differs(bytes) {
-        let least = lists::shrink(bytes.to_vec(), &decide_differs);
-        let line = |d: Option<Decision>| d.map_or("answer=8".to_string(), |d| d.line());
+    if decide_differs(bytes).is_some() {
+        let least = lists::shrink(bytes.to_vec(), &|fewer| decide_differs(fewer).is_some());
         println!("DIFFERENT: decide of {} bytes", least.len());
         for item in least.chunks(SIZE) {
             println!("  {}", hex::write(item));
         }
-        println!("  Rust    {}", line(oracle::decide::decide(&least)));
-        println!("  library {}", line(binding::decide(&least).unwrap()));
+        println!("  Rust    {}", oracle::decide::decide(&least).map_or("answer=8".to_string(), |d| d.line()));
+        println!("  library {}", decide_differs(&least).unwrap());
         std::process::exit(1);
     }
 }
@@ -174,6 +174,7 @@ fn compare_decide(random: &mut Random, lists: u64) {
         compare_list(&lists::list(random), &mut counts);
     }
     print(&format!("decide: {lists} lists, {}", beside(binding::DECIDE)), &counts);
+    tried::all(measured::REFUSALS, |kind| counts.contains_key(kind), lists);
 }
 
 fn different(what: &str, input: String, rust: String, ours: String) -> ! {

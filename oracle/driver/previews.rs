@@ -1,8 +1,8 @@
 //! Previews of a conviction (document 02, A.1): the library's beside the peer's, and beside the library's own conviction and board on
 //! a copy; and which kinds of them came up.
 
-use crate::binding;
 use crate::random::Random;
+use crate::{binding, measured};
 use peer::board::{self, ROOM};
 use peer::register::{Register, struck};
 use std::hint::black_box;
@@ -106,6 +106,10 @@ impl Drawn {
             || self.now.records.iter().any(|(_, signers)| signers >> engine & 1 == 1)
     }
 
+    fn text(&self) -> &str {
+        str::from_utf8(&self.preview).expect("the peer's text")
+    }
+
     fn alike(&self) -> bool {
         self.preview == self.board
     }
@@ -134,7 +138,7 @@ const REFUSED: Kinds<Asked, 7> = [
     ("previews refused with 10", |a| a.answer == 10),
 ];
 
-const DRAWN: Kinds<Drawn, 9> = [
+const DRAWN: Kinds<Drawn, 11> = [
     ("previews of a convicted engine", Drawn::convicted),
     ("previews of an idle engine", |d| !d.convicted() && !d.holds()),
     ("previews of an engine with something held", Drawn::holds),
@@ -144,6 +148,8 @@ const DRAWN: Kinds<Drawn, 9> = [
     ("previews of more lines than the board", |d| lines(&d.preview) > lines(&d.board)),
     ("previews that settle a dispute: a record counts that does not now", Drawn::settles),
     ("previews into more bytes than a board needs", |d| d.asked.room > ROOM),
+    ("previews with chi2=none", |d| measured::writes_none(d.text())),
+    ("previews with a chi-square that is a number", |d| measured::writes_number(d.text())),
 ];
 
 fn of<T, const N: usize>(kinds: &Kinds<T, N>, one: &T) -> Vec<&'static str> {

@@ -4,7 +4,7 @@
 use crate::binding::{self, register as ours};
 use crate::heights::{self, EDGES};
 use crate::random::Random;
-use crate::{previews, spans, tried};
+use crate::{measured, previews, spans, tried};
 use oracle::{Record, hex};
 use peer::register::{self as theirs, SIZE};
 use std::collections::BTreeMap;
@@ -60,6 +60,10 @@ struct Style {
     spread: bool,
 }
 
+fn flat(variance: f64) -> [f64; 6] {
+    [variance, 0.0, 0.0, variance, 0.0, variance]
+}
+
 fn record(random: &mut Random, style: &Style) -> Vec<u8> {
     let tags: Vec<u64> = (0..1 + random.below(3)).map(|i| 4 * i + random.below(4)).collect();
     let one = Record {
@@ -76,7 +80,7 @@ fn record(random: &mut Random, style: &Style) -> Vec<u8> {
         tags,
         models: (0..random.below(3)).map(|_| random.below(3) as u8).collect(),
         spec: random.below(2) as u16,
-        covariance: random.pick(&[[0.0; 6], [100.0, 0.0, 0.0, 100.0, 0.0, 100.0], [f64::NAN; 6]]),
+        covariance: random.pick(&[[0.0; 6], flat(100.0), flat(1e-320), [f64::NAN; 6]]),
     };
     let mut bytes = one.write().to_vec();
     if random.one_in(40) {
@@ -123,14 +127,15 @@ fn compare_boards(a: &[u8], b: &[u8], n: usize, last: bool, counts: &mut Counts)
     if x != y || c != d {
         return Some(format!("board after call {n}: library {x}, peer {y}"));
     }
-    let lines = c[..if x == 1 { 0 } else { x }].iter().filter(|&&b| b == b'\n').count();
-    let kind = match (x, lines) {
+    let text = str::from_utf8(&c[..if x == 1 { 0 } else { x }]).expect("the peer's text");
+    let kind = match (x, text.lines().count()) {
         (1, _) => "boards refused with 1",
         (_, 0) => "boards of no bytes",
         (_, 1..10) => "boards of less than 10 lines",
         _ => "boards of 10 lines or more",
     };
     count([kind], counts);
+    count(measured::board(text), counts);
     if last {
         count_kinds(b, counts);
     }
@@ -253,6 +258,7 @@ pub fn compare(random: &mut Random, lists: u64) {
     if cfg!(has_board) {
         tried::all(heights::KINDS, came, lists);
         tried::all(spans::KINDS, came, lists);
+        tried::all(measured::boards(), came, lists);
     }
     if binding::PREVIEW {
         tried::all(previews::kinds(), came, lists);

@@ -22,6 +22,7 @@ mod samples;
 
 use oracle::Claim;
 use oracle::decide::{SIZE, decide, items};
+use oracle::measured::{Outcome, outcome};
 use random::Random;
 use std::collections::BTreeMap;
 
@@ -48,13 +49,19 @@ fn put_claim(out: &mut Vec<u8>, c: &Claim) {
     }
 }
 
-/// One agreement: 138 bytes.
+/// The bytes of an agreement.
+const AGREEMENT: usize = 2 * 61 + 17;
+
 fn put_agreement(out: &mut Vec<u8>, a: &Claim, b: &Claim) {
-    let (chi2, limit) = oracle::agreement(a, b);
+    let (measured, chi2, limit) = match outcome(a, b) {
+        Outcome::Inside { chi2, limit } | Outcome::Outside { chi2, limit } => (1, chi2, limit),
+        Outcome::Unmeasurable => (0, 0, 0),
+    };
     put_claim(out, a);
     put_claim(out, b);
-    out.extend_from_slice(&oracle::bits(chi2 + 0.0).to_le_bytes());
-    out.extend_from_slice(&limit.to_bits().to_le_bytes());
+    out.push(measured);
+    out.extend_from_slice(&chi2.to_le_bytes());
+    out.extend_from_slice(&limit.to_le_bytes());
 }
 
 fn agreements(random: &mut Random) -> (Vec<u8>, Kept) {
@@ -82,8 +89,8 @@ fn put_decision(out: &mut Vec<u8>, bytes: &[u8]) {
         answer.extend_from_slice(&d.dominated);
         answer.push(d.refusals.len() as u8);
         for r in &d.refusals {
-            answer.extend_from_slice(&[r.refused, r.kept, u8::from(r.superseded)]);
-            answer.extend_from_slice(&r.chi2.to_le_bytes());
+            answer.extend_from_slice(&[r.refused, r.kept, u8::from(r.superseded), u8::from(r.chi2.is_some())]);
+            answer.extend_from_slice(&r.chi2.unwrap_or(0).to_le_bytes());
         }
     }
     out.extend_from_slice(&(bytes.len() as u32).to_le_bytes());
@@ -141,7 +148,7 @@ fn main() -> std::io::Result<()> {
     let folder = std::env::args().nth(1).expect("a folder");
     let mut random = Random(20);
     let (bytes, kept) = agreements(&mut random);
-    print(&format!("agreement.bin: {} cases, {} bytes", bytes.len() / 138, bytes.len()), &kept);
+    print(&format!("agreement.bin: {} cases, {} bytes", bytes.len() / AGREEMENT, bytes.len()), &kept);
     std::fs::write(format!("{folder}/agreement.bin"), bytes)?;
     let (bytes, kept, count) = decisions(&mut random);
     print(&format!("decide.bin: {count} cases, {} bytes", bytes.len()), &kept);

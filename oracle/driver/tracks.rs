@@ -3,9 +3,8 @@
 use crate::binding;
 use crate::calls::{self, Call};
 use crate::cases::{self, Counts, Seen};
-use crate::heights;
 use crate::random::Random;
-use crate::tried;
+use crate::{heights, measured, tried};
 use oracle::formed::formed;
 use oracle::track::{Answer, SIZE, Track};
 
@@ -55,6 +54,7 @@ impl Both {
         let lines = expected.bytes().filter(|&b| b == b'\n').count();
         *counts.entry(listed(lines)).or_default() += 1;
         cases::count_heights(&self.after, counts);
+        measured::listing(&expected).for_each(|kind| *counts.entry(kind).or_default() += 1);
         if !binding::TRACK {
             return Ok(());
         }
@@ -108,5 +108,7 @@ pub fn compare(random: &mut Random, lists: u64) {
     }
     println!("track: {lists} lists of {made} calls from a fresh track, {}", crate::beside(binding::TRACK));
     cases::print(&counts);
-    tried::all(heights::KINDS, |kind| counts.contains_key(kind), lists);
+    let came = |kind: &str| counts.contains_key(kind);
+    tried::all(heights::KINDS, came, lists);
+    tried::all(measured::listings(), came, lists);
 }

@@ -4,6 +4,7 @@
 //! verified (1 passed, 2 failed, else unjudged).
 
 use crate::Record;
+use crate::measured::{digits, measured};
 use tally_wire::TaggedSet;
 use tally_wire::batch::Hash;
 
@@ -97,7 +98,8 @@ candidate!(RealCandidate, solver_real, real);
 pub struct Refusal {
     pub refused: u8,
     pub kept: u8,
-    pub chi2: u64,
+    /// Its bits, where one was measured.
+    pub chi2: Option<u64>,
     pub superseded: bool,
 }
 
@@ -131,7 +133,7 @@ macro_rules! plain {
                 .map(|one| Refusal {
                     refused: one.refused as u8,
                     kept: one.kept as u8,
-                    chi2: crate::bits(one.chi2),
+                    chi2: measured(one.chi2),
                     superseded: one.superseded,
                 })
                 .collect(),
@@ -160,13 +162,14 @@ pub fn decide_real(bytes: &[u8]) -> Option<Decision> {
 }
 
 impl Decision {
-    /// One line: `ranked=1,0 dominated=none refused=2:0:7ff0000000000000:0`, a refusal being refused:kept:chi-square:superseded.
+    /// One line: `ranked=1,0 dominated=none refused=2:0:4041d3951c37e7a3:0`, a refusal being refused:kept:chi-square:superseded, with
+    /// `none` for a chi-square where none was measured.
     pub fn line(&self) -> String {
         let list = |list: &[u8]| match list {
             [] => "none".to_string(),
             some => some.iter().map(u8::to_string).collect::<Vec<_>>().join(","),
         };
-        let one = |r: &Refusal| format!("{}:{}:{:016x}:{}", r.refused, r.kept, r.chi2, u8::from(r.superseded));
+        let one = |r: &Refusal| format!("{}:{}:{}:{}", r.refused, r.kept, digits(r.chi2), u8::from(r.superseded));
         let refused = match self.refusals.as_slice() {
             [] => "none".to_string(),
             some => some.iter().map(one).collect::<Vec<_>>().join(","),

@@ -4,6 +4,7 @@ pub mod decide;
 pub mod formed;
 pub mod hex;
 pub mod lines;
+pub mod measured;
 pub mod record;
 pub mod track;
 
@@ -59,6 +60,7 @@ rule!(standin, solver);
 #[cfg(real_libm)]
 rule!(real, solver_real);
 
+/// The Rust's own numbers: where the chi-square is infinite, `measured` says what that is.
 pub fn agreement(smaller: &Claim, larger: &Claim) -> (f64, f64) {
     standin::agreement(smaller, larger)
 }

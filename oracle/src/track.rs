@@ -1,6 +1,7 @@
 //! The Rust's merge of one aircraft behind document 01's track: its calls, its refusals, its 29,104 bytes.
 
 use crate::lines::{self, Said};
+use crate::measured::measured;
 use crate::{Record, formed};
 use tally_merge::{Contest, Fix, Merge, Settings, Transmission, link::Told};
 use tally_wire::{ClientClockModel, ClientClockModelContent, TaggedFix, TaggedSet};
@@ -210,7 +211,8 @@ impl Track {
                 out.push('\n');
             }
             for (fix, contest) in one.refused.iter().zip(&one.contests) {
-                out += &format!("{} chi2={:016x}\n", lines::line("refused", &said(fix)), crate::bits(contest.chi2));
+                out += &lines::refused(&said(fix), measured(contest.chi2));
+                out.push('\n');
             }
         }
         out

@@ -117,10 +117,9 @@ fn decided(fixes: &[Fix], one: &[usize]) -> Decision {
     oracle::decide::decide(&items).expect("items that can be decided")
 }
 
-fn line(role: &str, fix: &Fix) -> String {
+fn said(fix: &Fix) -> Said {
     let r = &fix.record;
-    let said = Said { time: r.time, lat: r.lat, lon: r.lon, height: r.height, weight: r.weight(), signers: fix.signers };
-    lines::line(role, &said)
+    Said { time: r.time, lat: r.lat, lon: r.lon, height: r.height, weight: r.weight(), signers: fix.signers }
 }
 
 /// The latest transmissions, oldest first, each with what is decided of its fixes.
@@ -179,13 +178,13 @@ pub fn text(register: &Register) -> String {
         let counts = (d.ranked.len(), d.dominated.len(), d.refusals.len());
         out += &lines::header(n + 1, counts.0, counts.1, counts.2);
         for &at in &d.ranked {
-            out += &format!("{}\n", line("ranked", fix(at)));
+            out += &format!("{}\n", lines::line("ranked", &said(fix(at))));
         }
         for &at in &d.dominated {
-            out += &format!("{}\n", line("dominated", fix(at)));
+            out += &format!("{}\n", lines::line("dominated", &said(fix(at))));
         }
         for refusal in &d.refusals {
-            out += &format!("{} chi2={:016x}\n", line("refused", fix(refusal.refused)), refusal.chi2);
+            out += &format!("{}\n", lines::refused(&said(fix(refusal.refused)), refusal.chi2));
         }
     }
     out

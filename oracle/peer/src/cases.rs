@@ -18,9 +18,14 @@ pub struct Report {
 
 pub const ZERO: &str = "000000000000000000000000000000000000000000000000000000000000000000000000000000000000000000000000";
 
+/// The same variance on the whole diagonal.
+pub fn flat(variance: f64) -> String {
+    format!("{0:016x}{1:016x}{1:016x}{0:016x}{1:016x}{0:016x}", variance.to_bits(), 0)
+}
+
 /// diag(100, 100, 100).
 pub fn hundred() -> String {
-    format!("{0}{1}{1}{0}{1}{0}", "4059000000000000", "0000000000000000")
+    flat(100.0)
 }
 
 impl Report {
@@ -124,26 +129,43 @@ pub fn full() -> String {
     (0..97).map(|i| one(i).text()).collect::<String>() + &Report { engine: 2, ..one(5) }.text()
 }
 
-/// The longest board: eight transmissions of one ranked and eleven refused each, every field at its longest.
-pub fn longest() -> String {
+/// Eight transmissions of one ranked and eleven refused each, with long fields.
+fn crowded(cov: &str) -> String {
     let mut out = String::new();
     for t in 0..8u64 {
         for i in 0..12u64 {
-            // Ten tags, or those and one more: a superset, refused since a zero covariance has no factor.
+            // Ten tags; or those and one more, somewhere else: a superset.
             let tags: Vec<u64> = (1..=10).chain((i > 0).then_some(100 + i)).collect();
             let long = Report {
                 time: u64::MAX,
-                lat: i32::MIN.into(),
+                lat: i64::from(i32::MIN) + i64::from(i > 0),
                 lon: i32::MIN.into(),
                 height: i32::MIN.to_string(),
                 message: format!("8d0000000000{t:02x}"),
-                cov: ZERO.to_string(),
+                cov: cov.to_string(),
                 ..Report::new(31, &tags, 0)
             };
             out += &long.text();
         }
     }
     out
+}
+
+/// The longest board, every field at its longest: the variance is so small that each superset is outside, and yet measured.
+pub fn longest() -> String {
+    crowded(&flat(1e-9))
+}
+
+/// The same, where nothing is measured.
+pub fn crowded_unmeasurable() -> String {
+    crowded(ZERO)
+}
+
+/// A fix with a variance of 1e-320, one with a further tag at the same place, and one with two further 1e-7 degree away, which is too
+/// far to be measured.
+pub fn unmeasurable() -> [Report; 3] {
+    let tiny = |engine: u32, tags: &[u64], step: i64| Report { cov: flat(1e-320), ..Report::new(engine, tags, step) };
+    [tiny(1, &[1], 0), tiny(2, &[1, 2], 0), tiny(3, &[1, 2, 3], 1)]
 }
 
 /// Every case by name.
@@ -184,6 +206,8 @@ pub fn cases() -> Vec<(&'static str, String)> {
             ]),
         ),
         ("longest", longest()),
+        ("crowded-unmeasurable", crowded_unmeasurable()),
+        ("unmeasurable", texts(&unmeasurable())),
         ("nothing-counts", cites(1).text()),
         ("empty", String::new()),
         ("blank", "\n".to_string()),

@@ -23,7 +23,7 @@ fn bad(input: &str, line: usize) {
 fn the_worked_session_byte_for_byte() {
     let expected = "answer=0\nanswer=0\nanswer=0\ntransmission=1 ranked=1 dominated=0 refused=1\n\
         role=ranked time=1000 lat=500000000 lon=100000000 height=2 weight=2 signers=00000002\n\
-        role=refused time=1000 lat=500000000 lon=100000000 height=none weight=3 signers=00000004 chi2=7ff0000000000000\n";
+        role=refused time=1000 lat=500000000 lon=100000000 height=none weight=3 signers=00000004 chi2=none\n";
     assert_eq!(session(worked().as_bytes()), expected);
 }
 
@@ -231,6 +231,55 @@ fn the_longest_board() {
     let input = longest();
     assert_eq!(answers(&input), vec![0; 96]);
     assert_eq!(board_of(&input).len(), 13_248);
+    assert!(!board_of(&input).contains("chi2=none"));
+    // `none` is twelve bytes shorter than digits, on each of 88 lines.
+    assert_eq!(board_of(&crowded_unmeasurable()).len(), 13_248 - 12 * 88);
+}
+
+/// The chi-squares of a board, as they are written.
+fn chi2s(board: &str) -> Vec<String> {
+    board.lines().filter_map(|line| Some(line.split_once(" chi2=")?.1.to_string())).collect()
+}
+
+/// Document 02, A.7: the sum is not finite, though there is a factor. At the fix's own place it is zero, and agrees.
+#[test]
+fn no_number_where_none_was_measured() {
+    let [here, same, away] = unmeasurable();
+    let board = board_of(&(here.text() + &same.text() + &away.text()));
+    let lines = [
+        "transmission=1 ranked=1 dominated=1 refused=1",
+        "role=ranked time=1000 lat=0 lon=0 height=2 weight=2 signers=00000004",
+        "role=dominated time=1000 lat=0 lon=0 height=2 weight=1 signers=00000002",
+        "role=refused time=1000 lat=1 lon=0 height=2 weight=3 signers=00000008 chi2=none",
+    ];
+    assert_eq!(board.lines().collect::<Vec<_>>(), lines);
+    assert!(preview_of(&(here.text() + &away.text()), 2).ends_with(" chi2=none\n"));
+}
+
+/// Infinities and NaNs in a covariance have no factor. Its own chi-square a refused fix gets from the smaller fix's alone.
+#[test]
+fn covariances_without_a_factor() {
+    let covariances = [ZERO.to_string(), "7ff8000000000001".repeat(6), "7ff0000000000000".repeat(6), flat(-100.0), flat(-0.0)];
+    for cov in &covariances {
+        let small = Report { cov: cov.clone(), ..Report::new(1, &[1], 0) };
+        assert_eq!(chi2s(&board_of(&(small.text() + &Report::new(2, &[1, 2], 0).text()))), ["none"], "{cov}");
+        let large = Report { cov: cov.clone(), ..Report::new(2, &[1, 2], 5400) };
+        let chi2 = chi2s(&board_of(&(Report::new(1, &[1], 0).text() + &large.text())));
+        assert_eq!(chi2, ["4041d3951c37e7a3"], "{cov}");
+    }
+}
+
+/// Two transmissions, one with a refusal that was measured and one with a refusal that was not; a preview without either.
+#[test]
+fn a_number_and_none_on_one_board() {
+    let far = Report { time: 2000, ..Report::new(4, &[7], 0) };
+    let [small, _, large] = nested();
+    let none = Report { cov: ZERO.to_string(), ..far.clone() }.text()
+        + &Report { engine: 5, tags: "7,8".to_string(), used: 3, ..far }.text();
+    let input = small.text() + &Report { engine: 2, ..large }.text() + &none;
+    assert_eq!(chi2s(&board_of(&input)), ["4041d3951c37e7a3", "none"]);
+    assert_eq!(chi2s(&preview_of(&input, 2)), ["none"]);
+    assert_eq!(chi2s(&preview_of(&input, 5)), ["4041d3951c37e7a3"]);
 }
 
 #[test]
@@ -294,8 +343,7 @@ fn refusals_of_a_preview() {
 #[test]
 fn previews_of_the_worked_session() {
     let first = "role=ranked time=1000 lat=500000000 lon=100000000 height=2 weight=2 signers=00000002\n";
-    let second =
-        "role=refused time=1000 lat=500000000 lon=100000000 height=none weight=3 signers=00000004 chi2=7ff0000000000000\n";
+    let second = "role=refused time=1000 lat=500000000 lon=100000000 height=none weight=3 signers=00000004 chi2=none\n";
     let alone = format!("transmission=1 ranked=1 dominated=0 refused=0\n{first}");
     assert_eq!(preview_of(&worked(), 2), alone);
     // The only summary is engine 1's: without it the other's record does not count, and nothing is written.

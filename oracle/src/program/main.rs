@@ -83,9 +83,7 @@ fn answer(line: &str, track: &mut Track) -> Result<String, String> {
     let told = match words.word()? {
         "agreement" => {
             let (smaller, larger) = (words.claim()?, words.claim()?);
-            let (chi2, limit) = oracle::agreement(&smaller, &larger);
-            let agrees = u8::from(chi2 <= limit);
-            format!("chi2={:016x} limit={:016x} agrees={agrees}", oracle::bits(chi2), limit.to_bits())
+            oracle::measured::outcome(&smaller, &larger).to_string()
         }
         "sigma" => format!("sigma={:016x}", oracle::bits(oracle::horizontal_sigma(&words.covariance()?))),
         "sincos" => {
