@@ -1,5 +1,5 @@
-/* The sizes of the layouts, a hash, a decision over three fixes of one transmission, reports into a register, a conviction that is shown first, and the
- * same three fixes in two orders into tracks, called from C. */
+/* The sizes of the layouts, a hash, the three outcomes of an agreement, a decision over three fixes of one transmission, reports into a
+ * register, a conviction that is shown first, and the same three fixes in two orders into tracks, called from C. */
 #include <inttypes.h>
 #include <stdio.h>
 #include <string.h>
@@ -7,6 +7,7 @@
 #include "toastlagoon.h"
 
 /* What the program chooses. The layouts, the limits and the answers have names in the header. */
+static const double VARIANCE = 100.0;
 enum { STEP = 2700, FIXES = 3, TIME = 1000, HEIGHT = 1500, MODEL = 5, SPEC = 3, TOO_LITTLE = 100 };
 
 static void put(uint8_t *at, int bytes, uint64_t value) {
@@ -19,10 +20,19 @@ static uint64_t get(const uint8_t *at, int bytes) {
     return value;
 }
 
-static void put_double(uint8_t *at, double x) {
+static uint64_t bits_of(double x) {
     uint64_t bits;
     memcpy(&bits, &x, sizeof bits);
-    put(at, 8, bits);
+    return bits;
+}
+
+static void put_double(uint8_t *at, double x) { put(at, TL_F64_SIZE, bits_of(x)); }
+
+/* The same variance on each axis, and no other terms. */
+static void put_variance(uint8_t r[TL_RECORD_SIZE], double variance) {
+    put_double(r + TL_RECORD_XX_AT, variance);
+    put_double(r + TL_RECORD_YY_AT, variance);
+    put_double(r + TL_RECORD_ZZ_AT, variance);
 }
 
 /* A fix heard by the receivers 1 to `tags`, `lat` 1e-7 degree north of the equator, with a deviation of 10 m on each axis. */
@@ -37,9 +47,7 @@ static void write_record(uint8_t r[TL_RECORD_SIZE], int tags, int32_t lat) {
     r[TL_RECORD_TAG_COUNT_AT] = (uint8_t)tags;
     put(r + TL_RECORD_USED_AT, 2, (1u << tags) - 1);
     for (int i = 0; i < tags; i++) put(r + TL_RECORD_TAGS_AT + TL_TAG_SIZE * i, TL_TAG_SIZE, (uint64_t)i + 1);
-    put_double(r + TL_RECORD_XX_AT, 100.0);
-    put_double(r + TL_RECORD_YY_AT, 100.0);
-    put_double(r + TL_RECORD_ZZ_AT, 100.0);
+    put_variance(r, VARIANCE);
 }
 
 /* The same as an item of a decision: consistent, not preferred, unjudged, of no standing. */
@@ -76,24 +84,49 @@ static void hash(void) {
     printf("\n");
 }
 
+/* A larger fix, `step` 1e-7 degree north of a smaller one, whose variance is the same on each axis. */
+static void agreement(const char *what, int32_t step, double variance) {
+    double chi2, limit;
+    uint32_t outcome = tl_agreement(0, 0, true, HEIGHT, variance, 0, 0, variance, 0, variance, step, 0, true, HEIGHT, VARIANCE, 0, 0,
+                                    VARIANCE, 0, VARIANCE, &chi2, &limit);
+    printf("agreement, %s: ", what);
+    switch (outcome) {
+    case TL_INSIDE: printf("inside, chi-square %016" PRIx64 ", limit %g\n", bits_of(chi2), limit); break;
+    case TL_OUTSIDE: printf("outside, chi-square %016" PRIx64 ", limit %g\n", bits_of(chi2), limit); break;
+    case TL_UNMEASURABLE: printf("unmeasurable\n"); break; /* neither number was written */
+    default: printf("no outcome of the library\n");
+    }
+}
+
+static void show_decision(const char *what, const uint8_t *items, size_t length) {
+    uint8_t answer[TL_ANSWER_SIZE];
+    printf("%s: answer %" PRIu32, what, tl_decide(items, length, answer));
+    show_indices("ranked", answer + TL_RANKED_AT);
+    show_indices("dominated", answer + TL_DOMINATED_AT);
+    printf(" refusals %d", answer[TL_REFUSALS_AT]);
+    for (int i = 0; i < answer[TL_REFUSALS_AT]; i++) {
+        const uint8_t *r = answer + TL_REFUSALS_AT + 1 + i * TL_REFUSAL_SIZE;
+        printf(", %s %d against %d", r[TL_REFUSAL_SUPERSEDED_AT] ? "superseded" : "contested", r[TL_REFUSAL_INDEX_AT],
+               r[TL_REFUSAL_AGAINST_AT]);
+        if (r[TL_REFUSAL_MEASURED_AT])
+            printf(" chi-square %016" PRIx64, get(r + TL_REFUSAL_CHI2_AT, TL_F64_SIZE));
+        else
+            printf(" unmeasurable");
+    }
+    printf("\n");
+}
+
 static void decide(void) {
     uint8_t items[FIXES * TL_ITEM_SIZE], answer[TL_ANSWER_SIZE];
     for (int i = 0; i < FIXES; i++) write_item(items + i * TL_ITEM_SIZE, i + 1, STEP * i);
-    printf("decide three fixes: answer %" PRIu32, tl_decide(items, sizeof items, answer));
-    show_indices("ranked", answer + TL_RANKED_AT);
-    show_indices("dominated", answer + TL_DOMINATED_AT);
-    for (int i = 0; i < answer[TL_REFUSALS_AT]; i++) {
-        const uint8_t *r = answer + TL_REFUSALS_AT + 1 + i * TL_REFUSAL_SIZE;
-        printf(" %s %d against %d chi-square %016" PRIx64, r[TL_REFUSAL_SUPERSEDED_AT] ? "superseded" : "contested", r[TL_REFUSAL_INDEX_AT],
-               r[TL_REFUSAL_AGAINST_AT], get(r + TL_REFUSAL_CHI2_AT, TL_F64_SIZE));
-    }
-    printf("\n");
+    show_decision("decide three fixes", items, sizeof items);
     /* An item that is not consistent refuses nobody: the first here, so that the third stands. */
     items[TL_ITEM_CONSISTENT_AT] = 0;
-    printf("the first not consistent: answer %" PRIu32, tl_decide(items, sizeof items, answer));
-    show_indices("ranked", answer + TL_RANKED_AT);
-    show_indices("dominated", answer + TL_DOMINATED_AT);
-    printf(" refusals %d\n", answer[TL_REFUSALS_AT]);
+    show_decision("the first not consistent", items, sizeof items);
+    /* One with a covariance of zeros refuses every larger one, and there is no chi-square. */
+    items[TL_ITEM_CONSISTENT_AT] = 1;
+    put_variance(items + TL_ITEM_RECORD_AT, 0.0);
+    show_decision("the first without a covariance", items, sizeof items);
     show("decide half an item", tl_decide(items, TL_ITEM_SIZE / 2, answer));
     memset(items, 0, sizeof items);
     show("decide an item of zeros", tl_decide(items, TL_ITEM_SIZE, answer));
@@ -151,6 +184,10 @@ int main(void) {
     static const int smallest_first[FIXES] = {0, 1, 2}, largest_first[FIXES] = {2, 0, 1};
     sizes();
     hash();
+    agreement("30 m north", STEP, VARIANCE);
+    agreement("60 m north", 2 * STEP, VARIANCE);
+    agreement("the same place, variances of zero", 0, 0.0);
+    agreement("1 cm north, variances of 1e-320", 1, 1e-320);
     decide();
     reports();
     track(smallest_first);

@@ -11,10 +11,10 @@ COV = HUNDRED + 2 * ZERO + HUNDRED + ZERO + HUNDRED
 END = 2**64 - 1
 
 
-def report(engine, time, lat=481370000, message="8d3c6dd0000000", tags=(101,), models="none", spec=0):
+def report(engine, time, lat=481370000, message="8d3c6dd0000000", tags=(101,), models="none", spec=0, cov=COV):
     fields = [
         ("op", "report"), ("engine", engine), ("time", time), ("lat", lat), ("lon", 115820000), ("height", 312400), ("message", message),
-        ("tags", ",".join(map(str, tags))), ("used", 2 ** len(tags) - 1), ("models", models), ("spec", spec), ("cov", COV),
+        ("tags", ",".join(map(str, tags))), ("used", 2 ** len(tags) - 1), ("models", models), ("spec", spec), ("cov", cov),
     ]
     return "".join(f"{k}={v}\n" for k, v in fields)
 
@@ -61,6 +61,9 @@ write("clocks-settled", report(1, T), *broken, convict(3))
 small, large = report(1, T, 481370000), report(2, T + 100, 481375400, tags=(101, 102))
 write("cut-north", small, large)
 write("cut-south", large)
+
+# Two fixes of one transmission, of one place. The smaller one's covariance is all zeros, so that nothing can be measured against it.
+write("unmeasured", report(1, T, cov=6 * ZERO), report(2, T + 100, tags=(101, 102)))
 
 # A parked helicopter repeats its message, and an hour later the receivers have been restarted and use the same tags. Then a fix between
 # two others, each two seconds away, of which the last is too far from the first. And the same tags five hours later: one identity, for
