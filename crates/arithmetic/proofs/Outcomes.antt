@@ -324,7 +324,7 @@ read-number : (x : Float) → T (fits binary64 x) → finite x ≡ true → stor
 unfolding storedChiSquare
 read-number x w f = rw (ne-eqb (toBits binary64 x) infinity (finite-bits x w f), ofBits-toBits binary64 x w)
 
-read-infinity : storedChiSquare infinity ≡ Unmeasured
+pub read-infinity : storedChiSquare infinity ≡ Unmeasured
 unfolding storedChiSquare
 read-infinity = refl
 

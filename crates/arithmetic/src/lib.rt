@@ -18,9 +18,6 @@ use standing::Claimed;
 // How many numbers a prepared fix has.
 pub const PREPARED: usize = 21;
 
-// The bits of the infinity.
-const INFINITY: u64 = 0x7ff0_0000_0000_0000;
-
 pub fn agreement(smaller: Claimed, larger: Claimed) -> Agreement
     ensures { λ r. ⌜ r ≡ agreementOf smaller larger ⌝ }
 {
@@ -55,7 +52,7 @@ pub fn stored_bits(c: ChiSquare) -> u64
 {
     match c {
         ChiSquare::Measured(x) => floats::to_bits(x),
-        ChiSquare::Unmeasured => INFINITY,
+        ChiSquare::Unmeasured => floats::INFINITY,
     }
 }
 
@@ -63,7 +60,7 @@ pub fn stored_bits(c: ChiSquare) -> u64
 pub fn stored_chi_square(bits: u64) -> ChiSquare
     ensures { λ r. ⌜ r ≡ storedChiSquare bits ⌝ }
 {
-    if bits == INFINITY {
+    if bits == floats::INFINITY {
         return ChiSquare::Unmeasured;
     }
     ChiSquare::Measured(floats::of_bits(bits))

@@ -9,7 +9,7 @@ ghost use Rattle.floats.specs.Root as Root;
 // field.
 const SIGN: u64 = 0x8000_0000_0000_0000;
 
-const INFINITY: u64 = 0x7ff0_0000_0000_0000;
+pub const INFINITY: u64 = 0x7ff0_0000_0000_0000;
 
 const NAN: u64 = 0x7ff8_0000_0000_0000;
 

@@ -1,11 +1,12 @@
 -- Which stored chi-square is listed as `none`: the claim of specs/Claims.
 use Prim.Native.Nat.{ℕ}
-use mathlib.Core.Path.{_≡_, refl, ap, _∙_}
+use mathlib.Core.Path.{_≡_, ap, _∙_}
 use native.Mathlib.Omega.{arith}
 use borrow.Author.Tests.{eqb-true}
 use lib.Dec.{eqb}
 use lib.Ieee.{Float, binary64, ofBits}
 use Rattle.ranges.proofs.Bools.{by}
+use Rattle.arithmetic.proofs.Outcomes.{read-infinity}
 use Rattle.arithmetic.specs.Bits.{infinity, storedChiSquare}
 use Rattle.arithmetic.specs.declared.standing.ChiSquare.the-variants.{Measured, Unmeasured}
 use Rattle.drawing.proofs.Widths.{none-exactly-when}
@@ -18,11 +19,7 @@ number-read bits e = by (eqb bits infinity) (λ p. eqb-true bits infinity p) (λ
     measured-apart : {x : Float} → Measured x ≡ Unmeasured → ⊥
     measured-apart h = let z : _≡_ {A = ℕ} 0 1 = cc in omega arith
 
-none-read : storedChiSquare infinity ≡ Unmeasured
-unfolding storedChiSquare
-none-read = refl
-
 pub listed-none-exactly-when : ListedNoneExactlyWhen
 listed-none-exactly-when bits =
     let w = none-exactly-when (storedChiSquare bits) in
-    (λ e. number-read bits (w .0 e), λ e. w .1 (ap storedChiSquare e ∙ none-read))
+    (λ e. number-read bits (w .0 e), λ e. w .1 (ap storedChiSquare e ∙ read-infinity))
