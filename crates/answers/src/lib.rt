@@ -2,6 +2,8 @@
 //
 // Each writer puts its part at a position of a lent buffer and returns the position after it. The parts are asked for one by
 // one, so that no whole decision is made and copied.
+#![tactic(auto)]
+
 ghost use Rattle.std.specs.Prelude.{◌≡◌, false, ◌∷◌, map, ◌+◌, ◌*◌, ◌≤◌, length, replicate};
 ghost use Rattle.octets.specs.Words.{word_bytes};
 ghost use Rattle.text.specs.Buffer.{Put};

@@ -1,5 +1,7 @@
 // Whether two fixes of one transmission agree: geodesy, the Cholesky factor of a covariance and a solve with it, in f64, each
 // operation in one fixed order.
+#![tactic(auto)]
+
 ghost use Rattle.std.specs.Prelude.{◌≡◌, ◌+◌, ◌*◌, ◌≤◌, length};
 ghost use Rattle.arithmetic.specs.Agree.{agreementOf, agreesOf, chiSquareIn, sigmaOf};
 ghost use Rattle.arithmetic.specs.Bits.{storedBits, storedChiSquare};

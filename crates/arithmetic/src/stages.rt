@@ -11,7 +11,7 @@ use crate::standing::{Agreement, Claimed, Measure};
 use geometry::geodesy::{Basis, Geodetic, Vec3};
 use geometry::linalg::{Factor, ThirdRow, TwoRows};
 
-#[derive(Drop)]
+#[derive(Clone, Copy)]
 pub struct Prepared {
     pub ecef: Vec3,
     pub basis: Basis,

@@ -2,7 +2,7 @@
 use geometry::linalg::Covariance;
 
 // What a fix claims: 1e-7 degree, millimetres above the ellipsoid where it has a height, and how sure.
-#[derive(Drop)]
+#[derive(Clone, Copy)]
 pub struct Claimed {
     pub lat: i32,
     pub lon: i32,
@@ -12,7 +12,7 @@ pub struct Claimed {
 }
 
 // The squared length of a difference under the smaller fix's covariance, and the most that agrees.
-#[derive(Drop)]
+#[derive(Clone, Copy)]
 pub struct Measure {
     pub chi2: f64,
     pub limit: f64,
@@ -20,7 +20,7 @@ pub struct Measure {
 
 // How a larger fix stands to a smaller one: inside the limit or outside it, or there is no number, since the smaller one's
 // covariance has no Cholesky factor or the sum is not finite.
-#[derive(Drop)]
+#[derive(Clone, Copy)]
 pub enum Agreement {
     Inside(Measure),
     Outside(Measure),
@@ -28,7 +28,7 @@ pub enum Agreement {
 }
 
 // The chi-square of two fixes, where there is one.
-#[derive(Drop)]
+#[derive(Clone, Copy)]
 pub enum ChiSquare {
     Measured(f64),
     Unmeasured,

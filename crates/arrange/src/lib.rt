@@ -5,6 +5,8 @@
 //
 // Identities are not stored in a track. A table of sheets is lent beside that of transmissions, with the identities that the call has worked
 // out of each; a sheet moves with its transmission, so no identity is worked out twice.
+#![tactic(auto)]
+
 ghost use Rattle.std.specs.Prelude.{◌≡◌, [], ◌∷◌, ◌++◌, ◌+◌, ◌*◌, ◌-◌, ◌<◌, ◌≤◌, ltb, length, get_or, take, drop};
 ghost use Rattle.tracked.specs.Layout.{transmissionSize};
 ghost use Rattle.tracked.specs.Bytes.{fixCount};

@@ -1,4 +1,6 @@
 // The board of a register: what a control room sees, the same for every order in which reports came.
+#![tactic(auto)]
+
 ghost use Rattle.std.specs.Prelude.{◌≡◌, true, ◌≤◌, length};
 ghost use Rattle.text.specs.Buffer.{Put};
 ghost use Rattle.drawing.specs.Text.{boardSize};
@@ -64,7 +66,7 @@ pub fn preview(memory: &[u8], engine: u32, out: &mut [u8]) -> u32
         return 1;
     }
     let mut copied = [0u8; REGISTER_SIZE];
-    bytes::copy(memory, &mut copied);
+    octets::runs::copy(memory, &mut copied);
     let refusal = register::convictions::conviction(&mut copied, engine);
     if refusal != 0 {
         return refusal;

@@ -2,6 +2,8 @@
 //
 // The work is done by the crate `rule`, over tables that `items::pairs` fills, and by `parts`. `decide` takes any bytes; `settled`
 // is for callers who lend the tables.
+#![tactic(auto)]
+
 ghost use Rattle.std.specs.Prelude.{◌≡◌, false, ◌+◌, ◌*◌, ◌≤◌, ◌<◌, length};
 ghost use Rattle.ranges.specs.Lists.{any_of, up_to};
 ghost use Rattle.arithmetic.specs.Stages.{preparedSize};
@@ -31,7 +33,7 @@ pub const MANY_CODES: usize = MAX_ITEMS * MAX_ITEMS;
 
 // A refused item, the one that it is refused against, and the chi-square between them where there is one. `superseded`: it is the smaller,
 // and a verified superset with more standing took its place; else it is the larger.
-#[derive(Drop)]
+#[derive(Clone, Copy)]
 pub struct Refusal {
     pub chi2: ChiSquare,
     pub refused: u8,
@@ -39,13 +41,13 @@ pub struct Refusal {
     pub superseded: bool,
 }
 
-#[derive(Drop)]
+#[derive(Clone, Copy)]
 pub struct Refusals {
     pub list: [Refusal; MAX_ITEMS],
     pub count: u8,
 }
 
-#[derive(Drop)]
+#[derive(Clone, Copy)]
 pub struct Indices {
     pub list: [u8; MAX_ITEMS],
     pub count: u8,
@@ -57,7 +59,7 @@ const DECIDED: u8 = 0;
 const BAD_ITEMS: u8 = 8;
 
 // The answer is 0, or 8 with nothing decided. Ranked in rank, dominated and refusals ascending by index.
-#[derive(Drop)]
+#[derive(Clone, Copy)]
 pub struct Decision {
     pub answer: u8,
     pub ranked: Indices,
@@ -66,7 +68,7 @@ pub struct Decision {
 }
 
 // Whether an item is refused, and how.
-#[derive(Drop)]
+#[derive(Clone, Copy)]
 pub enum Finding {
     Unrefused,
     Refused(Refusal),

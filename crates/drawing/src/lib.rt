@@ -1,4 +1,6 @@
 // The text of a board into a lent buffer, from a table of fixes and their labels.
+#![tactic(auto)]
+
 ghost use Rattle.std.specs.Prelude.{◌≡◌, ℕ, ◌+◌, ◌*◌, ◌<◌, ◌≤◌, length, get_or, take};
 ghost use Rattle.text.specs.Buffer.{Put};
 ghost use Rattle.items.specs.Layout.{itemSize};

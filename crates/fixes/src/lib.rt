@@ -1,4 +1,6 @@
 // The fixes of a board, in lent bytes of `layout::FIX_SIZE` each: of one identity one record, with the signers of all.
+#![tactic(auto)]
+
 ghost use Rattle.std.specs.Prelude.{◌≡◌, ◌+◌, ◌*◌, ◌≤◌, length};
 ghost use Rattle.record.specs.Layout.{recordSize};
 ghost use Rattle.items.specs.Layout.{hashSize};

@@ -25,7 +25,7 @@ fn write(b: &mut [u8], at: usize, piece: &[u8])
     requires { at + length piece.now ≤ length b.old }
     ensures { b.new ≡ take at b.old ++ (piece.now ++ drop (at + length piece.now) b.old) }
 {
-    bytes::copy(piece, &mut b[at..]);
+    octets::runs::copy(piece, &mut b[at..]);
 }
 
 // The place of a fix.

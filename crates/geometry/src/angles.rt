@@ -3,7 +3,7 @@ ghost use Rattle.std.specs.Prelude.{◌≡◌};
 ghost use Rattle.geometry.specs.Angles.{quadrantOf, rightAngles, rest_of, radiansOf, sineSeries, cosineSeries, turn_of, sincosOf};
 
 // The number q of right angles that an angle is nearest to.
-#[derive(Drop)]
+#[derive(Clone, Copy)]
 pub enum Quadrant {
     MinusTwo = -2,
     MinusOne = -1,
@@ -13,7 +13,7 @@ pub enum Quadrant {
 }
 
 // The sine and the cosine of one angle.
-#[derive(Drop)]
+#[derive(Clone, Copy)]
 pub struct Turn {
     pub sin: f64,
     pub cos: f64,

@@ -4,7 +4,7 @@ ghost use Rattle.geometry.specs.Geodesy.{toEcef, enuBasis, subOf, dotOf};
 
 use crate::angles::Turn;
 
-#[derive(Drop)]
+#[derive(Clone, Copy)]
 pub struct Vec3 {
     pub x: f64,
     pub y: f64,
@@ -12,14 +12,14 @@ pub struct Vec3 {
 }
 
 // Unit vectors.
-#[derive(Drop)]
+#[derive(Clone, Copy)]
 pub struct Basis {
     pub east: Vec3,
     pub north: Vec3,
     pub up: Vec3,
 }
 
-#[derive(Drop)]
+#[derive(Clone, Copy)]
 pub struct Geodetic {
     pub lat: Turn,
     pub lon: Turn,

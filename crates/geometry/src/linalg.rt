@@ -5,7 +5,7 @@ ghost use Rattle.geometry.specs.Factors.{factorOf, flatLength, fullLength};
 use crate::geodesy::Vec3;
 
 // A fix's covariance, square metres, in east (x), north (y) and up (z).
-#[derive(Drop)]
+#[derive(Clone, Copy)]
 pub struct Covariance {
     pub xx: f64,
     pub xy: f64,
@@ -16,14 +16,14 @@ pub struct Covariance {
 }
 
 // The factor for two rows, and the row that the factor for three has below them: the lower triangle.
-#[derive(Drop)]
+#[derive(Clone, Copy)]
 pub struct TwoRows {
     pub l00: f64,
     pub l10: f64,
     pub l11: f64,
 }
 
-#[derive(Drop)]
+#[derive(Clone, Copy)]
 pub struct ThirdRow {
     pub l20: f64,
     pub l21: f64,
@@ -31,7 +31,7 @@ pub struct ThirdRow {
 }
 
 // What there is of a covariance: no factor, one for two rows alone, or one for three, whose first two rows are that for two.
-#[derive(Drop)]
+#[derive(Clone, Copy)]
 pub enum Factor {
     None,
     Flat(TwoRows),

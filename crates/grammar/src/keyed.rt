@@ -14,7 +14,7 @@ use record::layout;
 use values::{Count, Elevation, Value};
 
 // How far the lines of an operation, which are at most 12, have been read.
-#[derive(Drop)]
+#[derive(Clone, Copy)]
 pub enum Cursor {
     // So many are good, and the next begins at this byte.
     At { lines: usize, at: usize },
@@ -23,7 +23,7 @@ pub enum Cursor {
 }
 
 // What comes after the line due.
-#[derive(Drop)]
+#[derive(Clone, Copy)]
 pub enum Rest {
     // The next line begins at this byte.
     At(usize),
@@ -32,7 +32,7 @@ pub enum Rest {
 }
 
 // The text of the line due, between two bytes: it is empty where there is no such line.
-#[derive(Drop)]
+#[derive(Clone, Copy)]
 pub struct Cut {
     pub lines: usize,
     pub from: usize,
@@ -108,7 +108,7 @@ fn pass(lines: usize, rest: Rest, good: bool) -> Cursor
 }
 
 // A line's number. Here and below, what stands beside a bad cursor is not used.
-#[derive(Drop)]
+#[derive(Clone, Copy)]
 pub struct NumberLine {
     pub next: Cursor,
     pub value: u64,
@@ -156,7 +156,7 @@ pub fn signed(input: &[u8], c: Cursor, key: &[u8]) -> NumberLine
 }
 
 // A line's height, by the flag and the bits that a record has.
-#[derive(Drop)]
+#[derive(Clone, Copy)]
 pub struct HeightLine {
     pub next: Cursor,
     pub flag: u8,
@@ -200,7 +200,7 @@ pub fn height(input: &[u8], c: Cursor) -> HeightLine
 }
 
 // A line's message: its length and its bytes.
-#[derive(Drop)]
+#[derive(Clone, Copy)]
 pub struct MessageLine {
     pub next: Cursor,
     pub size: usize,
@@ -224,7 +224,7 @@ pub fn message(input: &[u8], c: Cursor) -> MessageLine
 }
 
 // A line's list of numbers, of which the first `count` are there and the rest zero.
-#[derive(Drop)]
+#[derive(Clone, Copy)]
 pub struct ListLine {
     pub next: Cursor,
     pub count: usize,
@@ -278,7 +278,7 @@ pub fn models(input: &[u8], c: Cursor) -> ListLine
 }
 
 // A line's inputs of a summary.
-#[derive(Drop)]
+#[derive(Clone, Copy)]
 pub struct InputsLine {
     pub next: Cursor,
     pub bytes: [u8; models::layout::INPUTS_SIZE],
@@ -300,7 +300,7 @@ pub fn inputs(input: &[u8], c: Cursor) -> InputsLine
 }
 
 // A line's covariance, as it stands in memory.
-#[derive(Drop)]
+#[derive(Clone, Copy)]
 pub struct CovarianceLine {
     pub next: Cursor,
     pub bytes: [u8; 48],
@@ -323,7 +323,7 @@ pub fn covariance(input: &[u8], c: Cursor) -> CovarianceLine
 }
 
 // The first line of an operation: which it is, and where its next line begins.
-#[derive(Drop)]
+#[derive(Clone, Copy)]
 pub enum Opening {
     Summary(usize),
     Conviction(usize),

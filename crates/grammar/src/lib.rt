@@ -1,4 +1,6 @@
 // A session's bytes, read as calls on a register.
+#![tactic(auto)]
+
 pub mod keyed;
 pub mod operations;
 pub mod records;

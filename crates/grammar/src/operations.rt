@@ -8,7 +8,7 @@ use crate::{keyed, records};
 use record::layout;
 
 // What an operation asks of a register, beside inputs and a record.
-#[derive(Drop)]
+#[derive(Clone, Copy)]
 pub enum Request {
     Summary { engine: u8, model: u8, spec: u16 },
     Conviction { engine: u8 },
@@ -16,7 +16,7 @@ pub enum Request {
 }
 
 // An operation: how far its lines were read, and what they say.
-#[derive(Drop)]
+#[derive(Clone, Copy)]
 pub struct Operation {
     pub next: Cursor,
     pub request: Request,

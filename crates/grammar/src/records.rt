@@ -12,7 +12,7 @@ use crate::keyed::Cursor;
 use record::layout;
 
 // When and where. Signed numbers are held as their bits.
-#[derive(Drop)]
+#[derive(Clone, Copy)]
 pub struct Place {
     pub next: Cursor,
     pub time: u64,
@@ -46,7 +46,7 @@ pub fn read_place(input: &[u8], c: Cursor) -> Place
 }
 
 // The message and the tags.
-#[derive(Drop)]
+#[derive(Clone, Copy)]
 pub struct Sighting {
     pub next: Cursor,
     pub size: usize,
@@ -80,7 +80,7 @@ pub fn read_sighting(input: &[u8], c: Cursor) -> Sighting
 }
 
 // The models, spec and covariance.
-#[derive(Drop)]
+#[derive(Clone, Copy)]
 pub struct Cited {
     pub next: Cursor,
     pub count: usize,

@@ -19,7 +19,7 @@ pub fn operation(input: &[u8], at: usize) -> operations::Operation
 }
 
 // The first bad line of a session.
-#[derive(Drop)]
+#[derive(Clone, Copy)]
 pub enum FirstBad {
     // Its number, from 1.
     Line(usize),

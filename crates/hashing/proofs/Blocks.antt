@@ -11,9 +11,9 @@ drop-replicate (suc n) zero a = rw zero-sub
 drop-replicate (suc n) (suc m) a = rw suc-sub-suc (drop-replicate n m a)
 
 -- a copy into a block of zeros
-pub zero-filled : (s : List ℕ) → length s ≤ 64 → take (length s) s ++ drop (length s) (replicate 64 0) ≡ padBlock s
+pub zero-filled : (s : List ℕ) → length s ≤ 64 → s ++ drop (length s) (replicate 64 0) ≡ padBlock s
 unfolding padBlock
-zero-filled s h = rw (take-length, drop-replicate)
+zero-filled s h = rw drop-replicate
 
 pub length-padded : (s : List ℕ) → length s ≤ 64 → length (padBlock s) ≡ 64
 unfolding padBlock

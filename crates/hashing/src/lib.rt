@@ -1,4 +1,6 @@
 // BLAKE2s-256 without a key (RFC 7693), of any string of bytes in memory.
+#![tactic(auto)]
+
 mod compression;
 mod mixing;
 mod rounds;
@@ -36,7 +38,7 @@ fn padded_block(s: &[u8]) -> [u8; BLOCK]
     ensures { result ≡ padBlock s.now }
 {
     let mut b = [0; BLOCK];
-    bytes::copy(s, &mut b);
+    octets::runs::copy(s, &mut b);
     b
 }
 

@@ -3,6 +3,8 @@
 // summaries taken out.
 //
 // A caller keeps the counts, and shows that the places lie within the slice.
+#![tactic(auto)]
+
 pub mod formed;
 pub mod layout;
 pub mod strikes;

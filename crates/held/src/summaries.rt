@@ -13,6 +13,6 @@ pub fn new_summary(engine: u8, model: u8, spec: u16, inputs: &[u8]) -> [u8; SUMM
     p[models::layout::ENGINE_AT] = engine;
     p[models::layout::MODEL_AT] = model;
     octets::words::put_u16(&mut p, models::layout::SPEC_AT, spec);
-    bytes::copy(inputs, &mut p[models::layout::INPUTS_AT..]);
+    octets::runs::copy(inputs, &mut p[models::layout::INPUTS_AT..]);
     p
 }

@@ -3,6 +3,8 @@
 // states of the models 0 to 4, each as its number and, where it is agreed, the place of its first
 // summary; whether the record counts; whether it cites a model that is missing; its model inputs, set
 // hash and identity. make_stdout.py works out the same with another BLAKE2s.
+#![tactic(auto)]
+
 ghost use Rattle.std.specs.Prelude.{◌≡◌, true, ◌*◌, ◌<◌, ◌≤◌, length};
 ghost use Rattle.record.specs.Formed.{wellFormed};
 ghost use Rattle.models.specs.Summary.{summarySize};

@@ -1,5 +1,7 @@
 // The items of a decision, in lent bytes of `layout::ITEM_SIZE` each: their fields, how two of them relate, and the tables
 // that a decision is worked out from.
+#![tactic(auto)]
+
 ghost use Rattle.std.specs.Prelude.{◌≡◌, true, ◌+◌, ◌*◌, ◌≤◌, ◌<◌, length};
 ghost use Rattle.octets.specs.Order.{same};
 ghost use Rattle.record.specs.Layout.{recordSize};
@@ -12,7 +14,7 @@ pub mod layout;
 pub mod pairs;
 
 // Whether a holder of an item's raw data verified it.
-#[derive(Drop)]
+#[derive(Clone, Copy)]
 pub enum Verified {
     Passed,
     Failed,
@@ -20,7 +22,7 @@ pub enum Verified {
 }
 
 // What a decision goes by of an item, besides its record, its model inputs and its identity.
-#[derive(Drop)]
+#[derive(Clone, Copy)]
 pub struct Candidate {
     pub standing: u64,
     pub weight: u32,

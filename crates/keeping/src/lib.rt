@@ -1,5 +1,7 @@
 // What is kept of the items of a decision: the best of those that stand, and the refused of lowest identity; and how they are
 // written as a transmission of a track.
+#![tactic(auto)]
+
 ghost use Rattle.std.specs.Prelude.{◌≡◌, false, not, ◌++◌, map, ℕ, ◌+◌, ◌*◌, ◌<◌, ◌≤◌, length, get_or, take, drop};
 ghost use Rattle.ranges.specs.Lists as Lists;
 ghost use Rattle.ranges.specs.Range.{first};
@@ -21,14 +23,14 @@ use tracked::layout::{
 };
 
 // The refused of lowest identity: the first `count` of a list.
-#[derive(Drop)]
+#[derive(Clone, Copy)]
 pub struct Lowest {
     pub list: [Refusal; MAX_REFUSED],
     pub count: u8,
 }
 
 // The items that are kept: the first `standing` of the ranked, and the refused.
-#[derive(Drop)]
+#[derive(Clone, Copy)]
 pub struct Kept {
     pub ranked: [u8; MAX_ITEMS],
     pub standing: u8,

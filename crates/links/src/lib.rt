@@ -3,6 +3,8 @@
 // One table of marks serves all walks of a board. A visit marks a fix and visits what is linked to it and has no mark, so
 // that the number without a mark falls at each visit: each fix is visited once, and n fixes cost at most n * n tests of a
 // link. A fix that an earlier walk marked has a label, and no link leads to it from one without a mark.
+#![tactic(auto)]
+
 ghost use Rattle.std.specs.Prelude.{◌≡◌, true, false, ◌+◌, ◌*◌, ◌≤◌, ◌<◌, length};
 ghost use Rattle.record.specs.Fields.{time};
 ghost use Rattle.record.specs.Formed.{wellFormed};

@@ -1,4 +1,6 @@
 // The listing of a track: its transmissions in their order, as the lines of a board.
+#![tactic(auto)]
+
 ghost use Rattle.std.specs.Prelude.{◌≡◌, true, ◌+◌, ◌*◌, ◌<◌, ◌≤◌, length, get_or};
 ghost use mathlib.Core.List.{[], map, flat_map};
 ghost use Rattle.text.specs.Buffer.{Put};

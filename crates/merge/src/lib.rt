@@ -1,4 +1,6 @@
 // What a track does with a further fix.
+#![tactic(auto)]
+
 ghost use Rattle.std.specs.Prelude.{◌≡◌, true, [], ◌∷◌, map, ◌*◌, ◌<◌, ◌≤◌, length, get_or};
 ghost use Rattle.ranges.specs.Lists.{any_of};
 ghost use Rattle.places.specs.Places.{places};
@@ -18,7 +20,7 @@ use normalize::Joined;
 use tracked::layout::{KNOWN_SIZE, MAX_REFUSED, MAX_STANDING, TRANSMISSION_SIZE};
 
 // What became of a fix that was reported.
-#[derive(Drop)]
+#[derive(Clone, Copy)]
 pub enum Merged {
     // A transmission's kept fix is another one, or the fix stands.
     Changed,
@@ -31,7 +33,7 @@ pub enum Merged {
 }
 
 // What was answered, how many fixes entered a list of refused, and how many transmissions there are then.
-#[derive(Drop)]
+#[derive(Clone, Copy)]
 pub struct Outcome {
     pub answer: Merged,
     pub entered: u8,
@@ -39,14 +41,14 @@ pub struct Outcome {
 }
 
 // Where a search found something.
-#[derive(Drop)]
+#[derive(Clone, Copy)]
 pub enum Found {
     Nobody,
     At(usize),
 }
 
 // The transmissions that a fix is tied to.
-#[derive(Drop)]
+#[derive(Clone, Copy)]
 pub enum Tied {
     Nothing,
     One(usize),
@@ -55,7 +57,7 @@ pub enum Tied {
 
 // What became of a fix in the transmission that it is tied to: its identity was held and gained a signer, or all fixes were
 // decided again.
-#[derive(Drop)]
+#[derive(Clone, Copy)]
 pub enum Joint {
     Signed,
     Decided(Joined),

@@ -10,5 +10,5 @@ pub fn join(b: &mut [u8], at: usize, piece: &[u8]) -> usize
     ensures value { result ≡ at + length piece.now }
     ensures b_after { take result b.new ≡ take at b.old ++ piece.now }
 {
-    at + bytes::copy(piece, &mut b[at..])
+    at + octets::runs::copy(piece, &mut b[at..])
 }

@@ -3,6 +3,8 @@
 //
 // A table of summaries is lent as bytes, of which the first `count` places of 36 are used; a caller
 // shows that they lie within the slice, and that a record is well-formed.
+#![tactic(auto)]
+
 pub mod citations;
 mod hashes;
 pub mod identities;

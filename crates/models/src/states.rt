@@ -9,7 +9,7 @@ ghost use Rattle.models.specs.Missing.{isMissing};
 use crate::layout;
 
 // The state of a model.
-#[derive(Drop)]
+#[derive(Clone, Copy)]
 pub enum ModelState {
     // It has no summary.
     Missing,

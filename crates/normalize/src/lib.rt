@@ -1,5 +1,7 @@
 // The fixes of one transmission of a track decided again: of one identity one fix, the best five of those that stand, and of the refused
 // the four of lowest identity.
+#![tactic(auto)]
+
 ghost use Rattle.std.specs.Prelude.{◌≡◌, true, [], ◌++◌, map, ℕ, ◌+◌, ◌*◌, ◌-◌, ◌<◌, ◌≤◌, length, get_or, take, drop};
 ghost use Rattle.places.specs.Places.{allPlaces};
 ghost use Rattle.text.specs.Buffer.{Put};
@@ -28,7 +30,7 @@ use tracked::layout::{MAX_REFUSED, MAX_STANDING};
 const MAX_GATHERED: usize = MAX_STANDING + MAX_REFUSED + 1;
 
 // What a further fix did: it is among the refused, the fix kept is another one, it stands, and how many entered the refused.
-#[derive(Drop)]
+#[derive(Clone, Copy)]
 pub struct Joined {
     pub refused: bool,
     pub moved: bool,

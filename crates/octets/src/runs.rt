@@ -26,6 +26,17 @@ pub fn clear(s: &mut [u8])
     }
 }
 
+// Copies `from` to the front of `to`, where the bytes behind them stay, and answers how many that were.
+pub fn copy(from: &[u8], to: &mut [u8]) -> usize
+    requires { length from.now ≤ length to.old }
+    ensures value { result ≡ length from.now }
+    ensures to_after { to.new ≡ from.now ++ drop (length from.now) to.old }
+{
+    let n = from.len();
+    to[..n].copy_from_slice(from);
+    n
+}
+
 // Moves the bytes up by w. The first w stay, and the last w are lost.
 pub fn shift_up(s: &mut [u8], w: usize)
     requires { w ≤ length s.old }

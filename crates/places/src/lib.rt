@@ -4,6 +4,8 @@
 //
 // A caller keeps the count, and shows that n places lie within the slice and that a key is no wider
 // than its place.
+#![tactic(auto)]
+
 ghost use Rattle.std.specs.Prelude.{◌≡◌, true, ◌&&◌, ◌++◌, ◌+◌, ◌*◌, ◌-◌, ◌<◌, ◌≤◌, length, take, drop, replicate, ltb};
 ghost use Rattle.places.specs.Places.{places, ascending, isTable};
 ghost use Rattle.places.specs.Positions.{rank, key_at, insertAt};
@@ -84,7 +86,7 @@ pub fn has_key(t: &[u8], i: usize, w: usize, k: usize, key: &[u8]) -> bool
 }
 
 // What became of a place that was to be put in by its key.
-#[derive(Drop)]
+#[derive(Clone, Copy)]
 pub enum Put {
     // A place has the key already: its number.
     Held(usize),
@@ -134,5 +136,5 @@ pub fn insert(t: &mut [u8], at: usize, x: &[u8])
     ensures { t.new ≡ insertAt at x.now t.old }
 {
     octets::runs::shift_up(&mut t[at..], x.len());
-    bytes::copy(x, &mut t[at..]);
+    octets::runs::copy(x, &mut t[at..]);
 }

@@ -2,6 +2,8 @@
 // text. The expected output is that of a second writing of documents 01 and 02 (make_stdout.py).
 //
 // A register that is cut short ends the work.
+#![tactic(auto)]
+
 use board::BOARD_SIZE;
 use libc::{STDIN_FILENO, STDOUT_FILENO};
 use register::layout::REGISTER_SIZE;

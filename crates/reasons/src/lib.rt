@@ -1,4 +1,6 @@
 // Why a session is refused, in a sentence.
+#![tactic(auto)]
+
 ghost use Rattle.std.specs.Prelude.{◌≡◌, ◌∷◌, ◌+◌, ◌≤◌, length, drop};
 ghost use Rattle.text.specs.Buffer.{Put};
 ghost use Rattle.grammar.specs.Grammar.{isSummary, isConviction, isReport};
@@ -14,7 +16,7 @@ use sessions::MAX_INPUT;
 pub const REASON_SIZE: usize = 192;
 
 // Where the operation with the first bad line begins, and how many of its lines are good.
-#[derive(Drop)]
+#[derive(Clone, Copy)]
 struct Spot {
     at: usize,
     good: usize,

@@ -3,6 +3,8 @@
 //
 // A field's reader asks that the slice has a record's length; what compares two records asks that
 // both are well-formed. `formed::well_formed` takes any slice.
+#![tactic(auto)]
+
 pub mod fields;
 pub mod formed;
 pub mod layout;

@@ -3,6 +3,8 @@
 //
 // report, summary and conviction take any numbers and any slices, and answer with document 01's
 // numbers: 0, or a refusal, which changes no byte.
+#![tactic(auto)]
+
 pub mod convictions;
 pub mod formed;
 pub mod layout;

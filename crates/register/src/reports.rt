@@ -24,7 +24,7 @@ fn new_place(r: &[u8], engine: u32) -> [u8; PLACE_SIZE]
     ensures { result ≡ r.now ++ addSigner engine [] }
 {
     let mut p = [0u8; PLACE_SIZE];
-    bytes::copy(r, &mut p);
+    octets::runs::copy(r, &mut p);
     octets::words::put_u32(&mut p, RECORD_SIZE, octets::masks::with_u32(0, engine));
     p
 }

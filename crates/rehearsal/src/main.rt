@@ -1,5 +1,7 @@
 // Runs sessions one after another and prints what each prints: on standard input each has its length before it, in four bytes, lowest
 // first. The expected output is that of a second writing of document 01 (make_stdout.py).
+#![tactic(auto)]
+
 ghost use Rattle.std.specs.Prelude.{◌≡◌, ◌≤◌, length};
 
 use libc::{STDIN_FILENO, STDOUT_FILENO};

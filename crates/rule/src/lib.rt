@@ -1,5 +1,7 @@
 // The rule, over tables: who supersedes, who is superseded, who is refused and against whom, who is dominated, and the first
 // of the rest by rank. Each test is a function of one or two indices, and each table is filled by one loop.
+#![tactic(auto)]
+
 ghost use Rattle.std.specs.Prelude.{◌≡◌, false, ◌*◌, ◌≤◌, ◌<◌, length};
 ghost use Rattle.ranges.specs.Lists.{any_of, filter, up_to};
 ghost use Rattle.ranges.specs.Tables.{Cached, marked};
@@ -15,7 +17,7 @@ use items::layout::MAX_ITEMS;
 use items::pairs::{APART, DISAGREES};
 
 // Of each item, whether it takes the place of another, whether another takes its place, and whether it is refused.
-#[derive(Drop)]
+#[derive(Clone, Copy)]
 pub struct Marks {
     pub superseding: [bool; MAX_ITEMS],
     pub superseded: [bool; MAX_ITEMS],
@@ -23,7 +25,7 @@ pub struct Marks {
 }
 
 // What a search for the first of some items finds.
-#[derive(Drop)]
+#[derive(Clone, Copy)]
 pub enum Choice {
     Nobody,
     Item(u8),

@@ -1,5 +1,7 @@
 // A session: standard input to standard output, and a sentence on standard error where it is refused. One byte more than is read is
 // enough to know that there are more.
+#![tactic(auto)]
+
 use libc::{STDERR_FILENO, STDIN_FILENO, STDOUT_FILENO};
 use reasons::REASON_SIZE;
 use sessions::{MAX_INPUT, OUTPUT_SIZE};

@@ -1,4 +1,6 @@
 // A session: its bytes to the bytes that it prints. All lines are read before any answer is written.
+#![tactic(auto)]
+
 ghost use Rattle.std.specs.Prelude.{◌≡◌, true, ◌+◌, ◌≤◌, length};
 ghost use Rattle.std.proofs.Math.Option.{none};
 ghost use Rattle.octets.specs.Bytes.{Bytes};

@@ -1,4 +1,6 @@
 // Fixes as the items of a decision.
+#![tactic(auto)]
+
 ghost use Rattle.std.specs.Prelude.{◌≡◌, ◌+◌, ◌≤◌, length};
 ghost use Rattle.text.specs.Buffer.{Put};
 ghost use Rattle.record.specs.Layout.{recordSize};

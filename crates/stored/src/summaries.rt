@@ -17,7 +17,7 @@ fn put_summary(t: &mut [u8], i: usize, p: &[u8])
 {
     let at = i * SUMMARY_SIZE;
     let e = at + SUMMARY_SIZE;
-    bytes::copy(p, &mut t[at..e]);
+    octets::runs::copy(p, &mut t[at..e]);
 }
 
 // Puts a summary in by its engine and model, in the place of the one that is held of them.

@@ -1,6 +1,8 @@
 // Text into a lent buffer at a position: constant words, decimal and hexadecimal numbers, and heights
 // in whole metres. Each writer returns the position after its text and leaves all other bytes alone.
 // A caller shows that the widest text fits.
+#![tactic(auto)]
+
 ghost use Rattle.std.specs.Prelude.{◌≡◌, ◌+◌, ◌-◌, ◌*◌, ◌≤◌, ◌<◌, length};
 ghost use Rattle.text.specs.Buffer.{Put};
 ghost use Rattle.text.specs.Numbers.{digits, decimal, signed, hexDigit, hex};

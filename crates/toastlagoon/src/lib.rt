@@ -1,5 +1,7 @@
 // What other products call by C names: one thin call each, for any bytes and any numbers. A refusal is the number that is answered;
 // include/toastlagoon.h says the same for C.
+#![tactic(auto)]
+
 ghost use Rattle.std.specs.Prelude.{◌≡◌};
 ghost use Rattle.hashing.specs.Blake2s as Hash;
 ghost use Rattle.floats.specs.Root as Root;

@@ -3,6 +3,8 @@
 //
 // report, summary and conviction take any numbers and any slices, and answer with document 01's
 // numbers; a refusal changes no byte.
+#![tactic(auto)]
+
 pub mod convictions;
 pub mod reports;
 pub mod summaries;

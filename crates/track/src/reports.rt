@@ -40,9 +40,9 @@ fn new_fix(summaries: &[u8], n: usize, engine: u32, r: &[u8]) -> [u8; FIX_SIZE]
 {
     let inputs = models::citations::cited_inputs(summaries, n, r);
     let mut f = [0u8; FIX_SIZE];
-    bytes::copy(r, &mut f);
+    octets::runs::copy(r, &mut f);
     octets::words::put_u32(&mut f, SIGNERS_AT, octets::masks::with_u32(0, engine));
-    bytes::copy(&inputs, &mut f[INPUTS_AT..]);
+    octets::runs::copy(&inputs, &mut f[INPUTS_AT..]);
     f
 }
 

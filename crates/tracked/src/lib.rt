@@ -1,4 +1,6 @@
 // One transmission of a track, in 2,484 lent bytes: the fixes that stand, the best first, and the refused.
+#![tactic(auto)]
+
 ghost use Rattle.std.specs.Prelude.{◌≡◌, true, [], ◌+◌, ◌<◌, ◌≤◌, length, take, drop, get_or};
 ghost use Rattle.std.specs.Int.Bits.{bit_or};
 ghost use Rattle.octets.specs.Words.{word_at};

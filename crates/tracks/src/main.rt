@@ -5,6 +5,8 @@
 // a byte for its kind and its fields: 0, a report: engine, a record of 222 bytes; 1, a summary: engine, model, spec in two
 // bytes, inputs of 32; 2, a conviction: engine; 3, a listing. Each list begins with a fresh track. A list that is cut short, or a
 // call of another kind, ends the work.
+#![tactic(auto)]
+
 use libc::{STDIN_FILENO, STDOUT_FILENO};
 use models::layout::{ENGINE_AT, INPUTS_AT, MODEL_AT, SPEC_AT, SUMMARY_SIZE};
 use record::layout::RECORD_SIZE;

@@ -13,7 +13,7 @@ use rule::Choice;
 pub const MAX_SHOWN: usize = 8;
 
 // The transmissions that are written: those from `start` on.
-#[derive(Drop)]
+#[derive(Clone, Copy)]
 pub struct Shown {
     pub list: [u8; MAX_SHOWN],
     pub start: u8,

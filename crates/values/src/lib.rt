@@ -1,4 +1,6 @@
 // The values of a session's lines: numbers, lists of numbers and hex, each from the whole text of a value.
+#![tactic(auto)]
+
 ghost use Rattle.std.specs.Prelude.{◌≡◌, ◌+◌, ◌≤◌, ◌<◌, length, drop};
 ghost use Rattle.record.specs.Layout.{maxTags, maxModels, longMessage};
 ghost use Rattle.values.specs.Values as Val;
@@ -7,7 +9,7 @@ ghost use Rattle.values.specs.Enums as Enum;
 use record::layout;
 
 // What the text of a number says.
-#[derive(Drop)]
+#[derive(Clone, Copy)]
 pub enum Value {
     Bad,
     Number(u64),
@@ -100,7 +102,7 @@ pub fn signed(text: &[u8]) -> Value
 }
 
 // What the text of a height says: millimetres are held as their bits.
-#[derive(Drop)]
+#[derive(Clone, Copy)]
 pub enum Elevation {
     Bad,
     Unknown,
@@ -121,14 +123,14 @@ pub fn height(text: &[u8]) -> Elevation
 }
 
 // How many numbers a list has.
-#[derive(Drop)]
+#[derive(Clone, Copy)]
 pub enum Count {
     Bad,
     Of(usize),
 }
 
 // Numbers, of which the first so many are there and the rest zero.
-#[derive(Drop)]
+#[derive(Clone, Copy)]
 pub struct Numbers {
     pub count: Count,
     pub values: [u64; layout::MAX_TAGS],
@@ -180,7 +182,7 @@ pub fn models(text: &[u8]) -> Numbers
 }
 
 // What hex digits say: the value of one, or the byte that two make.
-#[derive(Drop)]
+#[derive(Clone, Copy)]
 pub enum Byte {
     Bad,
     Of(u8),

@@ -1,4 +1,6 @@
 // What comparing a superset with the smaller fix that it would replace finds.
+#![tactic(auto)]
+
 ghost use Rattle.std.specs.Prelude.{◌≡◌, true, ◌<◌, ◌≤◌, length};
 ghost use Rattle.ranges.specs.Range.{any, Collected};
 ghost use Rattle.record.specs.Layout.{recordSize, maxTags};
@@ -10,7 +12,7 @@ ghost use Rattle.verdict.specs.Added.{hasTag, isAdded};
 use arithmetic::standing::ChiSquare;
 
 // Whether the larger fix agrees with the smaller. A record that is malformed has no verdict.
-#[derive(Drop)]
+#[derive(Clone, Copy)]
 pub enum SupersetVerdict {
     Malformed,
     Agrees,
@@ -18,14 +20,14 @@ pub enum SupersetVerdict {
 }
 
 // Tags, in their order.
-#[derive(Drop)]
+#[derive(Clone, Copy)]
 pub struct Tags {
     pub list: [u64; 16],
     pub count: u8,
 }
 
 // The verdict, and beside it the tags that a contested superset added.
-#[derive(Drop)]
+#[derive(Clone, Copy)]
 pub struct Comparison {
     pub verdict: SupersetVerdict,
     pub added: Tags,

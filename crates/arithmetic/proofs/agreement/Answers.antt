@@ -1,0 +1,8 @@
+use Rattle.arithmetic.proofs.Staged.{judged-is}
+use borrow.Author.Rules.{rules}
+use Rattle.arithmetic.proofs.agreement.Goals as goal
+
+pub returns : goal.returns
+returns c =
+    rw (c.judged.ensures, c.parts-from.ensures, c.to_ecef-to.ensures, c.geodetic.ensures)
+    (judged-is c.args.smaller c.args.larger)

@@ -1,0 +1,8 @@
+use Rattle.arithmetic.specs.Stages.{judgedOf, comparedOf}
+use borrow.Author.Rules.{rules}
+use Rattle.arithmetic.proofs.stages.compared.Goals as goal
+
+pub returns : goal.returns
+unfolding judgedOf comparedOf
+returns c =
+    rw (c.measured_in.ensures, c.both-three.ensures, c.flag_at-2.ensures, c.flag_at.ensures, c.difference-v.ensures)

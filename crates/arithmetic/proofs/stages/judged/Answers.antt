@@ -1,0 +1,8 @@
+use Rattle.arithmetic.specs.Stages.{judgedOf}
+use borrow.Author.Rules.{rules}
+use Rattle.arithmetic.proofs.stages.judged.Goals as goal
+
+pub returns : goal.returns
+unfolding judgedOf
+returns c =
+    rw (c.measured.ensures, c.both.ensures, c.enu-v.ensures, c.sub-d.ensures)

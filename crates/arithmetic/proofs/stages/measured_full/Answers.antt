@@ -1,0 +1,11 @@
+use Rattle.arithmetic.specs.Stages.{measuredOf}
+use borrow.Author.Rules.{rules}
+use Rattle.arithmetic.proofs.stages.measured_full.Goals as goal
+
+pub returns-then-three : goal.returns-then-three
+unfolding measuredOf
+returns-then-three c = rw (c.of_three.ensures, c.full_length.ensures, c.if-three.true)
+
+pub returns : goal.returns
+unfolding measuredOf
+returns c = rw (c.of_two.ensures, c.flat_length.ensures, c.if-three.false)

@@ -1,0 +1,15 @@
+use mathlib.Core.Path.{◌≡◌}
+use borrow.Author.Tests.{ne_eqb}
+use Rattle.arithmetic.specs.Bits.{infinity, storedChiSquare}
+use borrow.Author.Rules.{rules}
+use Rattle.arithmetic.proofs.stored_chi_square.Goals as goal
+
+pub returns-then-bits-eq-INFINITY : goal.returns-then-bits-eq-INFINITY
+unfolding storedChiSquare
+returns-then-bits-eq-INFINITY c =
+    let e : c.args.bits ≡ infinity = c.if-bits-eq-INFINITY.true in
+    rw e
+
+pub returns : goal.returns
+unfolding storedChiSquare
+returns c = rw (c.of_bits.ensures, ne_eqb c.args.bits infinity c.if-bits-eq-INFINITY.false)

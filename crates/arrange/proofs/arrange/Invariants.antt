@@ -1,0 +1,16 @@
+use Prim.Native.Nat.{◌+◌, ◌-◌, ◌≤◌}
+use mathlib.Core.Path.{◌≡◌, sym, ap, ◌∙◌}
+use native.Mathlib.Omega.{arith}
+use lib.ListN.{length}
+use Rattle.arrange.specs.Blocks.{blockTable, Known}
+use Rattle.arrange.proofs.Settling.{count-is, half, half-none, half-ready, half_step}
+use Rattle.arrange.proofs.arrange.Reads as reads
+use Rattle.arrange.proofs.arrange.Lts as lts
+use Rattle.arrange.proofs.settle.Reads as settle-reads
+use Rattle.arrange.proofs.arrange.Given as goal
+
+abbrev pub invariant-loop-i : goal.invariant-loop-i
+invariant-loop-i l = (l.i ≤ l.n) × (l.m ≡ length (half l.initial.t l.n l.i)) × (l.t ≡ blockTable (half l.initial.t l.n l.i)) × Known l.t l.known l.m
+
+abbrev pub decreases-loop-i : goal.decreases-loop-i
+decreases-loop-i l = l.i

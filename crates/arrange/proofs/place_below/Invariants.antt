@@ -1,0 +1,26 @@
+use Prim.Native.Nat.{ℕ, ◌+◌, ◌-◌, ◌≤◌}
+use mathlib.Core.Path.{◌≡◌, refl, sym, ap₂, ◌∙◌}
+use mathlib.Core.Bool.{Bool}
+use mathlib.Core.List.{List, []}
+use native.Mathlib.Omega.{arith}
+use native.Mathlib.Numerals.{add-one}
+use lib.ListN.{get_or, drop}
+use borrow.Author.Tests.{not-true, not-false}
+use Rattle.arrange.specs.Blocks.{blocks, Known, olderBlock, leading}
+use Rattle.arrange.proofs.Settling.{leading-yes, leading-no, leading_end, count-is, block_at, fixes-at}
+use Rattle.arrange.proofs.Sheets.{known_on, ready_at}
+use Rattle.arrange.proofs.place_below.Reads as reads
+use Rattle.arrange.proofs.place_below.Lts as lts
+use Rattle.arrange.proofs.older_at.Reads as older-at-reads
+use Rattle.arrange.proofs.place_below.Given as goal
+
+-- a transmission is older than transmission i
+abbrev pub older-than : List ℕ → ℕ → ℕ → List ℕ → Bool
+older-than t n i b = olderBlock b (get_or (blocks n t) i [])
+
+
+abbrev pub invariant-loop-j : goal.invariant-loop-j
+invariant-loop-j l = (l.i + 1 ≤ l.j) × (l.j ≤ l.n) × (l.i + 1 + leading (older-than l.t l.n l.i) (drop (l.i + 1) (blocks l.n l.t)) ≡ l.j + leading (older-than l.t l.n l.i) (drop l.j (blocks l.n l.t))) × Known l.t l.known l.n
+
+abbrev pub decreases-loop-j : goal.decreases-loop-j
+decreases-loop-j l = l.n - l.j

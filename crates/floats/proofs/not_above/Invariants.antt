@@ -1,0 +1,9 @@
+use Rattle.std.proofs.Common.{◌^◌, ◌<◌, arith, rules}
+use Rattle.floats.proofs.Square.{square-fits, some}
+use Rattle.floats.proofs.not_above.Given as goal
+
+abbrev pub invariant-loop-s : goal.invariant-loop-s
+invariant-loop-s l = l.s < 2 ^ 28
+
+abbrev pub decreases-loop-s : goal.decreases-loop-s
+decreases-loop-s l = l.s

@@ -1,0 +1,7 @@
+use Rattle.floats.specs.Root.{root}
+use Rattle.std.proofs.Common.{rules}
+use Rattle.floats.proofs.root.Goals as goal
+
+pub returns : goal.returns
+unfolding root
+returns c = rw (c.root_bits.ensures, c.to_bits.ensures)

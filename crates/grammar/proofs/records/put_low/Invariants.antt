@@ -1,0 +1,15 @@
+use Prim.Native.Nat.{◌+◌, ◌-◌, ◌≤◌}
+use mathlib.Core.Path.{◌≡◌, refl, ◌∙◌}
+use native.Mathlib.Omega.{arith}
+use lib.ListN.{length, get_or, take}
+use Rattle.text.specs.Buffer.{Put}
+use Rattle.text.proofs.Writing.{put-put, put_as, put-length}
+use Rattle.values.specs.Values as Val
+use Rattle.grammar.proofs.Filling.{byte_put, words-none, words-all, words_more, put_next}
+use Rattle.grammar.proofs.records.put_low.Given as goal
+
+abbrev pub invariant-loop-i : goal.invariant-loop-i
+invariant-loop-i l = (l.i ≤ length l.values) × (length l.out ≡ length l.initial.out) × (l.at + length l.values ≤ length l.out) × Put l.initial.out l.at (Val.words 1 (take l.i l.values)) (l.at + l.i) l.out
+
+abbrev pub decreases-loop-i : goal.decreases-loop-i
+decreases-loop-i l = length l.values - l.i

@@ -1,0 +1,8 @@
+use Rattle.std.proofs.Common.{rules}
+use native.Mathlib.Nat.{mod-add-mod}
+use Rattle.hashing.specs.Blake2s.{addWord}
+use Rattle.hashing.proofs.mixing.add.Goals as goal
+
+pub returns : goal.returns
+unfolding addWord
+returns c = rw (c.wrapping_add_u32-2.ensures.value, c.wrapping_add_u32.ensures.value, mod-add-mod)

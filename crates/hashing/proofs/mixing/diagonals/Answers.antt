@@ -1,0 +1,8 @@
+use Rattle.std.proofs.Common.{rules}
+use Rattle.hashing.specs.Blake2s.{mixDiagonals}
+use Rattle.hashing.proofs.mixing.diagonals.Goals as goal
+
+pub returns : goal.returns
+unfolding mixDiagonals
+returns c = rw
+    (c.mix-4.ensures, c.mix-3.ensures, c.mix-2.ensures, c.mix.ensures)

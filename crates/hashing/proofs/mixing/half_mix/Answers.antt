@@ -1,0 +1,8 @@
+use Rattle.std.proofs.Common.{rules}
+use Rattle.hashing.specs.Blake2s.{halfMix}
+use Rattle.hashing.proofs.mixing.half_mix.Goals as goal
+
+pub returns : goal.returns
+unfolding halfMix
+returns c = rw
+    (c.turn-2.ensures, c.add-2.ensures, c.turn.ensures, c.add.ensures)

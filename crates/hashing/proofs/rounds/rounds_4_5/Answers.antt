@@ -1,0 +1,12 @@
+use Rattle.std.proofs.Common.{rules}
+use Rattle.hashing.specs.Blake2s.{roundBy, sigma}
+use Rattle.hashing.proofs.rounds.rounds_4_5.Goals as goal
+
+pub returns : goal.returns
+unfolding roundBy sigma
+returns c = rw (
+  c.diagonals-2.ensures,
+  c.columns-2.ensures,
+  c.diagonals.ensures,
+  c.columns.ensures,
+)

@@ -1,0 +1,17 @@
+use Prim.Native.Nat.{◌-◌, ◌≤◌, ◌<◌}
+use mathlib.Core.Path.{◌≡◌, refl, ◌∙◌}
+use mathlib.Core.List.{◌++◌}
+use native.Mathlib.Omega.{arith}
+use lib.ListN.{length, take, drop, length-set}
+use Rattle.tracked.specs.Layout.{maxRefused}
+use Rattle.keeping.specs.Working.{pushed, unread}
+use Rattle.keeping.proofs.Lowering.{push-turn, push-end}
+use Rattle.keeping.proofs.push_in.Reads as reads
+use Rattle.keeping.proofs.push_in.Lts as lts
+use Rattle.keeping.proofs.push_in.Given as goal
+
+abbrev pub invariant-loop-i : goal.invariant-loop-i
+invariant-loop-i l = (l.i ≤ maxRefused) × (length l.list ≡ maxRefused) × (take l.i l.list ++ pushed l.carried (drop l.i l.list) ≡ take l.at l.initial.list ++ pushed l.initial.carried (drop l.at l.initial.list))
+
+abbrev pub decreases-loop-i : goal.decreases-loop-i
+decreases-loop-i l = maxRefused - l.i

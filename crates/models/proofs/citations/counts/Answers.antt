@@ -1,0 +1,21 @@
+use mathlib.Core.Path.{refl, ◌∙◌}
+use native.Mathlib.Omega.{arith}
+use Rattle.record.proofs.Parts.{formed}
+use Rattle.models.proofs.Citing.{models-part}
+use borrow.Author.Rules.{rules}
+use Rattle.models.proofs.citations.counts.Goals as goal
+
+pub model_count-requires : goal.model_count-requires
+model_count-requires c = (formed c.args.r.now c.requires.r_value).size
+
+pub spec-spec-requires : goal.spec-spec-requires
+spec-spec-requires c = (formed c.args.r.now c.requires.r_value).size
+
+pub slice_bounds-all_agreed-end : goal.slice_bounds-all_agreed-end
+slice_bounds-all_agreed-end c = let f = formed c.args.r.now c.requires.r_value in omega (arith, f.size, f.cited, c.model_count.ensures)
+
+pub returns : goal.returns
+returns c =
+    let r = c.args.r.now in
+    let n = c.model_count in
+    c.all_agreed.ensures ∙ rw (models-part r n.result n.ensures, c.spec-spec.ensures) refl

@@ -1,0 +1,17 @@
+use Prim.Native.Nat.{ℕ, ◌+◌, ◌-◌, ◌≤◌, ◌<◌}
+use mathlib.Core.Path.{◌≡◌, refl, sym, ◌∙◌}
+use native.Mathlib.Omega.{arith}
+use lib.ListN.{length, drop}
+use Rattle.octets.specs.Order.{same}
+use Rattle.octets.proofs.Comparison.{same_here, same_next, same-past}
+use borrow.Author.Rules.{rules}
+use Rattle.octets.proofs.order.equal_from.Goals as goal
+
+pub returns-then-a-i : goal.returns-then-a-i
+returns-then-a-i c = let l = c in sym (l.loop-i.invariant.1 ∙ same_here l.args.a.now l.args.b.now l.loop-i.i (omega arith) (omega arith) c.if-a-i.true)
+
+pub loop-i-preserved : goal.loop-i-preserved
+loop-i-preserved c = let l = c in (l.loop-i.invariant.0, l.loop-i.invariant.1 ∙ same_next l.args.a.now l.args.b.now l.loop-i.i (omega arith) (omega arith) c.if-a-i.false)
+
+pub returns : goal.returns
+returns c = let l = c in sym (l.loop-i.invariant.1 ∙ same-past l.args.a.now l.args.b.now l.loop-i.i (omega arith) c.loop-i-test.false)

@@ -1,0 +1,32 @@
+use Prim.Native.Nat.{ℕ, suc, ◌+◌, ◌-◌, ◌≤◌, ◌<◌}
+use mathlib.Core.Path.{◌≡◌, refl, sym, ap, ◌∙◌}
+use mathlib.Core.Bool.{Bool, true, false, ◌&&◌}
+use mathlib.Core.List.{List}
+use native.Mathlib.Omega.{arith}
+use native.Mathlib.Numerals.{add-one}
+use lib.Dec.{eqb}
+use lib.Bits.{bit_or}
+use lib.ListN.{length, get_or, drop, drop_of_length-le}
+use lib.Seq.{drop-cons}
+use Rattle.octets.specs.Runs.{allZero}
+use Rattle.ranges.proofs.Bools.{and_assoc, and-unit}
+use Rattle.octets.proofs.Zeros.{or-zero}
+use borrow.Author.Rules.{rules}
+use Rattle.octets.proofs.runs.is_zero.Goals as goal
+
+-- one byte more joins what was seen
+turn : (s : List ℕ) (i any : ℕ) → i < length s → (eqb any 0 && allZero (drop i s)) ≡ (eqb (bit_or any (get_or s i 0)) 0 && allZero (drop (i + 1) s))
+unfolding allZero
+turn s i any h = rw (add-one, drop-cons s i 0 h, or-zero any (get_or s i 0)) (sym (and_assoc (eqb any 0) (eqb (get_or s i 0) 0) (allZero (drop (suc i) s))))
+
+past : (s : List ℕ) (i any : ℕ) → length s ≤ i → (eqb any 0 && allZero (drop i s)) ≡ eqb any 0
+unfolding allZero
+past s i any h = rw (drop_of_length-le s h) (and-unit (eqb any 0))
+
+pub loop-i-preserved : goal.loop-i-preserved
+loop-i-preserved c =
+    let l = c in
+    l.loop-i.invariant ∙ turn l.args.s.now l.loop-i.i l.loop-i.any (omega arith)
+
+pub returns : goal.returns
+returns c = sym (c.loop-i.invariant ∙ past c.args.s.now c.loop-i.i c.loop-i.any c.loop-i-test.false)

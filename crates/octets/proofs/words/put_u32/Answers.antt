@@ -1,0 +1,9 @@
+use native.Mathlib.Omega.{arith}
+use Rattle.octets.proofs.Numbers.{put-halves}
+use borrow.Author.Rules.{rules}
+use Rattle.octets.proofs.words.put_u32.Goals as goal
+
+pub returns : goal.returns
+returns c =
+    let s = c in
+    rw (c.put_u16-2.ensures, c.put_u16.ensures) (put-halves 2 2 s.args.at s.args.x s.args.s.now (omega arith))

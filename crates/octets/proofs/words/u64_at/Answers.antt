@@ -1,0 +1,7 @@
+use native.Mathlib.Omega.{arith}
+use Rattle.octets.proofs.Numbers.{word-halves}
+use borrow.Author.Rules.{rules}
+use Rattle.octets.proofs.words.u64_at.Goals as goal
+
+pub returns : goal.returns
+returns c = let s = c in omega (arith, word-halves 4 4 s.args.at s.args.s.now (omega arith))

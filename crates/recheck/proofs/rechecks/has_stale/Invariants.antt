@@ -1,0 +1,34 @@
+use Prim.Native.Nat.{ℕ, ◌+◌, ◌-◌, ◌<◌}
+use mathlib.Core.Path.{◌≡◌, refl, sym, ap, ◌∙◌}
+use mathlib.Core.Bool.{Bool, not}
+use mathlib.Core.List.{List, []}
+use native.Mathlib.Omega.{arith}
+use lib.ListN.{length, drop, get_or}
+use Rattle.ranges.specs.Lists.{any_of}
+use Rattle.places.specs.Places.{places}
+use Rattle.models.specs.Summary.{summarySize}
+use Rattle.shown.specs.Fix.{Fix}
+use Rattle.tracked.specs.Held.{heldIn}
+use Rattle.tracked.specs.Bytes.{fixIn, transmissionIn}
+use Rattle.tracked.specs.Parts.{heldCount, Sound}
+use Rattle.stored.specs.Memory.{summaryTable}
+use Rattle.stored.specs.Steps.{block_at}
+use Rattle.stored.proofs.Changing.{any_here, any-later, any-past}
+use Rattle.stored.proofs.Resigning.{fixes-count, held-fix}
+use Rattle.recheck.specs.Recheck.{stands}
+use Rattle.recheck.proofs.Standing.{lent-block}
+use Rattle.recheck.proofs.rechecks.has_stale.Given as goal
+
+-- of the fixes held at a byte, where n summaries count
+abbrev pub stale : List ℕ → ℕ → Fix → Bool
+stale m n f = not (stands (places summarySize n (summaryTable m)) f)
+
+abbrev pub fixesAt : List ℕ → ℕ → List Fix
+fixesAt m at = heldIn (transmissionIn (block_at at m))
+
+
+abbrev pub invariant-loop-k : goal.invariant-loop-k
+invariant-loop-k l = any_of (stale l.memory l.n) (fixesAt l.memory l.at) ≡ any_of (stale l.memory l.n) (drop l.k (fixesAt l.memory l.at))
+
+abbrev pub decreases-loop-k : goal.decreases-loop-k
+decreases-loop-k l = l.count - l.k

@@ -1,0 +1,77 @@
+use Prim.Native.Nat.{ℕ, zero, suc, ◌+◌, ◌-◌, ◌*◌, ◌≤◌, ◌<◌}
+use mathlib.Core.Path.{◌≡◌, refl, sym, ap, ◌∙◌}
+use mathlib.Core.Bool.{Bool, true, false, cond, ◌&&◌, ◌||◌}
+use mathlib.Core.List.{List, [], ◌∷◌}
+use native.Mathlib.Omega.{arith}
+use native.Mathlib.Numerals.{add-one}
+use lib.ListN.{length, get_or, take, drop, drop_of_length-le}
+use lib.Seq.{drop-cons}
+use lib.Dec.{ltb, leb, eqb}
+use borrow.Author.Tests.{lt-ltb, le-ltb, le-leb, lt-leb, eq-eqb, ne_eqb, not-true, not-false}
+use Rattle.record.specs.Layout.{maxTags}
+use Rattle.record.specs.Fields.{tags, tagsFrom}
+use Rattle.record.specs.Formed.{ascends}
+use Rattle.record.specs.Relations.{allIn}
+use Rattle.record.proofs.Parts.{formed, begun}
+use Rattle.record.proofs.Merging.{next-ascends, contained-none, contained-past, contained-less, contained-skip, contained-both}
+use borrow.Author.Rules.{rules}
+use Rattle.record.proofs.relations.contained.Goals as goal
+
+pub tag_count-n-requires : goal.tag_count-n-requires
+tag_count-n-requires c = (formed _ c.requires.a_value).size
+
+pub tag_count-m-requires : goal.tag_count-m-requires
+tag_count-m-requires c = (formed _ c.requires.b_value).size
+
+pub loop-i-init : goal.loop-i-init
+loop-i-init c =
+    let g = begun c.args.a.now c.args.b.now c.tag_count-n.result c.tag_count-m.result (formed _ c.requires.a_value) (formed _ c.requires.b_value) c.tag_count-n.ensures c.tag_count-m.ensures in
+    (omega arith, omega arith, g.few-a, g.few-b, g.ordered-a, g.ordered-b, g.same-all)
+
+pub returns-then-m-j : goal.returns-then-m-j
+returns-then-m-j c =
+    sym (c.loop-i.invariant.6 ∙ contained-past c.args.a.now c.args.b.now _ _ c.loop-i.i c.loop-i.j c.loop-i-test.true c.if-m-j.true)
+
+pub tag-x-requires : goal.tag-x-requires
+tag-x-requires c = record {r_len = (formed _ c.requires.a_value).size; i_lt_max_tags = omega arith}
+
+pub tag-y-requires : goal.tag-y-requires
+tag-y-requires c = record {r_len = (formed _ c.requires.b_value).size; i_lt_max_tags = omega arith}
+
+pub returns-then-x-y : goal.returns-then-x-y
+returns-then-x-y c =
+    sym (c.loop-i.invariant.6 ∙ contained-less c.args.a.now c.args.b.now _ _ c.loop-i.i c.loop-i.j (omega arith) (omega arith) c.loop-i.invariant.4 c.loop-i.invariant.5
+    (rw (c.tag-x.ensures, c.tag-y.ensures) at c.if-x-y.true))
+
+pub loop-i-preserved-then-y-x : goal.loop-i-preserved-then-y-x
+loop-i-preserved-then-y-x c =
+    let a = c.args.a.now in
+    let b = c.args.b.now in (
+      omega arith,
+      omega arith,
+      c.loop-i.invariant.2,
+      c.loop-i.invariant.3,
+      c.loop-i.invariant.4,
+      next-ascends b _ c.loop-i.j (omega arith) c.loop-i.invariant.5,
+      c.loop-i.invariant.6 ∙ contained-skip a b _ _ c.loop-i.i c.loop-i.j (omega arith) (omega arith) c.loop-i.invariant.4 c.loop-i.invariant.5
+          (rw (c.tag-x.ensures, c.tag-y.ensures) at c.if-y-x.true),
+    )
+
+pub loop-i-preserved : goal.loop-i-preserved
+loop-i-preserved c =
+    let a = c.args.a.now in
+    let b = c.args.b.now in
+    let e : c.tag-x.result ≡ c.tag-y.result = omega arith in (
+      omega arith,
+      omega arith,
+      c.loop-i.invariant.2,
+      c.loop-i.invariant.3,
+      next-ascends a _ c.loop-i.i (omega arith) c.loop-i.invariant.4,
+      next-ascends b _ c.loop-i.j (omega arith) c.loop-i.invariant.5,
+      c.loop-i.invariant.6 ∙ contained-both a b _ _ c.loop-i.i c.loop-i.j (omega arith) (omega arith) c.loop-i.invariant.4 c.loop-i.invariant.5
+          (sym c.tag-x.ensures ∙ e ∙ c.tag-y.ensures),
+    )
+
+pub returns : goal.returns
+returns c =
+    sym (c.loop-i.invariant.6 ∙ contained-none c.args.a.now _ c.loop-i.i _ c.loop-i-test.false)

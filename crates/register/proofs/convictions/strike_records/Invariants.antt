@@ -1,0 +1,13 @@
+use Prim.Native.Nat.{◌-◌, ◌*◌}
+use mathlib.Core.Path.{◌∙◌}
+use native.Mathlib.Omega.{arith}
+use Rattle.held.specs.Limits.{placeSize}
+use Rattle.held.proofs.Striking.{Left, left-none, left-lower, left-ends, left-inside, left-gone, left-stays, left-cleared}
+use Rattle.register.proofs.Striking.{recordsWithout, unsigned, still-signed, changed-there}
+use Rattle.register.proofs.convictions.strike_records.Given as goal
+
+abbrev pub invariant-loop-i : goal.invariant-loop-i
+invariant-loop-i l = Left (recordsWithout l.engine) l.n l.initial.t l.t l.i l.j
+
+abbrev pub decreases-loop-i : goal.decreases-loop-i
+decreases-loop-i l = l.n - l.i

@@ -1,0 +1,18 @@
+use Prim.Native.Nat.{◌-◌, ◌≤◌}
+use mathlib.Core.Path.{◌≡◌}
+use mathlib.Core.Bool.{false}
+use native.Mathlib.Omega.{arith}
+use lib.ListN.{length}
+use Rattle.ranges.specs.Lists.{up_to}
+use Rattle.ranges.specs.Tables.{Cached}
+use Rattle.ranges.proofs.Tables.{tables}
+use Rattle.rule.specs.Standing.{supersedes}
+use Rattle.rule.specs.Related.{itemRelations}
+use Rattle.items.specs.Layout.{maxItems}
+use Rattle.rule.proofs.super_table.Given as goal
+
+abbrev pub invariant-loop-i : goal.invariant-loop-i
+invariant-loop-i l = (l.i ≤ l.n) × (length l.m ≡ maxItems) × Cached false l.m (supersedes (itemRelations l.s) (up_to l.n)) l.i
+
+abbrev pub decreases-loop-i : goal.decreases-loop-i
+decreases-loop-i l = l.n - l.i

@@ -1,0 +1,14 @@
+use Prim.Native.Nat.{◌-◌}
+use native.Mathlib.Omega.{arith}
+use lib.ListN.{length-take, length-drop}
+use Rattle.held.specs.Signed.{beginFormed}
+use Rattle.held.proofs.Testing.{Passed, passed_none, passed-room, passed-not, passed-next, passed-all}
+use Rattle.tracked.specs.Layout.{transmissionSize}
+use Rattle.tracked.specs.Bytes.{transmissionFormed}
+use Rattle.stored.proofs.formed.transmissions_formed.Given as goal
+
+abbrev pub invariant-loop-i : goal.invariant-loop-i
+invariant-loop-i l = Passed (transmissionFormed (beginFormed l.convicted)) transmissionSize l.n l.t l.i l.at
+
+abbrev pub decreases-loop-i : goal.decreases-loop-i
+decreases-loop-i l = l.n - l.i

@@ -1,0 +1,15 @@
+use Prim.Native.Nat.{◌%◌, ℕ, ◌+◌, ◌-◌, ◌*◌, ◌≤◌}
+use mathlib.Core.Path.{◌≡◌, refl, sym, ap, ◌∙◌}
+use mathlib.Core.List.{List, ◌++◌}
+use native.Mathlib.Omega.{arith}
+use lib.ListN.{replicate, length, get_or, drop, take, set, length-set}
+use Rattle.octets.proofs.Moves.{up}
+use Rattle.values.specs.Values as Val
+use Rattle.values.proofs.Texts.{swap_at, length-swap, all-taken}
+use Rattle.values.proofs.swap_bytes.Given as goal
+
+abbrev pub invariant-loop-i : goal.invariant-loop-i
+invariant-loop-i l = (l.i ≤ 48) × (length l.s ≡ 48) × (length l.out ≡ 48) × (length l.initial.out ≡ 48) × (l.out ≡ take l.i (Val.swapBytes 6 l.s) ++ drop l.i l.initial.out)
+
+abbrev pub decreases-loop-i : goal.decreases-loop-i
+decreases-loop-i l = 48 - l.i

@@ -1,0 +1,16 @@
+use Prim.Native.Nat.{◌-◌, ◌≤◌}
+use mathlib.Core.Path.{◌≡◌, refl}
+use native.Mathlib.Omega.{arith}
+use lib.ListN.{length, length-set}
+use Rattle.ranges.specs.Range.{Collected}
+use Rattle.ranges.proofs.Range.{collected-none, collected-hit, collected-miss, collected-done}
+use Rattle.record.specs.Fields.{tag_at, tagCount}
+use Rattle.record.specs.Layout.{maxTags}
+use Rattle.verdict.specs.Added.{isAdded}
+use Rattle.verdict.proofs.added.Given as goal
+
+abbrev pub invariant-loop-i : goal.invariant-loop-i
+invariant-loop-i l = (l.i ≤ l.n) × (l.n ≡ tagCount l.b) × (length l.list ≡ maxTags) × Collected (isAdded l.a l.b) (tag_at l.b) maxTags 0 l.list l.count l.i
+
+abbrev pub decreases-loop-i : goal.decreases-loop-i
+decreases-loop-i l = l.n - l.i
