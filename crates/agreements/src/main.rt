@@ -7,50 +7,51 @@ ghost use Rattle.std.specs.Prelude.{◌≤◌, length};
 
 use arithmetic::standing::{Agreement, Claimed, Measure};
 use geometry::linalg::Covariance;
-use libc::STDOUT_FILENO;
+use std::io;
 
-fn show(x: f64) {
-    io::print_hex(STDOUT_FILENO, floats::to_bits(x), 16);
+fn show(rt: &impl Print, x: f64) -> io::Result<()> {
+    let bits = floats::to_bits(x);
+    print!(rt; "{bits:016x}")
 }
 
-fn gap() {
-    io::write_all(STDOUT_FILENO, b" ");
+fn gap(rt: &impl Print) -> io::Result<()> {
+    print!(rt; " ")
 }
 
-fn end() {
-    io::write_all(STDOUT_FILENO, b"\n");
+fn end(rt: &impl Print) -> io::Result<()> {
+    println!(rt)
 }
 
-fn show_constants() {
-    show(geometry::angles::E7);
-    end();
-    show(geometry::angles::DEGREE);
-    end();
-    show(geometry::geodesy::A);
-    end();
-    show(geometry::geodesy::F);
-    end();
-    show(geometry::geodesy::E2);
-    end();
-    show(arithmetic::standing::AGREE_CHI2);
-    end();
-    show(arithmetic::standing::AGREE_CHI2_2D);
-    end();
+fn show_constants(rt: &impl Print) -> io::Result<()> {
+    show(rt, geometry::angles::E7)?;
+    end(rt)?;
+    show(rt, geometry::angles::DEGREE)?;
+    end(rt)?;
+    show(rt, geometry::geodesy::A)?;
+    end(rt)?;
+    show(rt, geometry::geodesy::F)?;
+    end(rt)?;
+    show(rt, geometry::geodesy::E2)?;
+    end(rt)?;
+    show(rt, arithmetic::standing::AGREE_CHI2)?;
+    end(rt)?;
+    show(rt, arithmetic::standing::AGREE_CHI2_2D)?;
+    end(rt)
 }
 
-fn show_series(u: f64) {
-    show(geometry::angles::sine_series(u));
-    gap();
-    show(geometry::angles::cosine_series(u));
-    end();
+fn show_series(rt: &impl Print, u: f64) -> io::Result<()> {
+    show(rt, geometry::angles::sine_series(u))?;
+    gap(rt)?;
+    show(rt, geometry::angles::cosine_series(u))?;
+    end(rt)
 }
 
-fn show_turn(v: i32) {
+fn show_turn(rt: &impl Print, v: i32) -> io::Result<()> {
     let t = geometry::angles::sincos(v);
-    show(t.sin);
-    gap();
-    show(t.cos);
-    end();
+    show(rt, t.sin)?;
+    gap(rt)?;
+    show(rt, t.cos)?;
+    end(rt)
 }
 
 // Angles in runs of neighbours: about 0 and 50 degrees, the edges of each quadrant, whole right angles, and the ends of an i32.
@@ -252,33 +253,32 @@ fn random(kind: u64, x: u64) -> Covariance {
     )
 }
 
-fn show_measure(m: Measure) {
-    show(m.chi2);
-    gap();
-    show(m.limit);
-    gap();
+fn show_measure(rt: &impl Print, m: Measure) -> io::Result<()> {
+    show(rt, m.chi2)?;
+    gap(rt)?;
+    show(rt, m.limit)?;
+    gap(rt)
 }
 
 // Where nothing was measured there is no number.
-fn show_no_measure() {
-    io::write_all(STDOUT_FILENO, b"none none ");
+fn show_no_measure(rt: &impl Print) -> io::Result<()> {
+    print!(rt; "none none ")
 }
 
-fn show_agreement(a: Agreement) {
+fn show_agreement(rt: &impl Print, a: Agreement) -> io::Result<()> {
     match a {
-        Agreement::Inside(m) => show_measure(m),
-        Agreement::Outside(m) => show_measure(m),
-        Agreement::Unmeasurable => show_no_measure(),
+        Agreement::Inside(m) => show_measure(rt, m),
+        Agreement::Outside(m) => show_measure(rt, m),
+        Agreement::Unmeasurable => show_no_measure(rt),
     }
 }
 
 // 1.0 where the two agree.
-fn show_agrees(a: Agreement) {
+fn show_agrees(rt: &impl Print, a: Agreement) -> io::Result<()> {
     if arithmetic::agrees(a) {
-        show(1.0);
-        return;
+        return show(rt, 1.0);
     }
-    show(0.0);
+    show(rt, 0.0)
 }
 
 fn staged(table: &mut [f64], smaller: Claimed, larger: Claimed) -> Agreement
@@ -289,19 +289,20 @@ fn staged(table: &mut [f64], smaller: Claimed, larger: Claimed) -> Agreement
     arithmetic::compare(table, 0, 1)
 }
 
-fn show_pair(smaller: Claimed, larger: Claimed) {
+fn show_pair(rt: &impl Print, smaller: Claimed, larger: Claimed) -> io::Result<()> {
     let mut table = [0.0; 42];
     let whole = arithmetic::agreement(smaller, larger);
-    show_agreement(whole);
-    show_agreement(staged(&mut table, smaller, larger));
-    show_agrees(whole);
-    gap();
-    show(arithmetic::horizontal_sigma_m(smaller.covariance));
-    end();
+    show_agreement(rt, whole)?;
+    show_agreement(rt, staged(&mut table, smaller, larger))?;
+    show_agrees(rt, whole)?;
+    gap(rt)?;
+    show(rt, arithmetic::horizontal_sigma_m(smaller.covariance))?;
+    end(rt)
 }
 
-fn show_named(c: Covariance, lat: i32, has_height: bool) {
+fn show_named(rt: &impl Print, c: Covariance, lat: i32, has_height: bool) -> io::Result<()> {
     show_pair(
+        rt,
         Claimed {
             lat: 500_000_000,
             lon: 100_000_000,
@@ -316,12 +317,13 @@ fn show_named(c: Covariance, lat: i32, has_height: bool) {
             height: 1500,
             covariance: c,
         },
-    );
+    )
 }
 
-fn show_at_limit(v: u64, lat: i32, lon: i32, has_height: bool) {
+fn show_at_limit(rt: &impl Print, v: u64, lat: i32, lon: i32, has_height: bool) -> io::Result<()> {
     let c = six(v, 0, 0, v, 0, v);
     show_pair(
+        rt,
         Claimed {
             lat: 500_000_000,
             lon: 100_000_000,
@@ -336,14 +338,15 @@ fn show_at_limit(v: u64, lat: i32, lon: i32, has_height: bool) {
             height: 1500,
             covariance: c,
         },
-    );
+    )
 }
 
-fn show_random(x: u64) {
+fn show_random(rt: &impl Print, x: u64) -> io::Result<()> {
     let c = random(x / 0x1_0000_0000 % 5, x);
     let lat = x % 40;
     let lon = x / 64 % 40;
     show_pair(
+        rt,
         Claimed {
             lat: angle(lat),
             lon: angle(lon),
@@ -358,67 +361,71 @@ fn show_random(x: u64) {
             height: height(x / 0x100_0000 % 8),
             covariance: c,
         },
-    );
+    )
 }
 
-fn show_all_series() {
+fn show_all_series(rt: &impl Print) -> io::Result<()> {
     let mut i: u64 = 960;
     while i < 1124 {
-        show_series(floats::of_bits(i * 0x10_0000_0000_0000));
+        show_series(rt, floats::of_bits(i * 0x10_0000_0000_0000))?;
         i += 1;
     }
+    Ok(())
 }
 
-fn show_turns() {
+fn show_turns(rt: &impl Print) -> io::Result<()> {
     let mut i: u64 = 0;
     while i < 42 {
-        show_turn(angle(i));
+        show_turn(rt, angle(i))?;
         i += 1;
     }
+    Ok(())
 }
 
-fn show_all_named() {
+fn show_all_named(rt: &impl Print) -> io::Result<()> {
     let mut i: u64 = 0;
     while i < 13 {
-        show_named(named(i), 500_000_000, true);
-        show_named(named(i), 500_000_000, false);
-        show_named(named(i), 500_002_700, true);
-        show_named(named(i), 500_002_700, false);
+        show_named(rt, named(i), 500_000_000, true)?;
+        show_named(rt, named(i), 500_000_000, false)?;
+        show_named(rt, named(i), 500_002_700, true)?;
+        show_named(rt, named(i), 500_002_700, false)?;
         i += 1;
     }
+    Ok(())
 }
 
-fn show_limit(i: u64) {
+fn show_limit(rt: &impl Print, i: u64) -> io::Result<()> {
     if i < 3 {
-        show_at_limit(variance(i), 500_002_701, 100_000_000, true);
-        return;
+        return show_at_limit(rt, variance(i), 500_002_701, 100_000_000, true);
     }
-    show_at_limit(variance(i), 500_002_007, 100_001_033, false);
+    show_at_limit(rt, variance(i), 500_002_007, 100_001_033, false)
 }
 
-fn show_limits() {
+fn show_limits(rt: &impl Print) -> io::Result<()> {
     let mut i: u64 = 0;
     while i < 6 {
-        show_limit(i);
+        show_limit(rt, i)?;
         i += 1;
     }
+    Ok(())
 }
 
-fn show_randoms() {
+fn show_randoms(rt: &impl Print) -> io::Result<()> {
     let mut x: u64 = 0x9e37_79b9_7f4a_7c15;
     let mut i: u64 = 0;
     while i < 400 {
         x = next(x);
-        show_random(x);
+        show_random(rt, x)?;
         i += 1;
     }
+    Ok(())
 }
 
-fn main() {
-    show_constants();
-    show_all_series();
-    show_turns();
-    show_all_named();
-    show_limits();
-    show_randoms();
+fn main(rt: HostRuntime) -> io::Result<()> {
+    show_constants(&rt)?;
+    show_all_series(&rt)?;
+    show_turns(&rt)?;
+    show_all_named(&rt)?;
+    show_limits(&rt)?;
+    show_randoms(&rt)
 }

@@ -7,28 +7,27 @@ ghost use Rattle.std.specs.Prelude.{◌<◌};
 
 use arithmetic::standing::ChiSquare;
 use decision::{Decision, Refusal};
-use libc::{STDIN_FILENO, STDOUT_FILENO};
+use std::io;
 use verdict::{Comparison, SupersetVerdict};
 
-fn word(text: &[u8]) {
-    io::write_all(STDOUT_FILENO, text);
+fn word(rt: &impl Print, text: &[u8]) -> io::Result<()> {
+    rt.write_all(text)
 }
 
-fn show(n: u64) {
-    word(b" ");
-    io::print_decimal(STDOUT_FILENO, n);
+fn show(rt: &impl Print, n: u64) -> io::Result<()> {
+    print!(rt; " {n}")
 }
 
-fn show_bits(x: f64) {
-    word(b" ");
-    io::print_hex(STDOUT_FILENO, floats::to_bits(x), 16);
+fn show_bits(rt: &impl Print, x: f64) -> io::Result<()> {
+    let bits = floats::to_bits(x);
+    print!(rt; " {bits:016x}")
 }
 
 // Where nothing was measured there is no number.
-fn show_chi_square(c: ChiSquare) {
+fn show_chi_square(rt: &impl Print, c: ChiSquare) -> io::Result<()> {
     match c {
-        ChiSquare::Measured(x) => show_bits(x),
-        ChiSquare::Unmeasured => word(b" none"),
+        ChiSquare::Measured(x) => show_bits(rt, x),
+        ChiSquare::Unmeasured => word(rt, b" none"),
     }
 }
 
@@ -36,100 +35,102 @@ fn wide(x: u8) -> u64 {
     x as u64
 }
 
-fn show_indices(list: [u8; 96], count: u8) {
+fn show_indices(rt: &impl Print, list: [u8; 96], count: u8) -> io::Result<()> {
     let mut i: u8 = 0;
     while i < 96 {
         if count <= i {
-            return;
+            return Ok(());
         }
-        show(wide(list[i as usize]));
+        show(rt, wide(list[i as usize]))?;
         i += 1;
     }
+    Ok(())
 }
 
-fn show_refusal(r: Refusal) {
+fn show_refusal(rt: &impl Print, r: Refusal) -> io::Result<()> {
     if r.superseded {
-        word(b" superseded");
+        word(rt, b" superseded")?;
     } else {
-        word(b" contested");
+        word(rt, b" contested")?;
     }
-    show(wide(r.refused));
-    show(wide(r.kept));
+    show(rt, wide(r.refused))?;
+    show(rt, wide(r.kept))?;
     let chi2 = r.chi2;
-    show_chi_square(chi2);
+    show_chi_square(rt, chi2)
 }
 
-fn show_refusals(list: [Refusal; 96], count: u8) {
+fn show_refusals(rt: &impl Print, list: [Refusal; 96], count: u8) -> io::Result<()> {
     let mut i: u8 = 0;
     while i < 96 {
         if count <= i {
-            return;
+            return Ok(());
         }
-        show_refusal(list[i as usize]);
+        show_refusal(rt, list[i as usize])?;
         i += 1;
     }
+    Ok(())
 }
 
-fn show_decision(d: Decision) {
-    word(b"answer");
-    show(wide(d.answer));
+fn show_decision(rt: &impl Print, d: Decision) -> io::Result<()> {
+    word(rt, b"answer")?;
+    show(rt, wide(d.answer))?;
     let ranked = d.ranked;
-    word(b" ranked");
+    word(rt, b" ranked")?;
     let ranked_list = ranked.list;
-    show_indices(ranked_list, ranked.count);
+    show_indices(rt, ranked_list, ranked.count)?;
     let dominated = d.dominated;
-    word(b" dominated");
+    word(rt, b" dominated")?;
     let dominated_list = dominated.list;
-    show_indices(dominated_list, dominated.count);
+    show_indices(rt, dominated_list, dominated.count)?;
     let refusals = d.refusals;
-    word(b" refused");
+    word(rt, b" refused")?;
     let refusals_list = refusals.list;
-    show_refusals(refusals_list, refusals.count);
-    word(b"\n");
+    show_refusals(rt, refusals_list, refusals.count)?;
+    word(rt, b"\n")
 }
 
-fn show_tags(list: [u64; 16], count: u8) {
+fn show_tags(rt: &impl Print, list: [u64; 16], count: u8) -> io::Result<()> {
     let mut i: u8 = 0;
     while i < 16 {
         if count <= i {
-            return;
+            return Ok(());
         }
-        show(list[i as usize]);
+        show(rt, list[i as usize])?;
         i += 1;
     }
+    Ok(())
 }
 
-fn show_verdict(v: SupersetVerdict) {
+fn show_verdict(rt: &impl Print, v: SupersetVerdict) -> io::Result<()> {
     match v {
-        SupersetVerdict::Malformed => word(b"malformed"),
-        SupersetVerdict::Agrees => word(b"agrees"),
-        SupersetVerdict::Contested(chi2) => show_contested(chi2),
+        SupersetVerdict::Malformed => word(rt, b"malformed"),
+        SupersetVerdict::Agrees => word(rt, b"agrees"),
+        SupersetVerdict::Contested(chi2) => show_contested(rt, chi2),
     }
 }
 
-fn show_contested(chi2: ChiSquare) {
-    word(b"contested");
-    show_chi_square(chi2);
+fn show_contested(rt: &impl Print, chi2: ChiSquare) -> io::Result<()> {
+    word(rt, b"contested")?;
+    show_chi_square(rt, chi2)
 }
 
-fn show_comparison(c: Comparison) {
+fn show_comparison(rt: &impl Print, c: Comparison) -> io::Result<()> {
     let v = c.verdict;
-    show_verdict(v);
+    show_verdict(rt, v)?;
     let added = c.added;
-    word(b" added");
+    word(rt, b" added")?;
     let added_list = added.list;
-    show_tags(added_list, added.count);
-    word(b"\n");
+    show_tags(rt, added_list, added.count)?;
+    word(rt, b"\n")
 }
 
 // The bytes of a list of items, and of the records of its first two.
-fn run(s: &[u8]) {
-    show_decision(decision::decide(s));
+fn run(rt: &impl Print, s: &[u8]) -> io::Result<()> {
+    show_decision(rt, decision::decide(s))?;
     if s.len() < 519 {
-        show_comparison(verdict::superset_verdict(s, s));
-        return;
+        return show_comparison(rt, verdict::superset_verdict(s, s));
     }
-    show_comparison(verdict::superset_verdict(&s[0..222], &s[297..519]));
+    show_comparison(rt, verdict::superset_verdict(&s[0..222], &s[297..519]))
 }
 
 fn size(x: u8) -> usize
@@ -144,32 +145,33 @@ fn length_of(head: [u8; 2]) -> usize {
 }
 
 // Reads a list and runs it; false at the end of the input.
-fn step(buffer: &mut [u8]) -> bool {
+fn step(rt: &(impl Input + Print), buffer: &mut [u8]) -> io::Result<bool> {
     let mut head = [0u8; 2];
-    let got = io::read_full(STDIN_FILENO, &mut head);
+    let got = console::read_full(rt, &mut head)?;
     if got < 2 {
-        return false;
+        return Ok(false);
     }
     let n = length_of(head);
     if buffer.len() < n {
-        return false;
+        return Ok(false);
     }
     let part = &mut buffer[0..n];
-    let read = io::read_full(STDIN_FILENO, part);
+    let read = console::read_full(rt, part)?;
     if read < n {
-        return false;
+        return Ok(false);
     }
-    run(&buffer[0..n]);
-    true
+    run(rt, &buffer[0..n])?;
+    Ok(true)
 }
 
-fn main() {
-    let mut buffer = io::large_buffer();
+fn main(rt: HostRuntime) -> io::Result<()> {
+    let mut buffer = console::large_buffer();
     let mut i: u64 = 0;
     while i < 1000 {
-        if !step(&mut buffer) {
-            return;
+        if !step(&rt, &mut buffer)? {
+            return Ok(());
         }
         i += 1;
     }
+    Ok(())
 }

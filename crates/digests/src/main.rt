@@ -5,6 +5,8 @@
 
 ghost use Rattle.std.specs.Prelude.{◌≡◌, ◌≤◌, length};
 
+use std::io;
+
 // The digit of the lower half of a byte.
 fn digit(x: u8) -> u8 {
     let d = x % 16;
@@ -23,9 +25,9 @@ fn hex_line(d: [u8; 32]) -> [u8; 65] {
     line
 }
 
-fn print_digest(input: &[u8]) {
+fn print_digest(rt: &impl Print, input: &[u8]) -> io::Result<()> {
     let line = hex_line(hashing::blake2s256(input));
-    io::write_all(libc::STDOUT_FILENO, &line);
+    rt.write_all(&line)
 }
 
 fn fill(s: &mut [u8])
@@ -38,22 +40,22 @@ fn fill(s: &mut [u8])
     }
 }
 
-fn print_lengths(s: &[u8])
+fn print_lengths(rt: &impl Print, s: &[u8]) -> io::Result<()>
     requires { 4096 ≤ length s.now }
 {
     let mut n = 0;
     while n < 261 {
-        print_digest(&s[..n]);
+        print_digest(rt, &s[..n])?;
         n += 1;
     }
-    print_digest(&s[..1000]);
-    print_digest(&s[..4096]);
+    print_digest(rt, &s[..1000])?;
+    print_digest(rt, &s[..4096])
 }
 
-fn main() {
-    print_digest(b"abc");
-    print_digest(b"");
-    let mut s = io::buffer();
+fn main(rt: HostRuntime) -> io::Result<()> {
+    print_digest(&rt, b"abc")?;
+    print_digest(&rt, b"")?;
+    let mut s = console::buffer();
     fill(&mut s);
-    print_lengths(&s);
+    print_lengths(&rt, &s)
 }

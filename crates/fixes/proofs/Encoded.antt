@@ -109,7 +109,7 @@ module _ (ss : List (List ℕ)) (f : Fix) (e : f.identity ≡ I.identityOf ss f.
       let k = w g (Memᴰ.head refl) in
       let r = enter-is gs (λ x m. w x (Memᴰ.tail m)) in
       by (isBefore g.identity f.identity)
-      (λ t. rw (identity-part ss g k, sym e, t) (ap (λ (l : List (List ℕ)). bytes_of g ∷ l) (rw (sym e) at r)))
+      (λ t. rw (identity-part ss g k, sym e, t) (ap (λ (l : List (List ℕ)). bytes_of g ∷ l) r))
       (λ t. by (isBefore f.identity g.identity)
       (λ u. rw (identity-part ss g k, sym e, t, u, joined-none ss f.recordBytes f.signers, h.cited) refl)
       (λ u. let j = joined_is g k (before_same g.identity f.identity t u) in

@@ -37,12 +37,6 @@ use Rattle.fixes.specs.Gathered.{jointAt, Gathered}
 use Rattle.fixes.proofs.Gathering.{Ordered, key-length, joined-none, joined-some, new-length, again-length}
 use Rattle.fixes.proofs.Soundness.{gathered-is, gathered-ordered}
 
--- a piece that was copied into the lent tail of a slice
-pub copied : (b piece y : List ℕ) (at : ℕ) → y ≡ take (length piece) piece ++ drop (length piece) (take (length b - at) (drop at b))
-    → take at b ++ (y ++ drop (length b - at) (drop at b)) ≡ take at b ++ (piece ++ drop (at + length piece) b)
-copied b piece y at e =
-    tail-back b y at ∙ ap (λ (x : List ℕ). take at b ++ x) (e ∙ rw (take-length piece, tail-lent b at, drop-drop (length piece) at b) refl)
-
 -- ---- a record that is put in
 
 module _ (ss : List (List ℕ)) (r : List ℕ) (s n : ℕ) (t : List ℕ) where

@@ -9,22 +9,21 @@ ghost use Rattle.std.specs.Prelude.{◌≡◌, true, ◌*◌, ◌<◌, ◌≤◌
 ghost use Rattle.record.specs.Formed.{wellFormed};
 ghost use Rattle.models.specs.Summary.{summarySize};
 
-use libc::{STDIN_FILENO, STDOUT_FILENO};
 use models::layout::SUMMARY_SIZE;
 use models::states::ModelState;
 use record::layout::RECORD_SIZE;
+use std::io;
 
-fn word(text: &[u8]) {
-    io::write_all(STDOUT_FILENO, text);
+fn word(rt: &impl Print, text: &[u8]) -> io::Result<()> {
+    rt.write_all(text)
 }
 
 fn wide(x: u8) -> u64 {
     x as u64
 }
 
-fn show(n: u64) {
-    word(b" ");
-    io::print_decimal(STDOUT_FILENO, n);
+fn show(rt: &impl Print, n: u64) -> io::Result<()> {
+    print!(rt; " {n}")
 }
 
 // 6 for a model without a summary, 7 for one that is disputed, as a track refuses them; 0 for one that is agreed.
@@ -36,77 +35,79 @@ fn number(s: ModelState) -> u64 {
     }
 }
 
-fn show_state(s: ModelState) {
-    show(number(s));
+fn show_state(rt: &impl Print, s: ModelState) -> io::Result<()> {
+    show(rt, number(s))?;
     if let ModelState::Agreed(i) = s {
-        word(b"@");
-        io::print_decimal(STDOUT_FILENO, i as u64);
+        print!(rt; "@{i}")?;
     }
+    Ok(())
 }
 
-fn show_states(table: &[u8], count: usize)
+fn show_states(rt: &impl Print, table: &[u8], count: usize) -> io::Result<()>
     requires { count * summarySize ≤ length table.now }
 {
     let mut model: u8 = 0;
     while model < 5 {
-        show_state(models::states::state(table, count, model));
+        show_state(rt, models::states::state(table, count, model))?;
         model += 1;
     }
+    Ok(())
 }
 
-fn show_flag(b: bool) {
+fn show_flag(rt: &impl Print, b: bool) -> io::Result<()> {
     if b {
-        word(b" yes");
+        word(rt, b" yes")
     } else {
-        word(b" no");
+        word(rt, b" no")
     }
 }
 
-fn show_hash(h: &[u8]) {
-    word(b" ");
+fn show_hash(rt: &impl Print, h: &[u8]) -> io::Result<()> {
+    word(rt, b" ")?;
     let mut i = 0;
     while i < h.len() {
-        io::print_hex(STDOUT_FILENO, wide(h[i]), 2);
+        print!(rt; "{:02x}", h[i])?;
         i += 1;
     }
+    Ok(())
 }
 
 // What a record is known by.
-fn show_hashes(table: &[u8], count: usize, r: &[u8])
+fn show_hashes(rt: &impl Print, table: &[u8], count: usize, r: &[u8]) -> io::Result<()>
     requires summary_size_in_bounds { count * summarySize ≤ length table.now }
     requires r_value { wellFormed r.now ≡ true }
 {
     let inputs = models::citations::cited_inputs(table, count, r);
     let set = models::identities::set_hash(r);
     let identity = models::identities::identity(&set, &inputs);
-    show_hash(&inputs);
-    show_hash(&set);
-    show_hash(&identity);
+    show_hash(rt, &inputs)?;
+    show_hash(rt, &set)?;
+    show_hash(rt, &identity)
 }
 
 // What is known of a record among summaries.
-fn show_record(table: &[u8], count: usize, r: &[u8])
+fn show_record(rt: &impl Print, table: &[u8], count: usize, r: &[u8]) -> io::Result<()>
     requires summary_size_in_bounds { count * summarySize ≤ length table.now }
     requires r_value { wellFormed r.now ≡ true }
 {
-    word(b"states");
-    show_states(table, count);
-    word(b" counts");
-    show_flag(models::citations::counts(table, count, r));
-    word(b" missing");
-    show_flag(models::citations::cites_missing(table, count, r));
-    show_hashes(table, count, r);
-    word(b"\n");
+    word(rt, b"states")?;
+    show_states(rt, table, count)?;
+    word(rt, b" counts")?;
+    show_flag(rt, models::citations::counts(table, count, r))?;
+    word(rt, b" missing")?;
+    show_flag(rt, models::citations::cites_missing(table, count, r))?;
+    show_hashes(rt, table, count, r)?;
+    word(rt, b"\n")
 }
 
 // A line for a case.
-fn run(table: &[u8], count: usize, r: &[u8])
+fn run(rt: &impl Print, table: &[u8], count: usize, r: &[u8]) -> io::Result<()>
     requires { count * summarySize ≤ length table.now }
 {
     if record::formed::well_formed(r) {
-        show_record(table, count, r);
+        show_record(rt, table, count, r)
     } else {
-        word(b"malformed\n");
+        word(rt, b"malformed\n")
     }
 }
 
@@ -124,32 +125,33 @@ fn count_of(head: [u8; 2]) -> usize
 }
 
 // Reads a case and runs it; false at the end of the input.
-fn step(buffer: &mut [u8]) -> bool {
+fn step(rt: &(impl Input + Print), buffer: &mut [u8]) -> io::Result<bool> {
     let mut head = [0u8; 2];
-    let got = io::read_full(STDIN_FILENO, &mut head);
+    let got = console::read_full(rt, &mut head)?;
     if got < 2 {
-        return false;
+        return Ok(false);
     }
     let count = count_of(head);
     let n = RECORD_SIZE + count * SUMMARY_SIZE;
     if buffer.len() < n {
-        return false;
+        return Ok(false);
     }
-    let read = io::read_full(STDIN_FILENO, &mut buffer[0..n]);
+    let read = console::read_full(rt, &mut buffer[0..n])?;
     if read < n {
-        return false;
+        return Ok(false);
     }
-    run(&buffer[RECORD_SIZE..n], count, &buffer[0..RECORD_SIZE]);
-    true
+    run(rt, &buffer[RECORD_SIZE..n], count, &buffer[0..RECORD_SIZE])?;
+    Ok(true)
 }
 
-fn main() {
-    let mut buffer = io::large_buffer();
+fn main(rt: HostRuntime) -> io::Result<()> {
+    let mut buffer = console::large_buffer();
     let mut i: u64 = 0;
     while i < 1000 {
-        if !step(&mut buffer) {
-            return;
+        if !step(&rt, &mut buffer)? {
+            return Ok(());
         }
         i += 1;
     }
+    Ok(())
 }

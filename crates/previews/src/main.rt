@@ -5,8 +5,8 @@
 #![tactic(auto)]
 
 use board::BOARD_SIZE;
-use libc::{STDIN_FILENO, STDOUT_FILENO};
 use register::layout::REGISTER_SIZE;
+use std::io;
 
 // More registers than these are not read.
 const MAX_REGISTERS: u32 = 65536;
@@ -17,16 +17,12 @@ const NUMBERS: u32 = 33;
 // The greatest number that a preview is refused with.
 const GREATEST_REFUSAL: u32 = 10;
 
-fn word(text: &[u8]) {
-    io::write_all(STDOUT_FILENO, text);
+fn word(rt: &impl Print, text: &[u8]) -> io::Result<()> {
+    rt.write_all(text)
 }
 
-fn show_answer(engine: u32, answer: u32) {
-    word(b"engine=");
-    io::print_decimal(STDOUT_FILENO, engine as u64);
-    word(b" answer=");
-    io::print_decimal(STDOUT_FILENO, answer as u64);
-    word(b"\n");
+fn show_answer(rt: &impl Print, engine: u32, answer: u32) -> io::Result<()> {
+    println!(rt; "engine={engine} answer={answer}")
 }
 
 fn output_buffer() -> [u8; BOARD_SIZE] {
@@ -42,52 +38,53 @@ fn register_buffer() -> [u8; REGISTER_SIZE] {
 }
 
 // What a preview is answered, and its text.
-fn show_preview(memory: &[u8], engine: u32) {
+fn show_preview(rt: &impl Print, memory: &[u8], engine: u32) -> io::Result<()> {
     let mut out = output_buffer();
     let answer = board::preview(memory, engine, &mut out);
-    show_answer(engine, answer);
+    show_answer(rt, engine, answer)?;
     if answer <= GREATEST_REFUSAL {
-        return;
+        return Ok(());
     }
     let n = answer as usize;
-    word(&out[..n]);
+    word(rt, &out[..n])
 }
 
 // What it is answered where the output has a byte too few.
-fn show_too_small(memory: &[u8], engine: u32) {
+fn show_too_small(rt: &impl Print, memory: &[u8], engine: u32) -> io::Result<()> {
     let mut out = small_buffer();
     let answer = board::preview(memory, engine, &mut out);
-    show_answer(engine, answer);
+    show_answer(rt, engine, answer)
 }
 
-fn show_all(memory: &[u8]) {
+fn show_all(rt: &impl Print, memory: &[u8]) -> io::Result<()> {
     let mut engine: u32 = 0;
     while engine < NUMBERS {
-        show_preview(memory, engine);
+        show_preview(rt, memory, engine)?;
         engine += 1;
     }
-    show_too_small(memory, 0);
-    show_too_small(memory, NUMBERS);
+    show_too_small(rt, memory, 0)?;
+    show_too_small(rt, memory, NUMBERS)
 }
 
 // One register; false at the end of the input.
-fn step() -> bool {
+fn step(rt: &(impl Input + Print)) -> io::Result<bool> {
     let mut memory = register_buffer();
-    let got = io::read_full(STDIN_FILENO, &mut memory);
+    let got = console::read_full(rt, &mut memory)?;
     if got < REGISTER_SIZE {
-        return false;
+        return Ok(false);
     }
-    show_all(&memory);
-    word(b"\n");
-    true
+    show_all(rt, &memory)?;
+    word(rt, b"\n")?;
+    Ok(true)
 }
 
-fn main() {
+fn main(rt: HostRuntime) -> io::Result<()> {
     let mut i: u32 = 0;
     while i < MAX_REGISTERS {
-        if !step() {
-            return;
+        if !step(&rt)? {
+            return Ok(());
         }
         i += 1;
     }
+    Ok(())
 }

@@ -24,7 +24,7 @@ use Rattle.held.specs.After.{After, after}
 use Rattle.held.specs.Limits.{maxEngine, maxSummaries, placeSize, summariesSize}
 use Rattle.register.specs.Layout.{maxRecords, summariesAt, recordsSize}
 use Rattle.register.specs.Register.{Register}
-use Rattle.register.specs.Memory.{decode, encode, fresh, commit, on_memory, wellFormed}
+use Rattle.register.specs.Memory.{decode, encode, fresh, commit, on_memory}
 use Rattle.register.specs.Calls.{Call, report, summary, conviction, act, isSound, runs, noneFull, convicts, keep, remaining, reports, recordsOf, summariesOf, elem}
 use Rattle.register.specs.Claims.{signersOf, HoldsExactly, SameRemains, HoldsWhatRemains, SameBytes}
 use Rattle.register.proofs.Valid.{Valid, decode-encode, formed-encode, on-encode}

@@ -2,25 +2,25 @@
 // first. The expected output is that of a second writing of document 01 (make_stdout.py).
 #![tactic(auto)]
 
-ghost use Rattle.std.specs.Prelude.{◌≡◌, ◌≤◌, length};
+ghost use Rattle.std.specs.Prelude.{◌≡◌, ◌≤◌, length, IfOk};
 
-use libc::{STDIN_FILENO, STDOUT_FILENO};
 use sessions::{MAX_INPUT, OUTPUT_SIZE};
+use std::io;
 
 // The length of the next session, and no more than one byte over what is read; so much too where no session is left.
-fn next_length() -> usize
-    ensures { result ≤ 65537 }
+fn next_length(rt: &impl Input) -> io::Result<usize>
+    ensures { IfOk result (λ n. n ≤ 65537) }
 {
     let mut four = [0u8; 4];
-    let n = io::read_full(STDIN_FILENO, &mut four);
+    let n = console::read_full(rt, &mut four)?;
     if n < 4 {
-        return MAX_INPUT + 1;
+        return Ok(MAX_INPUT + 1);
     }
     let size = octets::words::u32_at(&four, 0) as usize;
     if MAX_INPUT < size {
-        return MAX_INPUT + 1;
+        return Ok(MAX_INPUT + 1);
     }
-    size
+    Ok(size)
 }
 
 fn input_buffer() -> [u8; MAX_INPUT + 1] {
@@ -32,34 +32,34 @@ fn output_buffer() -> [u8; OUTPUT_SIZE] {
 }
 
 // Reads a session of this length; answers how many bytes came.
-fn read_session(input: &mut [u8], size: usize) -> usize
+fn read_session(rt: &impl Input, input: &mut [u8], size: usize) -> io::Result<usize>
     requires { size ≤ length input.old }
-    ensures { (result ≤ length input.old) × (length input.new ≡ length input.old) }
+    ensures bound { IfOk result (λ n. n ≤ length input.old) }
+    ensures same_length { length input.new ≡ length input.old }
 {
-    io::read_full(STDIN_FILENO, &mut input[..size])
+    console::read_full(rt, &mut input[..size])
 }
 
-fn rehearse(size: usize)
+fn rehearse(rt: &(impl Input + Print), size: usize) -> io::Result<()>
     requires { size ≤ 65537 }
 {
     let mut input = input_buffer();
-    let n = read_session(&mut input, size);
+    let n = read_session(rt, &mut input, size)?;
     let mut out = output_buffer();
     let length = sessions::run(&input[..n], &mut out);
-    io::write_all(STDOUT_FILENO, &out[..length]);
+    rt.write_all(&out[..length])
 }
 
-fn announce(number: u64) {
-    io::write_all(STDOUT_FILENO, b"case ");
-    io::print_decimal(STDOUT_FILENO, number);
-    io::write_all(STDOUT_FILENO, b"\n");
+fn announce(rt: &impl Print, number: u64) -> io::Result<()> {
+    println!(rt; "case {number}")
 }
 
-fn main() {
+fn main(rt: HostRuntime) -> io::Result<()> {
     let mut number: u64 = 1;
     while number <= 152 {
-        announce(number);
-        rehearse(next_length());
+        announce(&rt, number)?;
+        rehearse(&rt, next_length(&rt)?)?;
         number += 1;
     }
+    Ok(())
 }

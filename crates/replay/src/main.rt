@@ -10,25 +10,23 @@ use answers::{ANSWER_SIZE, INDICES_SIZE, REFUSAL_SIZE};
 use arithmetic::standing::{Agreement, Claimed, Measure};
 use geometry::linalg::Covariance;
 use items::layout::MAX_ITEMS;
-use libc::{STDIN_FILENO, STDOUT_FILENO};
+use std::io;
 
 // A claim: latitude, longitude, whether it has a height, the height, and the covariance.
 const CLAIM_SIZE: usize = 61;
 
 const CLAIMS_SIZE: usize = CLAIM_SIZE + CLAIM_SIZE;
 
-fn word(text: &[u8]) {
-    io::write_all(STDOUT_FILENO, text);
+fn word(rt: &impl Print, text: &[u8]) -> io::Result<()> {
+    rt.write_all(text)
 }
 
-fn show(n: u64) {
-    word(b" ");
-    io::print_decimal(STDOUT_FILENO, n);
+fn show(rt: &impl Print, n: u64) -> io::Result<()> {
+    print!(rt; " {n}")
 }
 
-fn show_bits(n: u64) {
-    word(b" ");
-    io::print_hex(STDOUT_FILENO, n, 16);
+fn show_bits(rt: &impl Print, n: u64) -> io::Result<()> {
+    print!(rt; " {n:016x}")
 }
 
 fn wide(x: u8) -> u64 {
@@ -84,152 +82,154 @@ fn claim(s: &[u8], at: usize) -> Claimed
 }
 
 // The bits of the chi-square and of its limit. Document 01 leaves a zero's sign free: a sum with zero has none.
-fn show_measure(m: Measure) {
-    show_bits(floats::to_bits(m.chi2 + 0.0));
-    show_bits(floats::to_bits(m.limit));
+fn show_measure(rt: &impl Print, m: Measure) -> io::Result<()> {
+    show_bits(rt, floats::to_bits(m.chi2 + 0.0))?;
+    show_bits(rt, floats::to_bits(m.limit))
 }
 
 // Where nothing was measured there is no number.
-fn show_agreement(a: Agreement) {
+fn show_agreement(rt: &impl Print, a: Agreement) -> io::Result<()> {
     match a {
-        Agreement::Inside(m) => show_measure(m),
-        Agreement::Outside(m) => show_measure(m),
-        Agreement::Unmeasurable => word(b" none none"),
+        Agreement::Inside(m) => show_measure(rt, m),
+        Agreement::Outside(m) => show_measure(rt, m),
+        Agreement::Unmeasurable => word(rt, b" none none"),
     }
 }
 
-fn agreement(s: &[u8])
+fn agreement(rt: &impl Print, s: &[u8]) -> io::Result<()>
     requires { 122 ≤ length s.now }
 {
     let smaller = claim(s, 0);
     let larger = claim(s, CLAIM_SIZE);
     let a = arithmetic::agreement(smaller, larger);
-    word(b"agreement");
-    show_agreement(a);
-    word(b"\n");
+    word(rt, b"agreement")?;
+    show_agreement(rt, a)?;
+    word(rt, b"\n")
 }
 
-fn show_indices(s: &[u8], at: usize)
+fn show_indices(rt: &impl Print, s: &[u8], at: usize) -> io::Result<()>
     requires { at + indicesSize ≤ length s.now }
 {
     let count = size(s[at]);
     let mut i = 0;
     while i < MAX_ITEMS {
         if count <= i {
-            return;
+            return Ok(());
         }
-        show(wide(s[at + 1 + i]));
+        show(rt, wide(s[at + 1 + i]))?;
         i += 1;
     }
+    Ok(())
 }
 
 // Whether there is a chi-square, and its bits.
-fn show_chi_square(s: &[u8], at: usize)
+fn show_chi_square(rt: &impl Print, s: &[u8], at: usize) -> io::Result<()>
     requires { at + chiSquareSize ≤ length s.now }
 {
     if s[at] == 0 {
-        word(b" none");
-        return;
+        return word(rt, b" none");
     }
-    show_bits(octets::words::u64_at(s, at + 1));
+    show_bits(rt, octets::words::u64_at(s, at + 1))
 }
 
-fn show_refusal(s: &[u8], at: usize)
+fn show_refusal(rt: &impl Print, s: &[u8], at: usize) -> io::Result<()>
     requires { at + refusalSize ≤ length s.now }
 {
     if s[at + 2] == 0 {
-        word(b" contested");
+        word(rt, b" contested")?;
     } else {
-        word(b" superseded");
+        word(rt, b" superseded")?;
     }
-    show(wide(s[at]));
-    show(wide(s[at + 1]));
-    show_chi_square(s, at + 3);
+    show(rt, wide(s[at]))?;
+    show(rt, wide(s[at + 1]))?;
+    show_chi_square(rt, s, at + 3)
 }
 
-fn show_refusals(s: &[u8], at: usize)
+fn show_refusals(rt: &impl Print, s: &[u8], at: usize) -> io::Result<()>
     requires { at + refusalsSize ≤ length s.now }
 {
     let count = size(s[at]);
     let mut i = 0;
     while i < MAX_ITEMS {
         if count <= i {
-            return;
+            return Ok(());
         }
-        show_refusal(s, at + 1 + i * REFUSAL_SIZE);
+        show_refusal(rt, s, at + 1 + i * REFUSAL_SIZE)?;
         i += 1;
     }
+    Ok(())
 }
 
-fn show_answer(answer: [u8; ANSWER_SIZE]) {
-    word(b" ranked");
-    show_indices(&answer, 0);
-    word(b" dominated");
-    show_indices(&answer, INDICES_SIZE);
-    word(b" refused");
-    show_refusals(&answer, INDICES_SIZE + INDICES_SIZE);
+fn show_answer(rt: &impl Print, answer: [u8; ANSWER_SIZE]) -> io::Result<()> {
+    word(rt, b" ranked")?;
+    show_indices(rt, &answer, 0)?;
+    word(rt, b" dominated")?;
+    show_indices(rt, &answer, INDICES_SIZE)?;
+    word(rt, b" refused")?;
+    show_refusals(rt, &answer, INDICES_SIZE + INDICES_SIZE)
 }
 
-fn decide(items: &[u8]) {
+fn decide(rt: &impl Print, items: &[u8]) -> io::Result<()> {
     let mut answer = [0u8; ANSWER_SIZE];
     let number = answers::decide(items, &mut answer);
-    word(b"answer");
-    show(number as u64);
-    show_answer(answer);
-    word(b"\n");
+    word(rt, b"answer")?;
+    show(rt, number as u64)?;
+    show_answer(rt, answer)?;
+    word(rt, b"\n")
 }
 
 // Two claims; false where they are cut short.
-fn agreement_case() -> bool {
+fn agreement_case(rt: &(impl Input + Print)) -> io::Result<bool> {
     let mut claims = [0u8; CLAIMS_SIZE];
-    let got = io::read_full(STDIN_FILENO, &mut claims);
+    let got = console::read_full(rt, &mut claims)?;
     if got < CLAIMS_SIZE {
-        return false;
+        return Ok(false);
     }
-    agreement(&claims);
-    true
+    agreement(rt, &claims)?;
+    Ok(true)
 }
 
 // A length and so many bytes; false where they are cut short.
-fn decide_case(buffer: &mut [u8]) -> bool {
+fn decide_case(rt: &(impl Input + Print), buffer: &mut [u8]) -> io::Result<bool> {
     let mut head = [0u8; 2];
-    let got = io::read_full(STDIN_FILENO, &mut head);
+    let got = console::read_full(rt, &mut head)?;
     if got < 2 {
-        return false;
+        return Ok(false);
     }
     let n = size(head[0]) + size(head[1]) * 256;
     if buffer.len() < n {
-        return false;
+        return Ok(false);
     }
     let part = &mut buffer[0..n];
-    let read = io::read_full(STDIN_FILENO, part);
+    let read = console::read_full(rt, part)?;
     if read < n {
-        return false;
+        return Ok(false);
     }
-    decide(&buffer[0..n]);
-    true
+    decide(rt, &buffer[0..n])?;
+    Ok(true)
 }
 
 // One case; false at the end of the input.
-fn step(buffer: &mut [u8]) -> bool {
+fn step(rt: &(impl Input + Print), buffer: &mut [u8]) -> io::Result<bool> {
     let mut kind = [0u8; 1];
-    let got = io::read_full(STDIN_FILENO, &mut kind);
+    let got = console::read_full(rt, &mut kind)?;
     if got < 1 {
-        return false;
+        return Ok(false);
     }
     if kind[0] == b'a' {
-        return agreement_case();
+        return agreement_case(rt);
     }
-    decide_case(buffer)
+    decide_case(rt, buffer)
 }
 
-fn main() {
-    let mut buffer = io::large_buffer();
+fn main(rt: HostRuntime) -> io::Result<()> {
+    let mut buffer = console::large_buffer();
     let mut i: u64 = 0;
     while i < 10000 {
-        if !step(&mut buffer) {
-            return;
+        if !step(&rt, &mut buffer)? {
+            return Ok(());
         }
         i += 1;
     }
+    Ok(())
 }

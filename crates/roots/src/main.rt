@@ -2,12 +2,11 @@
 // pseudo-random patterns. make_stdout.py makes the same inputs, and takes the roots from the machine's own square root.
 #![tactic(auto)]
 
-use libc::STDOUT_FILENO;
+use std::io;
 
-fn show(b: u64) {
+fn show(rt: &impl Print, b: u64) -> io::Result<()> {
     let r = floats::to_bits(floats::root(floats::of_bits(b)));
-    io::print_hex(STDOUT_FILENO, r, 16);
-    io::write_all(STDOUT_FILENO, b"\n");
+    println!(rt; "{r:016x}")
 }
 
 fn edge(i: u64) -> u64 {
@@ -58,12 +57,12 @@ fn edge(i: u64) -> u64 {
 }
 
 // A square that an f64 holds, and the values next to it.
-fn show_square(k: u64) {
+fn show_square(rt: &impl Print, k: u64) -> io::Result<()> {
     let n = k % 101 * 920_137;
     let b = floats::to_bits(std::num::nearest_u64_to_f64(n * n));
-    show(std::num::wrapping_sub_u64(b, 1));
-    show(b);
-    show(std::num::wrapping_add_u64(b, 1));
+    show(rt, b.wrapping_sub(1))?;
+    show(rt, b)?;
+    show(rt, b.wrapping_add(1))
 }
 
 // Marsaglia's xorshift of 64 bits.
@@ -74,28 +73,29 @@ fn next(x: u64) -> u64 {
 }
 
 // Of a number: a positive finite value of any exponent, one from 1 to below 4, and a subnormal one.
-fn show_random(x: u64, i: u64) {
-    show(x % 0x7ff0_0000_0000_0000);
-    show(0x3ff0_0000_0000_0000 + x % 0x20_0000_0000_0000);
-    show(x >> (12 + i % 50));
+fn show_random(rt: &impl Print, x: u64, i: u64) -> io::Result<()> {
+    show(rt, x % 0x7ff0_0000_0000_0000)?;
+    show(rt, 0x3ff0_0000_0000_0000 + x % 0x20_0000_0000_0000)?;
+    show(rt, x >> (12 + i % 50))
 }
 
-fn main() {
+fn main(rt: HostRuntime) -> io::Result<()> {
     let mut x: u64 = 0x9e37_79b9_7f4a_7c15;
     let mut i: u64 = 0;
     while i < 42 {
-        show(edge(i));
+        show(&rt, edge(i))?;
         i += 1;
     }
     i = 1;
     while i < 101 {
-        show_square(i);
+        show_square(&rt, i)?;
         i += 1;
     }
     i = 0;
     while i < 200 {
         x = next(x);
-        show_random(x, i);
+        show_random(&rt, x, i)?;
         i += 1;
     }
+    Ok(())
 }

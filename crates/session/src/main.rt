@@ -2,9 +2,9 @@
 // enough to know that there are more.
 #![tactic(auto)]
 
-use libc::{STDERR_FILENO, STDIN_FILENO, STDOUT_FILENO};
 use reasons::REASON_SIZE;
 use sessions::{MAX_INPUT, OUTPUT_SIZE};
+use std::io;
 
 fn input_buffer() -> [u8; MAX_INPUT + 1] {
     [0; MAX_INPUT + 1]
@@ -15,20 +15,21 @@ fn output_buffer() -> [u8; OUTPUT_SIZE] {
 }
 
 // Why the session was refused.
-fn explain(input: &[u8]) {
+fn explain(to: &impl Print, input: &[u8]) -> io::Result<()> {
     let mut text = [0u8; REASON_SIZE];
     let n = reasons::reason(input, &mut text);
-    io::write_all(STDERR_FILENO, &text[..n]);
+    to.write_all(&text[..n])
 }
 
 // A session that is refused, and no other, prints `refused=` first (reasons specs/Claims).
-fn main() {
+fn main(rt: HostRuntime) -> io::Result<()> {
     let mut input = input_buffer();
-    let n = io::read_full(STDIN_FILENO, &mut input);
+    let n = console::read_full(&rt, &mut input)?;
     let mut out = output_buffer();
     let size = sessions::run(&input[..n], &mut out);
-    io::write_all(STDOUT_FILENO, &out[..size]);
+    rt.write_all(&out[..size])?;
     if out[0] == b'r' {
-        explain(&input[..n]);
+        explain(&rt.stderr(), &input[..n])?;
     }
+    Ok(())
 }

@@ -7,9 +7,9 @@
 // call of another kind, ends the work.
 #![tactic(auto)]
 
-use libc::{STDIN_FILENO, STDOUT_FILENO};
 use models::layout::{ENGINE_AT, INPUTS_AT, MODEL_AT, SPEC_AT, SUMMARY_SIZE};
 use record::layout::RECORD_SIZE;
+use std::io;
 use stored::layout::TRACK_SIZE;
 
 // More lists than these are not read.
@@ -23,8 +23,8 @@ const LISTING_SIZE: usize = 16384;
 
 const GREATEST_REFUSAL: u32 = 10;
 
-fn word(text: &[u8]) {
-    io::write_all(STDOUT_FILENO, text);
+fn word(rt: &impl Print, text: &[u8]) -> io::Result<()> {
+    rt.write_all(text)
 }
 
 fn wide(x: u8) -> u32 {
@@ -52,56 +52,55 @@ fn hex(hash: [u8; 32]) -> [u8; 64] {
     text
 }
 
-fn show_answer(answer: u32) {
-    word(b"answer=");
-    io::print_decimal(STDOUT_FILENO, answer as u64);
+fn show_answer(rt: &impl Print, answer: u32) -> io::Result<()> {
+    print!(rt; "answer={answer}")
 }
 
 // An answer, and the track that it leaves.
-fn show(answer: u32, memory: &[u8]) {
-    show_answer(answer);
-    word(b" hash=");
-    word(&hex(hashing::blake2s256(memory)));
-    word(b"\n");
+fn show(rt: &impl Print, answer: u32, memory: &[u8]) -> io::Result<()> {
+    show_answer(rt, answer)?;
+    word(rt, b" hash=")?;
+    word(rt, &hex(hashing::blake2s256(memory)))?;
+    word(rt, b"\n")
 }
 
 // A report; false where it is cut short.
-fn report(memory: &mut [u8]) -> bool {
+fn report(rt: &(impl Input + Print), memory: &mut [u8]) -> io::Result<bool> {
     let mut fields = [0u8; REPORT_SIZE];
-    let got = io::read_full(STDIN_FILENO, &mut fields);
+    let got = console::read_full(rt, &mut fields)?;
     if got < REPORT_SIZE {
-        return false;
+        return Ok(false);
     }
     let answer = track::reports::report(memory, wide(fields[0]), &fields[1..]);
-    show(answer, memory);
-    true
+    show(rt, answer, memory)?;
+    Ok(true)
 }
 
 // A summary; false where it is cut short.
-fn summary(memory: &mut [u8]) -> bool {
+fn summary(rt: &(impl Input + Print), memory: &mut [u8]) -> io::Result<bool> {
     let mut fields = [0u8; SUMMARY_SIZE];
-    let got = io::read_full(STDIN_FILENO, &mut fields);
+    let got = console::read_full(rt, &mut fields)?;
     if got < SUMMARY_SIZE {
-        return false;
+        return Ok(false);
     }
     let engine = wide(fields[ENGINE_AT]);
     let model = wide(fields[MODEL_AT]);
     let spec = octets::words::u16_at(&fields, SPEC_AT);
     let answer = track::summaries::summary(memory, engine, model, spec, &fields[INPUTS_AT..]);
-    show(answer, memory);
-    true
+    show(rt, answer, memory)?;
+    Ok(true)
 }
 
 // A conviction; false where it is cut short.
-fn conviction(memory: &mut [u8]) -> bool {
+fn conviction(rt: &(impl Input + Print), memory: &mut [u8]) -> io::Result<bool> {
     let mut fields = [0u8; 1];
-    let got = io::read_full(STDIN_FILENO, &mut fields);
+    let got = console::read_full(rt, &mut fields)?;
     if got < 1 {
-        return false;
+        return Ok(false);
     }
     let answer = track::convictions::conviction(memory, wide(fields[0]));
-    show(answer, memory);
-    true
+    show(rt, answer, memory)?;
+    Ok(true)
 }
 
 fn output_buffer() -> [u8; LISTING_SIZE] {
@@ -109,35 +108,34 @@ fn output_buffer() -> [u8; LISTING_SIZE] {
 }
 
 // A listing, or the number that it is refused with.
-fn show_listing(memory: &[u8]) {
+fn show_listing(rt: &impl Print, memory: &[u8]) -> io::Result<()> {
     let mut out = output_buffer();
     let answer = listing::listing(memory, &mut out);
     if answer <= GREATEST_REFUSAL {
-        show_answer(answer);
-        word(b"\n");
-        return;
+        show_answer(rt, answer)?;
+        return word(rt, b"\n");
     }
     let n = answer as usize;
-    word(&out[..n]);
+    word(rt, &out[..n])
 }
 
 // One call; false where it is cut short, or is of no kind.
-fn call(memory: &mut [u8]) -> bool {
+fn call(rt: &(impl Input + Print), memory: &mut [u8]) -> io::Result<bool> {
     let mut kind = [0u8; 1];
-    let got = io::read_full(STDIN_FILENO, &mut kind);
+    let got = console::read_full(rt, &mut kind)?;
     if got < 1 {
-        return false;
+        return Ok(false);
     }
     let k = kind[0];
     match k {
-        0 => report(memory),
-        1 => summary(memory),
-        2 => conviction(memory),
+        0 => report(rt, memory),
+        1 => summary(rt, memory),
+        2 => conviction(rt, memory),
         3 => {
-            show_listing(memory);
-            true
+            show_listing(rt, memory)?;
+            Ok(true)
         }
-        _ => false,
+        _ => Ok(false),
     }
 }
 
@@ -146,38 +144,39 @@ fn fresh_track() -> [u8; TRACK_SIZE] {
 }
 
 // So many calls on a fresh track; false where one is cut short.
-fn run(count: u16) -> bool {
+fn run(rt: &(impl Input + Print), count: u16) -> io::Result<bool> {
     let mut memory = fresh_track();
     let mut i: u16 = 0;
     while i < count {
-        if !call(&mut memory) {
-            return false;
+        if !call(rt, &mut memory)? {
+            return Ok(false);
         }
         i += 1;
     }
-    true
+    Ok(true)
 }
 
 // One list; false at the end of the input, and where the list is cut short.
-fn replay() -> bool {
+fn replay(rt: &(impl Input + Print)) -> io::Result<bool> {
     let mut head = [0u8; 2];
-    let got = io::read_full(STDIN_FILENO, &mut head);
+    let got = console::read_full(rt, &mut head)?;
     if got < 2 {
-        return false;
+        return Ok(false);
     }
-    if !run(octets::words::u16_at(&head, 0)) {
-        return false;
+    if !run(rt, octets::words::u16_at(&head, 0))? {
+        return Ok(false);
     }
-    word(b"\n");
-    true
+    word(rt, b"\n")?;
+    Ok(true)
 }
 
-fn main() {
+fn main(rt: HostRuntime) -> io::Result<()> {
     let mut i: u32 = 0;
     while i < MAX_LISTS {
-        if !replay() {
-            return;
+        if !replay(&rt)? {
+            return Ok(());
         }
         i += 1;
     }
+    Ok(())
 }

@@ -1,7 +1,4 @@
-use lib.ListN.{length, length-set}
-use mathlib.Core.Path.{◌≡◌, refl}
-use Prim.Native.Nat.{◌-◌, ◌≤◌}
-use native.Mathlib.Omega.{arith}
+use Rattle.std.proofs.Common.{◌≡◌, ◌-◌, ◌≤◌, length}
 use Rattle.digests.proofs.fill.Given as goal
 
 abbrev pub invariant-loop-i : goal.invariant-loop-i

@@ -1,5 +1,4 @@
-use Prim.Native.Nat.{◌-◌, ◌≤◌}
-use native.Mathlib.Omega.{arith}
+use Rattle.std.proofs.Common.{◌-◌, ◌≤◌}
 use Rattle.digests.proofs.hex_line.Given as goal
 
 abbrev pub invariant-loop-i : goal.invariant-loop-i

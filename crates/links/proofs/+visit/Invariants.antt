@@ -13,7 +13,7 @@ abbrev pub decreases-visit : goal.decreases-visit
 decreases-visit l = unmarked l.marks.now
 
 abbrev pub invariant-loop-j : goal.invariant-loop-j
-invariant-loop-j t l =
+invariant-loop-j l =
     let v = W.visit (link_at l.t) l.n (unmarked l.initial.marks) in
     (l.j ≤ l.n) × (length l.marks ≡ maxFixes) × (length l.labels ≡ maxFixes) × Progress l.s l.initial.marks l.marks l.initial.labels l.labels × (each v (link_at l.t l.i) l.initial.marks 0 l.n ≡ each v (link_at l.t l.i) l.marks l.j (l.n - l.j))
 

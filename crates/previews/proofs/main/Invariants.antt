@@ -1,7 +1,4 @@
-use Prim.Native.Nat.{◌-◌, ◌≤◌}
-use Rattle.previews.proofs.main.Reads as reads
-use Rattle.previews.proofs.main.Lts as lts
-use Rattle.previews.proofs.step.Reads as step-reads
+use Rattle.std.proofs.Common.{◌-◌, ◌≤◌}
 use Rattle.previews.proofs.main.Given as goal
 
 abbrev pub invariant-loop-i : goal.invariant-loop-i

@@ -1,8 +1,4 @@
-use Prim.Native.Nat.{◌-◌, ◌≤◌}
-use Rattle.tracks.proofs.hex.Reads as reads
-use Rattle.tracks.proofs.hex.Lts as lts
-use Rattle.tracks.proofs.high.Reads as high-reads
-use Rattle.tracks.proofs.low.Reads as low_reads
+use Rattle.std.proofs.Common.{◌-◌, ◌≤◌}
 use Rattle.tracks.proofs.hex.Given as goal
 
 abbrev pub invariant-loop-i : goal.invariant-loop-i

@@ -1,7 +1,4 @@
-use Prim.Native.Nat.{◌-◌, ◌≤◌}
-use Rattle.tracks.proofs.main.Reads as reads
-use Rattle.tracks.proofs.main.Lts as lts
-use Rattle.tracks.proofs.replay.Reads as replay-reads
+use Rattle.std.proofs.Common.{◌-◌, ◌≤◌}
 use Rattle.tracks.proofs.main.Given as goal
 
 abbrev pub invariant-loop-i : goal.invariant-loop-i

@@ -1,11 +1,8 @@
 use Prim.Native.Nat.{◌+◌, ◌-◌, ◌≤◌}
-use mathlib.Core.Path.{◌≡◌, refl, ◌∙◌}
-use native.Mathlib.Omega.{arith}
-use lib.ListN.{length, get_or, take}
+use mathlib.Core.Path.{◌≡◌}
+use lib.ListN.{length, take}
 use Rattle.text.specs.Buffer.{Put}
-use Rattle.text.proofs.Writing.{put-put, put_as, put-length}
 use Rattle.values.specs.Values as Val
-use Rattle.grammar.proofs.Filling.{byte_put, words-none, words-all, words_more, put_next}
 use Rattle.grammar.proofs.records.put_low.Given as goal
 
 abbrev pub invariant-loop-i : goal.invariant-loop-i

@@ -1,14 +1,8 @@
-use Prim.Native.Nat.{ℕ, ◌+◌, ◌-◌, ◌≤◌}
-use mathlib.Core.Path.{◌≡◌, sym, ap, ◌∙◌}
-use mathlib.Core.List.{List}
-use native.Mathlib.Omega.{arith}
-use lib.ListN.{length, drop, length-drop}
-use Rattle.register.specs.Calls.{Call}
-use Rattle.grammar.specs.declared.keyed.Cursor.{Cursor}
-use Rattle.grammar.specs.Reading.{bad, good}
-use Rattle.grammar.specs.Grammar.{readOperation}
+use Prim.Native.Nat.{◌+◌, ◌-◌, ◌≤◌}
+use mathlib.Core.Path.{◌≡◌}
+use lib.ListN.{length, drop}
 use Rattle.grammar.specs.Cursors as C
-use Rattle.grammar.proofs.Whole.{goes_on, badFrom, bad-start, bad-end, bad-here, bad-next}
+use Rattle.grammar.proofs.Whole.{badFrom}
 use Rattle.grammar.proofs.sessions.first_bad.Given as goal
 
 abbrev pub invariant-loop-at : goal.invariant-loop-at

@@ -1,9 +1,6 @@
-use Prim.Native.Nat.{◌-◌, ◌*◌}
-use mathlib.Core.Path.{◌∙◌}
-use native.Mathlib.Omega.{arith}
-use Rattle.held.specs.Limits.{placeSize}
-use Rattle.held.proofs.Striking.{Left, left-none, left-lower, left-ends, left-inside, left-gone, left-stays, left-cleared}
-use Rattle.register.proofs.Striking.{recordsWithout, unsigned, still-signed, changed-there}
+use Prim.Native.Nat.{◌-◌}
+use Rattle.held.proofs.Striking.{Left}
+use Rattle.register.proofs.Striking.{recordsWithout}
 use Rattle.register.proofs.convictions.strike_records.Given as goal
 
 abbrev pub invariant-loop-i : goal.invariant-loop-i

@@ -1,0 +1,43 @@
+use Prim.Native.Nat.{◌-◌, ◌≤◌}
+use mathlib.Core.Path.{◌≡◌, refl, sym, ap, ◌∙◌}
+use native.Mathlib.Omega.{arith}
+use lib.ListN.{length, length-set}
+use borrow.Author.Rules.{rules}
+use Rattle.ranges.specs.Lists.{filter, countFrom, up_to}
+use Rattle.ranges.specs.Range.{Holds}
+use Rattle.ranges.proofs.Bools.{not_t, not-false-t}
+use Rattle.ranges.proofs.Searches.{holds-none, listed-hit, listed-miss, listed-done}
+use Rattle.items.specs.Layout.{maxItems}
+use Rattle.rule.specs.Standing as S
+use Rattle.rule.specs.Related.{itemRelations}
+use Rattle.rule.specs.Rule as R
+use Rattle.decision.specs.Answer.{indices}
+use Rattle.decision.proofs.Arrays.{held-indices}
+use Rattle.decision.proofs.Passed.{outcome-is}
+use Rattle.decision.proofs.settled.dominated.Goals as goal
+
+pub loop-i-init : goal.loop-i-init
+unfolding countFrom filter
+loop-i-init c = (omega arith, refl, omega arith, holds-none maxItems 0)
+
+pub loop-i-preserved-then-not-dominated_at : goal.loop-i-preserved-then-not-dominated_at
+loop-i-preserved-then-not-dominated_at c =
+    let v = c.loop-i.invariant in
+    (omega arith, v.1, omega arith, listed-miss _ _ _ _ _ v.3 (sym c.dominated_at.ensures ∙ c.if-not-dominated_at.true))
+
+pub loop-i-preserved : goal.loop-i-preserved
+loop-i-preserved c =
+    let v = c.loop-i.invariant in (
+      omega arith,
+      simp length-set v.1,
+      omega arith,
+      listed-hit _ _ _ _ _ v.3 (omega arith) (sym c.dominated_at.ensures ∙ c.if-not-dominated_at.false),
+    )
+
+pub returns : goal.returns
+unfolding S.decide
+returns c =
+    let v = c.loop-i.invariant in
+    let p = c.requires in
+    held-indices _ _ (listed-done _ _ _ _ _ v.3 _ v.0 c.loop-i-test.false)
+    ∙ ap (λ o. indices o.dominated) (sym (outcome-is _ _ p.whole.long))

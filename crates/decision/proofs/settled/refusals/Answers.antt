@@ -1,0 +1,36 @@
+use Prim.Native.Nat.{◌-◌, ◌≤◌}
+use mathlib.Core.Path.{◌≡◌, refl}
+use native.Mathlib.Omega.{arith}
+use lib.ListN.{length, length-set}
+use borrow.Author.Rules.{rules}
+use Rattle.ranges.specs.Range.{Holds}
+use Rattle.ranges.proofs.Searches.{holds-none, holds_more}
+use Rattle.items.specs.Layout.{maxItems}
+use Rattle.items.specs.Pairs.{Prepared}
+use Rattle.rule.specs.Related.{itemRelations}
+use Rattle.decision.specs.Answer.{noRefusal}
+use Rattle.decision.specs.Working.{Settled}
+use Rattle.decision.proofs.Arrays.{held-refusals}
+use Rattle.decision.proofs.Findings.{refusedTo, none-refused, found_none, found-one, all-refused}
+use Rattle.decision.proofs.settled.refusals.Goals as goal
+
+pub loop-i-init : goal.loop-i-init
+loop-i-init c = (omega arith, refl, omega arith, rw none-refused (holds-none maxItems noRefusal))
+
+pub loop-i-preserved-in_default : goal.loop-i-preserved-in_default
+loop-i-preserved-in_default c =
+    let v = c.loop-i.invariant in
+    (omega arith, v.1, omega arith, rw (found_none _ _ _ _ c.refusal_of-found.ensures c.in_default.is) v.3)
+
+pub loop-i-preserved : goal.loop-i-preserved
+loop-i-preserved c =
+    let settled : Prepared c.args.s.now c.args.table.now c.args.n × Settled c.args.s.now c.args.n c.args.codes.now c.args.m = c.requires in
+    let v = c.loop-i.invariant in
+    let h = settled.1.whole.few in
+    (omega arith, simp length-set v.1, omega arith, rw (found-one _ _ _ _ c.refusal_of-found.ensures _ c.in-Refused.is) (holds_more maxItems noRefusal _ _ _ _ (omega arith) v.3))
+
+pub returns : goal.returns
+returns c =
+    let settled : Prepared c.args.s.now c.args.table.now c.args.n × Settled c.args.s.now c.args.n c.args.codes.now c.args.m = c.requires in
+    let v = c.loop-i.invariant in
+    held-refusals _ _ (rw (all-refused _ _ _ settled.1.whole.long v.0 c.loop-i-test.false) at v.3)

@@ -1,0 +1,21 @@
+use Prim.Native.Nat.{◌-◌, ◌≤◌}
+use mathlib.Core.Path.{◌≡◌, sym, ◌∙◌}
+use mathlib.Core.Bool.{not}
+use native.Mathlib.Omega.{arith}
+use lib.ListN.{get_or}
+use Rattle.ranges.specs.Range.{first}
+use Rattle.ranges.proofs.Range.{first-start, first-hit, first-miss, first-end}
+use Rattle.keeping.specs.Working.{lowerRefusal, unread}
+use mathlib.Core.Path.{ap}
+use Rattle.keeping.proofs.place_in.Goals as goal
+
+pub returns-then-not-lower : goal.returns-then-not-lower
+returns-then-not-lower c =
+    sym (c.loop-i.invariant.1 ∙ first-hit _ _ _ c.loop-i-test.true (rw (sym c.lower.ensures) (ap not c.if-not-lower.true)))
+
+pub loop-i-preserved : goal.loop-i-preserved
+loop-i-preserved c =
+    (omega arith, c.loop-i.invariant.1 ∙ first-miss _ _ _ c.loop-i-test.true (rw (sym c.lower.ensures) (ap not c.if-not-lower.false)))
+
+pub returns : goal.returns
+returns c = sym (c.loop-i.invariant.1 ∙ first-end _ _ _ c.loop-i-test.false)

@@ -1,0 +1,38 @@
+use Prim.Native.Nat.{ℕ, ◌-◌, ◌*◌, ◌≤◌, ◌<◌}
+use mathlib.Core.Path.{◌≡◌, sym, ap, ◌∙◌}
+use mathlib.Core.List.{map}
+use native.Mathlib.Omega.{arith}
+use lib.ListN.{length, take, replicate, length-replicate}
+use lib.Seq.{length-take-le}
+use Rattle.places.specs.Places.{flat}
+use Rattle.text.specs.Buffer.{Put}
+use Rattle.text.proofs.Writing.{put-put, put_as, put-none, put-length}
+use Rattle.tracked.specs.Layout.{maxRefused, refusedSize}
+use Rattle.tracked.specs.Bytes.{refusedBytes}
+use Rattle.keeping.specs.Working.{itemRefused, unread}
+use Rattle.keeping.proofs.Tabled.{flat-more, put-table, map-length}
+use Rattle.keeping.proofs.write_refused.Goals as goal
+
+pub loop-i-init : goal.loop-i-init
+unfolding flat
+loop-i-init c = (omega arith, omega arith, put-none _ _)
+
+pub loop-i-preserved : goal.loop-i-preserved
+loop-i-preserved c =
+    let in_list : c.args.l.count ≤ length c.args.l.list = omega (arith, c.requires.sized.0.size, c.requires.sized.0.few) in
+    let p = c.put_refusal-at.ensures in
+    let h : c.loop-i.i < length c.args.l.list = omega (arith, in_list) in (
+      omega arith,
+      omega (arith, p.0),
+      put_as (flat-more refusedBytes (itemRefused c.args.s.now c.args.g.now) c.args.l.list c.loop-i.i unread h) (put-put c.loop-i.invariant.2 p.1),
+    )
+
+pub returns : goal.returns
+returns c =
+    let zeros : c.clear.new.s ≡ replicate (maxRefused * refusedSize) 0 = c.clear.ensures ∙ ap (λ (n : ℕ). replicate n 0) c.requires.t_len in
+    let in_list : c.args.l.count ≤ length c.args.l.list = omega (arith, c.requires.sized.0.size, c.requires.sized.0.few) in
+    let e : c.loop-i.i ≡ c.args.l.count = omega arith in
+    let ps = map refusedBytes (map (itemRefused c.args.s.now c.args.g.now) (take c.args.l.count c.args.l.list)) in
+    let n : length ps ≡ c.args.l.count = map-length refusedBytes (itemRefused c.args.s.now c.args.g.now) (take c.args.l.count c.args.l.list) ∙ length-take-le c.args.l.count c.args.l.list in_list in
+    let p = rw e at c.loop-i.invariant.2 in
+    put-table refusedSize maxRefused ps p zeros (omega (arith, p.next, c.loop-i.invariant.1)) (omega (arith, c.requires.sized.0.few))

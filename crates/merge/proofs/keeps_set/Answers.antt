@@ -1,0 +1,50 @@
+use Prim.Native.Nat.{ℕ, ◌+◌, ◌-◌, ◌≤◌, ◌<◌}
+use mathlib.Core.Path.{◌≡◌, refl, sym, ap, ◌∙◌}
+use mathlib.Core.List.{List, []}
+use native.Mathlib.Omega.{arith}
+use lib.ListN.{length, get_or, drop}
+use Rattle.ranges.specs.Lists.{any_of}
+use Rattle.shown.proofs.Indexed.{at_in}
+use Rattle.tracked.specs.Bytes.{fixCount}
+use Rattle.tracked.specs.Parts.{Sound, heldCount}
+use Rattle.tracked.proofs.Searching.{any_here, any-on, any-over}
+use Rattle.arrange.specs.Blocks.{blocks}
+use Rattle.arrange.proofs.Settling.{count-is, within, block_at, sound-at}
+use Rattle.tracked.specs.Parts.{sameSet}
+use Rattle.merge.specs.Searching.{firstHeld, keepsSet}
+use Rattle.merge.proofs.keeps_set.Goals as goal
+
+pub held-requires : goal.held-requires
+held-requires c =
+    let bs : List (List ℕ) = blocks c.args.n c.args.t.now in
+    let b : List ℕ = get_or bs c.loop-i.i [] in
+    let among : c.loop-i.i < length bs = rw (count-is c.args.t.now c.args.n c.requires.filled.0) c.loop-i-test.true in
+    let b-sound : Sound b = sound-at c.args.t.now c.args.n c.requires.filled.0 c.loop-i.i c.loop-i-test.true in
+    let b-some : 0 < heldCount b = let f = c.requires.filled.1 b (at_in [] bs c.loop-i.i among) in omega (arith, f) in
+    let block-is : c.block.result.now ≡ b = c.block.ensures.0 ∙ block_at c.args.t.now c.args.n c.requires.filled.0 c.loop-i.i c.loop-i-test.true in
+    let both = rw block-is (b-sound, b-some) in
+    record {sound = both.0; k_bound = both.1}
+
+pub returns-then-same_set : goal.returns-then-same_set
+returns-then-same_set c =
+    let bs : List (List ℕ) = blocks c.args.n c.args.t.now in
+    let b : List ℕ = get_or bs c.loop-i.i [] in
+    let among : c.loop-i.i < length bs = rw (count-is c.args.t.now c.args.n c.requires.filled.0) c.loop-i-test.true in
+    let block-is : c.block.result.now ≡ b = c.block.ensures.0 ∙ block_at c.args.t.now c.args.n c.requires.filled.0 c.loop-i.i c.loop-i-test.true in
+    let asked : c.same_set.result ≡ keepsSet c.args.f.now b = c.same_set.ensures ∙ ap (λ (x : List ℕ). sameSet x c.args.f.now) (c.held.ensures.0 ∙ ap firstHeld block-is) in
+    sym (c.loop-i.invariant.1 ∙ any_here (keepsSet c.args.f.now) bs c.loop-i.i [] among (sym asked ∙ c.if-same_set.true))
+
+pub loop-i-preserved : goal.loop-i-preserved
+loop-i-preserved c =
+    let bs : List (List ℕ) = blocks c.args.n c.args.t.now in
+    let b : List ℕ = get_or bs c.loop-i.i [] in
+    let among : c.loop-i.i < length bs = rw (count-is c.args.t.now c.args.n c.requires.filled.0) c.loop-i-test.true in
+    let block-is : c.block.result.now ≡ b = c.block.ensures.0 ∙ block_at c.args.t.now c.args.n c.requires.filled.0 c.loop-i.i c.loop-i-test.true in
+    let asked : c.same_set.result ≡ keepsSet c.args.f.now b = c.same_set.ensures ∙ ap (λ (x : List ℕ). sameSet x c.args.f.now) (c.held.ensures.0 ∙ ap firstHeld block-is) in
+    (omega (arith, c.loop-i-test.true), c.loop-i.invariant.1 ∙ any-on (keepsSet c.args.f.now) bs c.loop-i.i [] among (sym asked ∙ c.if-same_set.false))
+
+pub returns : goal.returns
+returns c =
+    let bs : List (List ℕ) = blocks c.args.n c.args.t.now in
+    let bs = blocks c.args.n c.args.t.now in
+    sym (c.loop-i.invariant.1 ∙ any-over (keepsSet c.args.f.now) bs c.loop-i.i (rw (count-is c.args.t.now c.args.n c.requires.filled.0) (omega (arith, c.loop-i-test.false))))

@@ -1,0 +1,71 @@
+use Prim.Native.Nat.{ℕ, ◌+◌, ◌*◌, ◌-◌, ◌≤◌, ◌<◌}
+use mathlib.Core.Path.{◌≡◌, refl, sym, ap, ◌∙◌}
+use mathlib.Core.Bool.{Bool, true}
+use mathlib.Core.List.{List, [], map}
+use native.Mathlib.Omega.{arith}
+use lib.ListN.{length, drop, get_or}
+use Rattle.ranges.specs.Lists.{any_of}
+use Rattle.ranges.proofs.Lists.{any-map}
+use Rattle.places.specs.Places.{places}
+use Rattle.models.specs.Summary.{summarySize}
+use Rattle.held.specs.Limits.{maxSummaries}
+use Rattle.tracked.specs.Layout.{transmissionSize}
+use Rattle.tracked.specs.Bytes.{transmissionIn}
+use Rattle.stored.specs.Layout.{transmissionCountAt}
+use Rattle.stored.specs.Memory.{summaryCount, summaryTable, summariesIn, transmissionCount, transmissionPlaces}
+use Rattle.stored.specs.Steps.{block_at}
+use Rattle.stored.proofs.Changing.{any_here, any-later, any-past}
+use Rattle.stored.proofs.Opened.{Opened, opened, transmissions-length, placeAt, at_place, place-room, sound-at}
+use Rattle.recheck.specs.Recheck.{hasStale}
+use Rattle.recheck.proofs.rechecks.any_stale.Goals as goal
+
+-- some fix of a transmission does not stand
+abbrev test : List ℕ → List ℕ → Bool
+test m b = hasStale (summariesIn m) (transmissionIn b)
+
+pub u16_at-n-requires : goal.u16_at-n-requires
+u16_at-n-requires c = omega (arith, (opened c.args.memory.now c.requires).size)
+
+pub bounds-memory-6 : goal.bounds-memory-6
+bounds-memory-6 c = omega (arith, (opened c.args.memory.now c.requires).size)
+
+pub has_stale-requires : goal.has_stale-requires
+has_stale-requires c =
+    let m : List ℕ = c.args.memory.now in
+    let o : Opened m = opened m c.requires in
+    let n : ℕ = c.u16_at-n.result in
+    let n-is : n ≡ summaryCount m = c.u16_at-n.ensures in
+    let h = c.loop-i-test.true in
+    record {n_le_max_summaries = (rw n-is o.few-summaries, rw c.loop-i.invariant.0 (omega arith), rw c.loop-i.invariant.0 (place-room m o c.loop-i.i h)); sound = rw c.loop-i.invariant.0 (sound-at m o c.loop-i.i h)}
+
+pub returns-then-has_stale : goal.returns-then-has_stale
+returns-then-has_stale c =
+    let m : List ℕ = c.args.memory.now in
+    let o : Opened m = opened m c.requires in
+    let n : ℕ = c.u16_at-n.result in
+    let n-is : n ≡ summaryCount m = c.u16_at-n.ensures in
+    let whole : any_of (hasStale (summariesIn m)) (map transmissionIn (transmissionPlaces m)) ≡ any_of (test m) (drop c.loop-i.i (transmissionPlaces m)) = any-map transmissionIn (test m) (hasStale (summariesIn m)) (transmissionPlaces m) (λ b i. refl) ∙ c.loop-i.invariant.1 in
+    let among : c.loop-i.i < length (transmissionPlaces m) = rw (transmissions-length m o) c.loop-i-test.true in
+    let told : c.has_stale.result ≡ test m (get_or (transmissionPlaces m) c.loop-i.i []) = c.has_stale.ensures
+    ∙ ap (λ (k : ℕ). hasStale (places summarySize k (summaryTable (m c))) (transmissionIn (block_at c.loop-i.at (m c)))) (n-is c)
+    ∙ ap (test (m c)) (ap (λ (k : ℕ). block_at k (m c)) c.loop-i.invariant.0 ∙ at_place (transmissionCount (m c)) c.loop-i.i (m c) c.loop-i-test.true) in
+    sym (whole ∙ sym (any_here (test m) [] (transmissionPlaces m) c.loop-i.i among _ told c.if-has_stale.true))
+
+pub loop-i-preserved : goal.loop-i-preserved
+loop-i-preserved c =
+    let m : List ℕ = c.args.memory.now in
+    let o : Opened m = opened m c.requires in
+    let n : ℕ = c.u16_at-n.result in
+    let n-is : n ≡ summaryCount m = c.u16_at-n.ensures in
+    let among : c.loop-i.i < length (transmissionPlaces m) = rw (transmissions-length m o) c.loop-i-test.true in
+    let told : c.has_stale.result ≡ test m (get_or (transmissionPlaces m) c.loop-i.i []) = c.has_stale.ensures
+    ∙ ap (λ (k : ℕ). hasStale (places summarySize k (summaryTable (m c))) (transmissionIn (block_at c.loop-i.at (m c)))) (n-is c)
+    ∙ ap (test (m c)) (ap (λ (k : ℕ). block_at k (m c)) c.loop-i.invariant.0 ∙ at_place (transmissionCount (m c)) c.loop-i.i (m c) c.loop-i-test.true) in
+    (omega (arith, c.loop-i.invariant.0), c.loop-i.invariant.1 ∙ any-later (test m) [] (transmissionPlaces m) c.loop-i.i among _ told c.if-has_stale.false)
+
+pub returns : goal.returns
+returns c =
+    let m : List ℕ = c.args.memory.now in
+    let o : Opened m = opened m c.requires in
+    let whole : any_of (hasStale (summariesIn m)) (map transmissionIn (transmissionPlaces m)) ≡ any_of (test m) (drop c.loop-i.i (transmissionPlaces m)) = any-map transmissionIn (test m) (hasStale (summariesIn m)) (transmissionPlaces m) (λ b i. refl) ∙ c.loop-i.invariant.1 in
+    sym (whole ∙ sym (any-past (test m) [] (transmissionPlaces m) c.loop-i.i (rw (transmissions-length m o) c.loop-i-test.false)))

@@ -1,0 +1,61 @@
+use Prim.Native.Nat.{ℕ, ◌+◌, ◌-◌, ◌<◌}
+use mathlib.Core.Path.{◌≡◌, refl, sym, ap, ◌∙◌}
+use mathlib.Core.Bool.{Bool, not}
+use mathlib.Core.List.{List, []}
+use native.Mathlib.Omega.{arith}
+use lib.ListN.{length, drop, get_or}
+use Rattle.ranges.specs.Lists.{any_of}
+use Rattle.places.specs.Places.{places}
+use Rattle.models.specs.Summary.{summarySize}
+use Rattle.shown.specs.Fix.{Fix}
+use Rattle.tracked.specs.Held.{heldIn}
+use Rattle.tracked.specs.Bytes.{fixIn, transmissionIn}
+use Rattle.tracked.specs.Parts.{heldCount, Sound}
+use Rattle.stored.specs.Memory.{summaryTable}
+use Rattle.stored.specs.Steps.{block_at}
+use Rattle.stored.proofs.Changing.{any_here, any-later, any-past}
+use Rattle.stored.proofs.Resigning.{fixes-count, held-fix}
+use Rattle.recheck.specs.Recheck.{stands}
+use Rattle.recheck.proofs.Standing.{lent-block}
+use Rattle.recheck.proofs.rechecks.has_stale.Goals as goal
+
+-- of the fixes held at a byte, where n summaries count
+abbrev stale : List ℕ → ℕ → Fix → Bool
+stale m n f = not (stands (places summarySize n (summaryTable m)) f)
+
+abbrev fixesAt : List ℕ → ℕ → List Fix
+fixesAt m at = heldIn (transmissionIn (block_at at m))
+
+pub held_count-count-requires : goal.held_count-count-requires
+held_count-count-requires c = rw (lent-block c.args.at c.args.memory.now) c.requires.sound
+
+pub stands_at-requires : goal.stands_at-requires
+stands_at-requires c =
+    let counted : c.held_count-count.result ≡ length (fixesAt c.args.memory.now c.args.at) = c.held_count-count.ensures ∙ ap heldCount (lent-block c.args.at c.args.memory.now) ∙ sym (fixes-count (block_at c.args.at c.args.memory.now)) in
+    let fs : List Fix = fixesAt c.args.memory.now c.args.at in
+    let among : c.loop-k.k < length fs = rw counted at c.loop-k-test.true in
+    let within : c.loop-k.k < heldCount (block_at c.args.at c.args.memory.now) = rw (fixes-count (block_at c.args.at c.args.memory.now)) at among in
+    record {n_le_max_summaries = c.requires.n_le_max_summaries; sound = (c.requires.sound, within)}
+
+pub returns-then-not-stands_at : goal.returns-then-not-stands_at
+returns-then-not-stands_at c =
+    let counted : c.held_count-count.result ≡ length (fixesAt c.args.memory.now c.args.at) = c.held_count-count.ensures ∙ ap heldCount (lent-block c.args.at c.args.memory.now) ∙ sym (fixes-count (block_at c.args.at c.args.memory.now)) in
+    let test : Fix → Bool = stale c.args.memory.now c.args.n in
+    let fs : List Fix = fixesAt c.args.memory.now c.args.at in
+    let among : c.loop-k.k < length fs = rw counted at c.loop-k-test.true in
+    let told : not c.stands_at.result ≡ test (get_or fs c.loop-k.k (fixIn [])) = ap not c.stands_at.ensures ∙ ap test (sym (held-fix (block_at c.args.at c.args.memory.now) c.loop-k.k)) in
+    sym (c.loop-k.invariant ∙ sym (any_here test (fixIn []) fs c.loop-k.k among _ told (ap not c.if-not-stands_at.true)))
+
+pub loop-k-preserved : goal.loop-k-preserved
+loop-k-preserved c =
+    let counted : c.held_count-count.result ≡ length (fixesAt c.args.memory.now c.args.at) = c.held_count-count.ensures ∙ ap heldCount (lent-block c.args.at c.args.memory.now) ∙ sym (fixes-count (block_at c.args.at c.args.memory.now)) in
+    let test : Fix → Bool = stale c.args.memory.now c.args.n in
+    let fs : List Fix = fixesAt c.args.memory.now c.args.at in
+    let among : c.loop-k.k < length fs = rw counted at c.loop-k-test.true in
+    let told : not c.stands_at.result ≡ test (get_or fs c.loop-k.k (fixIn [])) = ap not c.stands_at.ensures ∙ ap test (sym (held-fix (block_at c.args.at c.args.memory.now) c.loop-k.k)) in
+    c.loop-k.invariant ∙ any-later test (fixIn []) fs c.loop-k.k among _ told (ap not c.if-not-stands_at.false)
+
+pub returns : goal.returns
+returns c =
+    let counted : c.held_count-count.result ≡ length (fixesAt c.args.memory.now c.args.at) = c.held_count-count.ensures ∙ ap heldCount (lent-block c.args.at c.args.memory.now) ∙ sym (fixes-count (block_at c.args.at c.args.memory.now)) in
+    sym (c.loop-k.invariant ∙ sym (any-past (stale c.args.memory.now c.args.n) (fixIn []) (fixesAt c.args.memory.now c.args.at) c.loop-k.k (rw counted at c.loop-k-test.false)))

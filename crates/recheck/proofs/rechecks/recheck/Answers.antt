@@ -1,0 +1,31 @@
+use Prim.Native.Nat.{ℕ}
+use mathlib.Core.Path.{sym, ◌∙◌}
+use mathlib.Core.List.{List}
+use borrow.Author.Tests.{not-true, not-false}
+use Rattle.octets.specs.Bytes.{Bytes}
+use Rattle.octets.proofs.Numbers.{all-bytes}
+use Rattle.arrange.proofs.Sheets.{none-known}
+use Rattle.stored.specs.Memory.{transmissionCount, transmissionTable}
+use Rattle.stored.proofs.Opened.{Opened, opened}
+use Rattle.recheck.proofs.Rechecked.{all-stand, some-stale}
+use Rattle.recheck.proofs.rechecks.recheck.Goals as goal
+
+pub returns-then-not-any_stale : goal.returns-then-not-any_stale
+returns-then-not-any_stale c =
+    let m : List ℕ = c.args.memory.now in
+    let o : Opened m = opened m c.requires in
+    let bytes : Bytes m = all-bytes m (λ i. (c.slice_known-1.given i).fits) in
+    all-stand m o bytes (sym c.any_stale.ensures ∙ c.if-not-any_stale.true)
+
+pub take_out-requires : goal.take_out-requires
+take_out-requires c =
+    let m : List ℕ = c.args.memory.now in
+    let o : Opened m = opened m c.requires in
+    (c.requires, none-known (transmissionTable m) (transmissionCount m) o.few)
+
+pub returns : goal.returns
+returns c =
+    let m : List ℕ = c.args.memory.now in
+    let o : Opened m = opened m c.requires in
+    let bytes : Bytes m = all-bytes m (λ i. (c.slice_known-1.given i).fits) in
+    c.take_out.ensures ∙ some-stale m o bytes (sym c.any_stale.ensures ∙ c.if-not-any_stale.false)

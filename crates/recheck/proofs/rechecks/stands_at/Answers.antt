@@ -1,0 +1,23 @@
+use mathlib.Core.List.{List, []}
+use Rattle.places.specs.Places.{places}
+use Rattle.models.specs.Summary.{summarySize}
+use lib.ListN.{get_or}
+use Rattle.tracked.specs.Bytes.{fixIn}
+use Rattle.tracked.specs.Parts.{heldPlaces}
+use Rattle.stored.specs.Memory.{summaryTable}
+use Rattle.recheck.specs.Recheck.{stands}
+use Rattle.recheck.proofs.Standing.{lent-block}
+use Prim.Native.Nat.{ℕ, ◌+◌, ◌-◌}
+use mathlib.Core.Path.{◌≡◌, refl, sym, ap, ap₂, ◌∙◌}
+use native.Mathlib.Omega.{arith}
+use Rattle.recheck.proofs.rechecks.stands_at.Goals as goal
+
+pub held-f-requires : goal.held-f-requires
+held-f-requires c =
+    let both = rw (lent-block c.args.at c.args.memory.now) c.requires.sound in
+    record {sound = both.0; k_bound = both.1}
+
+pub returns : goal.returns
+returns c =
+    let a = c.args in
+    c.stands.ensures ∙ ap (λ (f : List ℕ). stands (places summarySize a.n (summaryTable a.memory.now)) (fixIn f)) (c.held-f.ensures.0 ∙ ap (λ (b : List ℕ). get_or (heldPlaces b) a.k []) (lent-block a.at a.memory.now))

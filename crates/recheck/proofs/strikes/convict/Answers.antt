@@ -1,0 +1,36 @@
+use Prim.Native.Nat.{ℕ}
+use mathlib.Core.Path.{◌≡◌, ap, ◌∙◌}
+use mathlib.Core.List.{List}
+use native.Mathlib.Omega.{arith}
+use Rattle.octets.specs.Bytes.{Bytes}
+use Rattle.octets.proofs.Numbers.{all-bytes}
+use Rattle.stored.specs.Track.{Track}
+use Rattle.arrange.proofs.Sheets.{none-known}
+use Rattle.stored.specs.Memory.{transmissionCount, transmissionTable, decode, encode}
+use Rattle.stored.proofs.Opened.{opened}
+use Rattle.stored.proofs.Valid.{Valid, decode-valid, formed-encode, decode-encode}
+use Rattle.recheck.specs.Recheck.{recheck, strikeEngine}
+use Rattle.recheck.proofs.Renewing.{strike-valid}
+use Rattle.recheck.proofs.strikes.convict.Goals as goal
+
+pub strike-requires : goal.strike-requires
+strike-requires c =
+    let m : List ℕ = c.args.memory.now in
+    let m = c.args.memory.now in
+    (c.requires.0, c.requires.1, none-known (transmissionTable m) (transmissionCount m) (opened m c.requires.0).few)
+
+pub recheck_known-requires : goal.recheck_known-requires
+recheck_known-requires c =
+    let m : List ℕ = c.args.memory.now in
+    let bytes : Bytes m = all-bytes m (λ i. (c.type_inv.memory i).fits) in
+    let struck : Track = strikeEngine c.args.engine (decode m) in
+    let valid : Valid struck = strike-valid (decode m) (decode-valid m (opened m c.requires.0) bytes) c.args.engine (omega (arith, c.requires.1)) in
+    (rw c.strike.ensures.memory_after (formed-encode struck valid), c.strike.ensures.known)
+
+pub returns : goal.returns
+returns c =
+    let m : List ℕ = c.args.memory.now in
+    let bytes : Bytes m = all-bytes m (λ i. (c.type_inv.memory i).fits) in
+    let struck : Track = strikeEngine c.args.engine (decode m) in
+    let valid : Valid struck = strike-valid (decode m) (decode-valid m (opened m c.requires.0) bytes) c.args.engine (omega (arith, c.requires.1)) in
+    c.recheck_known.ensures ∙ ap (λ (l : List ℕ). encode (recheck (decode l))) c.strike.ensures.memory_after ∙ ap (λ (x : Track). encode (recheck x)) (decode-encode struck valid)

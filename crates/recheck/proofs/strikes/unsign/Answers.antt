@@ -1,0 +1,27 @@
+use Prim.Native.Nat.{◌<◌}
+use mathlib.Core.Path.{◌≡◌, sym, ap, ◌∙◌}
+use mathlib.Core.List.{[]}
+use lib.ListN.{get_or}
+use Rattle.octets.specs.Masks.{withoutBit}
+use Rattle.shown.specs.Fix.{withSigners}
+use Rattle.tracked.specs.Bytes.{signersIn, transmissionIn}
+use Rattle.tracked.specs.Parts.{heldPlaces, heldCount, Sound}
+use Rattle.stored.specs.Steps.{heldFix, Carries}
+use Prim.Native.Nat.{ℕ, ◌-◌}
+use mathlib.Core.List.{List}
+use native.Mathlib.Omega.{arith}
+use Rattle.shown.specs.Fix.{Fix}
+use Rattle.tracked.specs.Held.{heldIn}
+use Rattle.stored.proofs.Resigning.{Walked, walked_none, walked_put, walked_all}
+use Rattle.recheck.specs.Recheck.{unsigned}
+use Rattle.recheck.proofs.strikes.unsign.Goals as goal
+
+pub loop-k-preserved : goal.loop-k-preserved
+loop-k-preserved c =
+    let within : c.loop-k.k < heldCount c.args.b.now = rw c.held_count-n.ensures at c.loop-k-test.true in
+    let is-unsigned : unsigned c.args.engine (heldFix c.loop-k.k c.loop-k.b) ≡ withSigners c.without_u32.result (heldFix c.loop-k.k c.loop-k.b) = ap (λ (x : ℕ). withSigners x (heldFix c.loop-k.k c.loop-k.b))
+    (sym (c.without_u32.ensures ∙ ap (λ (x : ℕ). withoutBit x c.args.engine) (c.signers-signers.ensures ∙ ap signersIn c.held.ensures.0))) in
+    walked_put c.loop-k.invariant within _ c.without_u32.result is-unsigned c.put_signers.ensures
+
+pub returns : goal.returns
+returns c = walked_all c.loop-k.invariant (rw c.held_count-n.ensures at c.loop-k-test.false)

@@ -1,0 +1,21 @@
+use Prim.Native.Nat.{◌-◌, ◌≤◌}
+use mathlib.Core.Path.{◌≡◌}
+use native.Mathlib.Omega.{arith}
+use borrow.Author.Rules.{rules}
+use Rattle.ranges.specs.Lists.{any_of, countFrom, up_to}
+use Rattle.ranges.proofs.Searches.{searches}
+use Rattle.rule.specs.Standing.{isCovered}
+use Rattle.rule.specs.Related.{itemRelations}
+use Rattle.rule.specs.Rule.{covers}
+use Rattle.rule.proofs.covered.Goals as goal
+
+pub returns-then-covers_at : goal.returns-then-covers_at
+unfolding isCovered
+returns-then-covers_at c = search searches
+
+pub loop-k-preserved : goal.loop-k-preserved
+loop-k-preserved c = (omega arith, search searches)
+
+pub returns : goal.returns
+unfolding isCovered
+returns c = search searches

@@ -1,0 +1,17 @@
+use Prim.Native.Nat.{◌-◌, ◌≤◌}
+use mathlib.Core.Path.{◌≡◌}
+use native.Mathlib.Omega.{arith}
+use borrow.Author.Rules.{rules}
+use Rattle.ranges.specs.Lists.{any_of, countFrom, up_to}
+use Rattle.ranges.proofs.Searches.{searches}
+use Rattle.items.specs.Items.{disagreesAt}
+use Rattle.rule.proofs.has_disagreeing.Goals as goal
+
+pub returns-then-disagrees : goal.returns-then-disagrees
+returns-then-disagrees c = search searches
+
+pub loop-j-preserved : goal.loop-j-preserved
+loop-j-preserved c = (omega arith, search searches)
+
+pub returns : goal.returns
+returns c = search searches

@@ -1,0 +1,20 @@
+use Prim.Native.Nat.{◌-◌, ◌≤◌}
+use mathlib.Core.Path.{◌≡◌}
+use native.Mathlib.Omega.{arith}
+use borrow.Author.Rules.{rules}
+use Rattle.ranges.specs.Lists.{any_of, countFrom, up_to}
+use Rattle.ranges.proofs.Searches.{searches}
+use Rattle.rule.specs.Standing.{replaces, isSuperseded}
+use Rattle.rule.specs.Related.{itemRelations}
+use Rattle.rule.proofs.is_superseded.Goals as goal
+
+pub returns-then-replaces : goal.returns-then-replaces
+unfolding isSuperseded
+returns-then-replaces c = search searches
+
+pub loop-j-preserved : goal.loop-j-preserved
+loop-j-preserved c = (omega arith, search searches)
+
+pub returns : goal.returns
+unfolding isSuperseded
+returns c = search searches

@@ -1,0 +1,18 @@
+use Prim.Native.Nat.{◌-◌, ◌≤◌}
+use mathlib.Core.Path.{◌≡◌}
+use native.Mathlib.Omega.{arith}
+use borrow.Author.Rules.{rules}
+use Rattle.ranges.specs.Lists.{any_of, countFrom, up_to}
+use Rattle.ranges.proofs.Searches.{searches}
+use Rattle.rule.specs.Standing.{opposes}
+use Rattle.rule.specs.Related.{itemRelations}
+use Rattle.rule.proofs.opposed.Goals as goal
+
+pub returns-then-opposes : goal.returns-then-opposes
+returns-then-opposes c = search searches
+
+pub loop-j-preserved : goal.loop-j-preserved
+loop-j-preserved c = (omega arith, search searches)
+
+pub returns : goal.returns
+returns c = search searches

@@ -1,0 +1,18 @@
+use Prim.Native.Nat.{◌-◌, ◌≤◌}
+use mathlib.Core.Path.{◌≡◌}
+use native.Mathlib.Omega.{arith}
+use borrow.Author.Rules.{rules}
+use Rattle.ranges.specs.Lists.{any_of, countFrom, up_to}
+use Rattle.ranges.proofs.Searches.{searches}
+use Rattle.rule.specs.Related.{itemRelations}
+use Rattle.rule.specs.Rule.{resists}
+use Rattle.rule.proofs.resisted.Goals as goal
+
+pub returns-then-resists_at : goal.returns-then-resists_at
+returns-then-resists_at c = search searches
+
+pub loop-j-preserved : goal.loop-j-preserved
+loop-j-preserved c = (omega arith, search searches)
+
+pub returns : goal.returns
+returns c = search searches

@@ -1,0 +1,16 @@
+use Rattle.text.proofs.Writing.{put-put}
+use native.Mathlib.Omega.{arith}
+use borrow.Author.Rules.{rules}
+use Rattle.shown.proofs.put_item.Reads as reads
+use Rattle.shown.proofs.put_item.Lts as lts
+use Rattle.text.proofs.put_bytes.Reads as put-bytes-reads
+use Rattle.shown.proofs.put_item.Goals as goal
+
+-- the four parts, one after another
+pub returns : goal.returns
+returns c =
+    let p = c.put_bytes-a.ensures in
+    let q = c.put_bytes-b.ensures in
+    let o = c.put_bytes-c.ensures in
+    let e = c.put_bytes.ensures in
+    (omega (arith, p.next, q.next, o.next, e.next, c.requires.r_len, c.requires.inputs_len.0, c.requires.inputs_len.1), put-put p (put-put q (put-put o e)))

@@ -1,0 +1,19 @@
+use Prim.Native.Nat.{◌-◌}
+use native.Mathlib.Omega.{arith}
+use lib.ListN.{length-take, length-drop}
+use Rattle.held.specs.Signed.{beginFormed}
+use Rattle.held.proofs.Testing.{Passed, passed_none, passed-room, passed-not, passed-next, passed-all}
+use Rattle.tracked.specs.Layout.{transmissionSize}
+use Rattle.tracked.specs.Bytes.{transmissionFormed}
+use mathlib.Core.Path.{ap}
+use mathlib.Core.Bool.{not}
+use Rattle.stored.proofs.formed.transmissions_formed.Goals as goal
+
+pub returns-then-not-transmission_formed : goal.returns-then-not-transmission_formed
+returns-then-not-transmission_formed c = passed-not c.loop-i.invariant c.loop-i-test.true _ c.transmission_formed.ensures (ap not c.if-not-transmission_formed.true)
+
+pub loop-i-preserved : goal.loop-i-preserved
+loop-i-preserved c = passed-next c.loop-i.invariant c.loop-i-test.true _ c.transmission_formed.ensures (ap not c.if-not-transmission_formed.false)
+
+pub returns : goal.returns
+returns c = passed-all c.loop-i.invariant c.loop-i-test.false

@@ -1,0 +1,14 @@
+use Prim.Native.Nat.{ℕ, ◌+◌}
+use mathlib.Core.Path.{ap, ◌∙◌}
+use native.Mathlib.Omega.{arith}
+use Rattle.octets.specs.Writes.{putWord}
+use Rattle.tracked.specs.Layout.{signersAt}
+use Rattle.tracked.proofs.Holding.{held-room}
+use Rattle.stored.proofs.Resigning.{resigned}
+use Rattle.stored.proofs.signatures.put_signers.Goals as goal
+
+pub returns : goal.returns
+returns c =
+    let b = c.args.b.now in
+    resigned b c.requires.0 c.args.k c.requires.1 c.args.signers (omega (arith, c.well-formed)) _
+    (c.put_u32.ensures ∙ ap (λ (i : ℕ). putWord 4 (i + signersAt) c.args.signers b) c.place_of-at.ensures)

@@ -1,0 +1,10 @@
+use Prim.Native.Nat.{◌+◌, ◌*◌, ◌-◌}
+use mathlib.Core.Path.{refl, sym, ◌∙◌}
+use native.Mathlib.Omega.{arith}
+use Rattle.items.proofs.Pairing.{width, taken}
+use Rattle.tracked.specs.Layout as L
+use Rattle.tracked.specs.Parts as P
+use Rattle.tracked.proofs.refused_at.Goals as goal
+
+pub returns : goal.returns
+returns c = let at = P.refusedPlace c.args.k in rw (width L.refusedSize at) (refl, taken L.refusedSize at c.args.b.now (omega arith))

@@ -1,0 +1,21 @@
+use mathlib.Core.Path.{◌≡◌, sym, ap, ap₂, ◌∙◌}
+use Rattle.octets.specs.Order.{same}
+use Rattle.ranges.proofs.Bools.{ret-f, ret-t}
+use Rattle.tracked.specs.Parts.{sameSet}
+use Rattle.tracked.proofs.same_set.Goals as goal
+
+pub returns-then-not-equal : goal.returns-then-not-equal
+unfolding sameSet
+returns-then-not-equal c = ret-f _ _ _ c.equal.ensures c.if-not-equal.true
+
+pub returns-then-not-equal-2 : goal.returns-then-not-equal-2
+unfolding sameSet
+returns-then-not-equal-2 c =
+    ret-t _ _ _ _ c.equal.ensures c.if-not-equal.false (ret-f _ _ _ c.equal-2.ensures c.if-not-equal-2.true)
+
+pub returns : goal.returns
+unfolding sameSet
+returns c =
+    ret-t _ _ _ _ c.equal.ensures c.if-not-equal.false
+    (ret-t _ _ _ _ c.equal-2.ensures c.if-not-equal-2.false
+    (c.equal-3.ensures ∙ ap₂ same c.inputs.ensures.0 c.inputs-2.ensures.0))
