@@ -22,7 +22,7 @@ loop-j-preserved-then-marks-j t c =
 pub linked-requires : goal.linked-requires
 linked-requires t c =
     let p = c.requires in
-    record {fix_size_in_bounds = (omega arith, omega arith); i_value = (p.0.formed c.args.i p.1, p.0.formed _ c.loop-j-test.true)}
+    record { fix_size_in_bounds = (omega arith, omega arith); i_value = (p.0.formed c.args.i p.1, p.0.formed _ c.loop-j-test.true) }
 
 pub visit-requires : goal.visit-requires
 visit-requires t c =
@@ -39,26 +39,26 @@ loop-j-preserved t c =
     let a = c.args in
     let f = c.requires.0.few in
     elim c.if-linked.branch [
-      then-linked w ↦
-        (let q : c.if-linked.marks ≡ W.visit (link_at a.t.now) a.n (unmarked r.marks) r.j r.marks = w.marks-is ∙ w.visit.ensures.marks_after in
-        let y : c.if-linked.labels ≡ relabel a.s r.marks c.if-linked.marks r.labels = w.labels-is ∙ w.visit.ensures.labels_after ∙ ap (λ m. relabel a.s r.marks m r.labels) (sym w.marks-is) in
-        let g = visited-grown _ _ _ _ _ _ q in
-        let u = l.3.grown.fewer in (
-          omega arith,
-          g.same ∙ l.1,
-          ap length y ∙ relabel-length _ _ _ _ ∙ l.2,
-          progress-more _ _ _ _ _ _ _ l.3 g y,
-          each-new (link_at a.t.now) _ _ a.i _ _ _ _ _ l.4 (omega arith) u c.loop-j-test.true c.if-marks-j.false c.linked.ensures w.if-linked.true q,
-        ))
-    | else-linked w ↦
-        (let q : c.if-linked.marks ≡ r.marks = w.marks-is in
-        let y : c.if-linked.labels ≡ r.labels = w.labels-is in (
-          omega arith,
-          ap length q ∙ l.1,
-          ap length y ∙ l.2,
-          rw (q, y) l.3,
-          each-apart _ _ _ _ _ _ _ _ l.4 c.loop-j-test.true c.if-marks-j.false c.linked.ensures w.if-linked.false q,
-        ))
+      | then-linked w ↦
+          (let q : c.if-linked.marks ≡ W.visit (link_at a.t.now) a.n (unmarked r.marks) r.j r.marks = w.marks-is ∙ w.visit.ensures.marks_after in
+          let y : c.if-linked.labels ≡ relabel a.s r.marks c.if-linked.marks r.labels = w.labels-is ∙ w.visit.ensures.labels_after ∙ ap (λ m. relabel a.s r.marks m r.labels) (sym w.marks-is) in
+          let g = visited-grown _ _ _ _ _ _ q in
+          let u = l.3.grown.fewer in (
+            omega arith,
+            g.same ∙ l.1,
+            ap length y ∙ relabel-length _ _ _ _ ∙ l.2,
+            progress-more _ _ _ _ _ _ _ l.3 g y,
+            each-new (link_at a.t.now) _ _ a.i _ _ _ _ _ l.4 (omega arith) u c.loop-j-test.true c.if-marks-j.false c.linked.ensures w.if-linked.true q,
+          ))
+      | else-linked w ↦
+          (let q : c.if-linked.marks ≡ r.marks = w.marks-is in
+          let y : c.if-linked.labels ≡ r.labels = w.labels-is in (
+            omega arith,
+            ap length q ∙ l.1,
+            ap length y ∙ l.2,
+            rw (q, y) l.3,
+            each-apart _ _ _ _ _ _ _ _ l.4 c.loop-j-test.true c.if-marks-j.false c.linked.ensures w.if-linked.false q,
+          ))
     ]
 
 pub returns : goal.returns

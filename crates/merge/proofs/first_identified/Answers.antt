@@ -17,7 +17,7 @@ pub returns-then-k-eq0 : goal.returns-then-k-eq0
 unfolding any_of
 returns-then-k-eq0 c =
     let b = c.args.b.now in
-    let z : c.args.k ≡ 0 = c.if-equal.true in
+    let z : c.args.k ≡ 0 = c.if-k-eq0.true in
     (omega arith, rw (identities-count b) (omega (arith, c.requires.sound.1)), refl, rw z at (identity-there b c.args.f.now c.args.k c.requires.sound.1 c.requires.sound.2))
 
 pub loop-i-init : goal.loop-i-init
@@ -33,7 +33,7 @@ returns-then-equal c =
     let asked : c.equal.result ≡ isIdentity (identityIn c.args.f.now) (get_or ids i []) = c.equal.ensures
     ∙ ap₂ same (c.identity.ensures ∙ ap identityIn c.held.ensures.0 ∙ sym (identity-at c.args.b.now i among)) c.identity-id.ensures in
     let z : i - 0 ≡ i = omega arith in
-    (omega arith, within, rw z c.loop-i.invariant.1, sym asked ∙ c.if2.true)
+    (omega arith, within, rw z c.loop-i.invariant.1, sym asked ∙ c.if-equal.true)
 
 pub loop-i-preserved : goal.loop-i-preserved
 loop-i-preserved c =
@@ -43,7 +43,7 @@ loop-i-preserved c =
     let within : i < length ids = rw (identities-count c.args.b.now) among in
     let asked : c.equal.result ≡ isIdentity (identityIn c.args.f.now) (get_or ids i []) = c.equal.ensures
     ∙ ap₂ same (c.identity.ensures ∙ ap identityIn c.held.ensures.0 ∙ sym (identity-at c.args.b.now i among)) c.identity-id.ensures in
-    (omega (arith, c.loop-i-test.true), any-more (isIdentity (identityIn c.args.f.now)) ids i [] within c.loop-i.invariant.1 (sym asked ∙ c.if2.false))
+    (omega (arith, c.loop-i-test.true), any-more (isIdentity (identityIn c.args.f.now)) ids i [] within c.loop-i.invariant.1 (sym asked ∙ c.if-equal.false))
 
 pub returns : goal.returns
 returns c =

@@ -23,6 +23,7 @@ use Rattle.merge.specs.declared.Joint.TheVariants.{Decided}
 use Rattle.merge.specs.Merged.{signIn}
 use Rattle.merge.specs.Searching.{JointAs, KnowsDecided, answer_in}
 use Rattle.merge.proofs.Joining.{duplicate, decided, decided-bytes, set-bytes, u-sound, block-put, set-sound}
+use borrow.Author.Rules.{rules}
 use Rattle.merge.proofs.join_at.Goals as goal
 
 pub overflow_mul-a : goal.overflow_mul-a
@@ -56,8 +57,7 @@ join_block-joint-requires c =
     let counted : length bs ≡ c.args.n = count-is c.args.t.now c.args.n c.requires.ready.filled in
     let below : c.args.i < c.args.n = rw counted at c.requires.ties.0 in
     let lent : take (c.args.i * transmissionSize + transmissionSize - c.args.i * transmissionSize) (drop (c.args.i * transmissionSize) c.args.t.now) ≡ b = ap (λ (k : ℕ). take k (drop (c.args.i * transmissionSize) c.args.t.now)) (width transmissionSize (c.args.i * transmissionSize)) ∙ block_at c.args.t.now c.args.n c.requires.ready.filled c.args.i below in
-    let both = rw lent ((c.requires.ready.steady b (at_in [] bs c.args.i c.requires.ties.0), nothing_known b), c.requires.f_len) in
-    record {steady = both.0; f_len = both.1}
+    record {steady = rw lent (c.requires.ready.steady b (at_in [] bs c.args.i c.requires.ties.0), nothing_known b); f_len = c.requires.f_len}
 
 pub returns-in_default : goal.returns-in_default
 returns-in_default c =
@@ -70,7 +70,7 @@ returns-in_default c =
     let x : List ℕ = c.join_block-joint.new.b in
     let joint : JointAs (fixIn f) (transmissionIn b) c.join_block-joint.result x = subst (λ (l : List ℕ). JointAs (fixIn f) (transmissionIn l) c.join_block-joint.result x) lent c.join_block-joint.ensures.joint_as in
     let b-sound : Sound b = (c.requires.ready.steady b (at_in [] bs c.args.i c.requires.ties.0)).sound in
-    let x-size : length x ≡ transmissionSize = c.join_block-joint.kept.0 ∙ ap length lent ∙ b-sound.size in
+    let x-size : length x ≡ transmissionSize = c.join_block-joint.auto.b ∙ ap length lent ∙ b-sound.size in
     let put : put_mid (c.args.i * transmissionSize) (c.args.i * transmissionSize + transmissionSize - c.args.i * transmissionSize) c.args.t.now x ≡ blockTable (set bs c.args.i x) = block-put bs c.args.t.now x c.args.i (all-wide bs c.requires.ready.filled.sound) c.requires.ready.filled.is c.requires.ties.0 x-size in
     let p = subst (λ r. JointAs (fixIn f) (transmissionIn b) r x) c.in_default.is joint in
     let z = c.requires.ties in
@@ -96,17 +96,17 @@ rearrange-count-requires c =
     let sheet : List ℕ = c.join_block-joint.new.s in
     let joint : JointAs (fixIn f) (transmissionIn b) c.join_block-joint.result x = subst (λ (l : List ℕ). JointAs (fixIn f) (transmissionIn l) c.join_block-joint.result x) lent c.join_block-joint.ensures.joint_as in
     let b-sound : Sound b = (c.requires.ready.steady b (at_in [] bs c.args.i c.requires.ties.0)).sound in
-    let x-size : length x ≡ transmissionSize = c.join_block-joint.kept.0 ∙ ap length lent ∙ b-sound.size in
+    let x-size : length x ≡ transmissionSize = c.join_block-joint.auto.b ∙ ap length lent ∙ b-sound.size in
     let put : put_mid (c.args.i * transmissionSize) (c.args.i * transmissionSize + transmissionSize - c.args.i * transmissionSize) c.args.t.now x ≡ blockTable (set bs c.args.i x) = block-put bs c.args.t.now x c.args.i (all-wide bs c.requires.ready.filled.sound) c.requires.ready.filled.is c.requires.ties.0 x-size in
     let b-bytes : Bytes b = let a = c.args.i * transmissionSize in
-    subst Bytes (lent c) (bytes_take (a + transmissionSize - a) (drop a c.args.t.now) (bytes_drop a c.args.t.now (all-bytes c.args.t.now (λ i. (c.type_inv.t i).fits)))) in
-    let f-bytes : Bytes f = all-bytes f (λ i. (c.type_inv.f i).fits) in
+    subst Bytes lent (bytes_take (a + transmissionSize - a) (drop a c.args.t.now) (bytes_drop a c.args.t.now (all-bytes c.args.t.now (search rules)))) in
+    let f-bytes : Bytes f = all-bytes f (search rules) in
     let again : JointAs (fixIn f) (transmissionIn b) (Decided c.in-Decided.j) x = subst (λ r. JointAs (fixIn f) (transmissionIn b) r x) c.in-Decided.is joint in
     let there : (blocks c.args.n (put_mid (c.args.i * transmissionSize) (c.args.i * transmissionSize + transmissionSize - c.args.i * transmissionSize) c.args.t.now x) ≡ set bs c.args.i x)
     × Filled (put_mid (c.args.i * transmissionSize) (c.args.i * transmissionSize + transmissionSize - c.args.i * transmissionSize) c.args.t.now x) c.args.n = let z = c.requires.ties in
-    let u = u-sound (f c) (bs c) c.args.i z.0 z.1 z.2 z.3 c.requires.ready.steady b-bytes f-bytes c.requires.f_len.0 c.requires.f_len.1 (few c) in
-    table_filled (set (bs c) c.args.i x) _ c.args.n (set-sound (bs c) c.args.i x c.requires.ready.filled.sound (subst Sound (sym again.1) u)) (sym (length-set (bs c) c.args.i x ∙ counted c)) c.requires.ready.filled.few put in
-    let known-there : Knows (get_or (blocks c.args.n (put_mid (c.args.i * transmissionSize) (c.args.i * transmissionSize + transmissionSize - c.args.i * transmissionSize) c.args.t.now x)) c.args.i []) sheet = let e = ap (λ (l : List (List ℕ)). get_or l c.args.i []) there.0 ∙ get_or-set_same (bs c) c.args.i x [] c.requires.ties.0 in
+    let u = u-sound f bs c.args.i z.0 z.1 z.2 z.3 c.requires.ready.steady b-bytes f-bytes c.requires.f_len.0 c.requires.f_len.1 few in
+    table_filled (set bs c.args.i x) _ c.args.n (set-sound bs c.args.i x c.requires.ready.filled.sound (subst Sound (sym again.1) u)) (sym (length-set bs c.args.i x ∙ counted)) c.requires.ready.filled.few put in
+    let known-there : Knows (get_or (blocks c.args.n (put_mid (c.args.i * transmissionSize) (c.args.i * transmissionSize + transmissionSize - c.args.i * transmissionSize) c.args.t.now x)) c.args.i []) sheet = let e = ap (λ (l : List (List ℕ)). get_or l c.args.i []) there.0 ∙ get_or-set_same bs c.args.i x [] c.requires.ties.0 in
     rw e (subst (λ r. KnowsDecided r x sheet) c.in-Decided.is c.join_block-joint.ensures.knows_decided) in
     (there.1, below, known-there)
 
@@ -122,16 +122,16 @@ returns c =
     let x : List ℕ = c.join_block-joint.new.b in
     let joint : JointAs (fixIn f) (transmissionIn b) c.join_block-joint.result x = subst (λ (l : List ℕ). JointAs (fixIn f) (transmissionIn l) c.join_block-joint.result x) lent c.join_block-joint.ensures.joint_as in
     let b-sound : Sound b = (c.requires.ready.steady b (at_in [] bs c.args.i c.requires.ties.0)).sound in
-    let x-size : length x ≡ transmissionSize = c.join_block-joint.kept.0 ∙ ap length lent ∙ b-sound.size in
+    let x-size : length x ≡ transmissionSize = c.join_block-joint.auto.b ∙ ap length lent ∙ b-sound.size in
     let put : put_mid (c.args.i * transmissionSize) (c.args.i * transmissionSize + transmissionSize - c.args.i * transmissionSize) c.args.t.now x ≡ blockTable (set bs c.args.i x) = block-put bs c.args.t.now x c.args.i (all-wide bs c.requires.ready.filled.sound) c.requires.ready.filled.is c.requires.ties.0 x-size in
     let b-bytes : Bytes b = let a = c.args.i * transmissionSize in
-    subst Bytes (lent c) (bytes_take (a + transmissionSize - a) (drop a c.args.t.now) (bytes_drop a c.args.t.now (all-bytes c.args.t.now (λ i. (c.type_inv.t i).fits)))) in
-    let f-bytes : Bytes f = all-bytes f (λ i. (c.type_inv.f i).fits) in
+    subst Bytes lent (bytes_take (a + transmissionSize - a) (drop a c.args.t.now) (bytes_drop a c.args.t.now (all-bytes c.args.t.now (search rules)))) in
+    let f-bytes : Bytes f = all-bytes f (search rules) in
     let again : JointAs (fixIn f) (transmissionIn b) (Decided c.in-Decided.j) x = subst (λ r. JointAs (fixIn f) (transmissionIn b) r x) c.in-Decided.is joint in
     let there : (blocks c.args.n (put_mid (c.args.i * transmissionSize) (c.args.i * transmissionSize + transmissionSize - c.args.i * transmissionSize) c.args.t.now x) ≡ set bs c.args.i x)
     × Filled (put_mid (c.args.i * transmissionSize) (c.args.i * transmissionSize + transmissionSize - c.args.i * transmissionSize) c.args.t.now x) c.args.n = let z = c.requires.ties in
-    let u = u-sound (f c) (bs c) c.args.i z.0 z.1 z.2 z.3 c.requires.ready.steady b-bytes f-bytes c.requires.f_len.0 c.requires.f_len.1 (few c) in
-    table_filled (set (bs c) c.args.i x) _ c.args.n (set-sound (bs c) c.args.i x c.requires.ready.filled.sound (subst Sound (sym again.1) u)) (sym (length-set (bs c) c.args.i x ∙ counted c)) c.requires.ready.filled.few put in
+    let u = u-sound f bs c.args.i z.0 z.1 z.2 z.3 c.requires.ready.steady b-bytes f-bytes c.requires.f_len.0 c.requires.f_len.1 few in
+    table_filled (set bs c.args.i x) _ c.args.n (set-sound bs c.args.i x c.requires.ready.filled.sound (subst Sound (sym again.1) u)) (sym (length-set bs c.args.i x ∙ counted)) c.requires.ready.filled.few put in
     let z = c.requires.ties in
     let p = again in
     let g = withFix (fixIn f) (transmissionIn b) in

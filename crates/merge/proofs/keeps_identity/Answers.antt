@@ -33,7 +33,7 @@ loop-i-preserved c =
     let b : List ℕ = get_or bs c.loop-i.i [] in
     let among : c.loop-i.i < length bs = rw (count-is c.args.t.now c.args.n c.requires.0) c.loop-i-test.true in
     let asked : c.keeps_at.result ≡ keepsIdentity c.args.id.now b = c.keeps_at.ensures.value ∙ ap (keepsIdentity c.args.id.now) (block_at c.args.t.now c.args.n c.requires.0 c.loop-i.i c.loop-i-test.true) in
-    let still-known : Known c.args.t.now c.keeps_at.new.known c.args.n = known_on c.loop-i.invariant.2 c.requires.0.few c.keeps_at.ensures.still c.keeps_at.kept.1.0 in
+    let still-known : Known c.args.t.now c.keeps_at.new.known c.args.n = known_on c.loop-i.invariant.2 c.requires.0.few c.keeps_at.ensures.still c.keeps_at.auto.known in
     (omega (arith, c.loop-i-test.true), c.loop-i.invariant.1 ∙ any-on (keepsIdentity c.args.id.now) bs c.loop-i.i [] among (sym asked ∙ c.if-keeps_at.false), still-known)
 
 pub returns : goal.returns

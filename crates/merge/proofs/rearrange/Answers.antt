@@ -19,4 +19,4 @@ arrange-requires c =
     let e =
     put_whole c.put_bytes.ensures (omega (arith, c.requires.0.few, c.requires.1, w))
     ∙ ap (λ (k : ℕ). take (i * knownSize) z ++ (y ++ drop (i * knownSize + k) z)) w in
-    (c.requires.0, one_known c.args.t.now y n i c.requires.0 c.requires.1 c.requires.2 c.put_bytes.new.out e c.put_bytes.auto.0)
+    (c.requires.0, one_known c.args.t.now y n i c.requires.0 c.requires.1 c.requires.2 c.put_bytes.new.out e c.put_bytes.auto.out)

@@ -7,6 +7,7 @@ use Rattle.octets.proofs.Numbers.{all-bytes}
 use Rattle.tracked.specs.Layout.{signersAt}
 use Rattle.tracked.specs.Parts.{heldCount, heldPlace}
 use Rattle.merge.proofs.Identified.{identities-count, first-held, some-held, signed-bytes}
+use borrow.Author.Rules.{rules}
 use Rattle.merge.proofs.sign_held.Goals as goal
 
 pub sign-requires : goal.sign-requires
@@ -20,7 +21,7 @@ returns c =
     let b = c.args.b.now in
     let f = c.args.f.now in
     let k = c.args.k in
-    let bytes = all-bytes b (λ x. (c.type_inv.b x).fits) in
+    let bytes = all-bytes b (search rules) in
     let p = first-held b f k there c.requires.first.2 c.requires.first.3 in (
       some-held b bytes c.requires.steady.0 f k there p.0 p.1,
       c.sign.ensures

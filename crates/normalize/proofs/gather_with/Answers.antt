@@ -28,7 +28,7 @@ gather-m-requires c =
     (ap₂ (λ (x : List Fix) (n : ℕ). gatherAll x (signedIn b 0 n)) (laid-reads c.requires.laid) counted)
     c.gather_held-n.ensures in
     let few : c.gather_held-n.result ≤ maxStanding = let a = all-few [] (signedIn b 0 (fixCount b)) in
-    let c = signed-few b 0 (fixCount b) in
+    let w = signed-few b 0 (fixCount b) in
     omega (arith, first.count, c.requires.sound.0.few) in
     let p = c.requires.f_len in
     record {laid = laid-again first; n_bound = (omega (arith, few), p.0, p.1, p.2)}
@@ -44,7 +44,7 @@ gather_held-requires c =
     (ap₂ (λ (x : List Fix) (n : ℕ). gatherAll x (signedIn b 0 n)) (laid-reads c.requires.laid) counted)
     c.gather_held-n.ensures in
     let few : c.gather_held-n.result ≤ maxStanding = let a = all-few [] (signedIn b 0 (fixCount b)) in
-    let c = signed-few b 0 (fixCount b) in
+    let w = signed-few b 0 (fixCount b) in
     omega (arith, first.count, c.requires.sound.0.few) in
     let second : Laid c.gather-m.new.items c.gather-m.new.signers c.gather-m.result (N.gather stood f) = subst (λ (x : List Fix). Laid c.gather-m.new.items c.gather-m.new.signers c.gather-m.result (N.gather x f))
     (laid-reads first) c.gather-m.ensures in

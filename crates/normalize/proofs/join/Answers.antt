@@ -56,9 +56,9 @@ returns c =
     let f : Fix = fixIn c.args.f.now in
     let ids : List ℕ = c.args.ids.now in
     let sound : Sound b = c.requires.sound.0 in
-    let bytes : Bytes b = all-bytes b (λ j. (c.type_inv.b j).fits) in
+    let bytes : Bytes b = all-bytes b (search rules) in
     let holdable : Holdable f = let p = c.requires.f_len in
-    holdable-in c.args.f.now (all-bytes c.args.f.now (λ j. (c.type_inv.f j).fits)) p.0 p.1 in
+    holdable-in c.args.f.now (all-bytes c.args.f.now (search rules)) p.0 p.1 in
     let listed : Listed b ids = c.requires.sound.3 in
     let counted : c.fix_count-c.result ≡ fixCount b = c.fix_count-c.ensures in
     let counted-all : c.held_count-e.result ≡ heldCount b = c.held_count-e.ensures in
@@ -78,7 +78,7 @@ returns c =
       c.tell.ensures
           ∙ ap (λ (x : List ℕ). told items c.settle-kept.result x ids c.fix_count-c.result c.held_count-e.result) c.requires.f_len.2
           ∙ ap₂ (told items c.settle-kept.result f.identity ids) counted counted-all
-          ∙ told_is items c.gather-with.last.1.0 c.settle-kept.result b ids listed c.requires.sound.2 f c.requires.sound.1
+          ∙ told_is items c.gather_with-n.new.signers c.settle-kept.result b ids listed c.requires.sound.2 f c.requires.sound.1
           ∙ ap (did f (transmissionIn b)) is,
       known.0,
       known.1,

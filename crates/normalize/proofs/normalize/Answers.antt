@@ -51,7 +51,7 @@ pub returns : goal.returns
 returns c =
     let b : List ℕ = c.args.b.now in
     let sound : Sound b = c.requires.0 in
-    let bytes : Bytes b = all-bytes b (λ j. (c.type_inv.b j).fits) in
+    let bytes : Bytes b = all-bytes b (search rules) in
     let counted : c.held_count-e.result ≡ heldCount b = c.held_count-e.ensures in
     let empty : Laid c.item_room-items.result (replicate maxGathered 0) 0 [] = let l : length c.item_room-items.result ≡ maxGathered * itemSize = search rules in
     laid_none c.item_room-items.result (replicate maxGathered 0) l refl in

@@ -39,8 +39,8 @@ returns c =
     let ids = c.args.ids.now in
     let refused = c.among-refused.ensures ∙ ap (any_of (identified s id)) c.refused_items-list.ensures.1 in
     let moved = ap not (c.among-moved.ensures
-    ∙ ap (λ x. any_of (identified s x) (take c.at_most-first.result k.ranked-1)) c.identity_at.ensures.0
-    ∙ ap (λ n. any_of (identified s (id_at ids 0)) (take n k.ranked-1)) c.at_most-first.ensures
-    ∙ ap (any_of (identified s (id_at ids 0))) (take-lesser k.standing 1 k.ranked-1)) in
+    ∙ ap (λ x. any_of (identified s x) (take c.at_most-first.result k.ranked)) c.identity_at.ensures.0
+    ∙ ap (λ n. any_of (identified s (id_at ids 0)) (take n k.ranked)) c.at_most-first.ensures
+    ∙ ap (any_of (identified s (id_at ids 0))) (take-lesser k.standing 1 k.ranked)) in
     let entered = c.unlisted-entered.ensures ∙ ap (W.unlisted s ids c.args.c c.args.e) c.refused_items-list.ensures.1 in
     λ i. record { refused = refused i; moved = moved i; upheld = c.among-upheld.ensures i; entered = entered i }

@@ -10,8 +10,7 @@ unfolding indices
 outcome-d-requires c =
     let listed : Listed c.args.labels.now c.args.n c.args.s = members-listed c.args.labels.now c.args.n c.args.s c.requires.n_le_max_fixes in
     let w = listed in
-    let both = rw c.members-m.ensures (c.requires.len, (c.requires.t_len, (w.few, w.long, w.fixes))) in
-    record {len = both.0; t_len = both.1.0; count_le_max_fixes = both.1.1}
+    record { len = c.requires.len; t_len = c.requires.t_len; count_le_max_fixes = rw c.members-m.ensures (w.few, w.long, w.fixes) }
 
 pub returns : goal.returns
 unfolding leaderOf outcomeOf indices

@@ -18,7 +18,7 @@ loop-s-init c = (omega arith, refl, refl, collected-none _ _ maxFixes _)
 pub loop-s-preserved : goal.loop-s-preserved
 loop-s-preserved c =
     let l = c.loop-s in
-    (omega arith, c.leading.auto.0 ∙ l.invariant.1, simp length-set l.invariant.2, collected-hit _ _ _ _ _ _ _ _ (omega arith) refl c.leading.ensures l.invariant.3)
+    (omega arith, c.leading.auto.items ∙ l.invariant.1, simp length-set l.invariant.2, collected-hit _ _ _ _ _ _ _ _ (omega arith) refl c.leading.ensures l.invariant.3)
 
 pub returns : goal.returns
 unfolding Filled

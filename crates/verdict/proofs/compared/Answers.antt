@@ -19,7 +19,7 @@ pub added-added-requires : goal.added-added-requires
 added-added-requires c =
     let f = formed _ c.requires.smaller_value in
     let g = formed _ c.requires.larger_value in
-    record {a_len = (f.size, f.few); b_len = (g.size, g.few)}
+    record { a_len = (f.size, f.few); b_len = (g.size, g.few) }
 
 pub returns : goal.returns
 unfolding comparisonOf

@@ -28,4 +28,4 @@ place_of-requires c =
     let of-both : List ℕ = c.lesser-represents.result.now in
     let lesser-is : of-both ≡ lesserOf (fixRecord c.args.t.now c.args.i) c.args.r.now = c.lesser-represents.ensures ∙ ap (λ (x : List ℕ). lesserOf x c.args.r.now) c.record_of-held.ensures.0 in
     let is-record : wellFormed of-both ≡ true = rw lesser-is (lesser-has (λ (z : List ℕ). wellFormed z ≡ true) (fixRecord c.args.t.now c.args.i) c.args.r.now c.requires.i_value c.requires.r_value) in
-    record {id_len = c.identity.ensures.1; r_len = (formed of-both is-record).size; inputs_len = ap length c.cited_inputs-inputs.ensures ∙ cited-length _ _}
+    record { id_len = c.identity.ensures.1; r_len = (formed of-both is-record).size; inputs_len = ap length c.cited_inputs-inputs.ensures ∙ cited-length _ _ }

@@ -13,7 +13,7 @@ pub place_of-requires : goal.place_of-requires
 place_of-requires c =
     let inputs-size : length c.cited_inputs-inputs.result ≡ hashSize = ap length c.cited_inputs-inputs.ensures ∙ cited-length _ _ in
     let identity-size : length c.identity-id.result ≡ hashSize = ap length c.identity-id.ensures ∙ identity-length _ _ in
-    record {id_len = identity-size; r_len = (formed c.args.r.now c.requires.r_value).size; inputs_len = inputs-size}
+    record { id_len = identity-size; r_len = (formed c.args.r.now c.requires.r_value).size; inputs_len = inputs-size }
 
 pub returns : goal.returns
 returns c =

@@ -17,7 +17,7 @@ pub take_in-n-requires : goal.take_in-n-requires
 take_in-n-requires c =
     let k = c.loop-i.invariant in
     let q = c.loop-i-test.true in
-    record {summary_size_in_bounds = c.requires.summary_size_in_bounds; gathered = k.table; n_bound = omega (arith, k.fewer, c.requires.nr_bound); p_len = simp (length-take, length-drop) (omega (arith, room c.loop-i.i c.args.nr (recordSize + 4) q)); p_value = walk-formed _ _ _ _ _ _ _ k q}
+    record { summary_size_in_bounds = c.requires.summary_size_in_bounds; gathered = k.table; n_bound = omega (arith, k.fewer, c.requires.nr_bound); p_len = simp (length-take, length-drop) (omega (arith, room c.loop-i.i c.args.nr (recordSize + 4) q)); p_value = walk-formed _ _ _ _ _ _ _ k q }
 
 pub loop-i-preserved : goal.loop-i-preserved
 loop-i-preserved c =
@@ -26,4 +26,4 @@ loop-i-preserved c =
 pub returns : goal.returns
 returns c =
     let both = walk_end _ _ _ _ _ _ _ c.loop-i.invariant c.loop-i-test.false in
-    record {value = both.0; t_after = both.1}
+    record { value = both.0; t_after = both.1 }

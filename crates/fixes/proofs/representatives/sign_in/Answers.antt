@@ -45,7 +45,7 @@ join-requires c =
     c.new_fix-f.ensures c.put_by_key.ensures in
     let i : ℕ = c.in-Held.i in
     let at_i : Found ss r signers n t gathered is-record i tried = found ss r signers n t gathered is-record way i c.in-Held.is in
-    let f = at_i in record {summary_size_in_bounds = c.requires.summary_size_in_bounds; i_in_bounds = rw f.unwritten (omega (arith, room i n fixSize f.within, gathered-long n t gathered)); i_value = rw f.unwritten (record-formed n t gathered i f.within); r_value = is-record}
+    let f = at_i in record { summary_size_in_bounds = c.requires.summary_size_in_bounds; i_in_bounds = rw f.unwritten (omega (arith, room i n fixSize f.within, gathered-long n t gathered)); i_value = rw f.unwritten (record-formed n t gathered i f.within); r_value = is-record }
 
 pub returns-in-Held : goal.returns-in-Held
 returns-in-Held c =
@@ -63,7 +63,7 @@ returns-in-Held c =
     let at_i : Found ss r signers n t gathered is-record i tried = found ss r signers n t gathered is-record way i c.in-Held.is in
     let join = c.join in
     let both = again ss r signers n t gathered is-record i tried join.new.t at_i join.ensures in
-    record {value = both.0; t_after = both.1}
+    record { value = both.0; t_after = both.1 }
 
 pub returns-in-Full : goal.returns-in-Full
 returns-in-Full c =
@@ -92,4 +92,4 @@ returns-in-New c =
     let way : Entered ss r signers n t c.put_by_key.result tried = entered ss r signers n t gathered is-record c.requires.n_bound c.new_fix-f.result c.put_by_key.result tried
     c.new_fix-f.ensures c.put_by_key.ensures in
     let both = fresh ss r signers n t gathered is-record way c.in-New.is in
-    record {value = both.0; t_after = both.1}
+    record { value = both.0; t_after = both.1 }

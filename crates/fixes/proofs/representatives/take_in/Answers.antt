@@ -24,7 +24,7 @@ slice_bounds-counts-end c = sym (length-take-le recordSize c.args.p.now (omega a
 pub returns-then-not-counts : goal.returns-then-not-counts
 returns-then-not-counts c =
     let e = sym c.counts.ensures ∙ c.if-not-counts.true in
-    record {value = rw e (sym (length-places fixSize c.args.n c.args.t.now)); t_after = rw e (gathered-is c.args.n c.args.t.now c.requires.gathered)}
+    record { value = rw e (sym (length-places fixSize c.args.n c.args.t.now)); t_after = rw e (gathered-is c.args.n c.args.t.now c.requires.gathered) }
 
 pub slice_bounds-sign_in-end : goal.slice_bounds-sign_in-end
 slice_bounds-sign_in-end c =
@@ -40,4 +40,4 @@ returns c =
     let taken_is : enterRecord ss (take recordSize p) c.u32_at-signers.result fs ≡ takeSlot ss p fs = taken ss p c.u32_at-signers.result fs c.requires.p_len c.u32_at-signers.ensures is-counted in
     let signed = c.sign_in in
     let z = taken_is in
-    record {value = signed.ensures.value ∙ ap length z; t_after = signed.ensures.t_after ∙ ap (table_of fixSize maxFixes) z}
+    record { value = signed.ensures.value ∙ ap length z; t_after = signed.ensures.t_after ∙ ap (table_of fixSize maxFixes) z }

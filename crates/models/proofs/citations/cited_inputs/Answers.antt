@@ -14,7 +14,7 @@ pub slice_bounds-inputs_hash-end : goal.slice_bounds-inputs_hash-end
 slice_bounds-inputs_hash-end c = let f = formed c.args.r.now c.requires.r_value in omega (arith, f.size, f.cited, c.model_count.ensures)
 
 pub inputs_hash-requires : goal.inputs_hash-requires
-inputs_hash-requires c = record {summary_size_in_bounds = c.requires.summary_size_in_bounds; cited_len_bound = rw length-take (omega (arith, (formed c.args.r.now c.requires.r_value).cited, c.model_count.ensures))}
+inputs_hash-requires c = record { summary_size_in_bounds = c.requires.summary_size_in_bounds; cited_len_bound = rw length-take (omega (arith, (formed c.args.r.now c.requires.r_value).cited, c.model_count.ensures)) }
 
 pub returns : goal.returns
 unfolding citedInputs

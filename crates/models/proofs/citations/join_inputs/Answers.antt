@@ -44,4 +44,4 @@ returns-in-Agreed c =
     let j = c.join in
     let at = i * summarySize + summaryInputsAt in
     let z : at + inputsSize - at ≡ inputsSize = omega arith in
-    record {upper_bound = rw (j.ensures.value, length-take) (omega arith); b_after = j.ensures.b_after ∙ rw (agreed-is, z) refl}
+    record { upper_bound = rw (j.ensures.value, length-take) (omega arith); b_after = j.ensures.b_after ∙ rw (agreed-is, z) refl }

@@ -47,8 +47,8 @@ returns-then-has_stale c =
     let whole : any_of (hasStale (summariesIn m)) (map transmissionIn (transmissionPlaces m)) ≡ any_of (test m) (drop c.loop-i.i (transmissionPlaces m)) = any-map transmissionIn (test m) (hasStale (summariesIn m)) (transmissionPlaces m) (λ b i. refl) ∙ c.loop-i.invariant.1 in
     let among : c.loop-i.i < length (transmissionPlaces m) = rw (transmissions-length m o) c.loop-i-test.true in
     let told : c.has_stale.result ≡ test m (get_or (transmissionPlaces m) c.loop-i.i []) = c.has_stale.ensures
-    ∙ ap (λ (k : ℕ). hasStale (places summarySize k (summaryTable (m c))) (transmissionIn (block_at c.loop-i.at (m c)))) (n-is c)
-    ∙ ap (test (m c)) (ap (λ (k : ℕ). block_at k (m c)) c.loop-i.invariant.0 ∙ at_place (transmissionCount (m c)) c.loop-i.i (m c) c.loop-i-test.true) in
+    ∙ ap (λ (k : ℕ). hasStale (places summarySize k (summaryTable m)) (transmissionIn (block_at c.loop-i.at m))) n-is
+    ∙ ap (test m) (ap (λ (k : ℕ). block_at k m) c.loop-i.invariant.0 ∙ at_place (transmissionCount m) c.loop-i.i m c.loop-i-test.true) in
     sym (whole ∙ sym (any_here (test m) [] (transmissionPlaces m) c.loop-i.i among _ told c.if-has_stale.true))
 
 pub loop-i-preserved : goal.loop-i-preserved
@@ -59,8 +59,8 @@ loop-i-preserved c =
     let n-is : n ≡ summaryCount m = c.u16_at-n.ensures in
     let among : c.loop-i.i < length (transmissionPlaces m) = rw (transmissions-length m o) c.loop-i-test.true in
     let told : c.has_stale.result ≡ test m (get_or (transmissionPlaces m) c.loop-i.i []) = c.has_stale.ensures
-    ∙ ap (λ (k : ℕ). hasStale (places summarySize k (summaryTable (m c))) (transmissionIn (block_at c.loop-i.at (m c)))) (n-is c)
-    ∙ ap (test (m c)) (ap (λ (k : ℕ). block_at k (m c)) c.loop-i.invariant.0 ∙ at_place (transmissionCount (m c)) c.loop-i.i (m c) c.loop-i-test.true) in
+    ∙ ap (λ (k : ℕ). hasStale (places summarySize k (summaryTable m)) (transmissionIn (block_at c.loop-i.at m))) n-is
+    ∙ ap (test m) (ap (λ (k : ℕ). block_at k m) c.loop-i.invariant.0 ∙ at_place (transmissionCount m) c.loop-i.i m c.loop-i-test.true) in
     (omega (arith, c.loop-i.invariant.0), c.loop-i.invariant.1 ∙ any-later (test m) [] (transmissionPlaces m) c.loop-i.i among _ told c.if-has_stale.false)
 
 pub returns : goal.returns

@@ -6,18 +6,19 @@ use Rattle.octets.specs.Bytes.{Bytes}
 use Rattle.octets.proofs.Numbers.{all-bytes}
 use Rattle.stored.proofs.Opened.{Opened, opened}
 use Rattle.recheck.proofs.Rechecked.{all-stand, some-stale}
+use borrow.Author.Rules.{rules}
 use Rattle.recheck.proofs.rechecks.recheck_known.Goals as goal
 
 pub returns-then-not-any_stale : goal.returns-then-not-any_stale
 returns-then-not-any_stale c =
     let m : List ℕ = c.args.memory.now in
     let o : Opened m = opened m c.requires.0 in
-    let bytes : Bytes m = all-bytes m (λ i. (c.type_inv.memory i).fits) in
+    let bytes : Bytes m = all-bytes m (search rules) in
     all-stand m o bytes (sym c.any_stale.ensures ∙ c.if-not-any_stale.true)
 
 pub returns : goal.returns
 returns c =
     let m : List ℕ = c.args.memory.now in
     let o : Opened m = opened m c.requires.0 in
-    let bytes : Bytes m = all-bytes m (λ i. (c.type_inv.memory i).fits) in
+    let bytes : Bytes m = all-bytes m (search rules) in
     c.take_out.ensures ∙ some-stale m o bytes (sym c.any_stale.ensures ∙ c.if-not-any_stale.false)

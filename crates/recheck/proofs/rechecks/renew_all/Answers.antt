@@ -18,6 +18,7 @@ use Rattle.stored.proofs.Opened.{Opened, opened, transmissions-length, transmiss
 use Rattle.recheck.specs.Steps.{standingBytes}
 use Rattle.recheck.proofs.Rearranging.{Rewritten, rewritten-none, rewritten-size, rewritten-front, rewritten-block, rewritten-next, rewritten-all, front-size, few-places, all-signed, standing-size, front-summaries}
 use Rattle.recheck.proofs.Identities.{knows_same, known-block, known-put, lent-sheet, put_only}
+use borrow.Author.Rules.{rules}
 use Rattle.recheck.proofs.rechecks.renew_all.Goals as goal
 
 pub u16_at-n-requires : goal.u16_at-n-requires
@@ -41,7 +42,7 @@ pub renew-requires : goal.renew-requires
 renew-requires c =
     let m : List ℕ = c.args.memory.now in
     let o : Opened m = opened m c.requires.0 in
-    let bytes : Bytes m = all-bytes m (λ i. (c.type_inv.memory i).fits) in
+    let bytes : Bytes m = all-bytes m (search rules) in
     let n-is : c.u16_at-n.result ≡ summaryCount m = c.u16_at-n.ensures in
     let wide-each : (b : List ℕ) → Memᴰ b (transmissionPlaces m) → length (standingBytes (summariesIn m) b) ≡ transmissionSize = λ b. λ i. standing-size m o b i bytes (summariesIn m) in
     let size : length c.loop-i.memory ≡ trackSize = rewritten-size c.loop-i.invariant.1 (front-size m o) (transmissions-wide m o) (few-places m o) wide-each in
@@ -61,7 +62,7 @@ pub loop-i-preserved : goal.loop-i-preserved
 loop-i-preserved c =
     let m : List ℕ = c.args.memory.now in
     let o : Opened m = opened m c.requires.0 in
-    let bytes : Bytes m = all-bytes m (λ i. (c.type_inv.memory i).fits) in
+    let bytes : Bytes m = all-bytes m (search rules) in
     let n-is : c.u16_at-n.result ≡ summaryCount m = c.u16_at-n.ensures in
     let wide-each : (b : List ℕ) → Memᴰ b (transmissionPlaces m) → length (standingBytes (summariesIn m) b) ≡ transmissionSize = λ b. λ i. standing-size m o b i bytes (summariesIn m) in
     let size : length c.loop-i.memory ≡ trackSize = rewritten-size c.loop-i.invariant.1 (front-size m o) (transmissions-wide m o) (few-places m o) wide-each in
@@ -90,6 +91,6 @@ pub returns : goal.returns
 returns c =
     let m : List ℕ = c.args.memory.now in
     let o : Opened m = opened m c.requires.0 in
-    let bytes : Bytes m = all-bytes m (λ i. (c.type_inv.memory i).fits) in
+    let bytes : Bytes m = all-bytes m (search rules) in
     let wide-each : (b : List ℕ) → Memᴰ b (transmissionPlaces m) → length (standingBytes (summariesIn m) b) ≡ transmissionSize = λ b. λ i. standing-size m o b i bytes (summariesIn m) in
     record {memory_after = rewritten-all c.loop-i.invariant.1 (front-size m o) (transmissions-wide m o) (few-places m o) wide-each (rw (transmissions-length m o) c.loop-i-test.false); known = c.loop-i.invariant.2}

@@ -16,6 +16,7 @@ use Rattle.recheck.proofs.Renewing.{arranged-at-most}
 use Rattle.recheck.proofs.Rearranging.{front-size, arranging-size, lent-filled, left_is, arranged_is}
 use Rattle.recheck.proofs.Rechecked.{us, us-kept, us-count, us-few, us-bytes, taken_out}
 use Rattle.recheck.proofs.Identities.{tail-known}
+use borrow.Author.Rules.{rules}
 use Rattle.recheck.proofs.rechecks.take_out.Goals as goal
 
 pub bounds-memory-6 : goal.bounds-memory-6
@@ -25,7 +26,7 @@ pub slice_bounds-arrange-count : goal.slice_bounds-arrange-count
 slice_bounds-arrange-count c =
     let x : List ℕ = c.args.memory.now in
     let o : Opened x = opened x c.requires.0 in
-    let bytes : Bytes x = all-bytes x (λ i. (c.type_inv.memory i).fits) in
+    let bytes : Bytes x = all-bytes x (search rules) in
     let y : List ℕ = c.renew_all.new.memory in
     let y-is : y ≡ take transmissionsAt x ++ blockTable (map transmissionBytes (us x o bytes)) = c.renew_all.ensures.memory_after ∙ ap (λ (l : List (List ℕ)). take transmissionsAt x ++ blockTable l) (us-bytes x o bytes) in
     let y-size : length y ≡ trackSize = arranging-size (convictedIn x) (us x o bytes) (us-kept x o bytes) (us-few x o bytes) (take transmissionsAt x) y (front-size x o) y-is in
@@ -35,7 +36,7 @@ pub slice_bounds-arrange-start : goal.slice_bounds-arrange-start
 slice_bounds-arrange-start c =
     let x : List ℕ = c.args.memory.now in
     let o : Opened x = opened x c.requires.0 in
-    let bytes : Bytes x = all-bytes x (λ i. (c.type_inv.memory i).fits) in
+    let bytes : Bytes x = all-bytes x (search rules) in
     let y : List ℕ = c.renew_all.new.memory in
     let y-is : y ≡ take transmissionsAt x ++ blockTable (map transmissionBytes (us x o bytes)) = c.renew_all.ensures.memory_after ∙ ap (λ (l : List (List ℕ)). take transmissionsAt x ++ blockTable l) (us-bytes x o bytes) in
     let y-size : length y ≡ trackSize = arranging-size (convictedIn x) (us x o bytes) (us-kept x o bytes) (us-few x o bytes) (take transmissionsAt x) y (front-size x o) y-is in
@@ -45,7 +46,7 @@ pub arrange-left-requires : goal.arrange-left-requires
 arrange-left-requires c =
     let x : List ℕ = c.args.memory.now in
     let o : Opened x = opened x c.requires.0 in
-    let bytes : Bytes x = all-bytes x (λ i. (c.type_inv.memory i).fits) in
+    let bytes : Bytes x = all-bytes x (search rules) in
     let y : List ℕ = c.renew_all.new.memory in
     let y-is : y ≡ take transmissionsAt x ++ blockTable (map transmissionBytes (us x o bytes)) = c.renew_all.ensures.memory_after ∙ ap (λ (l : List (List ℕ)). take transmissionsAt x ++ blockTable l) (us-bytes x o bytes) in
     (
@@ -57,7 +58,7 @@ pub overflow_cast-memory : goal.overflow_cast-memory
 overflow_cast-memory c =
     let x : List ℕ = c.args.memory.now in
     let o : Opened x = opened x c.requires.0 in
-    let bytes : Bytes x = all-bytes x (λ i. (c.type_inv.memory i).fits) in
+    let bytes : Bytes x = all-bytes x (search rules) in
     let y : List ℕ = c.renew_all.new.memory in
     let y-is : y ≡ take transmissionsAt x ++ blockTable (map transmissionBytes (us x o bytes)) = c.renew_all.ensures.memory_after ∙ ap (λ (l : List (List ℕ)). take transmissionsAt x ++ blockTable l) (us-bytes x o bytes) in
     let left : c.arrange-left.result ≡ length (arranged (us x o bytes)) = left_is (convictedIn x) (us x o bytes) (us-kept x o bytes) (us-few x o bytes) (take transmissionsAt x) y (front-size x o) y-is
@@ -69,7 +70,7 @@ pub bounds-memory-6-2 : goal.bounds-memory-6-2
 bounds-memory-6-2 c =
     let x : List ℕ = c.args.memory.now in
     let o : Opened x = opened x c.requires.0 in
-    let bytes : Bytes x = all-bytes x (λ i. (c.type_inv.memory i).fits) in
+    let bytes : Bytes x = all-bytes x (search rules) in
     let y : List ℕ = c.renew_all.new.memory in
     let y-is : y ≡ take transmissionsAt x ++ blockTable (map transmissionBytes (us x o bytes)) = c.renew_all.ensures.memory_after ∙ ap (λ (l : List (List ℕ)). take transmissionsAt x ++ blockTable l) (us-bytes x o bytes) in
     let y-size : length y ≡ trackSize = arranging-size (convictedIn x) (us x o bytes) (us-kept x o bytes) (us-few x o bytes) (take transmissionsAt x) y (front-size x o) y-is in
@@ -81,7 +82,7 @@ pub returns : goal.returns
 returns c =
     let x : List ℕ = c.args.memory.now in
     let o : Opened x = opened x c.requires.0 in
-    let bytes : Bytes x = all-bytes x (λ i. (c.type_inv.memory i).fits) in
+    let bytes : Bytes x = all-bytes x (search rules) in
     let y : List ℕ = c.renew_all.new.memory in
     let y-is : y ≡ take transmissionsAt x ++ blockTable (map transmissionBytes (us x o bytes)) = c.renew_all.ensures.memory_after ∙ ap (λ (l : List (List ℕ)). take transmissionsAt x ++ blockTable l) (us-bytes x o bytes) in
     let left : c.arrange-left.result ≡ length (arranged (us x o bytes)) = left_is (convictedIn x) (us x o bytes) (us-kept x o bytes) (us-few x o bytes) (take transmissionsAt x) y (front-size x o) y-is

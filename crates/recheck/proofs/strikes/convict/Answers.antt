@@ -11,6 +11,7 @@ use Rattle.stored.proofs.Opened.{opened}
 use Rattle.stored.proofs.Valid.{Valid, decode-valid, formed-encode, decode-encode}
 use Rattle.recheck.specs.Recheck.{recheck, strikeEngine}
 use Rattle.recheck.proofs.Renewing.{strike-valid}
+use borrow.Author.Rules.{rules}
 use Rattle.recheck.proofs.strikes.convict.Goals as goal
 
 pub strike-requires : goal.strike-requires
@@ -22,7 +23,7 @@ strike-requires c =
 pub recheck_known-requires : goal.recheck_known-requires
 recheck_known-requires c =
     let m : List ℕ = c.args.memory.now in
-    let bytes : Bytes m = all-bytes m (λ i. (c.type_inv.memory i).fits) in
+    let bytes : Bytes m = all-bytes m (search rules) in
     let struck : Track = strikeEngine c.args.engine (decode m) in
     let valid : Valid struck = strike-valid (decode m) (decode-valid m (opened m c.requires.0) bytes) c.args.engine (omega (arith, c.requires.1)) in
     (rw c.strike.ensures.memory_after (formed-encode struck valid), c.strike.ensures.known)
@@ -30,7 +31,7 @@ recheck_known-requires c =
 pub returns : goal.returns
 returns c =
     let m : List ℕ = c.args.memory.now in
-    let bytes : Bytes m = all-bytes m (λ i. (c.type_inv.memory i).fits) in
+    let bytes : Bytes m = all-bytes m (search rules) in
     let struck : Track = strikeEngine c.args.engine (decode m) in
     let valid : Valid struck = strike-valid (decode m) (decode-valid m (opened m c.requires.0) bytes) c.args.engine (omega (arith, c.requires.1)) in
     c.recheck_known.ensures ∙ ap (λ (l : List ℕ). encode (recheck (decode l))) c.strike.ensures.memory_after ∙ ap (λ (x : Track). encode (recheck x)) (decode-encode struck valid)

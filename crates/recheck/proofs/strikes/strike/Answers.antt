@@ -14,6 +14,7 @@ use Rattle.stored.specs.Memory.{convictedIn, summaryCount}
 use Rattle.stored.proofs.Opened.{Opened, opened}
 use Rattle.recheck.proofs.Renewing.{arranged-at-most}
 use Rattle.recheck.proofs.Stricken.{us, lent_length, summaries-left, struck, struck-known}
+use borrow.Author.Rules.{rules}
 use Rattle.recheck.proofs.strikes.strike.Goals as goal
 
 pub u32_at-convicted-requires : goal.u32_at-convicted-requires
@@ -35,7 +36,7 @@ strike_summaries-summaries-requires c =
     let m : List ℕ = c.args.memory.now in
     let e : ℕ = c.args.engine in
     let o : Opened m = opened m c.requires.0 in
-    let b : Bytes m = all-bytes m (λ i. (c.type_inv.memory i).fits) in
+    let b : Bytes m = all-bytes m (search rules) in
     let n : ℕ = c.u16_at-n.result in
     let n-is : n ≡ summaryCount m = c.u16_at-n.ensures in
     let m₁ : List ℕ = c.strike_transmissions-left.new.memory in
@@ -46,7 +47,7 @@ overflow_cast-summaries c =
     let m : List ℕ = c.args.memory.now in
     let e : ℕ = c.args.engine in
     let o : Opened m = opened m c.requires.0 in
-    let b : Bytes m = all-bytes m (λ i. (c.type_inv.memory i).fits) in
+    let b : Bytes m = all-bytes m (search rules) in
     let n : ℕ = c.u16_at-n.result in
     let n-is : n ≡ summaryCount m = c.u16_at-n.ensures in
     let m₁ : List ℕ = c.strike_transmissions-left.new.memory in
@@ -58,7 +59,7 @@ overflow_cast-left c =
     let m : List ℕ = c.args.memory.now in
     let e : ℕ = c.args.engine in
     let o : Opened m = opened m c.requires.0 in
-    let b : Bytes m = all-bytes m (λ i. (c.type_inv.memory i).fits) in
+    let b : Bytes m = all-bytes m (search rules) in
     let left-few : c.strike_transmissions-left.result ≤ maxTransmissions = rw c.strike_transmissions-left.ensures.value (arranged-at-most (us m o b e)) in
     omega (arith, left-few)
 
@@ -67,7 +68,7 @@ returns c =
     let m : List ℕ = c.args.memory.now in
     let e : ℕ = c.args.engine in
     let o : Opened m = opened m c.requires.0 in
-    let b : Bytes m = all-bytes m (λ i. (c.type_inv.memory i).fits) in
+    let b : Bytes m = all-bytes m (search rules) in
     let n : ℕ = c.u16_at-n.result in
     let n-is : n ≡ summaryCount m = c.u16_at-n.ensures in
     let m₁ : List ℕ = c.strike_transmissions-left.new.memory in

@@ -18,6 +18,7 @@ use Rattle.recheck.specs.Steps.{withoutBytes}
 use Rattle.recheck.proofs.Standing.{lent-block}
 use Rattle.recheck.proofs.Identities.{knows_same, known-block, known-put, lent-sheet}
 use Rattle.recheck.proofs.Rearranging.{Rewritten, rewritten-none, rewritten-size, rewritten-block, rewritten-next, rewritten-all, front-size, few-places, put-lent, without-size}
+use borrow.Author.Rules.{rules}
 use Rattle.recheck.proofs.strikes.strike_all.Goals as goal
 
 pub bounds-memory-6 : goal.bounds-memory-6
@@ -30,7 +31,7 @@ pub slice_bounds-strike_fixes-end : goal.slice_bounds-strike_fixes-end
 slice_bounds-strike_fixes-end c =
     let m : List ℕ = c.args.memory.now in
     let o : Opened m = opened m c.requires.0 in
-    let bytes : Bytes m = all-bytes m (λ i. (c.type_inv.memory i).fits) in
+    let bytes : Bytes m = all-bytes m (search rules) in
     let wide-each : (b : List ℕ) → Memᴰ b (transmissionPlaces m) → length (withoutBytes c.args.engine b) ≡ transmissionSize = λ b. λ i. without-size m o b i bytes c.args.engine in
     let size : length c.loop-i.memory ≡ trackSize = rewritten-size c.loop-i.invariant.1 (front-size m o) (transmissions-wide m o) (few-places m o) wide-each in
     let lies : placeAt c.loop-i.i + transmissionSize ≤ length c.loop-i.memory = rw size (omega (arith, c.loop-i-test.true, o.few)) in
@@ -48,7 +49,7 @@ pub strike_fixes-requires : goal.strike_fixes-requires
 strike_fixes-requires c =
     let m : List ℕ = c.args.memory.now in
     let o : Opened m = opened m c.requires.0 in
-    let bytes : Bytes m = all-bytes m (λ i. (c.type_inv.memory i).fits) in
+    let bytes : Bytes m = all-bytes m (search rules) in
     let wide-each : (b : List ℕ) → Memᴰ b (transmissionPlaces m) → length (withoutBytes c.args.engine b) ≡ transmissionSize = λ b. λ i. without-size m o b i bytes c.args.engine in
     let among : c.loop-i.i < length (transmissionPlaces m) = rw (transmissions-length m o) c.loop-i-test.true in
     let one : Memᴰ (get_or (transmissionPlaces m) c.loop-i.i []) (transmissionPlaces m) = mem-at (transmissionPlaces m) c.loop-i.i [] among in
@@ -67,7 +68,7 @@ pub loop-i-preserved : goal.loop-i-preserved
 loop-i-preserved c =
     let m : List ℕ = c.args.memory.now in
     let o : Opened m = opened m c.requires.0 in
-    let bytes : Bytes m = all-bytes m (λ i. (c.type_inv.memory i).fits) in
+    let bytes : Bytes m = all-bytes m (search rules) in
     let wide-each : (b : List ℕ) → Memᴰ b (transmissionPlaces m) → length (withoutBytes c.args.engine b) ≡ transmissionSize = λ b. λ i. without-size m o b i bytes c.args.engine in
     let size : length c.loop-i.memory ≡ trackSize = rewritten-size c.loop-i.invariant.1 (front-size m o) (transmissions-wide m o) (few-places m o) wide-each in
     let among : c.loop-i.i < length (transmissionPlaces m) = rw (transmissions-length m o) c.loop-i-test.true in
@@ -96,6 +97,6 @@ pub returns : goal.returns
 returns c =
     let m : List ℕ = c.args.memory.now in
     let o : Opened m = opened m c.requires.0 in
-    let bytes : Bytes m = all-bytes m (λ i. (c.type_inv.memory i).fits) in
+    let bytes : Bytes m = all-bytes m (search rules) in
     let wide-each : (b : List ℕ) → Memᴰ b (transmissionPlaces m) → length (withoutBytes c.args.engine b) ≡ transmissionSize = λ b. λ i. without-size m o b i bytes c.args.engine in
     record {memory_after = rewritten-all c.loop-i.invariant.1 (front-size m o) (transmissions-wide m o) (few-places m o) wide-each (rw (transmissions-length m o) c.loop-i-test.false); known = c.loop-i.invariant.2}

@@ -17,6 +17,7 @@ use Rattle.stored.proofs.Opened.{Opened, opened}
 use Rattle.recheck.proofs.Rearranging.{front-size, arranging-size, lent-filled, left_is, arranged_is}
 use Rattle.recheck.proofs.Identities.{tail-known, back-known}
 use Rattle.recheck.proofs.Stricken as S
+use borrow.Author.Rules.{rules}
 use Rattle.recheck.proofs.strikes.strike_transmissions.Goals as goal
 
 pub bounds-memory-6 : goal.bounds-memory-6
@@ -26,7 +27,7 @@ pub slice_bounds-arrange-count : goal.slice_bounds-arrange-count
 slice_bounds-arrange-count c =
     let m : List ℕ = c.args.memory.now in
     let o : Opened m = opened m c.requires.0 in
-    let bytes : Bytes m = all-bytes m (λ i. (c.type_inv.memory i).fits) in
+    let bytes : Bytes m = all-bytes m (search rules) in
     let c' : ℕ = withBit (convictedIn m) c.args.engine in
     let us : List HeldTransmission = S.us m o bytes c.args.engine in
     let kept : (u : HeldTransmission) → Memᴰ u us → Kept c' u = S.us-kept m o bytes c.args.engine in
@@ -40,7 +41,7 @@ pub slice_bounds-arrange-start : goal.slice_bounds-arrange-start
 slice_bounds-arrange-start c =
     let m : List ℕ = c.args.memory.now in
     let o : Opened m = opened m c.requires.0 in
-    let bytes : Bytes m = all-bytes m (λ i. (c.type_inv.memory i).fits) in
+    let bytes : Bytes m = all-bytes m (search rules) in
     let c' : ℕ = withBit (convictedIn m) c.args.engine in
     let us : List HeldTransmission = S.us m o bytes c.args.engine in
     let kept : (u : HeldTransmission) → Memᴰ u us → Kept c' u = S.us-kept m o bytes c.args.engine in
@@ -54,7 +55,7 @@ pub arrange-requires : goal.arrange-requires
 arrange-requires c =
     let m : List ℕ = c.args.memory.now in
     let o : Opened m = opened m c.requires.0 in
-    let bytes : Bytes m = all-bytes m (λ i. (c.type_inv.memory i).fits) in
+    let bytes : Bytes m = all-bytes m (search rules) in
     let c' : ℕ = withBit (convictedIn m) c.args.engine in
     let us : List HeldTransmission = S.us m o bytes c.args.engine in
     let kept : (u : HeldTransmission) → Memᴰ u us → Kept c' u = S.us-kept m o bytes c.args.engine in
@@ -71,7 +72,7 @@ pub returns : goal.returns
 returns c =
     let m : List ℕ = c.args.memory.now in
     let o : Opened m = opened m c.requires.0 in
-    let bytes : Bytes m = all-bytes m (λ i. (c.type_inv.memory i).fits) in
+    let bytes : Bytes m = all-bytes m (search rules) in
     let c' : ℕ = withBit (convictedIn m) c.args.engine in
     let us : List HeldTransmission = S.us m o bytes c.args.engine in
     let kept : (u : HeldTransmission) → Memᴰ u us → Kept c' u = S.us-kept m o bytes c.args.engine in

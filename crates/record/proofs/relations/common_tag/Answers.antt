@@ -35,10 +35,10 @@ returns-then-m-j c =
     sym (unshared _ _ ∙ c.loop-i.invariant.6 ∙ shared-past c.args.a.now c.args.b.now _ _ c.loop-i.i c.loop-i.j c.if-m-j.true)
 
 pub tag-x-requires : goal.tag-x-requires
-tag-x-requires c = record {r_len = (formed _ c.requires.a_value).size; i_lt_max_tags = omega arith}
+tag-x-requires c = record { r_len = (formed _ c.requires.a_value).size; i_lt_max_tags = omega arith }
 
 pub tag-y-requires : goal.tag-y-requires
-tag-y-requires c = record {r_len = (formed _ c.requires.b_value).size; i_lt_max_tags = omega arith}
+tag-y-requires c = record { r_len = (formed _ c.requires.b_value).size; i_lt_max_tags = omega arith }
 
 pub loop-i-preserved-then-x-y : goal.loop-i-preserved-then-x-y
 loop-i-preserved-then-x-y c =

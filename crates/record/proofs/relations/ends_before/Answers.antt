@@ -20,7 +20,7 @@ tag-requires c =
     let s = f.some in
     let w = f.few in
     let e = c.tag_count-n.ensures in
-    record {r_len = f.size; i_lt_max_tags = omega arith}
+    record { r_len = f.size; i_lt_max_tags = omega arith }
 
 pub tag-requires-2 : goal.tag-requires-2
-tag-requires-2 c = record {r_len = (formed _ c.requires.b_value).size; i_lt_max_tags = omega arith}
+tag-requires-2 c = record { r_len = (formed _ c.requires.b_value).size; i_lt_max_tags = omega arith }

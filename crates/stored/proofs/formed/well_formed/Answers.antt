@@ -59,56 +59,52 @@ module _ (m : List ℕ) where
 
 pub returns-then-m-ne-TRACK_SIZE : goal.returns-then-m-ne-TRACK_SIZE
 returns-then-m-ne-TRACK_SIZE c =
-    let c : ℕ = c.u32_at-convicted.result in
-    sym (other-size c.args.m.now c.if-n-gt-MAX_SUMMARIES.true)
+    sym (other-size c.args.m.now c.if-m-ne-TRACK_SIZE.true)
 
 pub returns-then-n-gt-MAX_SUMMARIES : goal.returns-then-n-gt-MAX_SUMMARIES
 returns-then-n-gt-MAX_SUMMARIES c =
-    let c : ℕ = c.u32_at-convicted.result in
-    sym (many-summaries c.args.m.now c.if-n-gt-MAX_SUMMARIES.false (rw c.u16_at-n.ensures at c.if-k-gt-MAX_TRANSMISSIONS.true))
+    sym (many-summaries c.args.m.now c.if-m-ne-TRACK_SIZE.false (rw c.u16_at-n.ensures at c.if-n-gt-MAX_SUMMARIES.true))
 
 pub returns-then-k-gt-MAX_TRANSMISSIONS : goal.returns-then-k-gt-MAX_TRANSMISSIONS
 returns-then-k-gt-MAX_TRANSMISSIONS c =
     let m : List ℕ = c.args.m.now in
-    let size : length m ≡ trackSize = c.if-n-gt-MAX_SUMMARIES.false in
+    let size : length m ≡ trackSize = c.if-m-ne-TRACK_SIZE.false in
     let n : ℕ = c.u16_at-n.result in
     let n-is : n ≡ summaryCount m = c.u16_at-n.ensures in
-    let few-summaries : summaryCount m ≤ maxSummaries = rw n-is at c.if-k-gt-MAX_TRANSMISSIONS.false in
-    let c : ℕ = c.u32_at-convicted.result in
-    sym (many-transmissions m size few-summaries c.if-m-ne0.true)
+    let few-summaries : summaryCount m ≤ maxSummaries = rw n-is at c.if-n-gt-MAX_SUMMARIES.false in
+    sym (many-transmissions m size few-summaries c.if-k-gt-MAX_TRANSMISSIONS.true)
 
 pub returns-then-m-ne0 : goal.returns-then-m-ne0
 returns-then-m-ne0 c =
     let m : List ℕ = c.args.m.now in
-    let size : length m ≡ trackSize = c.if-n-gt-MAX_SUMMARIES.false in
+    let size : length m ≡ trackSize = c.if-m-ne-TRACK_SIZE.false in
     let n : ℕ = c.u16_at-n.result in
     let n-is : n ≡ summaryCount m = c.u16_at-n.ensures in
-    let few-summaries : summaryCount m ≤ maxSummaries = rw n-is at c.if-k-gt-MAX_TRANSMISSIONS.false in
-    let c : ℕ = c.u32_at-convicted.result in
-    sym (not-zero m size few-summaries c.if-m-ne0.false (ap not c.if-not-summary_table_formed.true))
+    let few-summaries : summaryCount m ≤ maxSummaries = rw n-is at c.if-n-gt-MAX_SUMMARIES.false in
+    sym (not-zero m size few-summaries c.if-k-gt-MAX_TRANSMISSIONS.false c.if-m-ne0.true)
 
 pub returns-then-not-summary_table_formed : goal.returns-then-not-summary_table_formed
 returns-then-not-summary_table_formed c =
     let m : List ℕ = c.args.m.now in
-    let size : length m ≡ trackSize = c.if-n-gt-MAX_SUMMARIES.false in
+    let size : length m ≡ trackSize = c.if-m-ne-TRACK_SIZE.false in
     let n : ℕ = c.u16_at-n.result in
     let n-is : n ≡ summaryCount m = c.u16_at-n.ensures in
-    let few-summaries : summaryCount m ≤ maxSummaries = rw n-is at c.if-k-gt-MAX_TRANSMISSIONS.false in
-    let c : ℕ = c.u32_at-convicted.result in
+    let few-summaries : summaryCount m ≤ maxSummaries = rw n-is at c.if-n-gt-MAX_SUMMARIES.false in
+    let w : ℕ = c.u32_at-convicted.result in
     let rest : List ℕ = take (length m - transmissionsAt) (drop transmissionsAt m) in
-    let is-formed : wellFormed m ≡ (summariesFormed c n (summaryTable m) && transmissionsFormed c (transmissionCount m) rest) = by-tables m size few-summaries c.if-m-ne0.false c n rest
-    c.u32_at-convicted.ensures n-is (tail-lent m transmissionsAt) (ap not c.if-not-summary_table_formed.false) in
-    sym (is-formed ∙ rw (sym c.summary_table_formed.ensures ∙ not-true _ c.if5.taken) refl)
+    let is-formed : wellFormed m ≡ (summariesFormed w n (summaryTable m) && transmissionsFormed w (transmissionCount m) rest) = by-tables m size few-summaries c.if-k-gt-MAX_TRANSMISSIONS.false w n rest
+    c.u32_at-convicted.ensures n-is (tail-lent m transmissionsAt) c.if-m-ne0.false in
+    sym (is-formed ∙ rw (sym c.summary_table_formed.ensures ∙ c.if-not-summary_table_formed.true) refl)
 
 pub returns : goal.returns
 returns c =
     let m : List ℕ = c.args.m.now in
-    let size : length m ≡ trackSize = c.if-n-gt-MAX_SUMMARIES.false in
+    let size : length m ≡ trackSize = c.if-m-ne-TRACK_SIZE.false in
     let n : ℕ = c.u16_at-n.result in
     let n-is : n ≡ summaryCount m = c.u16_at-n.ensures in
-    let few-summaries : summaryCount m ≤ maxSummaries = rw n-is at c.if-k-gt-MAX_TRANSMISSIONS.false in
-    let c : ℕ = c.u32_at-convicted.result in
+    let few-summaries : summaryCount m ≤ maxSummaries = rw n-is at c.if-n-gt-MAX_SUMMARIES.false in
+    let w : ℕ = c.u32_at-convicted.result in
     let rest : List ℕ = take (length m - transmissionsAt) (drop transmissionsAt m) in
-    let is-formed : wellFormed m ≡ (summariesFormed c n (summaryTable m) && transmissionsFormed c (transmissionCount m) rest) = by-tables m size few-summaries c.if-m-ne0.false c n rest
-    c.u32_at-convicted.ensures n-is (tail-lent m transmissionsAt) (ap not c.if-not-summary_table_formed.false) in
-    c.transmission_table_formed.ensures ∙ sym (is-formed ∙ rw (sym c.summary_table_formed.ensures ∙ not-false _ c.if5.left) refl)
+    let is-formed : wellFormed m ≡ (summariesFormed w n (summaryTable m) && transmissionsFormed w (transmissionCount m) rest) = by-tables m size few-summaries c.if-k-gt-MAX_TRANSMISSIONS.false w n rest
+    c.u32_at-convicted.ensures n-is (tail-lent m transmissionsAt) c.if-m-ne0.false in
+    c.transmission_table_formed.ensures ∙ sym (is-formed ∙ rw (sym c.summary_table_formed.ensures ∙ c.if-not-summary_table_formed.false) refl)

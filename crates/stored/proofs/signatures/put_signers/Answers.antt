@@ -10,5 +10,5 @@ use Rattle.stored.proofs.signatures.put_signers.Goals as goal
 pub returns : goal.returns
 returns c =
     let b = c.args.b.now in
-    resigned b c.requires.0 c.args.k c.requires.1 c.args.signers (omega (arith, c.well-formed)) _
+    resigned b c.requires.0 c.args.k c.requires.1 c.args.signers (omega (arith, c.well_formed)) _
     (c.put_u32.ensures ∙ ap (λ (i : ℕ). putWord 4 (i + signersAt) c.args.signers b) c.place_of-at.ensures)

@@ -14,6 +14,7 @@ use Rattle.stored.specs.Layout.{pairSize, summariesAt}
 use Rattle.stored.specs.Memory.{summaryCount, summaryTable}
 use Rattle.stored.proofs.Opened.{Opened, opened, summaries-ascend, summary-bytes-length}
 use Rattle.stored.proofs.Pairs.{withTable, PairWay, pair-way, pair-full, pair-new, held-inside, pair-unwritten, pair-again}
+use borrow.Author.Rules.{rules}
 use Rattle.stored.proofs.summaries.put_pair.Goals as goal
 
 pub u16_at-n-requires : goal.u16_at-n-requires
@@ -41,7 +42,7 @@ put_summary-requires c =
     let p : List ℕ = c.args.p.now in
     let n : ℕ = c.u16_at-n.result in
     let o : Opened m = opened m c.requires.0 in
-    let b : Bytes m = all-bytes m (λ i. (c.type_inv.memory i).fits) in
+    let b : Bytes m = all-bytes m (search rules) in
     let n-is : n ≡ summaryCount m = c.u16_at-n.ensures in
     let t : List ℕ = c.put_by_key-tried.new.t in
     let gone : PairWay p c.requires.1 m o b c.put_by_key-tried.result t = pair-way p c.requires.1 m o b n c.put_by_key-tried.result t n-is c.put_by_key-tried.ensures in
@@ -65,7 +66,7 @@ returns-in-Held c =
     let p : List ℕ = c.args.p.now in
     let n : ℕ = c.u16_at-n.result in
     let o : Opened m = opened m c.requires.0 in
-    let b : Bytes m = all-bytes m (λ i. (c.type_inv.memory i).fits) in
+    let b : Bytes m = all-bytes m (search rules) in
     let n-is : n ≡ summaryCount m = c.u16_at-n.ensures in
     let t : List ℕ = c.put_by_key-tried.new.t in
     let gone : PairWay p c.requires.1 m o b c.put_by_key-tried.result t = pair-way p c.requires.1 m o b n c.put_by_key-tried.result t n-is c.put_by_key-tried.ensures in
@@ -77,7 +78,7 @@ returns-in-Full c =
     let p : List ℕ = c.args.p.now in
     let n : ℕ = c.u16_at-n.result in
     let o : Opened m = opened m c.requires.0 in
-    let b : Bytes m = all-bytes m (λ i. (c.type_inv.memory i).fits) in
+    let b : Bytes m = all-bytes m (search rules) in
     let n-is : n ≡ summaryCount m = c.u16_at-n.ensures in
     let t : List ℕ = c.put_by_key-tried.new.t in
     let gone : PairWay p c.requires.1 m o b c.put_by_key-tried.result t = pair-way p c.requires.1 m o b n c.put_by_key-tried.result t n-is c.put_by_key-tried.ensures in
@@ -89,7 +90,7 @@ returns-in-New c =
     let p : List ℕ = c.args.p.now in
     let n : ℕ = c.u16_at-n.result in
     let o : Opened m = opened m c.requires.0 in
-    let b : Bytes m = all-bytes m (λ i. (c.type_inv.memory i).fits) in
+    let b : Bytes m = all-bytes m (search rules) in
     let n-is : n ≡ summaryCount m = c.u16_at-n.ensures in
     let t : List ℕ = c.put_by_key-tried.new.t in
     let gone : PairWay p c.requires.1 m o b c.put_by_key-tried.result t = pair-way p c.requires.1 m o b n c.put_by_key-tried.result t n-is c.put_by_key-tried.ensures in

@@ -24,8 +24,8 @@ loop-i-preserved c =
     let l = c.loop-i in
     let h = c.loop-i-test.true in (
       omega arith,
-      below-better _ _ _ _ _ l.invariant.1 h c.Later-of.ensures,
-      choose-hit _ _ _ _ _ _ _ l.invariant.2 h c.if-not-left-i.false c.Later-of.ensures,
+      below-better _ _ _ _ _ l.invariant.1 h c.later_of-best.ensures,
+      choose-hit _ _ _ _ _ _ _ l.invariant.2 h c.if-not-left-i.false c.later_of-best.ensures,
     )
 
 pub returns : goal.returns

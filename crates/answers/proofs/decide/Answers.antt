@@ -1,0 +1,74 @@
+use mathlib.Core.Path.{◌≡◌, refl, sym, ap, ◌∙◌}
+use mathlib.Core.Bool.{true, false}
+use mathlib.Core.List.{List}
+use Prim.Native.Nat.{ℕ}
+use native.Mathlib.Omega.{arith}
+use Rattle.held.specs.After.{after}
+use Rattle.decision.specs.Answer.{bad, outcome, decided, decision, refusedDecision}
+use Rattle.decision.proofs.Passed.{few-items, long-items}
+use Rattle.decision.proofs.Alone.{alone}
+use Rattle.answers.specs.Answer.{answerBytes, handOut}
+use Rattle.answers.proofs.Parts.{answer-alone}
+use borrow.Author.Rules.{rules}
+use Rattle.answers.proofs.decide.Goals as goal
+
+-- what is handed out of bad items, and of others
+refused-out : (s found : List ℕ) → bad s ≡ true → after 8 found ≡ handOut (decided s) found
+unfolding handOut decided refusedDecision
+refused-out s found e = rw e refl
+
+decided-out : (s found l : List ℕ) → bad s ≡ false → l ≡ answerBytes (decision (outcome s)) → after 0 l ≡ handOut (decided s) found
+unfolding handOut decided decision
+decided-out s found l e q = rw (e, q) refl
+
+pub returns-then-is_bad : goal.returns-then-is_bad
+returns-then-is_bad c = refused-out _ _ (sym c.is_bad.ensures ∙ c.if-is_bad.true)
+
+pub overflow_cast-n : goal.overflow_cast-n
+overflow_cast-n c =
+    let items : List ℕ = c.args.s.now in
+    let good : bad items ≡ false = sym c.is_bad.ensures ∙ c.if-is_bad.false in
+    let f = few-items items good in omega arith
+
+pub returns-then-n-le1 : goal.returns-then-n-le1
+returns-then-n-le1 c =
+    let items : List ℕ = c.args.s.now in
+    let good : bad items ≡ false = sym c.is_bad.ensures ∙ c.if-is_bad.false in
+    let g = good in
+    decided-out _ _ _ g (answer-alone _ ∙ ap answerBytes (alone _ _ (long-items _ g) c.if-n-le1.true g))
+
+pub put_least-requires : goal.put_least-requires
+put_least-requires c =
+    let items : List ℕ = c.args.s.now in
+    let good : bad items ≡ false = sym c.is_bad.ensures ∙ c.if-is_bad.false in
+    let g = good in (refl, g, long-items _ g, c.if-n-le-LEAST.true)
+
+pub returns-then-n-le-LEAST : goal.returns-then-n-le-LEAST
+returns-then-n-le-LEAST c =
+    let items : List ℕ = c.args.s.now in
+    let good : bad items ≡ false = sym c.is_bad.ensures ∙ c.if-is_bad.false in
+    decided-out _ _ _ good c.put_least.ensures
+
+pub put_few-requires : goal.put_few-requires
+put_few-requires c =
+    let items : List ℕ = c.args.s.now in
+    let good : bad items ≡ false = sym c.is_bad.ensures ∙ c.if-is_bad.false in
+    let g = good in (refl, g, long-items _ g, c.if-n-le-FEW.true)
+
+pub returns-then-n-le-FEW : goal.returns-then-n-le-FEW
+returns-then-n-le-FEW c =
+    let items : List ℕ = c.args.s.now in
+    let good : bad items ≡ false = sym c.is_bad.ensures ∙ c.if-is_bad.false in
+    decided-out _ _ _ good c.put_few.ensures
+
+pub put_many-requires : goal.put_many-requires
+put_many-requires c =
+    let items : List ℕ = c.args.s.now in
+    let good : bad items ≡ false = sym c.is_bad.ensures ∙ c.if-is_bad.false in
+    let g = good in (refl, g, long-items _ g, few-items _ g)
+
+pub returns : goal.returns
+returns c =
+    let items : List ℕ = c.args.s.now in
+    let good : bad items ≡ false = sym c.is_bad.ensures ∙ c.if-is_bad.false in
+    decided-out _ _ _ good c.put_many.ensures

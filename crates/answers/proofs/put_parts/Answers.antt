@@ -1,0 +1,14 @@
+use Prim.Native.Nat.{ℕ}
+use mathlib.Core.Path.{◌≡◌, ap, ◌∙◌}
+use native.Mathlib.Omega.{arith}
+use lib.ListN.{length, length-replicate}
+use Rattle.answers.specs.Offsets.{answerSize, refusalsAt}
+use Rattle.answers.proofs.Parts.{answer-put}
+use borrow.Author.Rules.{rules}
+use Rattle.answers.proofs.put_parts.Goals as goal
+
+pub returns : goal.returns
+returns c =
+    let ends : c.put_indices-third.result ≡ refusalsAt = omega (arith, c.put_indices-third.ensures.0, c.put_indices-second.ensures.0) in
+    answer-put _ c.requires.out_value c.ranked.ensures c.dominated.ensures c.put_indices-second.ensures.1 c.put_indices-third.ensures.1
+    c.put_refusals.ensures.1 ends (omega (arith, ends, c.put_refusals.ensures.0))

@@ -1,0 +1,24 @@
+use mathlib.Core.Path.{◌≡◌, refl, sym, ap, ◌∙◌}
+use mir.Facts.{to_z-of_z}
+use mir.Syntax.{w32}
+use Rattle.octets.specs.Ascii.{ascii}
+use Rattle.drawing.specs.Lines.{whereWhen}
+use native.Mathlib.Omega.{arith}
+use Rattle.text.proofs.Writing.{put-put, put_as}
+use borrow.Author.Rules.{rules, sfits_of}
+use Rattle.drawing.proofs.lines.put_where_when.Reads as reads
+use Rattle.drawing.proofs.lines.put_where_when.Lts as lts
+use Rattle.drawing.proofs.lines.put_number.Reads as put-number-reads
+use Rattle.drawing.proofs.lines.put_signed.Reads as put-signed-reads
+use Rattle.record.proofs.fields.latitude.Reads as latitude-reads
+use Rattle.record.proofs.fields.longitude.Reads as longitude-reads
+use Rattle.record.proofs.fields.time.Reads as time-reads
+use Rattle.drawing.proofs.lines.put_where_when.Goals as goal
+
+pub returns : goal.returns
+unfolding whereWhen ascii
+returns c =
+    let p = c.put_number-a.ensures in
+    let q = c.put_signed-b.ensures in
+    let r = c.put_signed.ensures in
+    (omega (arith, p.0, q.0, r.0), put-put (rw c.time.ensures at p.1) (put-put (rw (to_z-of_z {w = w32} {z = c.latitude.result} (sfits_of c.latitude.type_inv), c.latitude.ensures) at q.1) (rw (to_z-of_z {w = w32} {z = c.longitude.result} (sfits_of c.longitude.type_inv), c.longitude.ensures) at r.1)))
