@@ -1,23 +1,25 @@
 // What the programs ask of std's readers: a buffer that is read full, and buffers to read into.
 #![tactic(auto)]
 
-ghost use Rattle.std.specs.Prelude.{◌≡◌, ◌<◌, length, take, IfOk};
+ghost use Rattle.std.specs.Prelude.{◌≡◌, ◌<◌, length, take, replicate, IfOk};
 ghost use Rattle.std.specs.Io.{ReadsAtMost};
 ghost use Rattle.std.specs.Io.KnownBytes.{Consumes, IsAtEnd};
 
 use std::io;
 use std::io::Read;
 
-// 4,096 zeros. The `ensures` gives only the length, which lending the array as a slice needs.
+// 4,096 zeros. Lending the array as a slice needs the length.
 pub fn buffer() -> [u8; 4096]
-    ensures { 4096 ≡ length result }
+    ensures len { 4096 ≡ length result }
+    ensures zeros { result ≡ replicate 4096 0 }
 {
     [0; 4096]
 }
 
 // 65,536 zeros.
 pub fn large_buffer() -> [u8; 65536]
-    ensures { 65536 ≡ length result }
+    ensures len { 65536 ≡ length result }
+    ensures zeros { result ≡ replicate 65536 0 }
 {
     [0; 65536]
 }

@@ -1,12 +1,12 @@
 -- Laws of masks, for every width: what the machine's operations do to the bits, and that a number is its bits.
-use Prim.Native.Nat.{ℕ, zero, suc, ◌+◌, ◌-◌, ◌*◌, ◌/◌, ◌%◌, ◌^◌, ◌≤◌, ◌<◌, min, max}
+use Prim.Native.Nat.{ℕ, zero, suc, ◌+◌, ◌*◌, ◌/◌, ◌%◌, ◌^◌, ◌≤◌, ◌<◌, min, max}
 use mathlib.Core.Path.{◌≡◌, refl, sym, ap, ◌∙◌}
-use mathlib.Core.Bool.{Bool, true, false, cond, not, ◌&&◌, ◌||◌, true≢false, false≢true}
+use mathlib.Core.Bool.{true, false, cond, not, ◌&&◌, ◌||◌, true≢false, false≢true}
 use native.Mathlib.Omega.{arith}
 use native.Mathlib.Nat.{pow-suc, one-mul}
-use native.Mathlib.Numerals.{add-one, one-add}
+use native.Mathlib.Numerals.{one-add}
 use lib.Dec.{ltb, eqb, eqb-zero-suc, eqb-suc-zero, eqb-suc-suc}
-use lib.Bits.{bit_and, bit_or, and_step, or_step, or_zero_r, and_mask}
+use lib.Bits.{bit_and, bit_or, and_step, or_step, or_zero_r}
 use lib.Pow.{pow_mono, shr-shr, shl_exact}
 use lib.Arith.{bin_ind}
 use lib.Count.{ones, ones_in, ones_step}

@@ -1,13 +1,13 @@
 -- Laws of little-endian numbers, for every width: the round trips both ways, and a number in two parts.
-use Prim.Native.Nat.{ℕ, zero, suc, ◌+◌, ◌-◌, ◌*◌, ◌/◌, ◌%◌, ◌^◌, ◌≤◌, ◌<◌}
-use mathlib.Core.Path.{◌≡◌, refl, sym, ap, ap₂, ◌∙◌}
+use Prim.Native.Nat.{ℕ, zero, suc, ◌+◌, ◌*◌, ◌/◌, ◌%◌, ◌^◌, ◌≤◌, ◌<◌}
+use mathlib.Core.Path.{◌≡◌, refl, sym, ap, ◌∙◌}
 use mathlib.Core.List.{List, [], ◌∷◌, ◌++◌, append_assoc}
 use native.Mathlib.Omega.{arith}
 use native.Mathlib.Nat.{pow-suc, pow-succ', suc-add, zero-add, mul_assoc, add_assoc, div-div-eq-div-mul}
 use native.Mathlib.Numerals.{add-one}
 use lib.Arith.{mod-mul}
 use lib.ListN.{length, get_or, set, take, drop, length-append, length-take, length-drop, take-append-drop}
-use lib.Seq.{sets, sets-eq, take-add, drop-drop, drop-cons, take_at, drop_at, length-take-le}
+use lib.Seq.{sets-eq, take-add, drop-drop, drop-cons, take_at, drop_at, length-take-le}
 use Rattle.octets.specs.Bytes.{Bytes}
 use Rattle.octets.specs.Words.{word, word_bytes, word_at}
 use Rattle.octets.specs.Writes.{putWord}

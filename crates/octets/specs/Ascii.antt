@@ -1,6 +1,6 @@
 -- A text as its ASCII bytes.
 use Rattle.std.specs.Prelude.{ℕ}
-use Prim.Native.Char.{Char, code}
+use Prim.Native.Char.{code}
 use Prim.Native.String.{String, [], ◌∷◌}
 use mathlib.Core.List as L
 

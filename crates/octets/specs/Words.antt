@@ -1,5 +1,5 @@
 -- Numbers in memory: "Numbers in memory are little-endian" (document 01, its opening paragraph). A number of n bytes has its lowest byte first.
-use Rattle.std.specs.Prelude.{ℕ, zero, suc, ◌+◌, ◌-◌, ◌*◌, ◌/◌, ◌%◌, Bool, cond, List, [], ◌∷◌, ◌++◌, ltb, ℤ, pos, negsuc, take, drop}
+use Rattle.std.specs.Prelude.{ℕ, zero, suc, ◌+◌, ◌-◌, ◌*◌, ◌/◌, ◌%◌, cond, List, [], ◌∷◌, ltb, ℤ, pos, negsuc, take, drop}
 
 -- the number that a string of bytes stands for
 unfoldable pub word : List ℕ → ℕ

@@ -1,6 +1,6 @@
 -- No claim rests on these definitions: they say what loops over the indices k, k + 1, .., k + f - 1 find: whether a test holds at some, the first
 -- at which it holds, the list of them, and an array that holds such a list.
-use Rattle.std.specs.Prelude.{◌≡◌, Bool, false, cond, ◌||◌, List, [], ◌∷◌, ◌++◌, ℕ, zero, suc, ◌+◌, ◌-◌, ◌≤◌, length, replicate}
+use Rattle.std.specs.Prelude.{◌≡◌, Bool, false, cond, ◌||◌, List, [], ◌∷◌, ◌++◌, ℕ, zero, suc, ◌-◌, ◌≤◌, length, replicate}
 
 unfoldable pub any : (ℕ → Bool) → ℕ → ℕ → Bool
 any g k zero = false

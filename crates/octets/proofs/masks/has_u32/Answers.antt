@@ -1,5 +1,4 @@
 use Rattle.octets.proofs.Lookup.{bit-of}
-use borrow.Author.Rules.{rules}
 use Rattle.octets.proofs.masks.has_u32.Goals as goal
 
 pub returns : goal.returns

@@ -1,5 +1,4 @@
 use Rattle.octets.proofs.Lookup.{one_shl, or_set}
-use borrow.Author.Rules.{rules}
 use Rattle.octets.proofs.masks.with_u32.Goals as goal
 
 pub returns : goal.returns

@@ -1,7 +1,6 @@
 use mathlib.Core.Path.{sym, ◌∙◌}
 use native.Mathlib.Omega.{arith}
 use Rattle.octets.proofs.Lookup.{one_shl, clear-set, clear-unset}
-use borrow.Author.Rules.{rules}
 use Rattle.octets.proofs.masks.without_u32.Goals as goal
 
 pub overflow_sub-result : goal.overflow_sub-result

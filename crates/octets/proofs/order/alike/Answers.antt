@@ -1,10 +1,7 @@
-use Prim.Native.Nat.{ℕ, ◌+◌, ◌-◌, ◌≤◌, ◌<◌}
-use mathlib.Core.Path.{◌≡◌, refl, sym, ◌∙◌}
+use mathlib.Core.Path.{sym, ◌∙◌}
 use native.Mathlib.Omega.{arith}
-use lib.ListN.{length, take}
 use Rattle.octets.proofs.Numbers.{all-bytes}
 use Rattle.octets.proofs.Comparison.{take-word}
-use borrow.Author.Rules.{rules}
 use Rattle.octets.proofs.order.alike.Goals as goal
 
 pub loop-i-preserved : goal.loop-i-preserved

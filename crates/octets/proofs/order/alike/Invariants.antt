@@ -1,9 +1,6 @@
-use Prim.Native.Nat.{ℕ, ◌+◌, ◌-◌, ◌≤◌, ◌<◌}
-use mathlib.Core.Path.{◌≡◌, refl, sym, ◌∙◌}
-use native.Mathlib.Omega.{arith}
+use Prim.Native.Nat.{◌-◌, ◌≤◌}
+use mathlib.Core.Path.{◌≡◌}
 use lib.ListN.{length, take}
-use Rattle.octets.proofs.Numbers.{all-bytes}
-use Rattle.octets.proofs.Comparison.{take-word}
 use Rattle.octets.proofs.order.alike.Given as goal
 
 abbrev pub invariant-loop-i : goal.invariant-loop-i

@@ -1,12 +1,11 @@
 use Prim.Native.Nat.{◌-◌}
-use mathlib.Core.Path.{◌≡◌, sym, ap, ◌∙◌}
+use mathlib.Core.Path.{sym, ap, ◌∙◌}
 use native.Mathlib.Omega.{arith}
 use lib.ListN.{length, drop}
 use Rattle.octets.specs.Order.{same}
 use Rattle.octets.specs.Words.{word_at}
 use Rattle.octets.proofs.Numbers.{all-bytes}
 use Rattle.octets.proofs.Comparison.{not_same, same_refl, same_drop, ends-alike}
-use borrow.Author.Rules.{rules}
 use Rattle.octets.proofs.order.equal.Goals as goal
 
 pub returns-then-n-b : goal.returns-then-n-b

@@ -1,10 +1,6 @@
-use Prim.Native.Nat.{ℕ, ◌+◌, ◌-◌, ◌≤◌, ◌<◌}
-use mathlib.Core.Path.{◌≡◌, refl, sym, ◌∙◌}
+use mathlib.Core.Path.{sym, ◌∙◌}
 use native.Mathlib.Omega.{arith}
-use lib.ListN.{length, drop}
-use Rattle.octets.specs.Order.{same}
 use Rattle.octets.proofs.Comparison.{same_here, same_next, same-past}
-use borrow.Author.Rules.{rules}
 use Rattle.octets.proofs.order.equal_from.Goals as goal
 
 pub returns-then-a-i : goal.returns-then-a-i

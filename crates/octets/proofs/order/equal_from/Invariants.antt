@@ -1,9 +1,7 @@
-use Prim.Native.Nat.{ℕ, ◌+◌, ◌-◌, ◌≤◌, ◌<◌}
-use mathlib.Core.Path.{◌≡◌, refl, sym, ◌∙◌}
-use native.Mathlib.Omega.{arith}
+use Prim.Native.Nat.{◌-◌}
+use mathlib.Core.Path.{◌≡◌}
 use lib.ListN.{length, drop}
 use Rattle.octets.specs.Order.{same}
-use Rattle.octets.proofs.Comparison.{same_here, same_next, same-past}
 use Rattle.octets.proofs.order.equal_from.Given as goal
 
 abbrev pub invariant-loop-i : goal.invariant-loop-i

@@ -1,9 +1,8 @@
-use mathlib.Core.Path.{◌≡◌, sym, ◌∙◌}
+use mathlib.Core.Path.{sym, ◌∙◌}
 use native.Mathlib.Omega.{arith}
 use lib.ListN.{drop}
 use Rattle.octets.specs.Order.{isBefore}
 use Rattle.octets.proofs.Comparison.{before_here, before-ended, before-past, before-drop}
-use borrow.Author.Rules.{rules}
 use Rattle.octets.proofs.order.precedes.Goals as goal
 
 pub returns-then-b-eq0 : goal.returns-then-b-eq0

@@ -1,10 +1,7 @@
-use Prim.Native.Nat.{ℕ, ◌+◌, ◌-◌, ◌≤◌, ◌<◌}
-use mathlib.Core.Path.{◌≡◌, refl, sym, ◌∙◌}
+use mathlib.Core.Path.{sym, ◌∙◌}
 use native.Mathlib.Omega.{arith}
-use lib.ListN.{length, drop}
-use Rattle.octets.specs.Order.{isBefore}
+use lib.ListN.{drop}
 use Rattle.octets.proofs.Comparison.{before_here, before-next, before-ended, before-past}
-use borrow.Author.Rules.{rules}
 use Rattle.octets.proofs.order.precedes_from.Goals as goal
 
 pub returns-then-a-i : goal.returns-then-a-i

@@ -1,9 +1,7 @@
-use Prim.Native.Nat.{ℕ, ◌+◌, ◌-◌, ◌≤◌, ◌<◌}
-use mathlib.Core.Path.{◌≡◌, refl, sym, ◌∙◌}
-use native.Mathlib.Omega.{arith}
+use Prim.Native.Nat.{◌-◌}
+use mathlib.Core.Path.{◌≡◌}
 use lib.ListN.{length, drop}
 use Rattle.octets.specs.Order.{isBefore}
-use Rattle.octets.proofs.Comparison.{before_here, before-next, before-ended, before-past}
 use Rattle.octets.proofs.order.precedes_from.Given as goal
 
 abbrev pub invariant-loop-i : goal.invariant-loop-i

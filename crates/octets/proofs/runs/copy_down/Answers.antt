@@ -4,9 +4,8 @@ use mathlib.Core.List.{List, ◌++◌, append_assoc}
 use native.Mathlib.Omega.{arith}
 use native.Mathlib.Nat.{add-zero, add_assoc}
 use lib.ListN.{length, get_or, take, drop, set, length-append, length-take, length-drop, length-set, take-append-drop, get_or-append}
-use lib.Seq.{take_at, drop_at, length-take-le, get_or-append-add, get_or-take, get_or-drop, take-append-le}
+use lib.Seq.{take_at, length-take-le, get_or-append-add, get_or-take, get_or-drop}
 use Rattle.octets.proofs.Moves.{up, read-high}
-use borrow.Author.Rules.{rules}
 use Rattle.octets.proofs.runs.copy_down.Invariants.{moved}
 use Rattle.octets.proofs.runs.copy_down.Goals as goal
 

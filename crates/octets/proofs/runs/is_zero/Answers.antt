@@ -1,6 +1,6 @@
-use Prim.Native.Nat.{ℕ, suc, ◌+◌, ◌-◌, ◌≤◌, ◌<◌}
-use mathlib.Core.Path.{◌≡◌, refl, sym, ap, ◌∙◌}
-use mathlib.Core.Bool.{Bool, true, false, ◌&&◌}
+use Prim.Native.Nat.{ℕ, suc, ◌+◌, ◌≤◌, ◌<◌}
+use mathlib.Core.Path.{◌≡◌, sym, ◌∙◌}
+use mathlib.Core.Bool.{◌&&◌}
 use mathlib.Core.List.{List}
 use native.Mathlib.Omega.{arith}
 use native.Mathlib.Numerals.{add-one}
@@ -11,7 +11,6 @@ use lib.Seq.{drop-cons}
 use Rattle.octets.specs.Runs.{allZero}
 use Rattle.ranges.proofs.Bools.{and_assoc, and-unit}
 use Rattle.octets.proofs.Zeros.{or-zero}
-use borrow.Author.Rules.{rules}
 use Rattle.octets.proofs.runs.is_zero.Goals as goal
 
 -- one byte more joins what was seen

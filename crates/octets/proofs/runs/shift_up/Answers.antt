@@ -1,14 +1,11 @@
 use lib.ListN.{drop_of_length-le}
 use lib.Seq.{get_or-take, get_or-append-add, length-take-le, take-length, drop_at}
-use Prim.Native.Nat.{ℕ, zero, suc, ◌+◌, ◌*◌, ◌-◌, ◌≤◌, ◌<◌}
+use Prim.Native.Nat.{ℕ, ◌+◌, ◌-◌, ◌≤◌, ◌<◌}
 use mathlib.Core.Path.{◌≡◌, refl, sym, ap, ◌∙◌}
-use mathlib.Core.Bool.{Bool, true, false, cond}
-use mathlib.Core.List.{List, [], ◌∷◌, ◌++◌, append-nil}
+use mathlib.Core.List.{List, ◌++◌, append-nil}
 use native.Mathlib.Omega.{arith}
-use borrow.Author.Tests.{eq-eqb, ne_eqb, not-true, not-false}
-use lib.ListN.{length, get_or, take, drop, set, replicate, length-take, length-drop, length-set, length-append, length-replicate}
+use lib.ListN.{length, get_or, take, drop, set, length-take, length-set, length-append}
 use Rattle.octets.proofs.Moves.{down, read_low}
-use borrow.Author.Rules.{rules}
 use Rattle.octets.proofs.runs.shift_up.Invariants.{moved}
 use Rattle.octets.proofs.runs.shift_up.Goals as goal
 

@@ -1,13 +1,7 @@
-use lib.ListN.{drop_of_length-le}
-use lib.Seq.{get_or-take, get_or-append-add, length-take-le, take-length, drop_at}
-use Prim.Native.Nat.{ℕ, zero, suc, ◌+◌, ◌*◌, ◌-◌, ◌≤◌, ◌<◌}
-use mathlib.Core.Path.{◌≡◌, refl, sym, ap, ◌∙◌}
-use mathlib.Core.Bool.{Bool, true, false, cond}
-use mathlib.Core.List.{List, [], ◌∷◌, ◌++◌, append-nil}
-use native.Mathlib.Omega.{arith}
-use borrow.Author.Tests.{eq-eqb, ne_eqb, not-true, not-false}
-use lib.ListN.{length, get_or, take, drop, set, replicate, length-take, length-drop, length-set, length-append, length-replicate}
-use Rattle.octets.proofs.Moves.{down, read_low}
+use Prim.Native.Nat.{ℕ, ◌-◌, ◌≤◌}
+use mathlib.Core.Path.{◌≡◌}
+use mathlib.Core.List.{List, ◌++◌}
+use lib.ListN.{length, take, drop}
 use Rattle.octets.proofs.runs.shift_up.Given as goal
 
 unfoldable pub moved : List ℕ → ℕ → List ℕ

@@ -1,7 +1,4 @@
-use native.Mathlib.Omega.{arith}
-use lib.ListN.{length-set}
 use Rattle.octets.proofs.Numbers.{put_two}
-use borrow.Author.Rules.{rules}
 use Rattle.octets.proofs.words.put_u16.Goals as goal
 
 pub returns : goal.returns

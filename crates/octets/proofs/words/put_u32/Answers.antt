@@ -1,6 +1,5 @@
 use native.Mathlib.Omega.{arith}
 use Rattle.octets.proofs.Numbers.{put-halves}
-use borrow.Author.Rules.{rules}
 use Rattle.octets.proofs.words.put_u32.Goals as goal
 
 pub returns : goal.returns

@@ -1,7 +1,6 @@
 use Prim.Native.Nat.{◌+◌}
 use native.Mathlib.Omega.{arith}
 use Rattle.octets.proofs.Numbers.{word-halves, word-one}
-use borrow.Author.Rules.{rules}
 use Rattle.octets.proofs.words.u16_at.Goals as goal
 
 pub returns : goal.returns

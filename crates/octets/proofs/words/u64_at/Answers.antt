@@ -1,6 +1,5 @@
 use native.Mathlib.Omega.{arith}
 use Rattle.octets.proofs.Numbers.{word-halves}
-use borrow.Author.Rules.{rules}
 use Rattle.octets.proofs.words.u64_at.Goals as goal
 
 pub returns : goal.returns

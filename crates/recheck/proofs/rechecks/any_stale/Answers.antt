@@ -17,11 +17,8 @@ use Rattle.stored.specs.Steps.{block_at}
 use Rattle.stored.proofs.Changing.{any_here, any-later, any-past}
 use Rattle.stored.proofs.Opened.{Opened, opened, transmissions-length, placeAt, at_place, place-room, sound-at}
 use Rattle.recheck.specs.Recheck.{hasStale}
+use Rattle.recheck.proofs.rechecks.any_stale.Invariants.{test}
 use Rattle.recheck.proofs.rechecks.any_stale.Goals as goal
-
--- some fix of a transmission does not stand
-abbrev test : List ℕ → List ℕ → Bool
-test m b = hasStale (summariesIn m) (transmissionIn b)
 
 pub u16_at-n-requires : goal.u16_at-n-requires
 u16_at-n-requires c = omega (arith, (opened c.args.memory.now c.requires).size)

@@ -17,14 +17,8 @@ use Rattle.stored.proofs.Changing.{any_here, any-later, any-past}
 use Rattle.stored.proofs.Resigning.{fixes-count, held-fix}
 use Rattle.recheck.specs.Recheck.{stands}
 use Rattle.recheck.proofs.Standing.{lent-block}
+use Rattle.recheck.proofs.rechecks.has_stale.Invariants.{stale, fixesAt}
 use Rattle.recheck.proofs.rechecks.has_stale.Goals as goal
-
--- of the fixes held at a byte, where n summaries count
-abbrev stale : List ℕ → ℕ → Fix → Bool
-stale m n f = not (stands (places summarySize n (summaryTable m)) f)
-
-abbrev fixesAt : List ℕ → ℕ → List Fix
-fixesAt m at = heldIn (transmissionIn (block_at at m))
 
 pub held_count-count-requires : goal.held_count-count-requires
 held_count-count-requires c = rw (lent-block c.args.at c.args.memory.now) c.requires.sound

@@ -8,13 +8,14 @@ use Rattle.arrange.proofs.Sheets.{none-known}
 use Rattle.stored.specs.Memory.{transmissionCount, transmissionTable}
 use Rattle.stored.proofs.Opened.{Opened, opened}
 use Rattle.recheck.proofs.Rechecked.{all-stand, some-stale}
+use borrow.Author.Rules.{rules}
 use Rattle.recheck.proofs.rechecks.recheck.Goals as goal
 
 pub returns-then-not-any_stale : goal.returns-then-not-any_stale
 returns-then-not-any_stale c =
     let m : List ℕ = c.args.memory.now in
     let o : Opened m = opened m c.requires in
-    let bytes : Bytes m = all-bytes m (λ i. (c.slice_known-1.given i).fits) in
+    let bytes : Bytes m = all-bytes m (search rules) in
     all-stand m o bytes (sym c.any_stale.ensures ∙ c.if-not-any_stale.true)
 
 pub take_out-requires : goal.take_out-requires
@@ -27,5 +28,5 @@ pub returns : goal.returns
 returns c =
     let m : List ℕ = c.args.memory.now in
     let o : Opened m = opened m c.requires in
-    let bytes : Bytes m = all-bytes m (λ i. (c.slice_known-1.given i).fits) in
+    let bytes : Bytes m = all-bytes m (search rules) in
     c.take_out.ensures ∙ some-stale m o bytes (sym c.any_stale.ensures ∙ c.if-not-any_stale.false)

@@ -75,7 +75,7 @@ bounds-memory-6-2 c =
     let y-is : y ≡ take transmissionsAt x ++ blockTable (map transmissionBytes (us x o bytes)) = c.renew_all.ensures.memory_after ∙ ap (λ (l : List (List ℕ)). take transmissionsAt x ++ blockTable l) (us-bytes x o bytes) in
     let y-size : length y ≡ trackSize = arranging-size (convictedIn x) (us x o bytes) (us-kept x o bytes) (us-few x o bytes) (take transmissionsAt x) y (front-size x o) y-is in
     let z : List ℕ = take transmissionsAt y ++ (c.arrange-left.new.t ++ drop (length y - transmissionsAt) (drop transmissionsAt y)) in
-    let z-size : length z ≡ trackSize = same_len_mid transmissionsAt (length y - transmissionsAt) y c.arrange-left.new.t c.arrange-left.kept.0 ∙ y-size in
+    let z-size : length z ≡ trackSize = same_len_mid transmissionsAt (length y - transmissionsAt) y c.arrange-left.new.t c.arrange-left.auto.t ∙ y-size in
     omega (arith, z-size)
 
 pub returns : goal.returns

@@ -28,7 +28,7 @@ slice_bounds-strike_summaries-end c =
     let m : List ℕ = c.args.memory.now in
     let o : Opened m = opened m c.requires.0 in
     let m₁ : List ℕ = c.strike_transmissions-left.new.memory in
-    let size₁ : length m₁ ≡ trackSize = c.strike_transmissions-left.kept.0 ∙ o.size in
+    let size₁ : length m₁ ≡ trackSize = c.strike_transmissions-left.auto.memory ∙ o.size in
     omega (arith, size₁)
 
 pub strike_summaries-summaries-requires : goal.strike_summaries-summaries-requires
@@ -75,4 +75,4 @@ returns c =
     let m₂ : List ℕ = take summariesAt m₁ ++ (c.strike_summaries-summaries.new.t ++ drop summariesSize (drop summariesAt m₁)) in
     let p = c.put_header.ensures in record {memory_after = struck m o b e m₁ c.strike_transmissions-left.ensures.memory_after n n-is c.strike_summaries-summaries.result c.strike_summaries-summaries.new.t c.strike_summaries-summaries.ensures m₂ refl
           c.with_u32.result c.strike_transmissions-left.result (c.with_u32.ensures ∙ ap (λ (x : ℕ). withBit x e) c.u32_at-convicted.ensures) c.strike_transmissions-left.ensures.value _ p; known = struck-known m o b e m₁ c.strike_transmissions-left.ensures.memory_after n n-is c.strike_summaries-summaries.result c.strike_summaries-summaries.new.t c.strike_summaries-summaries.ensures m₂ refl
-          c.with_u32.result c.strike_transmissions-left.result _ p c.strike-transmissions.last.1.0 c.strike_transmissions-left.ensures.known}
+          c.with_u32.result c.strike_transmissions-left.result _ p c.strike_transmissions-left.new.known c.strike_transmissions-left.ensures.known}

@@ -79,7 +79,7 @@ loop-i-preserved c =
     let block-lent : take (c.loop-i.at + transmissionSize - c.loop-i.at) (drop c.loop-i.at c.loop-i.memory) ≡ get_or (transmissionPlaces m) c.loop-i.i [] = lent-block c.loop-i.at c.loop-i.memory ∙ at_block in
     let y : List ℕ = c.strike_fixes.new.b in
     let m' : List ℕ = take c.loop-i.at c.loop-i.memory ++ (y ++ drop (c.loop-i.at + transmissionSize - c.loop-i.at) (drop c.loop-i.at c.loop-i.memory)) in
-    let y-size : length y ≡ transmissionSize = c.strike_fixes.kept.0 ∙ ap length block-lent ∙ (block-sound m o _ one).size in
+    let y-size : length y ≡ transmissionSize = c.strike_fixes.auto.b ∙ ap length block-lent ∙ (block-sound m o _ one).size in
     let room : c.loop-i.at + transmissionSize ≤ length c.loop-i.memory = omega (arith, lies, c.loop-i.invariant.0) in
     let told : (s' : List ℕ)
     → s' ≡ take (c.loop-i.i * knownSize) c.loop-i.known ++ (c.strike_fixes.new.s ++ drop (c.loop-i.i * knownSize + knownSize - c.loop-i.i * knownSize) (drop (c.loop-i.i * knownSize) c.loop-i.known))
