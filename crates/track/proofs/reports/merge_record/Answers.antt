@@ -71,7 +71,7 @@ put_step-requires c =
     let m : List ℕ = c.args.memory.now in
     let o : Opened m = opened m c.requires.memory_value.0 in
     let m₁ : List ℕ = take transmissionsAt m ++ (c.merge-x.new.t ++ drop (length m - transmissionsAt) (drop transmissionsAt m)) in
-    let size₁ : length m₁ ≡ trackSize = same_len_mid transmissionsAt (length m - transmissionsAt) m c.merge-x.new.t c.merge-x.kept.0 ∙ o.size in
+    let size₁ : length m₁ ≡ trackSize = same_len_mid transmissionsAt (length m - transmissionsAt) m c.merge-x.new.t c.merge-x.auto.t ∙ o.size in
     omega (arith, size₁)
 
 pub returns : goal.returns

@@ -1,66 +1,82 @@
-use Rattle.std.proofs.Common.{◌≡◌, ℕ, Bool, true, false, not, ◌&&◌, List, sym, refl, ap, ◌∙◌, ap₂, rules}
-use borrow.Author.Tests.{not-true, not-false}
+use Rattle.std.proofs.Common.{◌≡◌, ℕ, Bool, true, not, ◌&&◌, List, length, sym, ap, ◌∙◌, ap₂, rules}
 use Rattle.octets.specs.Bytes.{Bytes}
 use Rattle.octets.proofs.Numbers.{all-bytes}
+use Rattle.models.specs.Summary.{summarySize}
 use Rattle.models.specs.Models.{state_of}
+use Rattle.held.specs.After.{after}
 use Rattle.held.specs.Summaries.{summaryFormed}
 use Rattle.stored.specs.Track.{Track}
-use Rattle.stored.specs.Memory.{summariesIn, wellFormed, decode, encode}
-use Rattle.stored.specs.Steps.{withPair}
+use Rattle.stored.specs.Memory.{convictedIn, summariesIn, wellFormed, decode, encode, commit}
+use Rattle.stored.specs.Steps.{withPair, put_pair}
 use Rattle.stored.proofs.Opened.{opened}
 use Rattle.stored.proofs.Valid.{Valid, decode-valid, formed-encode, decode-encode, summaries-back}
 use Rattle.stored.proofs.Pairs.{pair-valid}
 use Rattle.recheck.specs.Recheck.{recheck}
 use Rattle.track.specs.Track.{isDisputed, becomesDisputed}
 use Rattle.track.proofs.Answers.{decoded-convicted, decoded-summaries}
-use Rattle.track.proofs.Holding.{pair-refused, pair-room, pair_left, pair-plain, pair-rechecked}
+use Rattle.track.proofs.Holding.{pair-room, pair_left, pair-plain, pair-rechecked}
 use Rattle.track.proofs.summaries.hold.Goals as goal
 
--- it was put in
-module _ (z : a.put-pair.result ≡ 0) where
+-- a summary p was put into the track m, which is x then
+module _ (m p x : List ℕ) (a model : ℕ) (bytes : Bytes m) (is : wellFormed m ≡ true) (wide : length p ≡ summarySize)
+    (formed : summaryFormed (convictedIn m) p ≡ true) (put : after a x ≡ commit m (put_pair p (decode m))) (z : a ≡ 0) where
+  abbrev t : Track
+  t = withPair p (decode m)
+
   valid : Valid t
   valid =
-      pair-valid p s.pre.1 (decode m) (decode-valid m (opened m s.pre.0) bytes) (ap (λ (k : ℕ). summaryFormed k p) (decoded-convicted m) ∙ s.pre.2)
-      (pair-room m model p a.put-pair.result x a.put-pair.ensures z)
+      pair-valid p wide (decode m) (decode-valid m (opened m is) bytes) (ap (λ (k : ℕ). summaryFormed k p) (decoded-convicted m) ∙ formed)
+      (pair-room m model p a x put z)
 
-  left : x ≡ encode t
-  left = pair_left m model p a.put-pair.result x a.put-pair.ensures z
+  stored : x ≡ encode t
+  stored = pair_left m model p a x put z
 
   is-track : wellFormed x ≡ true
-  is-track = ap wellFormed left ∙ formed-encode t valid
+  is-track = ap wellFormed stored ∙ formed-encode t valid
 
   held : summariesIn x ≡ t.summaries
-  held = ap summariesIn left ∙ summaries-back t valid
+  held = ap summariesIn stored ∙ summaries-back t valid
+
+  -- whether the model is disputed now, and was not
+  becomes : (w v b : Bool) → w ≡ isDisputed (state_of model (summariesIn m)) → v ≡ isDisputed (state_of model (summariesIn x)) → b ≡ (not w && v)
+      → b ≡ becomesDisputed model (decode m).summaries t.summaries
+  becomes w v b e f g =
+      g
+      ∙ ap₂ (λ (u y : Bool). not u && y) (e ∙ ap (λ (ss : List (List ℕ)). isDisputed (state_of model ss)) (sym (decoded-summaries m)))
+      (f ∙ ap (λ (ss : List (List ℕ)). isDisputed (state_of model ss)) held)
+
+  rechecked : (y : List ℕ) → y ≡ encode (recheck (decode x)) → y ≡ encode (recheck t)
+  rechecked y e = e ∙ ap (λ (l : List ℕ). encode (recheck (decode l))) stored ∙ ap (λ (u : Track). encode (recheck u)) (decode-encode t valid)
 
 pub disputed_in-requires : goal.disputed_in-requires
 disputed_in-requires c =
-    is-track c (ap not c.if-not-becomes_disputed.false)
+    let m = c.args.memory.now in
+    is-track m c.args.p.now c.put_pair-a.new.memory c.put_pair-a.result c.args.model (all-bytes m (search rules)) c.requires.0 c.requires.1 c.requires.2 c.put_pair-a.ensures c.if-a-ne0.false
 
 pub returns-then-not-becomes_disputed : goal.returns-then-not-becomes_disputed
 returns-then-not-becomes_disputed c =
-    let m : List ℕ = c.args.memory.now in
-    let p : List ℕ = c.args.p.now in
-    let model : ℕ = c.args.model in
-    let x : List ℕ = c.put_pair-a.new.memory in
-    let t : Track = withPair p (decode m) in
-    let was : c.disputed_in-was.result ≡ isDisputed (state_of model (decode m).summaries) = c.disputed_in-was.ensures ∙ ap (λ (ss : List (List ℕ)). isDisputed (state_of model ss)) (sym (decoded-summaries m)) in
-    let becomes : c.becomes_disputed.result ≡ becomesDisputed model (decode m).summaries t.summaries = c.becomes_disputed.ensures
-    ∙ ap₂ (λ (u v : Bool). not u && v) was (c.disputed_in.ensures ∙ ap (λ (ss : List (List ℕ)). isDisputed (state_of model ss)) (held c (ap not c.if-not-becomes_disputed.false))) in
-    pair-plain m model p c.put_pair-a.result x c.put_pair-a.ensures (c)(ap not .if-not-becomes_disputed.false) (sym becomes ∙ not-true _ c.if2.true)
+    let m = c.args.memory.now in
+    let p = c.args.p.now in
+    let x = c.put_pair-a.new.memory in
+    let a = c.put_pair-a.result in
+    let told = becomes m p x a c.args.model (all-bytes m (search rules)) c.requires.0 c.requires.1 c.requires.2 c.put_pair-a.ensures c.if-a-ne0.false
+        _ _ _ c.disputed_in-was.ensures c.disputed_in.ensures c.becomes_disputed.ensures in
+    pair-plain m c.args.model p a x c.put_pair-a.ensures c.if-a-ne0.false (sym told ∙ c.if-not-becomes_disputed.true)
 
 pub recheck-requires : goal.recheck-requires
-recheck-requires c = is-track c (c)(ap not .if-not-becomes_disputed.false)
+recheck-requires c =
+    let m = c.args.memory.now in
+    is-track m c.args.p.now c.put_pair-a.new.memory c.put_pair-a.result c.args.model (all-bytes m (search rules)) c.requires.0 c.requires.1 c.requires.2 c.put_pair-a.ensures c.if-a-ne0.false
 
 pub returns : goal.returns
 returns c =
-    let m : List ℕ = c.args.memory.now in
-    let p : List ℕ = c.args.p.now in
-    let model : ℕ = c.args.model in
-    let x : List ℕ = c.put_pair-a.new.memory in
-    let t : Track = withPair p (decode m) in
-    let was : c.disputed_in-was.result ≡ isDisputed (state_of model (decode m).summaries) = c.disputed_in-was.ensures ∙ ap (λ (ss : List (List ℕ)). isDisputed (state_of model ss)) (sym (decoded-summaries m)) in
-    let becomes : c.becomes_disputed.result ≡ becomesDisputed model (decode m).summaries t.summaries = c.becomes_disputed.ensures
-    ∙ ap₂ (λ (u v : Bool). not u && v) was (c.disputed_in.ensures ∙ ap (λ (ss : List (List ℕ)). isDisputed (state_of model ss)) (held c (ap not c.if-not-becomes_disputed.false))) in
-    let h = (c)(ap not .if-not-becomes_disputed.false) in
-    pair-rechecked m model p c.put_pair-a.result x c.put_pair-a.ensures h (sym becomes ∙ not-false _ c.if2.false) _
-    (c.recheck.ensures ∙ ap (λ (l : List ℕ). encode (recheck (decode l))) (left c h) ∙ ap (λ (y : Track). encode (recheck y)) (decode-encode t (valid c h)))
+    let m = c.args.memory.now in
+    let p = c.args.p.now in
+    let x = c.put_pair-a.new.memory in
+    let a = c.put_pair-a.result in
+    let h = c.if-a-ne0.false in
+    let bytes : Bytes m = all-bytes m (search rules) in
+    let told = becomes m p x a c.args.model bytes c.requires.0 c.requires.1 c.requires.2 c.put_pair-a.ensures h
+        _ _ _ c.disputed_in-was.ensures c.disputed_in.ensures c.becomes_disputed.ensures in
+    pair-rechecked m c.args.model p a x c.put_pair-a.ensures h (sym told ∙ c.if-not-becomes_disputed.false) _
+    (rechecked m p x a c.args.model bytes c.requires.0 c.requires.1 c.requires.2 c.put_pair-a.ensures h _ c.recheck.ensures)

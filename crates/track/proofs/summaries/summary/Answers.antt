@@ -1,5 +1,4 @@
 use Rattle.std.proofs.Common.{◌≡◌, ℕ, ◌≤◌, true, false, List, length, sym, refl, ap, ◌∙◌, arith, length-append, rules, le-leb}
-use borrow.Author.Tests.{not-true, not-false}
 use Rattle.octets.specs.Masks.{bit}
 use Rattle.octets.specs.Words.{word_bytes}
 use Rattle.octets.proofs.Numbers.{length-word-bytes}
@@ -29,7 +28,7 @@ returns-then-not-well_formed c =
     let spec : ℕ = c.args.spec in
     let inputs : List ℕ = c.args.inputs.now in
     let summarizing : Track → Outcome = trackSummary e model spec inputs in
-    no-track summarizing m (sym c.well_formed-2.ensures ∙ not-true _ c.if-engine-gt-MAX_ENGINE.true)
+    no-track summarizing m (sym c.well_formed-2.ensures ∙ c.if-not-well_formed.true)
 
 pub returns-then-engine-gt-MAX_ENGINE : goal.returns-then-engine-gt-MAX_ENGINE
 returns-then-engine-gt-MAX_ENGINE c =
@@ -39,9 +38,9 @@ returns-then-engine-gt-MAX_ENGINE c =
     let spec : ℕ = c.args.spec in
     let inputs : List ℕ = c.args.inputs.now in
     let summarizing : Track → Outcome = trackSummary e model spec inputs in
-    let is-track : wellFormed m ≡ true = sym c.well_formed-2.ensures ∙ not-false _ c.if-engine-gt-MAX_ENGINE.false in
+    let is-track : wellFormed m ≡ true = sym c.well_formed-2.ensures ∙ c.if-not-well_formed.false in
     let refusal : (n : ℕ) → summarizing (decode m) ≡ refused n → after n m ≡ on_memory summarizing m = refuses summarizing m is-track in
-    refusal 2 (summary-2 e model spec inputs (decode m) c.if-model.true)
+    refusal 2 (summary-2 e model spec inputs (decode m) c.if-engine-gt-MAX_ENGINE.true)
 
 pub returns-then-model : goal.returns-then-model
 returns-then-model c =
@@ -51,9 +50,9 @@ returns-then-model c =
     let spec : ℕ = c.args.spec in
     let inputs : List ℕ = c.args.inputs.now in
     let summarizing : Track → Outcome = trackSummary e model spec inputs in
-    let is-track : wellFormed m ≡ true = sym c.well_formed-2.ensures ∙ not-false _ c.if-engine-gt-MAX_ENGINE.false in
+    let is-track : wellFormed m ≡ true = sym c.well_formed-2.ensures ∙ c.if-not-well_formed.false in
     let refusal : (n : ℕ) → summarizing (decode m) ≡ refused n → after n m ≡ on_memory summarizing m = refuses summarizing m is-track in
-    refusal 9 (summary-9-model e model spec inputs (decode m) c.if-model.false c.if-inputs-ne-INPUTS_SIZE.true)
+    refusal 9 (summary-9-model e model spec inputs (decode m) c.if-engine-gt-MAX_ENGINE.false c.if-model.true)
 
 pub returns-then-inputs-ne-INPUTS_SIZE : goal.returns-then-inputs-ne-INPUTS_SIZE
 returns-then-inputs-ne-INPUTS_SIZE c =
@@ -63,14 +62,14 @@ returns-then-inputs-ne-INPUTS_SIZE c =
     let spec : ℕ = c.args.spec in
     let inputs : List ℕ = c.args.inputs.now in
     let summarizing : Track → Outcome = trackSummary e model spec inputs in
-    let is-track : wellFormed m ≡ true = sym c.well_formed-2.ensures ∙ not-false _ c.if-engine-gt-MAX_ENGINE.false in
+    let is-track : wellFormed m ≡ true = sym c.well_formed-2.ensures ∙ c.if-not-well_formed.false in
     let refusal : (n : ℕ) → summarizing (decode m) ≡ refused n → after n m ≡ on_memory summarizing m = refuses summarizing m is-track in
-    refusal 9 (summary-9-inputs e model spec inputs (decode m) c.if-model.false c.if-inputs-ne-INPUTS_SIZE.false c.if-has_u32.true)
+    refusal 9 (summary-9-inputs e model spec inputs (decode m) c.if-engine-gt-MAX_ENGINE.false c.if-model.false c.if-inputs-ne-INPUTS_SIZE.true)
 
 pub u32_at-requires : goal.u32_at-requires
 u32_at-requires c =
     let m : List ℕ = c.args.memory.now in
-    let is-track : wellFormed m ≡ true = sym c.well_formed-2.ensures ∙ not-false _ c.if-engine-gt-MAX_ENGINE.false in
+    let is-track : wellFormed m ≡ true = sym c.well_formed-2.ensures ∙ c.if-not-well_formed.false in
     omega (arith, (opened m is-track).size)
 
 pub returns-then-has_u32 : goal.returns-then-has_u32
@@ -81,13 +80,13 @@ returns-then-has_u32 c =
     let spec : ℕ = c.args.spec in
     let inputs : List ℕ = c.args.inputs.now in
     let summarizing : Track → Outcome = trackSummary e model spec inputs in
-    let is-track : wellFormed m ≡ true = sym c.well_formed-2.ensures ∙ not-false _ c.if-engine-gt-MAX_ENGINE.false in
+    let is-track : wellFormed m ≡ true = sym c.well_formed-2.ensures ∙ c.if-not-well_formed.false in
     let refusal : (n : ℕ) → summarizing (decode m) ≡ refused n → after n m ≡ on_memory summarizing m = refuses summarizing m is-track in
-    let an-engine : e ≤ maxEngine = c.if-model.false in
-    let a-model : model ≤ maxModel = c.if-inputs-ne-INPUTS_SIZE.false in
-    let whole-inputs : length inputs ≡ inputsSize = c.if-has_u32.false in
+    let an-engine : e ≤ maxEngine = c.if-engine-gt-MAX_ENGINE.false in
+    let a-model : model ≤ maxModel = c.if-model.false in
+    let whole-inputs : length inputs ≡ inputsSize = c.if-inputs-ne-INPUTS_SIZE.false in
     let convicted-is : bit (decode m).convicted e ≡ c.has_u32.result = ap (λ (x : ℕ). bit x e) (decoded-convicted m ∙ sym c.u32_at.ensures) ∙ sym c.has_u32.ensures in
-    refusal 4 (summary-4 e model spec inputs (decode m) an-engine a-model whole-inputs (convicted-is ∙ c.if5.true))
+    refusal 4 (summary-4 e model spec inputs (decode m) an-engine a-model whole-inputs (convicted-is ∙ c.if-has_u32.true))
 
 pub returns : goal.returns
 returns c =
@@ -97,12 +96,12 @@ returns c =
     let spec : ℕ = c.args.spec in
     let inputs : List ℕ = c.args.inputs.now in
     let summarizing : Track → Outcome = trackSummary e model spec inputs in
-    let is-track : wellFormed m ≡ true = sym c.well_formed-2.ensures ∙ not-false _ c.if-engine-gt-MAX_ENGINE.false in
-    let an-engine : e ≤ maxEngine = c.if-model.false in
-    let a-model : model ≤ maxModel = c.if-inputs-ne-INPUTS_SIZE.false in
-    let whole-inputs : length inputs ≡ inputsSize = c.if-has_u32.false in
+    let is-track : wellFormed m ≡ true = sym c.well_formed-2.ensures ∙ c.if-not-well_formed.false in
+    let an-engine : e ≤ maxEngine = c.if-engine-gt-MAX_ENGINE.false in
+    let a-model : model ≤ maxModel = c.if-model.false in
+    let whole-inputs : length inputs ≡ inputsSize = c.if-inputs-ne-INPUTS_SIZE.false in
     let convicted-is : bit (decode m).convicted e ≡ c.has_u32.result = ap (λ (x : ℕ). bit x e) (decoded-convicted m ∙ sym c.u32_at.ensures) ∙ sym c.has_u32.ensures in
     on-track summarizing m is-track _
     (c.hold.ensures
     ∙ ap (λ (p : List ℕ). commit m (holdPair model p (decode m))) c.new_summary-p.ensures
-    ∙ ap (commit m) (sym (summary-rest e model spec inputs (decode m) an-engine a-model whole-inputs (convicted-is ∙ c.if5.false))))
+    ∙ ap (commit m) (sym (summary-rest e model spec inputs (decode m) an-engine a-model whole-inputs (convicted-is ∙ c.if-has_u32.false))))
