@@ -46,21 +46,21 @@ use Rattle.track.proofs.Merging.{merged-few}
 
 -- ---- the bytes of the fix
 
-pub made : (r i f₁ f₂ y : List ℕ) (x : ℕ) → length r ≡ recordSize → length i ≡ hashSize → f₁ ≡ take (length r) r ++ drop (length r) (replicate L.fixSize 0) → f₂ ≡ putWord 4 L.signersAt x f₁
-    → y ≡ take (length i) i ++ drop (length i) (take hashSize (drop L.inputsAt f₂)) → take L.inputsAt f₂ ++ (y ++ drop hashSize (drop L.inputsAt f₂)) ≡ r ++ (word_bytes 4 x ++ i)
+pub made : (r i f₁ f₂ y : List ℕ) (x : ℕ) → length r ≡ recordSize → length i ≡ hashSize → f₁ ≡ r ++ drop (length r) (replicate L.fixSize 0) → f₂ ≡ putWord 4 L.signersAt x f₁
+    → y ≡ i ++ drop (length i) (take hashSize (drop L.inputsAt f₂)) → take L.inputsAt f₂ ++ (y ++ drop hashSize (drop L.inputsAt f₂)) ≡ r ++ (word_bytes 4 x ++ i)
 made r i f₁ f₂ y x lr li e₁ e₂ e₃ =
     let z : List ℕ = drop recordSize (replicate L.fixSize 0) in
     let z₁ : List ℕ = take 4 z in
     let z₂ : List ℕ = drop 4 z in
     let w = word_bytes 4 x in
-    let g₁ : f₁ ≡ r ++ (z₁ ++ z₂) = e₁ ∙ ap₂ (λ (u v : List ℕ). u ++ v) (take-length r) (ap (λ (n : ℕ). drop n (replicate L.fixSize 0)) lr ∙ sym (take-append-drop 4 z)) in
+    let g₁ : f₁ ≡ r ++ (z₁ ++ z₂) = e₁ ∙ ap (λ (v : List ℕ). r ++ v) (ap (λ (n : ℕ). drop n (replicate L.fixSize 0)) lr ∙ sym (take-append-drop 4 z)) in
     let l₁ : length z₁ ≡ 4 = refl in
     let g₂ : f₂ ≡ r ++ (w ++ z₂) = e₂ ∙ ap (putWord 4 L.signersAt x) g₁ ∙ mid-put r z₁ z₂ L.signersAt 4 lr l₁ x in
     let l₂ : length (r ++ w) ≡ L.inputsAt = length-append r w ∙ ap₂ ◌+◌ lr (length-word-bytes 4 x) in
     let g₃ : f₂ ≡ (r ++ w) ++ z₂ = g₂ ∙ sym (append_assoc r w z₂) in
     let t : take L.inputsAt f₂ ≡ r ++ w = ap (take L.inputsAt) g₃ ∙ take_at (r ++ w) z₂ L.inputsAt l₂ in
     let d : drop L.inputsAt f₂ ≡ z₂ = ap (drop L.inputsAt) g₃ ∙ drop_at (r ++ w) z₂ L.inputsAt l₂ in
-    let y-is : y ≡ i = e₃ ∙ ap₂ (λ (u v : List ℕ). u ++ v) (take-length i) (ap₂ (λ (n : ℕ) (v : List ℕ). drop n (take hashSize v)) li d) ∙ append-nil i in
+    let y-is : y ≡ i = e₃ ∙ ap (λ (v : List ℕ). i ++ v) (ap₂ (λ (n : ℕ) (v : List ℕ). drop n (take hashSize v)) li d) ∙ append-nil i in
     ap₂ (λ (u v : List ℕ). u ++ (y ++ drop hashSize v)) t d ∙ ap (λ (u : List ℕ). (r ++ w) ++ (u ++ [])) y-is ∙ ap (λ (u : List ℕ). (r ++ w) ++ u) (append-nil i) ∙ append_assoc r w i
 
 -- ---- a merge

@@ -86,4 +86,4 @@ returns c =
     let f-is : f ≡ fixBytes (reportedFix e r (summariesIn m)) = c.new_fix-f.ensures ∙ ap (λ (k : ℕ). fixBytes (reportedFix e r (places summarySize k (summaryTable m)))) c.u16_at-n.ensures in
     let m₁ : List ℕ = take transmissionsAt m ++ (c.merge-x.new.t ++ drop (length m - transmissionsAt) (drop transmissionsAt m)) in
     stepped-is m o b e r an-engine c.requires.memory_value.1 f f-is c.merge-x.new.t m₁ c.merge-x.ensures.bytes refl c.requires.r_value
-    c.number_of_lem.result (c.number_of_lem.ensures ∙ ap number_of c.merge-x.ensures.answer) c.merge-x.result.count c.merge-x.result.entered c.merge-x.ensures.count c.merge-x.ensures.entered _ c.put_step.ensures
+    c.number_of.result (c.number_of.ensures ∙ ap number_of c.merge-x.ensures.answer) c.merge-x.result.count c.merge-x.result.entered c.merge-x.ensures.count c.merge-x.ensures.entered _ c.put_step.ensures
