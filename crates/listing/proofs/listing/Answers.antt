@@ -1,0 +1,31 @@
+use Prim.Native.Nat.{ℕ, ◌≤◌}
+use mathlib.Core.Path.{◌≡◌, refl, sym, ◌∙◌}
+use mathlib.Core.Bool.{true}
+use mathlib.Core.List.{List}
+use native.Mathlib.Omega.{arith}
+use borrow.Author.Tests.{lt-ltb, le-ltb}
+use Rattle.ranges.proofs.Bools.{not_t, not-false-t}
+use Rattle.stored.specs.Memory.{wellFormed}
+use Rattle.listing.specs.Listing.{listTrack}
+use Rattle.held.proofs.Writing.{put_written}
+use Rattle.listing.proofs.listing.Goals as goal
+
+pub returns-then-not-well_formed : goal.returns-then-not-well_formed
+unfolding listTrack
+returns-then-not-well_formed c = rw (sym c.well_formed-2.ensures ∙ c.if-not-well_formed.true) refl
+
+pub returns-then-out-lt-LISTING_SIZE : goal.returns-then-out-lt-LISTING_SIZE
+unfolding listTrack
+returns-then-out-lt-LISTING_SIZE c =
+    let m : List ℕ = c.args.memory.now in
+    let formed : wellFormed m ≡ true = sym c.well_formed-2.ensures ∙ c.if-not-well_formed.false in
+    rw (formed, lt-ltb _ _ c.if-out-lt-LISTING_SIZE.true) refl
+
+pub returns : goal.returns
+unfolding listTrack
+returns c =
+    let m : List ℕ = c.args.memory.now in
+    let formed : wellFormed m ≡ true = sym c.well_formed-2.ensures ∙ c.if-not-well_formed.false in
+    let s = c.if-out-lt-LISTING_SIZE.false in
+    let p = c.write.ensures in
+    rw (formed, le-ltb _ _ s) (put_written _ _ _ _ p.1 (omega (arith, p.0, p.1.next, s)))
