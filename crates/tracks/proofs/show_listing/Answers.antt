@@ -12,10 +12,10 @@ slice_bounds-out-end g c =
     let f = listed-fits o c.listing-answer.new.out c.listing-answer.result (omega (arith, l)) k _ c.listing-answer.ensures in
     omega (arith, f, k)
 
-pub slice_bounds-word-end : goal.slice_bounds-word-end
-slice_bounds-word-end g c =
+pub slice_bounds-word-end-2 : goal.slice_bounds-word-end-2
+slice_bounds-word-end-2 g c =
     let o = c.output_buffer-out.result in
     let l : boardSize ≡ length o = search rules in
     let k = c.listing-answer.auto.out in
     let f = listed-fits o c.listing-answer.new.out c.listing-answer.result (omega (arith, l)) k _ c.listing-answer.ensures in
-    sym (length-take-le _ _ (omega (arith, f, k)))
+    sym (length-take-le c.listing-answer.result c.listing-answer.new.out (omega (arith, f, k)))

@@ -4,7 +4,7 @@ use mathlib.Core.Bool.{Bool, false, ◌&&◌}
 use mathlib.Core.List.{List}
 use native.Mathlib.Omega.{arith}
 use lib.ListN.{length, get_or, take, drop}
-use borrow.Author.Tests.{le-leb, lt-leb, eq-eqb, ne_eqb, not-true, not-false}
+use borrow.Author.Tests.{le-leb, lt-leb, eq-eqb, ne_eqb}
 use Rattle.ranges.proofs.Bools.{and_assoc}
 use Rattle.octets.proofs.Moves.{tail-lent}
 use Rattle.places.specs.Places.{places, isTable, allPlaces}
@@ -57,9 +57,14 @@ module _ (m : List ℕ) where
             rw (eq-eqb (length m) trackSize size, le-leb (summaryCount m) maxSummaries few-summaries, le-leb (transmissionCount m) maxTransmissions few, eq-eqb (get_or m zeroAt 0) 0 z, c-is, n-is, t-is)
             (sym (and_assoc (isTable pairSize summarySize (summaryCount m) (summaryTable m)) (allPlaces (summaryFormed (convictedIn m)) (summariesIn m)) (transmissionsFormed (convictedIn m) (transmissionCount m) (transmissionTable m))))
 
+-- the same of the counts and words that are read, where the header is right
+by-header : (m : List ℕ) → length m ≡ trackSize → (n : ℕ) → n ≡ summaryCount m → n ≤ maxSummaries → transmissionCount m ≤ maxTransmissions → get_or m zeroAt 0 ≡ 0 → (c : ℕ) → c ≡ convictedIn m
+    → wellFormed m ≡ (summariesFormed c n (summaryTable m) && transmissionsFormed c (transmissionCount m) (take (length m - transmissionsAt) (drop transmissionsAt m)))
+by-header m size n n-is few-summaries few z c c-is =
+    by-tables m size (rw n-is at few-summaries) few c n (take (length m - transmissionsAt) (drop transmissionsAt m)) c-is n-is (tail-lent m transmissionsAt) z
+
 pub returns-then-m-ne-TRACK_SIZE : goal.returns-then-m-ne-TRACK_SIZE
-returns-then-m-ne-TRACK_SIZE c =
-    sym (other-size c.args.m.now c.if-m-ne-TRACK_SIZE.true)
+returns-then-m-ne-TRACK_SIZE c = sym (other-size c.args.m.now c.if-m-ne-TRACK_SIZE.true)
 
 pub returns-then-n-gt-MAX_SUMMARIES : goal.returns-then-n-gt-MAX_SUMMARIES
 returns-then-n-gt-MAX_SUMMARIES c =
@@ -67,44 +72,18 @@ returns-then-n-gt-MAX_SUMMARIES c =
 
 pub returns-then-k-gt-MAX_TRANSMISSIONS : goal.returns-then-k-gt-MAX_TRANSMISSIONS
 returns-then-k-gt-MAX_TRANSMISSIONS c =
-    let m : List ℕ = c.args.m.now in
-    let size : length m ≡ trackSize = c.if-m-ne-TRACK_SIZE.false in
-    let n : ℕ = c.u16_at-n.result in
-    let n-is : n ≡ summaryCount m = c.u16_at-n.ensures in
-    let few-summaries : summaryCount m ≤ maxSummaries = rw n-is at c.if-n-gt-MAX_SUMMARIES.false in
-    sym (many-transmissions m size few-summaries c.if-k-gt-MAX_TRANSMISSIONS.true)
+    sym (many-transmissions c.args.m.now c.if-m-ne-TRACK_SIZE.false (rw c.u16_at-n.ensures at c.if-n-gt-MAX_SUMMARIES.false) c.if-k-gt-MAX_TRANSMISSIONS.true)
 
 pub returns-then-m-ne0 : goal.returns-then-m-ne0
 returns-then-m-ne0 c =
-    let m : List ℕ = c.args.m.now in
-    let size : length m ≡ trackSize = c.if-m-ne-TRACK_SIZE.false in
-    let n : ℕ = c.u16_at-n.result in
-    let n-is : n ≡ summaryCount m = c.u16_at-n.ensures in
-    let few-summaries : summaryCount m ≤ maxSummaries = rw n-is at c.if-n-gt-MAX_SUMMARIES.false in
-    sym (not-zero m size few-summaries c.if-k-gt-MAX_TRANSMISSIONS.false c.if-m-ne0.true)
+    sym (not-zero c.args.m.now c.if-m-ne-TRACK_SIZE.false (rw c.u16_at-n.ensures at c.if-n-gt-MAX_SUMMARIES.false) c.if-k-gt-MAX_TRANSMISSIONS.false c.if-m-ne0.true)
 
 pub returns-then-not-summary_table_formed : goal.returns-then-not-summary_table_formed
 returns-then-not-summary_table_formed c =
-    let m : List ℕ = c.args.m.now in
-    let size : length m ≡ trackSize = c.if-m-ne-TRACK_SIZE.false in
-    let n : ℕ = c.u16_at-n.result in
-    let n-is : n ≡ summaryCount m = c.u16_at-n.ensures in
-    let few-summaries : summaryCount m ≤ maxSummaries = rw n-is at c.if-n-gt-MAX_SUMMARIES.false in
-    let w : ℕ = c.u32_at-convicted.result in
-    let rest : List ℕ = take (length m - transmissionsAt) (drop transmissionsAt m) in
-    let is-formed : wellFormed m ≡ (summariesFormed w n (summaryTable m) && transmissionsFormed w (transmissionCount m) rest) = by-tables m size few-summaries c.if-k-gt-MAX_TRANSMISSIONS.false w n rest
-    c.u32_at-convicted.ensures n-is (tail-lent m transmissionsAt) c.if-m-ne0.false in
-    sym (is-formed ∙ rw (sym c.summary_table_formed.ensures ∙ c.if-not-summary_table_formed.true) refl)
+    let refused-by = by-header c.args.m.now c.if-m-ne-TRACK_SIZE.false _ c.u16_at-n.ensures c.if-n-gt-MAX_SUMMARIES.false c.if-k-gt-MAX_TRANSMISSIONS.false c.if-m-ne0.false _ c.u32_at-convicted.ensures in
+    sym (refused-by ∙ rw (sym c.summary_table_formed.ensures ∙ c.if-not-summary_table_formed.true) refl)
 
 pub returns : goal.returns
 returns c =
-    let m : List ℕ = c.args.m.now in
-    let size : length m ≡ trackSize = c.if-m-ne-TRACK_SIZE.false in
-    let n : ℕ = c.u16_at-n.result in
-    let n-is : n ≡ summaryCount m = c.u16_at-n.ensures in
-    let few-summaries : summaryCount m ≤ maxSummaries = rw n-is at c.if-n-gt-MAX_SUMMARIES.false in
-    let w : ℕ = c.u32_at-convicted.result in
-    let rest : List ℕ = take (length m - transmissionsAt) (drop transmissionsAt m) in
-    let is-formed : wellFormed m ≡ (summariesFormed w n (summaryTable m) && transmissionsFormed w (transmissionCount m) rest) = by-tables m size few-summaries c.if-k-gt-MAX_TRANSMISSIONS.false w n rest
-    c.u32_at-convicted.ensures n-is (tail-lent m transmissionsAt) c.if-m-ne0.false in
+    let is-formed = by-header c.args.m.now c.if-m-ne-TRACK_SIZE.false _ c.u16_at-n.ensures c.if-n-gt-MAX_SUMMARIES.false c.if-k-gt-MAX_TRANSMISSIONS.false c.if-m-ne0.false _ c.u32_at-convicted.ensures in
     c.transmission_table_formed.ensures ∙ sym (is-formed ∙ rw (sym c.summary_table_formed.ensures ∙ c.if-not-summary_table_formed.false) refl)
