@@ -1,5 +1,5 @@
 /* Toastlagoon's functions for C, C++ and whatever calls like C. The library is target/staticlib/libtoastlagoon.a, made by
- * `rt staticlib toastlagoon`, for x86-64; `package` makes a shared one of it. It allocates nothing, keeps nothing between calls, and
+ * `build library`, for x86-64; `package` makes a shared one of it. It allocates nothing, keeps nothing between calls, and
  * of other libraries needs only the C library's memcpy, memmove and memset.
  *
  * Every function takes any bytes and any numbers and is proved to answer what documents 01 and 02 say of them

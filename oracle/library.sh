@@ -3,8 +3,8 @@ library=${TOASTLAGOON_LIB:-$root/target/staticlib/libtoastlagoon.a}
 library_flags=""
 # Made where there is none and rt can make it.
 if [ ! -f "$library" ] && [ -z "${TOASTLAGOON_LIB:-}" ] && command -v rt >/dev/null; then
-    echo "making the static library (rt staticlib toastlagoon)"
-    (cd "$root" && mkdir -p target && rt staticlib toastlagoon >target/staticlib.log 2>&1) || echo "it is not built; target/staticlib.log says why"
+    echo "making the static library (./build library)"
+    (cd "$root" && mkdir -p target && ./build library >target/staticlib.log 2>&1) || echo "it is not built; target/staticlib.log says why"
 fi
 if [ -f "$library" ]; then
     for name in tl_blake2s256 tl_root tl_horizontal_sigma tl_agreement tl_decide; do
@@ -16,6 +16,6 @@ if [ -f "$library" ]; then
     done
     library_flags="$library_flags -C link-arg=$library"
 else
-    echo "no static library at $library (run 'rt staticlib toastlagoon', or set TOASTLAGOON_LIB): the Rust runs alone"
+    echo "no static library at $library (run './build library', or set TOASTLAGOON_LIB): the Rust runs alone"
 fi
 if [ -f "$out/libsolver_real.rlib" ]; then library_flags="$library_flags --cfg real_libm"; fi
