@@ -16,4 +16,4 @@ returns-then-n-lt-MAX_TRANSMISSIONS c =
     let q = count-is c.args.t.now c.args.n c.requires.0 in
     let e = sym (few-stay x (omega (arith, l, k, q, c.if-n-lt-MAX_TRANSMISSIONS.true))) in
     let d = c.append.ensures in
-    record {value = d.value ∙ ap length e; t_after = d.t_after ∙ ap blockTable e; known = (d.known, c.requires.4)}
+    record { value = d.value ∙ ap length e; t_after = d.t_after ∙ ap blockTable e; known = (d.known, c.requires.4) }

@@ -31,7 +31,7 @@ returns-then-m-lt-MAX_TRANSMISSIONS c =
     let q = count-is c.arrange-m.new.t m arranged-there.1 in
     let e = sym (few-stay (arrangedBlocks (blocks m c.arrange-m.new.t ++ (c.args.b.now ∷ []))) (omega (arith, l, k, q, c.if-m-lt-MAX_TRANSMISSIONS.true))) ∙ ap (last_of maxTransmissions) again in
     let d = c.append.ensures in
-    record {value = d.value ∙ ap length e; t_after = d.t_after ∙ ap blockTable e; known = (d.known, c.requires.4)}
+    record { value = d.value ∙ ap length e; t_after = d.t_after ∙ ap blockTable e; known = (d.known, c.requires.4) }
 
 pub admit_full-requires : goal.admit_full-requires
 admit_full-requires c =
@@ -50,4 +50,4 @@ returns c =
     let again : arrangedBlocks (blocks m c.arrange-m.new.t ++ (c.args.b.now ∷ [])) ≡ arrangedBlocks (bs ++ (c.args.b.now ∷ [])) = ap (λ (l : List (List ℕ)). arrangedBlocks (l ++ (c.args.b.now ∷ []))) arranged-there.0 ∙ arranged-again bs c.args.b.now (some-fix c.args.b.now c.requires.2) in
     let e = ap (last_of maxTransmissions) again in
     let d = c.admit_full.ensures in
-    record {value = d.value ∙ ap length e; t_after = d.t_after ∙ ap blockTable e; known = d.known}
+    record { value = d.value ∙ ap length e; t_after = d.t_after ∙ ap blockTable e; known = d.known }

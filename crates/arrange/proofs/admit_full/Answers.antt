@@ -29,7 +29,7 @@ returns-then-older_than_first c =
     let asked : c.older_than_first.result ≡ olderBlock c.args.b.now (get_or bs 0 []) = c.older_than_first.ensures.value ∙ ap (olderBlock c.args.b.now) (block_at c.args.t.now c.args.n f 0 some) in
     let still-known : Known c.args.t.now c.older_than_first.new.known c.args.n = known_on c.requires.3 f.few c.older_than_first.ensures.still.0 c.older_than_first.auto.known in
     let e = full-newest bs c.requires.0.ordered c.args.b.now c.requires.2 all_of (sym asked ∙ c.if-older_than_first.true) in
-    record {value = sym (ap length e ∙ count-is c.args.t.now c.args.n f); t_after = f.is ∙ ap blockTable (sym e); known = (still-known, c.older_than_first.ensures.still.1)}
+    record { value = sym (ap length e ∙ count-is c.args.t.now c.args.n f); t_after = f.is ∙ ap blockTable (sym e); known = (still-known, c.older_than_first.ensures.still.1) }
 
 pub take_out-requires : goal.take_out-requires
 take_out-requires c =
@@ -61,4 +61,4 @@ returns c =
     let e = full-oldest bs c.requires.0.ordered c.args.b.now c.requires.2 all_of (sym asked ∙ c.if-older_than_first.false) in
     let g = ap (λ (x : List (List ℕ)). arrangedBlocks (x ++ (c.args.b.now ∷ []))) taken_out.0 ∙ sym e in
     let d = c.append.ensures in
-    record {value = d.value ∙ ap length g; t_after = d.t_after ∙ ap blockTable g; known = (d.known, c.older_than_first.ensures.still.1)}
+    record { value = d.value ∙ ap length g; t_after = d.t_after ∙ ap blockTable g; known = (d.known, c.older_than_first.ensures.still.1) }

@@ -30,4 +30,4 @@ returns c =
     appended c.args.t.now t c.args.b.now c.args.n f c.requires.2 c.requires.1 (put_whole c.put_bytes.ensures (omega (arith, f.few, f.size, c.requires.1, c.requires.2.size))) in
     let e = put-behind.0 in
     let d = c.arrange.ensures in
-    record {value = d.value ∙ ap (λ (l : List (List ℕ)). length (arrangedBlocks l)) e; t_after = d.t_after ∙ ap (λ (l : List (List ℕ)). blockTable (arrangedBlocks l)) e; known = d.known}
+    record { value = d.value ∙ ap (λ (l : List (List ℕ)). length (arrangedBlocks l)) e; t_after = d.t_after ∙ ap (λ (l : List (List ℕ)). blockTable (arrangedBlocks l)) e; known = d.known }

@@ -19,7 +19,7 @@ settle-m-requires c =
     let r = half-ready c.args.t.now c.args.n c.requires.0 c.loop-i.i v.0 c.loop-i.t c.loop-i.m v.1 v.2 in
     let more = c.loop-i-test.true in
     let e : c.loop-i.i - 1 + 1 ≡ c.loop-i.i = omega (arith, more) in
-    record {filled = (r.0, omega (arith, r.1, more), v.3); fixes_from = rw e r.2}
+    record { filled = (r.0, omega (arith, r.1, more), v.3); fixes_from = rw e r.2 }
 
 pub loop-i-preserved : goal.loop-i-preserved
 loop-i-preserved c =

@@ -14,7 +14,7 @@ returns-then-earlier c =
     let older : List ℕ = transmissionAt c.args.t.now c.args.j in
     let other : List ℕ = transmissionAt c.args.t.now c.args.i in
     let early : c.earlier.result ≡ ltb (firstTime older) (firstTime other) = c.earlier.ensures ∙ ap₂ (λ (x y : List ℕ). ltb (firstTime x) (firstTime y)) c.block-a.ensures.0 c.block-b.ensures.0 in
-    record {value = sym (older-early older other c.requires.0.fixes c.requires.1.fixes (sym early ∙ c.if-earlier.true)); still = still-same c.args.t.now c.args.known.now}
+    record { value = sym (older-early older other c.requires.0.fixes c.requires.1.fixes (sym early ∙ c.if-earlier.true)); still = still-same c.args.t.now c.args.known.now }
 
 pub returns-then-earlier-2 : goal.returns-then-earlier-2
 returns-then-earlier-2 c =
@@ -22,7 +22,7 @@ returns-then-earlier-2 c =
     let other : List ℕ = transmissionAt c.args.t.now c.args.i in
     let early : c.earlier.result ≡ ltb (firstTime older) (firstTime other) = c.earlier.ensures ∙ ap₂ (λ (x y : List ℕ). ltb (firstTime x) (firstTime y)) c.block-a.ensures.0 c.block-b.ensures.0 in
     let late : c.earlier-2.result ≡ ltb (firstTime other) (firstTime older) = c.earlier-2.ensures ∙ ap₂ (λ (x y : List ℕ). ltb (firstTime x) (firstTime y)) c.block-b.ensures.0 c.block-a.ensures.0 in
-    record {value = sym (older-late older other c.requires.0.fixes c.requires.1.fixes (sym early ∙ c.if-earlier.false) (sym late ∙ c.if-earlier-2.true)); still = still-same c.args.t.now c.args.known.now}
+    record { value = sym (older-late older other c.requires.0.fixes c.requires.1.fixes (sym early ∙ c.if-earlier.false) (sym late ∙ c.if-earlier-2.true)); still = still-same c.args.t.now c.args.known.now }
 
 pub returns : goal.returns
 returns c =
@@ -35,6 +35,9 @@ returns c =
     let f = c.learn.ensures in
     let g = c.learn-2.ensures in
     let y = still-then f.0 g.0 in
-    let k = c.learn-2.new.known in record {value = c.precedes.ensures ∙ ap₂ isBefore c.first_identity.ensures c.first_identity-2.ensures
+    let k = c.learn-2.new.known in record {
+      value = c.precedes.ensures ∙ ap₂ isBefore c.first_identity.ensures c.first_identity-2.ensures
           ∙ older-tied older other p.fixes q.fixes (sym early ∙ c.if-earlier.false) (sym late ∙ c.if-earlier-2.false)
-          (sheetAt k c.args.j) (sheetAt k c.args.i) (y.right c.args.j p.among p.knows) (y.right c.args.i q.among q.knows) (g.0.first c.args.j p.among f.1) g.1; still = y}
+          (sheetAt k c.args.j) (sheetAt k c.args.i) (y.right c.args.j p.among p.knows) (y.right c.args.i q.among q.knows) (g.0.first c.args.j p.among f.1) g.1;
+      still = y;
+    }

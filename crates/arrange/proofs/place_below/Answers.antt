@@ -32,7 +32,7 @@ returns-then-not-older_at c =
     let n = c.args.n in
     let e = leading-no (older-than t n c.args.i) (blocks n t) c.loop-j.j [] (rw (count-is t n c.requires.filled.0) c.loop-j-test.true) (sym asked ∙ c.if-not-older_at.true) in
     let v = c.loop-j.invariant.2 in
-    record {value = omega (arith, e, v); known = still-known}
+    record { value = omega (arith, e, v); known = still-known }
 
 pub loop-j-preserved : goal.loop-j-preserved
 loop-j-preserved c =
@@ -52,4 +52,4 @@ returns c =
     let n = c.args.n in
     let e = leading_end (older-than t n c.args.i) (blocks n t) c.loop-j.j (rw (count-is t n c.requires.filled.0) (let m = c.loop-j-test.false in omega arith)) in
     let v = c.loop-j.invariant in
-    record {value = let z = v.2 in omega (arith, e, z); known = v.3}
+    record { value = let z = v.2 in omega (arith, e, z); known = v.3 }

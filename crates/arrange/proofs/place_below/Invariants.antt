@@ -18,7 +18,6 @@ use Rattle.arrange.proofs.place_below.Given as goal
 abbrev pub older-than : List ℕ → ℕ → ℕ → List ℕ → Bool
 older-than t n i b = olderBlock b (get_or (blocks n t) i [])
 
-
 abbrev pub invariant-loop-j : goal.invariant-loop-j
 invariant-loop-j l = (l.i + 1 ≤ l.j) × (l.j ≤ l.n) × (l.i + 1 + leading (older-than l.t l.n l.i) (drop (l.i + 1) (blocks l.n l.t)) ≡ l.j + leading (older-than l.t l.n l.i) (drop l.j (blocks l.n l.t))) × Known l.t l.known l.n
 

@@ -17,7 +17,7 @@ returns-then-fix_count-eq0 c =
     let count_of : length blocks-of ≡ c.args.n = count-is c.args.t.now c.args.n c.requires.filled.0 in
     let among : c.args.i < length blocks-of = rw count_of c.requires.filled.1 in
     let counted : c.fix_count.result ≡ fixCount block_of = c.fix_count.ensures ∙ ap fixCount (c.block.ensures.0 ∙ block_at c.args.t.now c.args.n c.requires.filled.0 c.args.i c.requires.filled.1) in
-    let e = no-fix block_of (sym counted ∙ c.if-fix_count-eq0.true) in record {value = sym (settled-length-out blocks-of c.args.i among e ∙ ap (λ (k : ℕ). k - 1) count_of); t_after = c.take_out.ensures.t_after ∙ ap blockTable (taken_out blocks-of c.args.i among e); known = c.take_out.ensures.known}
+    let e = no-fix block_of (sym counted ∙ c.if-fix_count-eq0.true) in record { value = sym (settled-length-out blocks-of c.args.i among e ∙ ap (λ (k : ℕ). k - 1) count_of); t_after = c.take_out.ensures.t_after ∙ ap blockTable (taken_out blocks-of c.args.i among e); known = c.take_out.ensures.known }
 
 pub place_below-j-requires : goal.place_below-j-requires
 place_below-j-requires c =
@@ -27,7 +27,7 @@ place_below-j-requires c =
     let among : c.args.i < length blocks-of = rw count_of c.requires.filled.1 in
     let counted : c.fix_count.result ≡ fixCount block_of = c.fix_count.ensures ∙ ap fixCount (c.block.ensures.0 ∙ block_at c.args.t.now c.args.n c.requires.filled.0 c.args.i c.requires.filled.1) in
     let has_some : 1 ≤ fixCount block_of = positive (fixCount block_of) (λ z. c.if-fix_count-eq0.false (counted ∙ z)) in
-    record {filled = c.requires.filled; fixes_from = fixes-more blocks-of c.args.i among has_some c.requires.fixes_from}
+    record { filled = c.requires.filled; fixes_from = fixes-more blocks-of c.args.i among has_some c.requires.fixes_from }
 
 pub overflow_mul-j : goal.overflow_mul-j
 overflow_mul-j c =
@@ -78,7 +78,7 @@ returns-then-i-j c =
     let j = c.place_below-j.result in
     let e = some-fix block_of has_some in
     let more : i < j = omega (arith, c.if-i-j.true) in
-    let t = turned-table blocks-of c.args.t.now c.args.n i f.sound f.few f.is count_of c.requires.filled.1 j more few c.turn.new.t c.turn.ensures in record {value = sym (settled-length blocks-of i among e ∙ count_of); t_after = t.0 ∙ ap blockTable (ap (λ (l : ℕ). turned i l blocks-of) c.place_below-j.ensures.value ∙ turned-is blocks-of i among e); known = known-turned c.place_below-j.ensures.known f.few c.turn.new.t c.turn-then-i-j.new.t i j more few t.1 c.turn-then-i-j.ensures c.turn-then-i-j.auto.t}
+    let t = turned-table blocks-of c.args.t.now c.args.n i f.sound f.few f.is count_of c.requires.filled.1 j more few c.turn.new.t c.turn.ensures in record { value = sym (settled-length blocks-of i among e ∙ count_of); t_after = t.0 ∙ ap blockTable (ap (λ (l : ℕ). turned i l blocks-of) c.place_below-j.ensures.value ∙ turned-is blocks-of i among e); known = known-turned c.place_below-j.ensures.known f.few c.turn.new.t c.turn-then-i-j.new.t i j more few t.1 c.turn-then-i-j.ensures c.turn-then-i-j.auto.t }
 
 pub returns-else-i-j : goal.returns-else-i-j
 returns-else-i-j c =
@@ -89,4 +89,4 @@ returns-else-i-j c =
     let counted : c.fix_count.result ≡ fixCount block_of = c.fix_count.ensures ∙ ap fixCount (c.block.ensures.0 ∙ block_at c.args.t.now c.args.n c.requires.filled.0 c.args.i c.requires.filled.1) in
     let has_some : 1 ≤ fixCount block_of = positive (fixCount block_of) (λ z. c.if-fix_count-eq0.false (counted ∙ z)) in
     let e = some-fix block_of has_some in
-    let z = c.place_below-j.ensures.value in record {value = sym (settled-length blocks-of c.args.i among e ∙ count_of); t_after = c.requires.filled.0.is ∙ ap blockTable (stays blocks-of c.args.i among e (omega (arith, z, c.if-i-j.false))); known = c.place_below-j.ensures.known}
+    let z = c.place_below-j.ensures.value in record { value = sym (settled-length blocks-of c.args.i among e ∙ count_of); t_after = c.requires.filled.0.is ∙ ap blockTable (stays blocks-of c.args.i among e (omega (arith, z, c.if-i-j.false))); known = c.place_below-j.ensures.known }

@@ -16,4 +16,4 @@ returns c =
     let q = count-is t n f in
     let e = c.remove.ensures ∙ removed-table bs t n i f.sound f.few f.is q c.requires.1 in
     let d = (table_filled (without i bs) c.remove.new.t (n - 1) (without-sound bs i f.sound) (sym (without-count bs i (omega (arith, q, c.requires.1)) ∙ ap (λ (m : ℕ). m - 1) q)) (omega (arith, f.few)) e).0 in
-    record {t_after = e; known = known-without c.requires.2 f.few c.remove.new.t c.remove-2.new.t i c.requires.1 d c.remove-2.ensures c.remove-2.auto.t}
+    record { t_after = e; known = known-without c.requires.2 f.few c.remove.new.t c.remove-2.new.t i c.requires.1 d c.remove-2.ensures c.remove-2.auto.t }

@@ -1,4 +1,4 @@
-use Rattle.std.proofs.Common.{◌≤◌, arith, sym, length-take-le}
+use Rattle.std.proofs.Common.{arith, sym, length-take-le}
 use Rattle.digests.proofs.print_lengths.Goals as goal
 
 pub slice_bounds-print_digest-end-2 : goal.slice_bounds-print_digest-end-2

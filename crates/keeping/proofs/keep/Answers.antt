@@ -9,7 +9,7 @@ lowest_of-refused-requires c =
     let g = c.requires in
     let e = c.decide-d.ensures in
     let d = c.decide-d.result in
-    record {list_len = (refused-long _ g d e, refused-count _ g d e); all_lie = refused-lie _ g d e}
+    record { list_len = (refused-long _ g d e, refused-count _ g d e); all_lie = refused-lie _ g d e }
 
 pub returns : goal.returns
 returns c =

@@ -9,20 +9,22 @@ use Rattle.keeping.proofs.Lowering.{lowestFrom, lowest-none, lowest-turn, lowest
 use Rattle.keeping.proofs.lowest_of.Goals as goal
 
 pub loop-j-init : goal.loop-j-init
-loop-j-init c =
-    (
-      omega arith,
-      record { size = refl; few = omega arith },
-      sym (lowest-none c.args.s.now c.args.refusals.list c.args.refusals.count c.args.refusals.count (omega arith) (omega (arith, c.requires.list_len.0, c.requires.list_len.1))),
-    )
+loop-j-init c = (
+  omega arith,
+  record { size = refl; few = omega arith },
+  sym (lowest-none c.args.s.now c.args.refusals.list c.args.refusals.count c.args.refusals.count (omega arith) (omega (arith, c.requires.list_len.0, c.requires.list_len.1))),
+)
 
 pub insert-l-requires : goal.insert-l-requires
 insert-l-requires c =
     let long : c.args.refusals.count ≤ length c.args.refusals.list = omega (arith, c.requires.list_len.0, c.requires.list_len.1) in
-    let i = c.loop-j.invariant in record {sized = i.1; all_lie = (
+    let i = c.loop-j.invariant in record {
+      sized = i.1;
+      all_lie = (
         lowest-lies c.args.s.now c.args.refusals.list c.args.refusals.count c.loop-j.l c.loop-j.j i.1 long i.2 c.requires.all_lie,
         c.requires.all_lie (c.loop-j.j - 1) (omega arith),
-      )}
+      );
+    }
 
 pub loop-j-preserved : goal.loop-j-preserved
 loop-j-preserved c =

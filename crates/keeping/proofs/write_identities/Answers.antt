@@ -20,7 +20,7 @@ put_identities-requires c =
     let long : k.refused.count ≤ length list = omega (arith, keeps.sized.few, c.refused_items-list.ensures.0) in
     let lie : (i : ℕ) → i < k.refused.count → Lies c.args.s.now (get_or list i 0) = refused-lie c.args.s.now k keeps list c.refused_items-list.ensures.1 in
     let w = keeps in
-    record {hash_size_in_bounds = omega (arith, put-length c.put_identities-a.ensures.1, c.put_identities-a.ensures.0, headed-length, w.few, w.sized.few); count_in_bounds = (long, lie)}
+    record { hash_size_in_bounds = omega (arith, put-length c.put_identities-a.ensures.1, c.put_identities-a.ensures.0, headed-length, w.few, w.sized.few); count_in_bounds = (long, lie) }
 
 pub returns : goal.returns
 returns c =

@@ -29,7 +29,7 @@ put_held-a-requires c =
     let q = c.block.ensures.0 ∙ sym (place_of transmissionSize c.args.n c.loop-i.i t h) in
     let m = mem-at (blocks c.args.n t) c.loop-i.i [] (rw (length-places transmissionSize c.args.n t) h) in
     let w = put-length c.loop-i.invariant.2 in
-    record {sound = subst Sound (sym q) (c.requires.filled.sound _ m); held_width_in_bounds = omega (arith, w, c.requires.held_width_in_bounds, c.loop-i.invariant.1, h)}
+    record { sound = subst Sound (sym q) (c.requires.filled.sound _ m); held_width_in_bounds = omega (arith, w, c.requires.held_width_in_bounds, c.loop-i.invariant.1, h) }
 
 pub loop-i-preserved : goal.loop-i-preserved
 loop-i-preserved c =

@@ -42,7 +42,7 @@ put_all-requires c =
     let m : List ℕ = c.args.memory.now in
     let open-there : Opened m = opened m c.requires.memory_value in
     let p = c.put_contested-a.ensures in
-    let w = put-length p.1 in record {filled = subst (λ (l : List ℕ). Filled l (transmissionCount m)) (sym (tail-lent m transmissionsAt)) (filled m open-there); held_width_in_bounds = omega (arith, p.0, w, open-there.few, c.requires.board_size_in_bounds)}
+    let w = put-length p.1 in record { filled = subst (λ (l : List ℕ). Filled l (transmissionCount m)) (sym (tail-lent m transmissionsAt)) (filled m open-there); held_width_in_bounds = omega (arith, p.0, w, open-there.few, c.requires.board_size_in_bounds) }
 
 pub returns : goal.returns
 unfolding listingOf decode

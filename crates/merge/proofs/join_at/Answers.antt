@@ -57,7 +57,7 @@ join_block-joint-requires c =
     let counted : length bs ≡ c.args.n = count-is c.args.t.now c.args.n c.requires.ready.filled in
     let below : c.args.i < c.args.n = rw counted at c.requires.ties.0 in
     let lent : take (c.args.i * transmissionSize + transmissionSize - c.args.i * transmissionSize) (drop (c.args.i * transmissionSize) c.args.t.now) ≡ b = ap (λ (k : ℕ). take k (drop (c.args.i * transmissionSize) c.args.t.now)) (width transmissionSize (c.args.i * transmissionSize)) ∙ block_at c.args.t.now c.args.n c.requires.ready.filled c.args.i below in
-    record {steady = rw lent (c.requires.ready.steady b (at_in [] bs c.args.i c.requires.ties.0), nothing_known b); f_len = c.requires.f_len}
+    record { steady = rw lent (c.requires.ready.steady b (at_in [] bs c.args.i c.requires.ties.0), nothing_known b); f_len = c.requires.f_len }
 
 pub returns-in_default : goal.returns-in_default
 returns-in_default c =

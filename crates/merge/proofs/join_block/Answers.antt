@@ -23,4 +23,4 @@ first_identified-i-requires c =
     let i : ℕ = c.in-At.k in
     let found : First (hasSet c.args.f.now) (heldPlaces b) [] 0 (At i) = subst (First (hasSet c.args.f.now) (heldPlaces b) [] 0) c.in-At.is c.find_set-found.ensures in
     let there : i < heldCount b = rw (held-length b) at found.1 in
-    record {sound = (c.requires.steady.0.sound, there, set-identity b c.args.f.now c.requires.steady.0.sound i there found.3); f_len = c.requires.f_len}
+    record { sound = (c.requires.steady.0.sound, there, set-identity b c.args.f.now c.requires.steady.0.sound i there found.3); f_len = c.requires.f_len }

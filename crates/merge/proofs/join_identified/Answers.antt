@@ -22,7 +22,7 @@ returns-in_default c =
     let listed-there : Listed b ids = listed b ids _ c.identities.ensures in
     let searched : First (isIdentity (identityIn f)) (map identityIn (heldPlaces b)) [] 0 c.find_identity-found.result = rw (sym identified, sym (ids-places b ids listed-there c.requires.steady.0.signed), sym c.held_count-n.ensures) c.find_identity-found.ensures in
     let a = subst (First (isIdentity (identityIn c.args.f.now)) (map identityIn (heldPlaces c.args.b.now)) [] 0) c.in_default.is searched in
-    record {joint_as = (none-held c.args.b.now c.args.f.now a, c.join.ensures.0, c.join.ensures.1); knows_decided = c.join.ensures.2}
+    record { joint_as = (none-held c.args.b.now c.args.f.now a, c.join.ensures.0, c.join.ensures.1); knows_decided = c.join.ensures.2 }
 
 pub overflow_cast-k : goal.overflow_cast-k
 overflow_cast-k c =
@@ -45,4 +45,4 @@ sign_held-requires c =
     let listed-there : Listed b ids = listed b ids _ c.identities.ensures in
     let searched : First (isIdentity (identityIn f)) (map identityIn (heldPlaces b)) [] 0 c.find_identity-found.result = rw (sym identified, sym (ids-places b ids listed-there c.requires.steady.0.signed), sym c.held_count-n.ensures) c.find_identity-found.ensures in
     let found : First (isIdentity (identityIn f)) (map identityIn (heldPlaces b)) [] 0 (At c.in-At.k) = subst (First (isIdentity (identityIn f)) (map identityIn (heldPlaces b)) [] 0) c.in-At.is searched in
-    record {steady = (c.requires.steady.0, c.requires.f_len.0); first = found}
+    record { steady = (c.requires.steady.0, c.requires.f_len.0); first = found }

@@ -22,7 +22,7 @@ held-requires c =
     let b-sound : Sound b = sound-at c.args.t.now c.args.n c.requires.filled.0 c.loop-i.i c.loop-i-test.true in
     let b-some : 0 < heldCount b = let f = c.requires.filled.1 b (at_in [] bs c.loop-i.i among) in omega (arith, f) in
     let block-is : c.block.result.now ≡ b = c.block.ensures.0 ∙ block_at c.args.t.now c.args.n c.requires.filled.0 c.loop-i.i c.loop-i-test.true in
-    record {sound = rw block-is b-sound; k_bound = rw block-is b-some}
+    record { sound = rw block-is b-sound; k_bound = rw block-is b-some }
 
 pub returns-then-same_set : goal.returns-then-same_set
 returns-then-same_set c =

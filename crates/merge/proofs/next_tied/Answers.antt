@@ -21,7 +21,7 @@ loop-i-init c =
 pub ties-requires : goal.ties-requires
 ties-requires c =
     let e = c.block.ensures.0 ∙ block_at c.args.t.now c.args.n c.requires.filled.0 c.loop-i.i c.loop-i-test.true in
-    record {sound = rw e (sound-at c.args.t.now c.args.n c.requires.filled.0 c.loop-i.i c.loop-i-test.true); r_value = c.requires.r_value}
+    record { sound = rw e (sound-at c.args.t.now c.args.n c.requires.filled.0 c.loop-i.i c.loop-i-test.true); r_value = c.requires.r_value }
 
 pub returns-then-ties : goal.returns-then-ties
 returns-then-ties c =

@@ -37,7 +37,7 @@ keeps-requires c =
     let bytes-there : c.admit-count.new.t ≡ blockTable bs₁ = rw (sym c.alone-b.ensures) c.admit-count.ensures.t_after in
     let there : (blocks c.admit-count.result c.admit-count.new.t ≡ bs₁) × Filled c.admit-count.new.t c.admit-count.result = table_filled bs₁ c.admit-count.new.t c.admit-count.result (admitted-sound f f-bytes c.requires.f_len.0 c.requires.f_len.1 bs c.requires.ready.steady) count-there
     (rw count-there (admitted-few f f-bytes c.requires.f_len.0 c.requires.f_len.1 bs c.requires.ready.steady)) bytes-there in
-    record {filled = (there.1, rw there.0 (admitted-fixed f f-bytes c.requires.f_len.0 c.requires.f_len.1 bs c.requires.ready.steady), c.admit-count.ensures.known.0); f_len = c.requires.f_len}
+    record { filled = (there.1, rw there.0 (admitted-fixed f f-bytes c.requires.f_len.0 c.requires.f_len.1 bs c.requires.ready.steady), c.admit-count.ensures.known.0); f_len = c.requires.f_len }
 
 pub returns-then-keeps : goal.returns-then-keeps
 returns-then-keeps c =

@@ -13,7 +13,7 @@ use Rattle.merge.proofs.sign_held.Goals as goal
 pub sign-requires : goal.sign-requires
 sign-requires c =
     let there : c.args.k < heldCount c.args.b.now = rw (identities-count c.args.b.now) at c.requires.first.1 in
-    record {sound = c.requires.steady.0.sound; k_bound = there}
+    record { sound = c.requires.steady.0.sound; k_bound = there }
 
 pub returns : goal.returns
 returns c =

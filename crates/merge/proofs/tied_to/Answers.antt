@@ -24,4 +24,4 @@ next_tied-second-requires c =
     let test : List ℕ → Bool = tiesBlock c.args.r.now in
     let count : length bs ≡ c.args.n = count-is c.args.t.now c.args.n c.requires.filled in
     let found : First test bs [] 0 (At c.in-At.i) = subst (First test bs [] 0) c.in-At.is c.next_tied-first.ensures in
-    let f = found in record {filled = (c.requires.filled, omega (arith, f.1, count)); r_value = c.requires.r_value}
+    let f = found in record { filled = (c.requires.filled, omega (arith, f.1, count)); r_value = c.requires.r_value }

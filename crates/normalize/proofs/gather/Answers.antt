@@ -27,7 +27,7 @@ put_item-requires c =
     let f : List ℕ = c.args.f.now in
     let laid : Laid c.args.items.now c.args.signers.now c.args.n (fixesIn c.args.items.now c.args.signers.now c.args.n) = c.requires.laid in
     let id-length : length c.args.id.now ≡ hashSize = ap length c.requires.n_bound.3 ∙ identity-length (setHash (recordIn f)) (inputsIn f) in
-    record {item_size_in_bounds = omega (arith, laid.room, c.requires.n_bound.0); r_len = c.record_of.ensures.1; inputs_len = (c.inputs.ensures.1, id-length)}
+    record { item_size_in_bounds = omega (arith, laid.room, c.requires.n_bound.0); r_len = c.record_of.ensures.1; inputs_len = (c.inputs.ensures.1, id-length) }
 
 pub returns : goal.returns
 returns c =

@@ -39,12 +39,15 @@ gather-m-requires c =
     let k : ℕ = c.loop-k.k in
     let ks : List Fix = fixesIn c.loop-k.items c.loop-k.signers c.loop-k.m in
     let laid : Laid c.loop-k.items c.loop-k.signers c.loop-k.m ks = c.loop-k.invariant.2 in
-    let p = c.held-f.ensures in record {laid = laid; n_bound = (
+    let p = c.held-f.ensures in record {
+      laid = laid;
+      n_bound = (
         omega (arith, c.loop-k.invariant.1),
         p.1,
         p.2,
         c.identity_at.ensures.0 ∙ id-at b c.args.ids.now c.requires.sound.1 k (omega (arith, c.requires.from_le_to.1)) ∙ ap signedIdentity (sym p.0) ∙ signed_is c.held-f.result.now (signed-place c.held-f.result.now (λ q. c.if-signers-eq0.false (c.signers.ensures ∙ q))),
-      )}
+      );
+    }
 
 pub loop-k-preserved : goal.loop-k-preserved
 unfolding gatherAll

@@ -17,7 +17,7 @@ use Rattle.normalize.proofs.gather_with.Goals as goal
 pub gather_held-n-requires : goal.gather_held-n-requires
 gather_held-n-requires c =
     let e = c.fix_count-c.ensures in
-    record {laid = laid-again c.requires.laid; sound = c.requires.sound; from_le_to = (omega arith, omega arith, omega (arith, c.requires.sound.0.few))}
+    record { laid = laid-again c.requires.laid; sound = c.requires.sound; from_le_to = (omega arith, omega arith, omega (arith, c.requires.sound.0.few)) }
 
 pub gather-m-requires : goal.gather-m-requires
 gather-m-requires c =
@@ -31,7 +31,7 @@ gather-m-requires c =
     let w = signed-few b 0 (fixCount b) in
     omega (arith, first.count, c.requires.sound.0.few) in
     let p = c.requires.f_len in
-    record {laid = laid-again first; n_bound = (omega (arith, few), p.0, p.1, p.2)}
+    record { laid = laid-again first; n_bound = (omega (arith, few), p.0, p.1, p.2) }
 
 pub gather_held-requires : goal.gather_held-requires
 gather_held-requires c =
@@ -49,7 +49,7 @@ gather_held-requires c =
     let second : Laid c.gather-m.new.items c.gather-m.new.signers c.gather-m.result (N.gather stood f) = subst (λ (x : List Fix). Laid c.gather-m.new.items c.gather-m.new.signers c.gather-m.result (N.gather x f))
     (laid-reads first) c.gather-m.ensures in
     let more : c.gather-m.result ≤ maxStanding + 1 = let a = gather-few f stood in omega (arith, second.count, first.count, few) in
-    record {laid = laid-again second; sound = c.requires.sound; from_le_to = (omega arith, omega (arith, counted, counted-all), omega (arith, more, counted, counted-all, c.requires.sound.0.few-refused))}
+    record { laid = laid-again second; sound = c.requires.sound; from_le_to = (omega arith, omega (arith, counted, counted-all), omega (arith, more, counted, counted-all, c.requires.sound.0.few-refused)) }
 
 pub returns : goal.returns
 unfolding gatherAll

@@ -30,7 +30,7 @@ gather_with-n-requires c =
     let b : List ℕ = c.args.b.now in
     let sound : Sound b = c.requires.sound.0 in
     let l : length c.item_room-items.result ≡ maxGathered * itemSize = search rules in
-    record {laid = laid_none c.item_room-items.result (replicate maxGathered 0) l refl; sound = (c.requires.sound.0, c.requires.sound.3); f_len = c.requires.f_len}
+    record { laid = laid_none c.item_room-items.result (replicate maxGathered 0) l refl; sound = (c.requires.sound.0, c.requires.sound.3); f_len = c.requires.f_len }
 
 pub settle-kept-requires : goal.settle-kept-requires
 settle-kept-requires c =
@@ -40,7 +40,7 @@ settle-kept-requires c =
     let fs : List Fix = (transmissionIn b).fixes ++ (f ∷ map fixOf (transmissionIn b).refused) in
     let gathered : Laid c.gather_with-n.new.items c.gather_with-n.new.signers c.gather_with-n.result (distinct fs) = subst (λ (x : List Fix). Laid c.gather_with-n.new.items c.gather_with-n.new.signers c.gather_with-n.result (distinct x))
     (signed-with b c.requires.sound.2 f) c.gather_with-n.ensures in
-    record {b_len = (sound.size, c.requires.s_len); laid = laid-again gathered}
+    record { b_len = (sound.size, c.requires.s_len); laid = laid-again gathered }
 
 pub tell-requires : goal.tell-requires
 tell-requires c =
@@ -48,7 +48,7 @@ tell-requires c =
     let ids : List ℕ = c.args.ids.now in
     let listed : Listed b ids = c.requires.sound.3 in
     let counted-all : c.held_count-e.result ≡ heldCount b = c.held_count-e.ensures in
-    record {keeps = c.settle-kept.ensures.1; hash_size_in_bounds = (omega (arith, ids-room b ids listed, counted-all), omega (arith, counted-all, c.requires.sound.1))}
+    record { keeps = c.settle-kept.ensures.1; hash_size_in_bounds = (omega (arith, ids-room b ids listed, counted-all), omega (arith, counted-all, c.requires.sound.1)) }
 
 pub returns : goal.returns
 returns c =
@@ -72,8 +72,7 @@ returns c =
     let written : c.settle-kept.new.b ≡ transmissionBytes u = c.settle-kept.ensures.0 ∙ ap transmissionBytes kept-is in
     let sheet : List ℕ = c.settle-kept.new.s in
     let known : Knows c.settle-kept.new.b sheet × (knownCount sheet ≡ heldCount c.settle-kept.new.b) = all_known fs (with-holdable b bytes sound f holdable) c.settle-kept.new.b sheet written
-    (subst (λ (x : HeldTransmission). Names sheet (map identityOf (heldIn x))) kept-is c.settle-kept.ensures.2) in
-    (
+    (subst (λ (x : HeldTransmission). Names sheet (map identityOf (heldIn x))) kept-is c.settle-kept.ensures.2) in (
       written,
       c.tell.ensures
           ∙ ap (λ (x : List ℕ). told items c.settle-kept.result x ids c.fix_count-c.result c.held_count-e.result) c.requires.f_len.2

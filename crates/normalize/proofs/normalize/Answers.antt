@@ -31,7 +31,7 @@ gather_held-n-requires c =
     let empty : Laid c.item_room-items.result (replicate maxGathered 0) 0 [] = let l : length c.item_room-items.result ≡ maxGathered * itemSize = search rules in
     laid_none c.item_room-items.result (replicate maxGathered 0) l refl in
     let are-listed : Listed b c.identities.new.ids = listed b c.identities.new.ids _ c.identities.ensures in
-    record {laid = laid-again empty; sound = (sound, are-listed); from_le_to = (omega arith, omega (arith, counted), omega (arith, counted, sound.few, sound.few-refused))}
+    record { laid = laid-again empty; sound = (sound, are-listed); from_le_to = (omega arith, omega (arith, counted), omega (arith, counted, sound.few, sound.few-refused)) }
 
 pub settle-requires : goal.settle-requires
 settle-requires c =
@@ -45,7 +45,7 @@ settle-requires c =
     (ap₂ (λ (x : List Fix) (n : ℕ). gatherAll x (signedIn b 0 n)) (laid-reads empty) counted
     ∙ ap (gatherAll []) (all_held b))
     c.gather_held-n.ensures in
-    record {b_len = (sound.size, c.requires.1.size); laid = laid-again gathered}
+    record { b_len = (sound.size, c.requires.1.size); laid = laid-again gathered }
 
 pub returns : goal.returns
 returns c =

@@ -29,7 +29,7 @@ unlisted-entered-requires c =
     let list : List ℕ = c.refused_items-list.result in
     let long : k.refused.count ≤ length list = omega (arith, keeps.sized.few, c.refused_items-list.ensures.0) in
     let lie : (i : ℕ) → i < k.refused.count → Lies c.args.s.now (get_or list i 0) = refused-lie c.args.s.now k keeps list c.refused_items-list.ensures.1 in
-    record {count_in_bounds = (long, lie); hash_size_in_bounds = c.requires.hash_size_in_bounds.0}
+    record { count_in_bounds = (long, lie); hash_size_in_bounds = c.requires.hash_size_in_bounds.0 }
 
 pub returns : goal.returns
 returns c =

@@ -1,11 +1,8 @@
-use Prim.Native.Nat.{◌+◌, ◌-◌}
 use mathlib.Core.Path.{refl}
-use native.Mathlib.Omega.{arith}
-use lib.ListN.{length, take, drop}
 use Rattle.items.proofs.Pairing.{width}
 use Rattle.tracked.specs.Layout as L
 use Rattle.tracked.specs.Parts.{heldPlace}
-use Rattle.tracked.proofs.Holding.{held_at, held-room, held-size, held-formed}
+use Rattle.tracked.proofs.Holding.{held_at, held-size, held-formed}
 use Rattle.tracked.proofs.held.Goals as goal
 
 pub returns : goal.returns

@@ -1,5 +1,4 @@
-use Prim.Native.Nat.{◌+◌, ◌*◌, ◌-◌}
-use mathlib.Core.Path.{refl, sym, ◌∙◌}
+use mathlib.Core.Path.{refl}
 use native.Mathlib.Omega.{arith}
 use Rattle.items.proofs.Pairing.{width, taken}
 use Rattle.tracked.specs.Layout as L

@@ -1,4 +1,4 @@
-use mathlib.Core.Path.{◌≡◌, sym, ap, ap₂, ◌∙◌}
+use mathlib.Core.Path.{ap₂, ◌∙◌}
 use Rattle.octets.specs.Order.{same}
 use Rattle.ranges.proofs.Bools.{ret-f, ret-t}
 use Rattle.tracked.specs.Parts.{sameSet}

@@ -1,12 +1,11 @@
-use Prim.Native.Nat.{ℕ, ◌-◌, ◌≤◌, ◌<◌}
-use mathlib.Core.Path.{◌≡◌, refl, sym, ap, ◌∙◌}
+use Prim.Native.Nat.{ℕ, ◌<◌}
+use mathlib.Core.Path.{◌≡◌, sym, ap, ◌∙◌}
 use mathlib.Core.List.{List, []}
 use native.Mathlib.Omega.{arith}
-use lib.ListN.{length, get_or, drop}
-use Rattle.ranges.specs.Lists.{any_of}
+use lib.ListN.{length, get_or}
 use Rattle.record.specs.Relations.{tied}
 use Rattle.tracked.specs.Bytes.{recordIn}
-use Rattle.tracked.specs.Parts.{heldPlaces, heldCount, tiesTo}
+use Rattle.tracked.specs.Parts.{heldPlaces, tiesTo}
 use Rattle.tracked.proofs.Holding.{held-length}
 use Rattle.tracked.proofs.Searching.{any_here, any-on, any-over}
 use Rattle.tracked.proofs.ties.Goals as goal

@@ -33,7 +33,7 @@ has_stale-requires c =
     let n : ℕ = c.u16_at-n.result in
     let n-is : n ≡ summaryCount m = c.u16_at-n.ensures in
     let h = c.loop-i-test.true in
-    record {n_le_max_summaries = (rw n-is o.few-summaries, rw c.loop-i.invariant.0 (omega arith), rw c.loop-i.invariant.0 (place-room m o c.loop-i.i h)); sound = rw c.loop-i.invariant.0 (sound-at m o c.loop-i.i h)}
+    record { n_le_max_summaries = (rw n-is o.few-summaries, rw c.loop-i.invariant.0 (omega arith), rw c.loop-i.invariant.0 (place-room m o c.loop-i.i h)); sound = rw c.loop-i.invariant.0 (sound-at m o c.loop-i.i h) }
 
 pub returns-then-has_stale : goal.returns-then-has_stale
 returns-then-has_stale c =

@@ -22,7 +22,6 @@ use Rattle.recheck.proofs.rechecks.any_stale.Given as goal
 abbrev pub test : List ℕ → List ℕ → Bool
 test m b = hasStale (summariesIn m) (transmissionIn b)
 
-
 abbrev pub invariant-loop-i : goal.invariant-loop-i
 invariant-loop-i l = (l.at ≡ placeAt l.i) × (any_of (test l.memory) (transmissionPlaces l.memory) ≡ any_of (test l.memory) (drop l.i (transmissionPlaces l.memory)))
 

@@ -29,7 +29,7 @@ stands_at-requires c =
     let fs : List Fix = fixesAt c.args.memory.now c.args.at in
     let among : c.loop-k.k < length fs = rw counted at c.loop-k-test.true in
     let within : c.loop-k.k < heldCount (block_at c.args.at c.args.memory.now) = rw (fixes-count (block_at c.args.at c.args.memory.now)) at among in
-    record {n_le_max_summaries = c.requires.n_le_max_summaries; sound = (c.requires.sound, within)}
+    record { n_le_max_summaries = c.requires.n_le_max_summaries; sound = (c.requires.sound, within) }
 
 pub returns-then-not-stands_at : goal.returns-then-not-stands_at
 returns-then-not-stands_at c =

@@ -26,7 +26,6 @@ stale m n f = not (stands (places summarySize n (summaryTable m)) f)
 abbrev pub fixesAt : List ℕ → ℕ → List Fix
 fixesAt m at = heldIn (transmissionIn (block_at at m))
 
-
 abbrev pub invariant-loop-k : goal.invariant-loop-k
 invariant-loop-k l = any_of (stale l.memory l.n) (fixesAt l.memory l.at) ≡ any_of (stale l.memory l.n) (drop l.k (fixesAt l.memory l.at))
 

@@ -22,4 +22,4 @@ pub returns : goal.returns
 returns c =
     let ss : List (List ℕ) = places summarySize c.args.n (summaryTable c.args.memory.now) in
     let at = c.args.at in
-    let x = c.silence.new.memory in record {memory_after = renewed at ss c.args.memory.now x c.silence.ensures.only_at _ c.silence.ensures.carries c.requires.sound.1 _ _ c.normalize.ensures.0 refl; knows = knows_same (part-put at transmissionSize x c.normalize.new.b _ (c.normalize.auto.b ∙ ap length (lent-block at x) ∙ c.silence.ensures.carries.sound.size) (rw c.silence.ensures.only_at.size c.requires.n_le_max_summaries.2) refl) refl c.normalize.ensures.1}
+    let x = c.silence.new.memory in record { memory_after = renewed at ss c.args.memory.now x c.silence.ensures.only_at _ c.silence.ensures.carries c.requires.sound.1 _ _ c.normalize.ensures.0 refl; knows = knows_same (part-put at transmissionSize x c.normalize.new.b _ (c.normalize.auto.b ∙ ap length (lent-block at x) ∙ c.silence.ensures.carries.sound.size) (rw c.silence.ensures.only_at.size c.requires.n_le_max_summaries.2) refl) refl c.normalize.ensures.1 }

@@ -52,11 +52,14 @@ renew-requires c =
     let at_place : block_at (placeAt c.loop-i.i) c.loop-i.memory ≡ get_or (transmissionPlaces m) c.loop-i.i [] = rewritten-block c.loop-i.invariant.1 (front-size m o) (transmissions-wide m o) (few-places m o) wide-each among in
     let at_block : block_at c.loop-i.at c.loop-i.memory ≡ get_or (transmissionPlaces m) c.loop-i.i [] = ap (λ (k : ℕ). block_at k c.loop-i.memory) c.loop-i.invariant.0 ∙ at_place in
     let knows : Knows (block_at (placeAt c.loop-i.i) c.loop-i.memory) (sheetAt c.loop-i.known c.loop-i.i) = known-block c.loop-i.memory c.loop-i.known (transmissionCount m) c.loop-i.invariant.2 c.loop-i.i c.loop-i-test.true in
-    record {n_le_max_summaries = (rw n-is o.few-summaries, rw c.loop-i.invariant.0 (omega arith), rw c.loop-i.invariant.0 lies); sound = (
+    record {
+      n_le_max_summaries = (rw n-is o.few-summaries, rw c.loop-i.invariant.0 (omega arith), rw c.loop-i.invariant.0 lies);
+      sound = (
         rw at_block (block-sound m o _ one),
         rw at_block (all-signed m o _ one),
         knows_same (ap (λ (k : ℕ). block_at k c.loop-i.memory) c.loop-i.invariant.0) (lent-sheet c.loop-i.known c.loop-i.i) knows,
-      )}
+      );
+    }
 
 pub loop-i-preserved : goal.loop-i-preserved
 loop-i-preserved c =
@@ -93,4 +96,4 @@ returns c =
     let o : Opened m = opened m c.requires.0 in
     let bytes : Bytes m = all-bytes m (search rules) in
     let wide-each : (b : List ℕ) → Memᴰ b (transmissionPlaces m) → length (standingBytes (summariesIn m) b) ≡ transmissionSize = λ b. λ i. standing-size m o b i bytes (summariesIn m) in
-    record {memory_after = rewritten-all c.loop-i.invariant.1 (front-size m o) (transmissions-wide m o) (few-places m o) wide-each (rw (transmissions-length m o) c.loop-i-test.false); known = c.loop-i.invariant.2}
+    record { memory_after = rewritten-all c.loop-i.invariant.1 (front-size m o) (transmissions-wide m o) (few-places m o) wide-each (rw (transmissions-length m o) c.loop-i-test.false); known = c.loop-i.invariant.2 }

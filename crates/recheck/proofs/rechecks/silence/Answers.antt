@@ -26,7 +26,7 @@ stands_at-requires c =
     let room : c.args.at + transmissionSize ≤ length c.loop-k.memory = rw c.loop-k.invariant.0.size c.requires.n_le_max_summaries.2 in
     let within : c.loop-k.k < heldCount (block_at c.args.at c.args.memory.now) = rw counted at c.loop-k-test.true in
     let among : c.loop-k.k < heldCount (block_at c.args.at c.loop-k.memory) = rw c.loop-k.invariant.1.count within in
-    record {n_le_max_summaries = (c.requires.n_le_max_summaries.0, c.requires.n_le_max_summaries.1, room); sound = (c.loop-k.invariant.1.sound, among)}
+    record { n_le_max_summaries = (c.requires.n_le_max_summaries.0, c.requires.n_le_max_summaries.1, room); sound = (c.loop-k.invariant.1.sound, among) }
 
 pub loop-k-preserved-then-stands_at : goal.loop-k-preserved-then-stands_at
 loop-k-preserved-then-stands_at c =
@@ -62,4 +62,4 @@ loop-k-preserved c =
 pub returns : goal.returns
 returns c =
     let counted : c.held_count-count.result ≡ heldCount (block_at c.args.at c.args.memory.now) = c.held_count-count.ensures ∙ ap heldCount (lent-block c.args.at c.args.memory.now) in
-    record {only_at = c.loop-k.invariant.0; carries = walked_all c.loop-k.invariant.1 (rw counted at c.loop-k-test.false)}
+    record { only_at = c.loop-k.invariant.0; carries = walked_all c.loop-k.invariant.1 (rw counted at c.loop-k-test.false) }

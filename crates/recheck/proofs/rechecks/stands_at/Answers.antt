@@ -15,7 +15,7 @@ use Rattle.recheck.proofs.rechecks.stands_at.Goals as goal
 pub held-f-requires : goal.held-f-requires
 held-f-requires c =
     let e = lent-block c.args.at c.args.memory.now in
-    record {sound = rw e c.requires.sound.0; k_bound = rw e c.requires.sound.1}
+    record { sound = rw e c.requires.sound.0; k_bound = rw e c.requires.sound.1 }
 
 pub returns : goal.returns
 returns c =

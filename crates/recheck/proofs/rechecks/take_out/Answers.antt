@@ -48,8 +48,7 @@ arrange-left-requires c =
     let o : Opened x = opened x c.requires.0 in
     let bytes : Bytes x = all-bytes x (search rules) in
     let y : List ℕ = c.renew_all.new.memory in
-    let y-is : y ≡ take transmissionsAt x ++ blockTable (map transmissionBytes (us x o bytes)) = c.renew_all.ensures.memory_after ∙ ap (λ (l : List (List ℕ)). take transmissionsAt x ++ blockTable l) (us-bytes x o bytes) in
-    (
+    let y-is : y ≡ take transmissionsAt x ++ blockTable (map transmissionBytes (us x o bytes)) = c.renew_all.ensures.memory_after ∙ ap (λ (l : List (List ℕ)). take transmissionsAt x ++ blockTable l) (us-bytes x o bytes) in (
       lent-filled (convictedIn x) (us x o bytes) (us-kept x o bytes) (us-few x o bytes) (take transmissionsAt x) y (front-size x o) y-is (transmissionCount x) (us-count x o bytes),
       tail-known y c.renew_all.new.known (transmissionCount x) c.renew_all.ensures.known,
     )

@@ -73,6 +73,9 @@ returns c =
     let n-is : n ≡ summaryCount m = c.u16_at-n.ensures in
     let m₁ : List ℕ = c.strike_transmissions-left.new.memory in
     let m₂ : List ℕ = take summariesAt m₁ ++ (c.strike_summaries-summaries.new.t ++ drop summariesSize (drop summariesAt m₁)) in
-    let p = c.put_header.ensures in record {memory_after = struck m o b e m₁ c.strike_transmissions-left.ensures.memory_after n n-is c.strike_summaries-summaries.result c.strike_summaries-summaries.new.t c.strike_summaries-summaries.ensures m₂ refl
-          c.with_u32.result c.strike_transmissions-left.result (c.with_u32.ensures ∙ ap (λ (x : ℕ). withBit x e) c.u32_at-convicted.ensures) c.strike_transmissions-left.ensures.value _ p; known = struck-known m o b e m₁ c.strike_transmissions-left.ensures.memory_after n n-is c.strike_summaries-summaries.result c.strike_summaries-summaries.new.t c.strike_summaries-summaries.ensures m₂ refl
-          c.with_u32.result c.strike_transmissions-left.result _ p c.strike_transmissions-left.new.known c.strike_transmissions-left.ensures.known}
+    let p = c.put_header.ensures in record {
+      memory_after = struck m o b e m₁ c.strike_transmissions-left.ensures.memory_after n n-is c.strike_summaries-summaries.result c.strike_summaries-summaries.new.t c.strike_summaries-summaries.ensures m₂ refl
+          c.with_u32.result c.strike_transmissions-left.result (c.with_u32.ensures ∙ ap (λ (x : ℕ). withBit x e) c.u32_at-convicted.ensures) c.strike_transmissions-left.ensures.value _ p;
+      known = struck-known m o b e m₁ c.strike_transmissions-left.ensures.memory_after n n-is c.strike_summaries-summaries.result c.strike_summaries-summaries.new.t c.strike_summaries-summaries.ensures m₂ refl
+          c.with_u32.result c.strike_transmissions-left.result _ p c.strike_transmissions-left.new.known c.strike_transmissions-left.ensures.known;
+    }

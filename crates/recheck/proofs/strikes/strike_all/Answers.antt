@@ -85,8 +85,7 @@ loop-i-preserved c =
     → s' ≡ take (c.loop-i.i * knownSize) c.loop-i.known ++ (c.strike_fixes.new.s ++ drop (c.loop-i.i * knownSize + knownSize - c.loop-i.i * knownSize) (drop (c.loop-i.i * knownSize) c.loop-i.known))
     → Known (transmissionTable m') s' (transmissionCount m) = λ s'. known-put c.loop-i.memory c.loop-i.known (transmissionCount m) c.loop-i.invariant.2 o.few c.loop-i.i c.loop-i-test.true m' c.strike_fixes.new.s s'
     c.loop-i.at c.loop-i.invariant.0 (only-put c.loop-i.at transmissionSize c.loop-i.memory y m' y-size room refl)
-    (knows_same (part-put c.loop-i.at transmissionSize c.loop-i.memory y m' y-size room refl) refl c.strike_fixes.ensures.knows) in
-    (
+    (knows_same (part-put c.loop-i.at transmissionSize c.loop-i.memory y m' y-size room refl) refl c.strike_fixes.ensures.knows) in (
       omega (arith, c.loop-i.invariant.0),
       rewritten-next c.loop-i.invariant.1 (front-size m o) (transmissions-wide m o) (few-places m o) wide-each among _
           (put-lent (withoutBytes c.args.engine) c.loop-i.at (placeAt c.loop-i.i) c.loop-i.memory c.strike_fixes.new.b _ c.loop-i.invariant.0 c.strike_fixes.ensures.b_after refl),
@@ -99,4 +98,4 @@ returns c =
     let o : Opened m = opened m c.requires.0 in
     let bytes : Bytes m = all-bytes m (search rules) in
     let wide-each : (b : List ℕ) → Memᴰ b (transmissionPlaces m) → length (withoutBytes c.args.engine b) ≡ transmissionSize = λ b. λ i. without-size m o b i bytes c.args.engine in
-    record {memory_after = rewritten-all c.loop-i.invariant.1 (front-size m o) (transmissions-wide m o) (few-places m o) wide-each (rw (transmissions-length m o) c.loop-i-test.false); known = c.loop-i.invariant.2}
+    record { memory_after = rewritten-all c.loop-i.invariant.1 (front-size m o) (transmissions-wide m o) (few-places m o) wide-each (rw (transmissions-length m o) c.loop-i-test.false); known = c.loop-i.invariant.2 }

@@ -62,8 +62,7 @@ arrange-requires c =
     let few : length us ≤ maxTransmissions = S.us-few m o bytes c.args.engine in
     let count : transmissionCount m ≡ length us = S.us-count m o bytes c.args.engine in
     let y : List ℕ = c.strike_all.new.memory in
-    let y-is : y ≡ take transmissionsAt m ++ blockTable (map transmissionBytes us) = c.strike_all.ensures.memory_after ∙ ap (λ (l : List (List ℕ)). take transmissionsAt m ++ blockTable l) (S.us-bytes m o bytes c.args.engine) in
-    (
+    let y-is : y ≡ take transmissionsAt m ++ blockTable (map transmissionBytes us) = c.strike_all.ensures.memory_after ∙ ap (λ (l : List (List ℕ)). take transmissionsAt m ++ blockTable l) (S.us-bytes m o bytes c.args.engine) in (
       lent-filled c' us kept few (take transmissionsAt m) y (front-size m o) y-is (transmissionCount m) count,
       tail-known y c.strike_all.new.known (transmissionCount m) c.strike_all.ensures.known,
     )
@@ -81,4 +80,4 @@ returns c =
     let y : List ℕ = c.strike_all.new.memory in
     let y-is : y ≡ take transmissionsAt m ++ blockTable (map transmissionBytes us) = c.strike_all.ensures.memory_after ∙ ap (λ (l : List (List ℕ)). take transmissionsAt m ++ blockTable l) (S.us-bytes m o bytes c.args.engine) in
     let y-size : length y ≡ trackSize = arranging-size c' us kept few (take transmissionsAt m) y (front-size m o) y-is in
-    record {value = left_is c' us kept few (take transmissionsAt m) y (front-size m o) y-is (transmissionCount m) count c.arrange.result c.arrange.new.t (c.arrange.ensures.value, c.arrange.ensures.t_after); memory_after = arranged_is c' us kept few (take transmissionsAt m) y (front-size m o) y-is (transmissionCount m) count c.arrange.result c.arrange.new.t (c.arrange.ensures.value, c.arrange.ensures.t_after) _ refl; known = back-known y c.arrange.new.t c.arrange.new.known _ c.arrange.result (omega (arith, y-size)) refl c.arrange.ensures.known}
+    record { value = left_is c' us kept few (take transmissionsAt m) y (front-size m o) y-is (transmissionCount m) count c.arrange.result c.arrange.new.t (c.arrange.ensures.value, c.arrange.ensures.t_after); memory_after = arranged_is c' us kept few (take transmissionsAt m) y (front-size m o) y-is (transmissionCount m) count c.arrange.result c.arrange.new.t (c.arrange.ensures.value, c.arrange.ensures.t_after) _ refl; known = back-known y c.arrange.new.t c.arrange.new.known _ c.arrange.result (omega (arith, y-size)) refl c.arrange.ensures.known }

@@ -34,7 +34,7 @@ put_by_key-tried-requires c =
     let n-is : n ≡ summaryCount m = c.u16_at-n.ensures in
     let ascends : ascending pairSize (places summarySize n (summaryTable m)) ≡ true = ap (λ (x : ℕ). ascending pairSize (places summarySize x (summaryTable m))) n-is ∙ summaries-ascend m o in
     let z = summary-bytes-length m o in
-    record {w_in_bounds = rw z (omega (arith, o.few-summaries, n-is)); k_le_w = omega arith; t_value = ascends; x_len = c.requires.1; t_len = z}
+    record { w_in_bounds = rw z (omega (arith, o.few-summaries, n-is)); k_le_w = omega arith; t_value = ascends; x_len = c.requires.1; t_len = z }
 
 pub put_summary-requires : goal.put_summary-requires
 put_summary-requires c =
@@ -45,8 +45,7 @@ put_summary-requires c =
     let b : Bytes m = all-bytes m (search rules) in
     let n-is : n ≡ summaryCount m = c.u16_at-n.ensures in
     let t : List ℕ = c.put_by_key-tried.new.t in
-    let gone : PairWay p c.requires.1 m o b c.put_by_key-tried.result t = pair-way p c.requires.1 m o b n c.put_by_key-tried.result t n-is c.put_by_key-tried.ensures in
-    (
+    let gone : PairWay p c.requires.1 m o b c.put_by_key-tried.result t = pair-way p c.requires.1 m o b n c.put_by_key-tried.result t n-is c.put_by_key-tried.ensures in (
       c.requires.1,
       rw (ap (λ (l : List ℕ). length (take summariesSize (drop summariesAt l))) (pair-unwritten p c.requires.1 m o b t gone _ c.in-Held.is) ∙ summary-bytes-length m o)
           (held-inside p c.requires.1 m o b t gone _ c.in-Held.is),

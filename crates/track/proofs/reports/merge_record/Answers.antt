@@ -28,7 +28,7 @@ new_fix-f-requires c =
     let m : List ℕ = c.args.memory.now in
     let o : Opened m = opened m c.requires.memory_value.0 in
     let o = opened c.args.memory.now c.requires.memory_value.0 in
-    record {summary_size_in_bounds = rw (summary-bytes-length c.args.memory.now o) (omega (arith, o.few-summaries, c.u16_at-n.ensures)); r_value = (c.requires.memory_value.1, c.requires.memory_value.2)}
+    record { summary_size_in_bounds = rw (summary-bytes-length c.args.memory.now o) (omega (arith, o.few-summaries, c.u16_at-n.ensures)); r_value = (c.requires.memory_value.1, c.requires.memory_value.2) }
 
 pub slice_bounds-merge-count : goal.slice_bounds-merge-count
 slice_bounds-merge-count c =
@@ -52,7 +52,7 @@ merge-x-requires c =
     let an-engine : e ≤ maxEngine = omega (arith, c.requires.memory_value.2) in
     let f : List ℕ = c.new_fix-f.result in
     let f-is : f ≡ fixBytes (reportedFix e r (summariesIn m)) = c.new_fix-f.ensures ∙ ap (λ (k : ℕ). fixBytes (reportedFix e r (places summarySize k (summaryTable m)))) c.u16_at-n.ensures in
-    record {ready = report-ready m o b e r an-engine c.requires.memory_value.1 f f-is; f_len = (new-size m o b e r an-engine c.requires.memory_value.1 f f-is, new-formed m o b e r an-engine c.requires.memory_value.1 f f-is)}
+    record { ready = report-ready m o b e r an-engine c.requires.memory_value.1 f f-is; f_len = (new-size m o b e r an-engine c.requires.memory_value.1 f f-is, new-formed m o b e r an-engine c.requires.memory_value.1 f f-is) }
 
 pub overflow_cast-left : goal.overflow_cast-left
 overflow_cast-left c =

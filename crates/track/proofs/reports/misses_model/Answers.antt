@@ -15,4 +15,4 @@ slice_bounds-cites_missing-end c = omega (arith, (opened c.args.memory.now c.req
 pub cites_missing-requires : goal.cites_missing-requires
 cites_missing-requires c =
     let o = opened c.args.memory.now c.requires.0 in
-    record {summary_size_in_bounds = rw (summary-bytes-length c.args.memory.now o) (omega (arith, o.few-summaries, c.u16_at-n.ensures)); r_value = c.requires.1}
+    record { summary_size_in_bounds = rw (summary-bytes-length c.args.memory.now o) (omega (arith, o.few-summaries, c.u16_at-n.ensures)); r_value = c.requires.1 }

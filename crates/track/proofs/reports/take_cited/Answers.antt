@@ -17,7 +17,7 @@ slice_bounds-counts-end c = omega (arith, (opened c.args.memory.now c.requires.0
 pub counts-requires : goal.counts-requires
 counts-requires c =
     let o = opened c.args.memory.now c.requires.0 in
-    record {summary_size_in_bounds = rw (summary-bytes-length c.args.memory.now o) (omega (arith, o.few-summaries, c.u16_at-n.ensures)); r_value = c.requires.1}
+    record { summary_size_in_bounds = rw (summary-bytes-length c.args.memory.now o) (omega (arith, o.few-summaries, c.u16_at-n.ensures)); r_value = c.requires.1 }
 
 pub returns-then-not-counts : goal.returns-then-not-counts
 returns-then-not-counts c =

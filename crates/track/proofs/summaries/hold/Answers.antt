@@ -60,7 +60,7 @@ returns-then-not-becomes_disputed c =
     let x = c.put_pair-a.new.memory in
     let a = c.put_pair-a.result in
     let told = becomes m p x a c.args.model (all-bytes m (search rules)) c.requires.0 c.requires.1 c.requires.2 c.put_pair-a.ensures c.if-a-ne0.false
-        _ _ _ c.disputed_in-was.ensures c.disputed_in.ensures c.becomes_disputed.ensures in
+    _ _ _ c.disputed_in-was.ensures c.disputed_in.ensures c.becomes_disputed.ensures in
     pair-plain m c.args.model p a x c.put_pair-a.ensures c.if-a-ne0.false (sym told ∙ c.if-not-becomes_disputed.true)
 
 pub recheck-requires : goal.recheck-requires
@@ -77,6 +77,6 @@ returns c =
     let h = c.if-a-ne0.false in
     let bytes : Bytes m = all-bytes m (search rules) in
     let told = becomes m p x a c.args.model bytes c.requires.0 c.requires.1 c.requires.2 c.put_pair-a.ensures h
-        _ _ _ c.disputed_in-was.ensures c.disputed_in.ensures c.becomes_disputed.ensures in
+    _ _ _ c.disputed_in-was.ensures c.disputed_in.ensures c.becomes_disputed.ensures in
     pair-rechecked m c.args.model p a x c.put_pair-a.ensures h (sym told ∙ c.if-not-becomes_disputed.false) _
     (rechecked m p x a c.args.model bytes c.requires.0 c.requires.1 c.requires.2 c.put_pair-a.ensures h _ c.recheck.ensures)
