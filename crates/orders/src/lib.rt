@@ -1,3 +1,2 @@
 // Whether the order of calls matters: to a track it does, to a board it does not. There is no code here.
 #![tactic(auto)]
-

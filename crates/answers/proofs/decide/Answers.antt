@@ -9,7 +9,6 @@ use Rattle.decision.proofs.Passed.{few-items, long-items}
 use Rattle.decision.proofs.Alone.{alone}
 use Rattle.answers.specs.Answer.{answerBytes, handOut}
 use Rattle.answers.proofs.Parts.{answer-alone}
-use borrow.Author.Rules.{rules}
 use Rattle.answers.proofs.decide.Goals as goal
 
 -- what is handed out of bad items, and of others

@@ -1,6 +1,5 @@
 use mathlib.Core.Path.{refl}
 use Rattle.answers.proofs.Parts.{number_put, none-put}
-use borrow.Author.Rules.{rules}
 use Rattle.answers.proofs.put_chi_square.Goals as goal
 
 pub returns-in-Measured : goal.returns-in-Measured

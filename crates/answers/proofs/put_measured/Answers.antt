@@ -1,8 +1,4 @@
-use mathlib.Core.Path.{◌∙◌}
-use native.Mathlib.Omega.{arith}
-use lib.ListN.{length-set}
 use Rattle.answers.proofs.Parts.{measured-put}
-use borrow.Author.Rules.{rules}
 use Rattle.answers.proofs.put_measured.Goals as goal
 
 pub returns : goal.returns

@@ -1,10 +1,7 @@
-use Prim.Native.Nat.{ℕ}
-use mathlib.Core.Path.{◌≡◌, ap, ◌∙◌}
+use mathlib.Core.Path.{◌≡◌}
 use native.Mathlib.Omega.{arith}
-use lib.ListN.{length, length-replicate}
-use Rattle.answers.specs.Offsets.{answerSize, refusalsAt}
+use Rattle.answers.specs.Offsets.{refusalsAt}
 use Rattle.answers.proofs.Parts.{answer-put}
-use borrow.Author.Rules.{rules}
 use Rattle.answers.proofs.put_parts.Goals as goal
 
 pub returns : goal.returns

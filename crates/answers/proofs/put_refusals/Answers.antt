@@ -1,10 +1,8 @@
-use Prim.Native.Nat.{ℕ, ◌+◌, ◌-◌, ◌*◌, ◌≤◌}
+use Prim.Native.Nat.{ℕ, ◌+◌, ◌-◌, ◌*◌}
 use mathlib.Core.Path.{◌≡◌, refl, sym, ap, ◌∙◌}
 use mathlib.Core.List.{◌∷◌}
 use native.Mathlib.Omega.{arith}
-use lib.ListN.{length, length-set, length-append}
-use borrow.Author.Rules.{rules}
-use Rattle.text.specs.Buffer.{Put}
+use lib.ListN.{length, length-append}
 use Rattle.text.proofs.Writing.{put-put, put-none, put_as, put-length}
 use Rattle.items.specs.Pairs.{Prepared}
 use Rattle.rule.specs.Related.{itemRelations}

@@ -1,18 +1,10 @@
-use Prim.Native.Nat.{ℕ, ◌+◌, ◌-◌, ◌*◌, ◌≤◌}
-use mathlib.Core.Path.{◌≡◌, refl, sym, ap, ◌∙◌}
-use mathlib.Core.List.{◌∷◌}
-use native.Mathlib.Omega.{arith}
-use lib.ListN.{length, length-set, length-append}
+use Prim.Native.Nat.{◌-◌, ◌≤◌}
+use mathlib.Core.Path.{◌≡◌}
+use lib.ListN.{length}
 use Rattle.text.specs.Buffer.{Put}
-use Rattle.text.proofs.Writing.{put-put, put-none, put_as, put-length}
-use Rattle.items.specs.Pairs.{Prepared}
 use Rattle.rule.specs.Related.{itemRelations}
-use Rattle.decision.specs.Working.{Settled}
-use Rattle.decision.proofs.Findings.{refusedTo, none-refused, found_none, found-one, all-refused}
-use Rattle.answers.specs.Layout.{refusalSize}
-use Rattle.answers.specs.Offsets.{listBytes}
+use Rattle.decision.proofs.Findings.{refusedTo}
 use Rattle.answers.specs.Answer.{eachBytes}
-use Rattle.answers.proofs.Parts.{length-each, each_more, put-before}
 use Rattle.answers.proofs.put_refusals.Given as goal
 
 abbrev pub invariant-loop-i : goal.invariant-loop-i

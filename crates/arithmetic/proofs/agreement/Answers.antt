@@ -1,5 +1,4 @@
 use Rattle.arithmetic.proofs.Staged.{judged-is}
-use borrow.Author.Rules.{rules}
 use Rattle.arithmetic.proofs.agreement.Goals as goal
 
 pub returns : goal.returns

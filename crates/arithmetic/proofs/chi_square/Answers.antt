@@ -1,6 +1,5 @@
 use mathlib.Core.Path.{sym, ap}
 use Rattle.arithmetic.specs.Agree.{chiSquareIn}
-use borrow.Author.Rules.{rules}
 use Rattle.arithmetic.proofs.chi_square.Goals as goal
 
 pub returns-in-Inside : goal.returns-in-Inside

@@ -1,5 +1,4 @@
 use lib.Ieee.{of_int, of_bits, round}
-use borrow.Author.Rules.{rules}
 use Rattle.geometry.specs.Numbers.{fromDecimal}
 use Rattle.arithmetic.specs.Agree.{sigmaOf}
 use Rattle.arithmetic.proofs.horizontal_sigma_m.Goals as goal

@@ -1,7 +1,6 @@
 use Rattle.arithmetic.proofs.Staged.{width, entered-is}
 use Rattle.arithmetic.specs.Stages.{preparedOf, numbersOf, parts_of}
 use Prim.Native.Nat.{◌*◌}
-use borrow.Author.Rules.{rules}
 use Rattle.arithmetic.proofs.prepare.Goals as goal
 
 pub returns : goal.returns

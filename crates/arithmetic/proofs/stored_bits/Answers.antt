@@ -1,6 +1,5 @@
 use mathlib.Core.Path.{sym, ap, ◌∙◌}
 use Rattle.arithmetic.specs.Bits.{storedBits}
-use borrow.Author.Rules.{rules}
 use Rattle.arithmetic.proofs.stored_bits.Goals as goal
 
 pub returns-in-Measured : goal.returns-in-Measured

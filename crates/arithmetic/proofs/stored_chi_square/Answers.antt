@@ -1,7 +1,6 @@
 use mathlib.Core.Path.{◌≡◌}
 use borrow.Author.Tests.{ne_eqb}
 use Rattle.arithmetic.specs.Bits.{infinity, storedChiSquare}
-use borrow.Author.Rules.{rules}
 use Rattle.arithmetic.proofs.stored_chi_square.Goals as goal
 
 pub returns-then-bits-eq-INFINITY : goal.returns-then-bits-eq-INFINITY

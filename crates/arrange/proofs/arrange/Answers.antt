@@ -1,9 +1,9 @@
-use Prim.Native.Nat.{◌+◌, ◌-◌, ◌≤◌}
+use Prim.Native.Nat.{◌+◌, ◌-◌}
 use mathlib.Core.Path.{◌≡◌, sym, ap, ◌∙◌}
 use native.Mathlib.Omega.{arith}
 use lib.ListN.{length}
-use Rattle.arrange.specs.Blocks.{blockTable, Known}
-use Rattle.arrange.proofs.Settling.{count-is, half, half-none, half-ready, half_step}
+use Rattle.arrange.specs.Blocks.{blockTable}
+use Rattle.arrange.proofs.Settling.{count-is, half-none, half-ready, half_step}
 use Rattle.arrange.proofs.arrange.Goals as goal
 
 pub loop-i-init : goal.loop-i-init

@@ -1,12 +1,8 @@
-use Prim.Native.Nat.{◌+◌, ◌-◌, ◌≤◌}
-use mathlib.Core.Path.{◌≡◌, sym, ap, ◌∙◌}
-use native.Mathlib.Omega.{arith}
+use Prim.Native.Nat.{◌-◌, ◌≤◌}
+use mathlib.Core.Path.{◌≡◌}
 use lib.ListN.{length}
 use Rattle.arrange.specs.Blocks.{blockTable, Known}
-use Rattle.arrange.proofs.Settling.{count-is, half, half-none, half-ready, half_step}
-use Rattle.arrange.proofs.arrange.Reads as reads
-use Rattle.arrange.proofs.arrange.Lts as lts
-use Rattle.arrange.proofs.settle.Reads as settle-reads
+use Rattle.arrange.proofs.Settling.{half}
 use Rattle.arrange.proofs.arrange.Given as goal
 
 abbrev pub invariant-loop-i : goal.invariant-loop-i

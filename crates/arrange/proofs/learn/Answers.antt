@@ -1,5 +1,4 @@
 use Prim.Native.Nat.{◌*◌}
-use native.Mathlib.Omega.{arith}
 use Rattle.items.proofs.Pairing.{width}
 use Rattle.tracked.specs.Known.{knownSize}
 use Rattle.arrange.proofs.Sheets.{learned, part-put}

@@ -1,12 +1,11 @@
 use Prim.Native.Nat.{ℕ}
 use mathlib.Core.Path.{◌≡◌, sym, ap₂, ◌∙◌}
 use mathlib.Core.List.{List}
-use native.Mathlib.Omega.{arith}
 use lib.Dec.{ltb}
 use Rattle.octets.specs.Order.{isBefore}
 use Rattle.arrange.specs.Blocks.{transmissionAt, sheetAt, firstTime}
 use Rattle.arrange.proofs.Kept.{older-early, older-late, older-tied}
-use Rattle.arrange.proofs.Sheets.{still-same, still-then, ready_on}
+use Rattle.arrange.proofs.Sheets.{still-same, still-then}
 use Rattle.arrange.proofs.older_at.Goals as goal
 
 pub returns-then-earlier : goal.returns-then-earlier

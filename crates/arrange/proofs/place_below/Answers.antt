@@ -1,12 +1,10 @@
-use Prim.Native.Nat.{ℕ, ◌+◌, ◌-◌, ◌≤◌}
-use mathlib.Core.Path.{◌≡◌, refl, sym, ap₂, ◌∙◌}
-use mathlib.Core.Bool.{Bool}
-use mathlib.Core.List.{List, []}
+use Prim.Native.Nat.{◌-◌}
+use mathlib.Core.Path.{◌≡◌, sym, ap₂, ◌∙◌}
+use mathlib.Core.List.{[]}
 use native.Mathlib.Omega.{arith}
 use native.Mathlib.Numerals.{add-one}
-use lib.ListN.{get_or, drop}
-use borrow.Author.Tests.{not-true, not-false}
-use Rattle.arrange.specs.Blocks.{blocks, Known, olderBlock, leading}
+use lib.ListN.{get_or}
+use Rattle.arrange.specs.Blocks.{blocks, Known, olderBlock}
 use Rattle.arrange.proofs.Settling.{leading-yes, leading-no, leading_end, count-is, block_at, fixes-at}
 use Rattle.arrange.proofs.Sheets.{known_on, ready_at}
 use Rattle.arrange.proofs.place_below.Invariants.{older-than}

@@ -1,17 +1,9 @@
 use Prim.Native.Nat.{ℕ, ◌+◌, ◌-◌, ◌≤◌}
-use mathlib.Core.Path.{◌≡◌, refl, sym, ap₂, ◌∙◌}
+use mathlib.Core.Path.{◌≡◌}
 use mathlib.Core.Bool.{Bool}
 use mathlib.Core.List.{List, []}
-use native.Mathlib.Omega.{arith}
-use native.Mathlib.Numerals.{add-one}
 use lib.ListN.{get_or, drop}
-use borrow.Author.Tests.{not-true, not-false}
 use Rattle.arrange.specs.Blocks.{blocks, Known, olderBlock, leading}
-use Rattle.arrange.proofs.Settling.{leading-yes, leading-no, leading_end, count-is, block_at, fixes-at}
-use Rattle.arrange.proofs.Sheets.{known_on, ready_at}
-use Rattle.arrange.proofs.place_below.Reads as reads
-use Rattle.arrange.proofs.place_below.Lts as lts
-use Rattle.arrange.proofs.older_at.Reads as older-at-reads
 use Rattle.arrange.proofs.place_below.Given as goal
 
 -- a transmission is older than transmission i

@@ -22,13 +22,6 @@ use Rattle.board.specs.Board.{boardIn}
 use Rattle.board.proofs.Lent.{Lends, lends, fixesIn, fixes-gathered}
 use Rattle.board.proofs.Labelled.{labels-same}
 use Rattle.board.proofs.Pictured.{register-board}
-use borrow.Author.Rules.{rules}
-use Rattle.board.proofs.draw.Reads as reads
-use Rattle.board.proofs.draw.Lts as lts
-use Rattle.drawing.proofs.draw.Reads as draw-reads
-use Rattle.links.proofs.labels.Reads as labels-reads
-use Rattle.octets.proofs.words.u16_at.Reads as u16-at-reads
-use Rattle.fixes.proofs.representatives.represent.Reads as represent-reads
 use Rattle.board.proofs.draw.Goals as goal
 
 -- what is drawn of the fixes with the labels that the walk gave is the board

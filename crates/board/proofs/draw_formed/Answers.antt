@@ -11,7 +11,6 @@ use Rattle.register.specs.Memory.{wellFormed}
 use Rattle.board.specs.Board.{drawBoard}
 use Rattle.held.proofs.Writing.{put_written}
 use Rattle.board.proofs.Fitting.{fits-board, too_small}
-use borrow.Author.Rules.{rules}
 use Rattle.board.proofs.draw_formed.Goals as goal
 
 pub returns-then-out-lt-BOARD_SIZE : goal.returns-then-out-lt-BOARD_SIZE

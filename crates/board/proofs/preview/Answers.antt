@@ -3,7 +3,7 @@ use mathlib.Core.Path.{◌≡◌, refl, sym, ap, ◌∙◌}
 use mathlib.Core.Bool.{true}
 use mathlib.Core.List.{List, ◌++◌, append-nil}
 use native.Mathlib.Omega.{arith}
-use lib.ListN.{length, take, drop, length-replicate, drop_of_length-le}
+use lib.ListN.{length, drop, length-replicate, drop_of_length-le}
 use borrow.Author.Tests.{eqb-false}
 use Rattle.octets.specs.Bytes.{Bytes}
 use Rattle.octets.proofs.Numbers.{all-bytes}
@@ -14,7 +14,6 @@ use Rattle.register.proofs.Opened.{other-size}
 use Rattle.board.specs.Board.{drawBoard}
 use Rattle.board.specs.Preview.{convict, drawPreview}
 use Rattle.board.proofs.Previewed.{preview-refused, preview-drawn, no_copy, copy-formed}
-use borrow.Author.Rules.{rules}
 use Rattle.board.proofs.preview.Goals as goal
 
 -- a register's bytes put over as many zeros

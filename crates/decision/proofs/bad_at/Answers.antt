@@ -1,6 +1,4 @@
 use mathlib.Core.Path.{refl, sym, ◌∙◌}
-use borrow.Author.Rules.{rules}
-use Rattle.ranges.proofs.Bools.{not_t, not-false-t}
 use Rattle.decision.specs.Answer.{badAt}
 use Rattle.decision.proofs.bad_at.Goals as goal
 

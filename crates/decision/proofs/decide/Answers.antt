@@ -8,7 +8,6 @@ use Rattle.decision.specs.Working.{plainly}
 use Rattle.decision.proofs.Passed.{few-items, long-items}
 use Rattle.decision.proofs.Decided.{decided-is}
 use Rattle.decision.proofs.Alone.{alone}
-use borrow.Author.Rules.{rules}
 use Rattle.decision.proofs.decide.Goals as goal
 
 pub returns-then-is_bad : goal.returns-then-is_bad

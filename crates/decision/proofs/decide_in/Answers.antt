@@ -1,6 +1,5 @@
 use mathlib.Core.Path.{refl}
 use Rattle.decision.specs.Answer.{decision}
-use borrow.Author.Rules.{rules}
 use Rattle.decision.proofs.decide_in.Goals as goal
 
 pub returns : goal.returns

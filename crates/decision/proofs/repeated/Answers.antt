@@ -1,10 +1,6 @@
-use Prim.Native.Nat.{◌-◌, ◌≤◌}
-use mathlib.Core.Path.{◌≡◌}
+use Prim.Native.Nat.{◌-◌}
 use native.Mathlib.Omega.{arith}
-use borrow.Author.Rules.{rules}
-use Rattle.ranges.specs.Lists.{any_of, countFrom, up_to}
 use Rattle.ranges.proofs.Searches.{searches}
-use Rattle.items.specs.Items.{sameIdentity}
 use Rattle.decision.proofs.repeated.Goals as goal
 
 pub returns-then-same_identity : goal.returns-then-same_identity

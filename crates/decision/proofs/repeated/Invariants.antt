@@ -1,8 +1,6 @@
 use Prim.Native.Nat.{◌-◌, ◌≤◌}
 use mathlib.Core.Path.{◌≡◌}
-use native.Mathlib.Omega.{arith}
 use Rattle.ranges.specs.Lists.{any_of, countFrom, up_to}
-use Rattle.ranges.proofs.Searches.{searches}
 use Rattle.items.specs.Items.{sameIdentity}
 use Rattle.decision.proofs.repeated.Given as goal
 

@@ -1,4 +1,4 @@
-use mathlib.Core.Path.{◌≡◌, refl, sym, ap, ap₂, ◌∙◌}
+use mathlib.Core.Path.{◌≡◌, sym, ap, ap₂, ◌∙◌}
 use mathlib.Core.Bool.{Bool, false}
 use mathlib.Core.List.{List, []}
 use Prim.Native.Nat.{ℕ, ◌-◌, ◌≤◌}
@@ -7,19 +7,11 @@ use native.Mathlib.Nat.{le_trans}
 use lib.ListN.{length, take, drop}
 use Rattle.octets.proofs.Moves.{tail-lent}
 use Rattle.fixes.specs.Layout.{maxFixes}
-use Rattle.text.proofs.Writing.{put_as}
 use Rattle.transmissions.specs.Members.{belongs, leading, leadersOf, headsOf}
 use Rattle.transmissions.specs.Latest.{latest}
 use Rattle.transmissions.specs.Picture.{maxShown}
-use Rattle.drawing.specs.Drawing.{shownOf, drawFrom}
+use Rattle.drawing.specs.Drawing.{shownOf}
 use Rattle.drawing.proofs.Shown.{tabled-length, leaders-fixes, rooms-fit}
-use borrow.Author.Rules.{rules}
-use Rattle.drawing.proofs.draw.Reads as reads
-use Rattle.drawing.proofs.draw.Lts as lts
-use Rattle.drawing.proofs.put_shown.Reads as put-shown-reads
-use Rattle.transmissions.proofs.latest.heads.Reads as heads-reads
-use Rattle.transmissions.proofs.latest.latest.Reads as latest-reads
-use Rattle.transmissions.proofs.leaders.Reads as leaders-reads
 use Rattle.drawing.proofs.draw.Goals as goal
 
 -- the part from a on of a list of those shown
@@ -37,7 +29,7 @@ latest-shown-requires c =
     let leaders-long : length c.leaders-leads.result ≡ maxFixes = rw leaders-are (tabled-length 0 (leading t l n) n few) in
     let heads-long : length c.heads.result ≡ maxFixes = rw heads-are (tabled-length false (λ s. belongs l s s) n few) in
     let f = few in
-    record {t_len = c.requires.t_len; n_in_bounds = (omega (arith, leaders-long), rw leaders-are (leaders-fixes t l n f)); n_le_max_fixes = (f, heads-long)}
+    record { t_len = c.requires.t_len; n_in_bounds = (omega (arith, leaders-long), rw leaders-are (leaders-fixes t l n f)); n_le_max_fixes = (f, heads-long) }
 
 pub put_shown-requires : goal.put_shown-requires
 put_shown-requires c =
@@ -50,4 +42,4 @@ put_shown-requires c =
     let list : List ℕ = c.latest-shown.result.list in
     let from : ℕ = c.latest-shown.result.start in
     let shown-are : take (maxShown - from) (drop from list) ≡ shownOf t l n = lent list from c.latest-shown.ensures.1 ∙ (c.latest-shown.ensures.2 ∙ ap₂ (λ (d : List ℕ) (b : List Bool). latest t d n maxShown b []) leaders-are heads-are) in
-    record {len = c.leaders-leads.auto.items; t_len = c.requires.t_len; n_le_max_fixes = (few, omega arith); shown_in_bounds = rw shown-are (le_trans (rooms-fit t l n few) c.requires.board_size_in_bounds)}
+    record { len = c.leaders-leads.auto.items; t_len = c.requires.t_len; n_le_max_fixes = (few, omega arith); shown_in_bounds = rw shown-are (le_trans (rooms-fit t l n few) c.requires.board_size_in_bounds) }

@@ -1,16 +1,8 @@
-use Prim.Native.Nat.{◌+◌, ◌-◌, ◌*◌, ◌≤◌, ◌<◌}
-use mathlib.Core.Path.{◌≡◌, refl, sym, ◌∙◌}
+use Prim.Native.Nat.{◌-◌}
 use native.Mathlib.Omega.{arith}
-use lib.ListN.{take, get_or}
-use Rattle.text.specs.Buffer.{Put}
-use Rattle.text.proofs.Writing.{put-put, put_as, put-none, put-length}
-use Rattle.drawing.specs.Widths.{refusedWidth}
+use Rattle.text.proofs.Writing.{put-put, put_as, put-none}
 use Rattle.drawing.specs.Drawing.{refusedLines}
 use Rattle.drawing.proofs.Texts.{refused-more}
-use borrow.Author.Rules.{rules}
-use Rattle.drawing.proofs.put_refusals.Reads as reads
-use Rattle.drawing.proofs.put_refusals.Lts as lts
-use Rattle.drawing.proofs.put_refusal.Reads as put-refusal-reads
 use Rattle.drawing.proofs.put_refusals.Goals as goal
 
 pub loop-i-init : goal.loop-i-init

@@ -1,17 +1,11 @@
-use Prim.Native.Nat.{ℕ, ◌+◌, ◌-◌, ◌≤◌}
-use mathlib.Core.Path.{◌≡◌, refl, ap, ◌∙◌}
+use Prim.Native.Nat.{ℕ, ◌+◌, ◌-◌}
+use mathlib.Core.Path.{◌≡◌, refl, ◌∙◌}
 use mathlib.Core.List.{List}
 use native.Mathlib.Omega.{arith}
-use lib.ListN.{length, get_or, take, drop}
-use lib.Seq.{take_all}
-use Rattle.text.specs.Buffer.{Put}
+use lib.ListN.{get_or, drop}
 use Rattle.text.proofs.Writing.{put-put, put_as, put-none, put-length}
 use Rattle.drawing.specs.Drawing.{drawFrom, roomOf, rooms}
 use Rattle.drawing.proofs.Texts.{drawn-more, rooms-at}
-use borrow.Author.Rules.{rules}
-use Rattle.drawing.proofs.put_shown.Reads as reads
-use Rattle.drawing.proofs.put_shown.Lts as lts
-use Rattle.drawing.proofs.put_transmission.Reads as put-transmission-reads
 use Rattle.drawing.proofs.put_shown.Goals as goal
 
 pub loop-i-init : goal.loop-i-init
@@ -27,7 +21,7 @@ put_transmission-at-requires c =
     let room : rooms labels n (drop i shown) ≡ roomOf labels n (get_or shown i 0) + rooms labels n (drop (i + 1) shown) = rooms-at labels n shown i c.loop-i-test.true in
     let inv = c.loop-i.invariant in
     let w = put-length inv.3 in
-    record {len = inv.1 ∙ c.requires.len; t_len = c.requires.t_len; n_le_max_fixes = c.requires.n_le_max_fixes.0; s_in_bounds = omega (arith, room, w, inv.2)}
+    record { len = inv.1 ∙ c.requires.len; t_len = c.requires.t_len; n_le_max_fixes = c.requires.n_le_max_fixes.0; s_in_bounds = omega (arith, room, w, inv.2) }
 
 pub loop-i-preserved : goal.loop-i-preserved
 loop-i-preserved c =

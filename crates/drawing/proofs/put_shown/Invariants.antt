@@ -1,16 +1,8 @@
-use Prim.Native.Nat.{ℕ, ◌+◌, ◌-◌, ◌≤◌}
-use mathlib.Core.Path.{◌≡◌, refl, ap, ◌∙◌}
-use mathlib.Core.List.{List}
-use native.Mathlib.Omega.{arith}
-use lib.ListN.{length, get_or, take, drop}
-use lib.Seq.{take_all}
+use Prim.Native.Nat.{◌+◌, ◌-◌, ◌≤◌}
+use mathlib.Core.Path.{◌≡◌}
+use lib.ListN.{length, take, drop}
 use Rattle.text.specs.Buffer.{Put}
-use Rattle.text.proofs.Writing.{put-put, put_as, put-none, put-length}
-use Rattle.drawing.specs.Drawing.{drawFrom, roomOf, rooms}
-use Rattle.drawing.proofs.Texts.{drawn-more, rooms-at}
-use Rattle.drawing.proofs.put_shown.Reads as reads
-use Rattle.drawing.proofs.put_shown.Lts as lts
-use Rattle.drawing.proofs.put_transmission.Reads as put-transmission-reads
+use Rattle.drawing.specs.Drawing.{drawFrom, rooms}
 use Rattle.drawing.proofs.put_shown.Given as goal
 
 abbrev pub invariant-loop-i : goal.invariant-loop-i

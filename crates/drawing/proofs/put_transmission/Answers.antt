@@ -11,12 +11,6 @@ use Rattle.transmissions.specs.Members.{outcomeOf, members_of, items_of}
 use Rattle.transmissions.proofs.Gathering.{Listed, members-listed}
 use Rattle.drawing.specs.Drawing.{OfFixes, Arrayed, decidedText, transmissionText, linesIn}
 use Rattle.drawing.proofs.Bounds.{arrayed, lists-members}
-use borrow.Author.Rules.{rules}
-use Rattle.drawing.proofs.put_transmission.Reads as reads
-use Rattle.drawing.proofs.put_transmission.Lts as lts
-use Rattle.drawing.proofs.put_decided.Reads as put-decided-reads
-use Rattle.transmissions.proofs.members.Reads as members-reads
-use Rattle.transmissions.proofs.outcome.Reads as outcome-reads
 use Rattle.drawing.proofs.put_transmission.Goals as goal
 
 pub outcome-d-requires : goal.outcome-d-requires
@@ -26,7 +20,7 @@ outcome-d-requires c =
     let n : ℕ = c.args.n in
     let s : ℕ = c.args.s in
     let listed : Listed l n s = members-listed l n s c.requires.n_le_max_fixes in
-    record {len = c.requires.len; t_len = c.requires.t_len; count_le_max_fixes = rw c.members-m.ensures (listed.few, listed.long, listed.fixes)}
+    record { len = c.requires.len; t_len = c.requires.t_len; count_le_max_fixes = rw c.members-m.ensures (listed.few, listed.long, listed.fixes) }
 
 pub put_decided-requires : goal.put_decided-requires
 unfolding outcomeOf indices
@@ -44,7 +38,7 @@ put_decided-requires c =
     let arrays : Arrayed c.outcome-d.result = subst Arrayed (sym c.outcome-d.ensures) (arrayed _) in
     let few-lines : linesIn c.outcome-d.result ≤ length (members_of l n s) = subst (λ (d : Decision). linesIn d ≤ length (members_of l n s)) (sym outcome-is)
     (lists-members t l n s c.requires.t_len c.requires.n_le_max_fixes) in
-    record {t_len = c.requires.t_len; of_fixes = fixes; arrayed = arrays; refused_width_in_bounds = omega (arith, few-lines, c.requires.s_in_bounds)}
+    record { t_len = c.requires.t_len; of_fixes = fixes; arrayed = arrays; refused_width_in_bounds = omega (arith, few-lines, c.requires.s_in_bounds) }
 
 pub returns : goal.returns
 unfolding transmissionText outcomeOf indices

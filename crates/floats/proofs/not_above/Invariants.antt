@@ -1,5 +1,4 @@
-use Rattle.std.proofs.Common.{◌^◌, ◌<◌, arith, rules}
-use Rattle.floats.proofs.Square.{square-fits, some}
+use Rattle.std.proofs.Common.{◌^◌, ◌<◌}
 use Rattle.floats.proofs.not_above.Given as goal
 
 abbrev pub invariant-loop-s : goal.invariant-loop-s

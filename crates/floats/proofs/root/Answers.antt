@@ -1,5 +1,4 @@
 use Rattle.floats.specs.Root.{root}
-use Rattle.std.proofs.Common.{rules}
 use Rattle.floats.proofs.root.Goals as goal
 
 pub returns : goal.returns

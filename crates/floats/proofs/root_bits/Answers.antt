@@ -1,4 +1,4 @@
-use Rattle.std.proofs.Common.{◌≡◌, refl, ◌∙◌, rules, eq-eqb, ne_eqb, le-leb}
+use Rattle.std.proofs.Common.{◌≡◌, refl, ◌∙◌, eq-eqb, ne_eqb, le-leb}
 use lib.Ieee.{nan, binary64, of_bits}
 use borrow.Author.Tests.{lt-leb}
 use Rattle.floats.specs.Root.{rootBits}

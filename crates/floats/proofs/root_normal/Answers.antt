@@ -1,4 +1,4 @@
-use Rattle.std.proofs.Common.{sym, ◌∙◌, arith, rules}
+use Rattle.std.proofs.Common.{sym, ◌∙◌, arith}
 use Rattle.floats.proofs.Leading.{normal-root}
 use Rattle.floats.proofs.root_normal.Goals as goal
 

@@ -1,4 +1,4 @@
-use Rattle.std.proofs.Common.{ℕ, ◌+◌, ◌*◌, ◌%◌, ◌^◌, ◌<◌, ◌≤◌, sym, le_trans, lt_trans, le_of_eq, lt_of_le_of_lt, mul-le-mul_left, mul-one, arith, lit<, rules}
+use Rattle.std.proofs.Common.{ℕ, ◌+◌, ◌*◌, ◌%◌, ◌^◌, ◌<◌, ◌≤◌, sym, le_trans, le_of_eq, lt_of_le_of_lt, mul-le-mul_left, mul-one, arith}
 use Rattle.floats.specs.Root.{rootOf}
 use Rattle.floats.proofs.root_of.Goals as goal
 

@@ -1,4 +1,4 @@
-use Rattle.std.proofs.Common.{sym, ap, ◌∙◌, arith}
+use Rattle.std.proofs.Common.{sym, arith}
 use lib.Count.{count_leading_zeros}
 use Rattle.floats.proofs.Leading.{Placed, placed, subnormal-root}
 use Rattle.floats.proofs.root_subnormal.Goals as goal

@@ -1,5 +1,5 @@
-use Rattle.std.proofs.Common.{arith, rules}
-use Rattle.floats.proofs.Karatsuba.{Step, step, s-from}
+use Rattle.std.proofs.Common.{arith}
+use Rattle.floats.proofs.Karatsuba.{Step, step}
 use Rattle.floats.proofs.rounded.Goals as goal
 
 pub returns-then-left-lower : goal.returns-then-left-lower

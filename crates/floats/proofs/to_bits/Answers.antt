@@ -1,4 +1,4 @@
-use Rattle.std.proofs.Common.{◌≡◌, false, not, T, sym, refl, ap, ◌∙◌, subst, rules}
+use Rattle.std.proofs.Common.{◌≡◌, false, not, T, sym, refl, ap, ◌∙◌, subst}
 use lib.Ieee.{Float, nan, inf, fin, binary64, is_nan, to_bits, ne}
 use lib.Ieee.Compare.{differs_from_itself}
 use Rattle.floats.proofs.to_bits.Goals as goal

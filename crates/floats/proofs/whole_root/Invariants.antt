@@ -1,5 +1,4 @@
-use Rattle.std.proofs.Common.{◌+◌, ◌-◌, ◌*◌, ◌^◌, ◌<◌, ◌≤◌, arith, rules}
-use Rattle.floats.proofs.Square.{square-fits, next-sq, root-small}
+use Rattle.std.proofs.Common.{◌-◌, ◌*◌, ◌^◌, ◌<◌, ◌≤◌}
 use Rattle.floats.proofs.whole_root.Given as goal
 
 abbrev pub invariant-loop-s : goal.invariant-loop-s

@@ -1,5 +1,5 @@
-use Rattle.std.proofs.Common.{◌≡◌, ◌-◌, ◌≤◌, refl, arith, rules}
-use Rattle.hashing.proofs.Blocks.{length_part, chain_more}
+use Rattle.std.proofs.Common.{◌-◌, refl, arith}
+use Rattle.hashing.proofs.Blocks.{chain_more}
 use Rattle.hashing.specs.Blake2s.{chainBlocks, firstState, iv}
 use Rattle.hashing.proofs.chain.Goals as goal
 

@@ -1,6 +1,5 @@
-use Rattle.std.proofs.Common.{◌≡◌, ◌-◌, ◌≤◌, refl, arith, rules}
-use Rattle.hashing.proofs.Blocks.{length_part, chain_more}
-use Rattle.hashing.specs.Blake2s.{chainBlocks, firstState, iv}
+use Rattle.std.proofs.Common.{◌≡◌, ◌-◌, ◌≤◌}
+use Rattle.hashing.specs.Blake2s.{chainBlocks}
 use Rattle.hashing.proofs.chain.Given as goal
 
 abbrev pub invariant-loop-i : goal.invariant-loop-i

@@ -1,9 +1,8 @@
-use Rattle.std.proofs.Common.{◌≡◌, ◌-◌, ◌*◌, ◌≤◌, ◌++◌, length, get_or, take, drop, replicate, refl, ap, ◌∙◌, arith, rules}
-use Rattle.hashing.proofs.Digest.{written, all-written}
+use Rattle.std.proofs.Common.{◌-◌, ◌*◌, length, get_or, replicate, refl, ap, ◌∙◌, arith, rules}
+use Rattle.hashing.proofs.Digest.{written}
 use Rattle.octets.specs.Writes.{putWord}
 use Rattle.octets.proofs.Numbers.{length-put}
 use Rattle.hashing.specs.Blake2s.{bytesOfWords}
-use borrow.Author.Rules.{rules}
 use Rattle.hashing.proofs.word_bytes.Goals as goal
 
 pub loop-i-init : goal.loop-i-init

@@ -1,7 +1,4 @@
-use Rattle.std.proofs.Common.{◌≡◌, ◌-◌, ◌*◌, ◌≤◌, ◌++◌, length, get_or, take, drop, replicate, refl, ap, ◌∙◌, arith, rules}
-use Rattle.hashing.proofs.Digest.{written, all-written}
-use Rattle.octets.specs.Writes.{putWord}
-use Rattle.octets.proofs.Numbers.{length-put}
+use Rattle.std.proofs.Common.{◌≡◌, ◌-◌, ◌*◌, ◌≤◌, ◌++◌, length, take, drop}
 use Rattle.hashing.specs.Blake2s.{bytesOfWords}
 use Rattle.hashing.proofs.word_bytes.Given as goal
 

@@ -1,6 +1,5 @@
 use mathlib.Core.Path.{◌≡◌, refl, ap, ◌∙◌}
 use mathlib.Core.Bool.{Bool, true, false, not, cond, beq, true≢false, false≢true}
-use borrow.Author.Rules.{rules}
 use Rattle.items.specs.declared.Candidate.{Candidate}
 use Rattle.items.specs.Items.{aheadAt}
 use Rattle.items.proofs.ahead.Goals as goal

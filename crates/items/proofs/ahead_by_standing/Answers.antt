@@ -1,7 +1,6 @@
 use mathlib.Core.Path.{refl, ap}
 use Rattle.items.specs.declared.Candidate.{Candidate}
 use Rattle.items.specs.Items.{aheadByStanding}
-use borrow.Author.Rules.{rules}
 use Rattle.items.proofs.ahead_by_standing.Goals as goal
 
 pub returns-then-outstands : goal.returns-then-outstands

@@ -2,7 +2,6 @@ use mathlib.Core.Path.{refl, ap}
 use borrow.Author.Tests.{lt-ltb, le-ltb}
 use Rattle.items.specs.declared.Candidate.{Candidate}
 use Rattle.items.specs.Items.{aheadByWeight}
-use borrow.Author.Rules.{rules}
 use Rattle.items.proofs.ahead_by_weight.Goals as goal
 
 pub returns-then-b-a : goal.returns-then-b-a

@@ -1,5 +1,4 @@
 use Rattle.items.specs.Items.{subsetAt}
-use borrow.Author.Rules.{rules}
 use Rattle.items.proofs.subset.Goals as goal
 
 pub returns : goal.returns

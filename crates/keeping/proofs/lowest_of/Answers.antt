@@ -1,11 +1,11 @@
 use Prim.Native.Nat.{◌-◌, ◌≤◌}
-use mathlib.Core.Path.{◌≡◌, refl, sym, ap, ◌∙◌}
+use mathlib.Core.Path.{refl, sym, ap, ◌∙◌}
 use native.Mathlib.Omega.{arith}
 use lib.ListN.{length, take, get_or}
 use Rattle.ranges.specs.Lists.{insert}
 use Rattle.tracked.specs.Layout.{maxRefused}
-use Rattle.keeping.specs.Working.{lowerRefusal, unread, Sized, lowestIn}
-use Rattle.keeping.proofs.Lowering.{lowestFrom, lowest-none, lowest-turn, lowest-lies}
+use Rattle.keeping.specs.Working.{lowerRefusal, unread}
+use Rattle.keeping.proofs.Lowering.{lowest-none, lowest-turn, lowest-lies}
 use Rattle.keeping.proofs.lowest_of.Goals as goal
 
 pub loop-j-init : goal.loop-j-init

@@ -1,11 +1,8 @@
-use Prim.Native.Nat.{◌-◌, ◌≤◌}
-use mathlib.Core.Path.{◌≡◌, sym, ◌∙◌}
+use Prim.Native.Nat.{◌-◌}
+use mathlib.Core.Path.{sym, ◌∙◌}
 use mathlib.Core.Bool.{not}
 use native.Mathlib.Omega.{arith}
-use lib.ListN.{get_or}
-use Rattle.ranges.specs.Range.{first}
-use Rattle.ranges.proofs.Range.{first-start, first-hit, first-miss, first-end}
-use Rattle.keeping.specs.Working.{lowerRefusal, unread}
+use Rattle.ranges.proofs.Range.{first-hit, first-miss, first-end}
 use mathlib.Core.Path.{ap}
 use Rattle.keeping.proofs.place_in.Goals as goal
 

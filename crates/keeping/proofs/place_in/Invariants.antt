@@ -1,14 +1,9 @@
 use Prim.Native.Nat.{◌-◌, ◌≤◌}
-use mathlib.Core.Path.{◌≡◌, sym, ◌∙◌}
+use mathlib.Core.Path.{◌≡◌}
 use mathlib.Core.Bool.{not}
-use native.Mathlib.Omega.{arith}
 use lib.ListN.{get_or}
 use Rattle.ranges.specs.Range.{first}
-use Rattle.ranges.proofs.Range.{first-start, first-hit, first-miss, first-end}
 use Rattle.keeping.specs.Working.{lowerRefusal, unread}
-use Rattle.keeping.proofs.place_in.Reads as reads
-use Rattle.keeping.proofs.place_in.Lts as lts
-use Rattle.items.proofs.lower.Reads as lower-reads
 use Rattle.keeping.proofs.place_in.Given as goal
 
 abbrev pub invariant-loop-i : goal.invariant-loop-i

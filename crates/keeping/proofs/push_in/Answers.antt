@@ -1,10 +1,8 @@
 use Prim.Native.Nat.{◌-◌, ◌≤◌, ◌<◌}
-use mathlib.Core.Path.{◌≡◌, refl, ◌∙◌}
-use mathlib.Core.List.{◌++◌}
+use mathlib.Core.Path.{◌∙◌}
 use native.Mathlib.Omega.{arith}
-use lib.ListN.{length, take, drop, length-set}
-use Rattle.tracked.specs.Layout.{maxRefused}
-use Rattle.keeping.specs.Working.{pushed, unread}
+use lib.ListN.{length, length-set}
+use Rattle.keeping.specs.Working.{unread}
 use Rattle.keeping.proofs.Lowering.{push-turn, push-end}
 use Rattle.keeping.proofs.push_in.Goals as goal
 

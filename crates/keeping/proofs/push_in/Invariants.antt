@@ -1,13 +1,9 @@
-use Prim.Native.Nat.{◌-◌, ◌≤◌, ◌<◌}
-use mathlib.Core.Path.{◌≡◌, refl, ◌∙◌}
+use Prim.Native.Nat.{◌-◌, ◌≤◌}
+use mathlib.Core.Path.{◌≡◌}
 use mathlib.Core.List.{◌++◌}
-use native.Mathlib.Omega.{arith}
-use lib.ListN.{length, take, drop, length-set}
+use lib.ListN.{length, take, drop}
 use Rattle.tracked.specs.Layout.{maxRefused}
-use Rattle.keeping.specs.Working.{pushed, unread}
-use Rattle.keeping.proofs.Lowering.{push-turn, push-end}
-use Rattle.keeping.proofs.push_in.Reads as reads
-use Rattle.keeping.proofs.push_in.Lts as lts
+use Rattle.keeping.specs.Working.{pushed}
 use Rattle.keeping.proofs.push_in.Given as goal
 
 abbrev pub invariant-loop-i : goal.invariant-loop-i

@@ -1,12 +1,8 @@
-use Prim.Native.Nat.{◌-◌, ◌*◌, ◌+◌, ◌≤◌, ◌<◌}
-use mathlib.Core.Path.{◌≡◌}
-use mathlib.Core.List.{map}
+use Prim.Native.Nat.{◌-◌, ◌<◌}
 use native.Mathlib.Omega.{arith}
-use lib.ListN.{length, take}
+use lib.ListN.{length}
 use Rattle.places.specs.Places.{flat}
-use Rattle.text.specs.Buffer.{Put}
-use Rattle.text.proofs.Writing.{put-put, put_as, put-none, put-length}
-use Rattle.items.specs.Layout.{hashSize}
+use Rattle.text.proofs.Writing.{put-put, put_as, put-none}
 use Rattle.items.specs.Items.{itemIdentity}
 use Rattle.keeping.proofs.Tabled.{flat-next}
 use Rattle.keeping.proofs.put_identities.Goals as goal

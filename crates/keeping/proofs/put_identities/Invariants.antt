@@ -1,18 +1,11 @@
-use Prim.Native.Nat.{◌-◌, ◌*◌, ◌+◌, ◌≤◌, ◌<◌}
+use Prim.Native.Nat.{◌-◌, ◌*◌, ◌+◌, ◌≤◌}
 use mathlib.Core.Path.{◌≡◌}
 use mathlib.Core.List.{map}
-use native.Mathlib.Omega.{arith}
-use lib.ListN.{length, take}
+use lib.ListN.{take}
 use Rattle.places.specs.Places.{flat}
 use Rattle.text.specs.Buffer.{Put}
-use Rattle.text.proofs.Writing.{put-put, put_as, put-none, put-length}
 use Rattle.items.specs.Layout.{hashSize}
 use Rattle.items.specs.Items.{itemIdentity}
-use Rattle.keeping.proofs.Tabled.{flat-next}
-use Rattle.keeping.proofs.put_identities.Reads as reads
-use Rattle.keeping.proofs.put_identities.Lts as lts
-use Rattle.items.proofs.hash_of.Reads as hash-of-reads
-use Rattle.text.proofs.put_bytes.Reads as put-bytes-reads
 use Rattle.keeping.proofs.put_identities.Given as goal
 
 abbrev pub invariant-loop-i : goal.invariant-loop-i

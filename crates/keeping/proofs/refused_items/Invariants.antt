@@ -1,13 +1,9 @@
-use Prim.Native.Nat.{◌-◌, ◌≤◌, ◌<◌}
-use mathlib.Core.Path.{◌≡◌, refl, sym, ◌∙◌}
+use Prim.Native.Nat.{◌-◌, ◌≤◌}
+use mathlib.Core.Path.{◌≡◌}
 use mathlib.Core.List.{map}
-use native.Mathlib.Omega.{arith}
-use lib.ListN.{length, take, length-set}
+use lib.ListN.{length, take}
 use Rattle.tracked.specs.Layout.{maxRefused}
-use Rattle.keeping.specs.Working.{unread, refusedOf}
-use Rattle.keeping.proofs.Naming.{map_more}
-use Rattle.keeping.proofs.refused_items.Reads as reads
-use Rattle.keeping.proofs.refused_items.Lts as lts
+use Rattle.keeping.specs.Working.{refusedOf}
 use Rattle.keeping.proofs.refused_items.Given as goal
 
 abbrev pub invariant-loop-i : goal.invariant-loop-i

@@ -1,14 +1,14 @@
 use Prim.Native.Nat.{ℕ, ◌≤◌}
-use mathlib.Core.Path.{◌≡◌, sym, ap, ap₂, ◌∙◌}
+use mathlib.Core.Path.{◌≡◌, sym, ap₂, ◌∙◌}
 use mathlib.Core.List.{List, ◌∷◌, ◌++◌}
 use native.Mathlib.Omega.{arith}
 use lib.ListN.{length, take, length-map}
 use lib.Seq.{length-take-le}
-use Rattle.tracked.specs.Layout.{fixesSize, refusedTableSize, transmissionSize}
+use Rattle.tracked.specs.Layout.{fixesSize, transmissionSize}
 use Rattle.tracked.specs.Bytes.{transmissionBytes}
 use Rattle.keeping.specs.declared.Kept.{Kept}
 use Rattle.keeping.specs.Working.{itemFix, itemRefused, lowestIn, Keeps, keptIn}
-use Rattle.keeping.proofs.Parted.{headed-length, first-length, filled-length, rest-length, written, written-length}
+use Rattle.keeping.proofs.Parted.{first-length, written}
 use Rattle.keeping.proofs.write.Goals as goal
 
 pub returns : goal.returns

@@ -1,12 +1,11 @@
 use Prim.Native.Nat.{ℕ, ◌-◌, ◌*◌, ◌≤◌, ◌<◌}
-use mathlib.Core.Path.{◌≡◌, sym, ap, ◌∙◌}
+use mathlib.Core.Path.{◌≡◌, ap, ◌∙◌}
 use mathlib.Core.List.{map}
 use native.Mathlib.Omega.{arith}
-use lib.ListN.{length, take, replicate, length-replicate}
+use lib.ListN.{length, take, replicate}
 use lib.Seq.{length-take-le}
 use Rattle.places.specs.Places.{flat}
-use Rattle.text.specs.Buffer.{Put}
-use Rattle.text.proofs.Writing.{put-put, put_as, put-none, put-length}
+use Rattle.text.proofs.Writing.{put-put, put_as, put-none}
 use Rattle.tracked.specs.Layout.{maxStanding, fixSize}
 use Rattle.tracked.specs.Bytes.{fixBytes}
 use Rattle.keeping.specs.Working.{itemFix}

@@ -1,20 +1,12 @@
-use Prim.Native.Nat.{ℕ, ◌-◌, ◌*◌, ◌≤◌, ◌<◌}
-use mathlib.Core.Path.{◌≡◌, sym, ap, ◌∙◌}
+use Prim.Native.Nat.{◌-◌, ◌*◌, ◌≤◌}
+use mathlib.Core.Path.{◌≡◌}
 use mathlib.Core.List.{map}
-use native.Mathlib.Omega.{arith}
-use lib.ListN.{length, take, replicate, length-replicate}
-use lib.Seq.{length-take-le}
+use lib.ListN.{take}
 use Rattle.places.specs.Places.{flat}
 use Rattle.text.specs.Buffer.{Put}
-use Rattle.text.proofs.Writing.{put-put, put_as, put-none, put-length}
-use Rattle.tracked.specs.Layout.{maxStanding, fixSize}
+use Rattle.tracked.specs.Layout.{fixSize}
 use Rattle.tracked.specs.Bytes.{fixBytes}
 use Rattle.keeping.specs.Working.{itemFix}
-use Rattle.keeping.proofs.Tabled.{flat-more, put-table, map-length}
-use Rattle.keeping.proofs.write_fixes.Reads as reads
-use Rattle.keeping.proofs.write_fixes.Lts as lts
-use Rattle.keeping.proofs.put_fix.Reads as put-fix-reads
-use Rattle.octets.proofs.runs.clear.Reads as clear_reads
 use Rattle.keeping.proofs.write_fixes.Given as goal
 
 abbrev pub invariant-loop-i : goal.invariant-loop-i

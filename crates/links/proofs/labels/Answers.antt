@@ -1,9 +1,7 @@
-use Prim.Native.Nat.{◌-◌, ◌≤◌}
+use Prim.Native.Nat.{◌-◌}
 use native.Mathlib.Omega.{arith}
-use Rattle.links.specs.Links.{link_at}
 use Rattle.links.proofs.Symmetry.{links-turned}
-use Rattle.links.proofs.Labelling.{LabelledBelow, labels-start, labels-old, labels_new, labels-end}
-use borrow.Author.Rules.{rules}
+use Rattle.links.proofs.Labelling.{labels-start, labels-old, labels_new, labels-end}
 use Rattle.links.proofs.labels.Goals as goal
 
 pub loop-s-init : goal.loop-s-init

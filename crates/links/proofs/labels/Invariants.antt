@@ -1,8 +1,6 @@
 use Prim.Native.Nat.{◌-◌, ◌≤◌}
-use native.Mathlib.Omega.{arith}
 use Rattle.links.specs.Links.{link_at}
-use Rattle.links.proofs.Symmetry.{links-turned}
-use Rattle.links.proofs.Labelling.{LabelledBelow, labels-start, labels-old, labels_new, labels-end}
+use Rattle.links.proofs.Labelling.{LabelledBelow}
 use Rattle.links.proofs.labels.Given as goal
 
 abbrev pub invariant-loop-s : goal.invariant-loop-s

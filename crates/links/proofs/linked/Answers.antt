@@ -1,9 +1,6 @@
-use mathlib.Core.Path.{◌≡◌, refl, sym, ap, ap₂, ◌∙◌}
+use mathlib.Core.Path.{◌≡◌, refl, sym, ap₂, ◌∙◌}
 use mathlib.Core.Bool.{Bool, true, false, ◌&&◌}
-use borrow.Author.Rules.{rules}
-use borrow.Author.Tests.{not-true, not-false}
 use Rattle.record.specs.Fields.{time}
-use Rattle.record.specs.Formed.{wellFormed}
 use Rattle.record.specs.Relations.{tied}
 use Rattle.ranges.proofs.Bools.{and-unit}
 use Rattle.fixes.specs.Layout.{fixRecord}

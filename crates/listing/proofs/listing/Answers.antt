@@ -1,10 +1,9 @@
-use Prim.Native.Nat.{ℕ, ◌≤◌}
+use Prim.Native.Nat.{ℕ}
 use mathlib.Core.Path.{◌≡◌, refl, sym, ◌∙◌}
 use mathlib.Core.Bool.{true}
 use mathlib.Core.List.{List}
 use native.Mathlib.Omega.{arith}
 use borrow.Author.Tests.{lt-ltb, le-ltb}
-use Rattle.ranges.proofs.Bools.{not_t, not-false-t}
 use Rattle.stored.specs.Memory.{wellFormed}
 use Rattle.listing.specs.Listing.{listTrack}
 use Rattle.held.proofs.Writing.{put_written}

@@ -1,10 +1,8 @@
-use Prim.Native.Nat.{ℕ, ◌+◌, ◌*◌, ◌-◌, ◌≤◌, ◌<◌}
-use mathlib.Core.Path.{◌≡◌, refl, sym, ap, ◌∙◌, subst}
+use Prim.Native.Nat.{ℕ, ◌+◌, ◌-◌}
+use mathlib.Core.Path.{sym, ap, ◌∙◌, subst}
 use mathlib.Core.List.{List, [], map}
 use native.Mathlib.Omega.{arith}
-use lib.ListN.{length, get_or, take}
 use lib.Seq.{take_all}
-use Rattle.text.specs.Buffer.{Put}
 use Rattle.text.proofs.Writing.{put-put, put_as, put-none, put-length}
 use Rattle.places.proofs.Tables.{length-places}
 use Rattle.places.proofs.Walks.{place_of}
@@ -14,7 +12,6 @@ use Rattle.tracked.specs.Parts.{Sound}
 use Rattle.arrange.specs.Blocks.{blocks}
 use Rattle.stored.proofs.Opened.{mem-at}
 use Rattle.listing.specs.Listing.{heldText, heldFrom}
-use Rattle.listing.specs.Widths.{heldWidth}
 use Rattle.listing.proofs.Texts.{held_more}
 use Rattle.listing.proofs.put_all.Goals as goal
 

@@ -1,5 +1,5 @@
-use Prim.Native.Nat.{ℕ, ◌+◌, ◌*◌, ◌≤◌}
-use mathlib.Core.Path.{◌≡◌, ap₂}
+use Prim.Native.Nat.{ℕ}
+use mathlib.Core.Path.{ap₂}
 use native.Mathlib.Omega.{arith}
 use Rattle.text.proofs.Writing.{put-put, put_as}
 use Rattle.drawing.specs.Lines.{header}

@@ -1,19 +1,15 @@
-use Prim.Native.Nat.{ℕ, ◌+◌, ◌*◌, ◌-◌, ◌≤◌, ◌<◌}
-use mathlib.Core.Path.{◌≡◌, refl, sym, ap, ◌∙◌}
+use Prim.Native.Nat.{ℕ, ◌-◌, ◌<◌}
+use mathlib.Core.Path.{ap, ◌∙◌}
 use mathlib.Core.List.{List, [], map, flat_map}
 use native.Mathlib.Omega.{arith}
-use lib.ListN.{length, get_or, take}
 use lib.Seq.{take_all}
-use Rattle.text.specs.Buffer.{Put}
-use Rattle.text.proofs.Writing.{put-put, put_as, put-none, put-length}
+use Rattle.text.proofs.Writing.{put-put, put_as, put-none}
 use Rattle.octets.specs.Ascii.{ascii}
 use Rattle.places.proofs.Tables.{length-places}
 use Rattle.tracked.specs.Layout as L
-use Rattle.tracked.specs.Bytes.{fixIn, refusedIn, fixCount, refusedCount, fixTable, refusedTable, fixPlaces, refusedPlaces}
+use Rattle.tracked.specs.Bytes.{fixIn, fixCount, fixTable, fixPlaces}
 use Rattle.drawing.specs.Text.{rankedText}
-use Rattle.drawing.specs.Widths.{refusedWidth}
-use Rattle.listing.specs.Listing.{refusedText, contestedLine}
-use Rattle.listing.proofs.Texts.{texts-more, fix-lies, refused-lies}
+use Rattle.listing.proofs.Texts.{texts-more, fix-lies}
 use Rattle.listing.proofs.put_standing.Goals as goal
 
 pub loop-k-init : goal.loop-k-init

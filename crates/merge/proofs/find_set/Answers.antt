@@ -1,12 +1,12 @@
-use Prim.Native.Nat.{ℕ, ◌-◌, ◌≤◌, ◌<◌}
+use Prim.Native.Nat.{ℕ, ◌-◌, ◌<◌}
 use mathlib.Core.Path.{◌≡◌, refl, sym, ap, ◌∙◌}
 use mathlib.Core.Bool.{false}
 use mathlib.Core.List.{List, []}
 use native.Mathlib.Omega.{arith}
-use lib.ListN.{length, get_or, take}
+use lib.ListN.{length, get_or}
 use lib.Seq.{take_all}
 use Rattle.ranges.specs.Lists.{any_of}
-use Rattle.tracked.specs.Parts.{heldPlaces, heldCount, sameSet}
+use Rattle.tracked.specs.Parts.{heldPlaces, sameSet}
 use Rattle.tracked.proofs.Holding.{held-length}
 use Rattle.merge.specs.Searching.{hasSet}
 use Rattle.merge.proofs.Counting.{any-more}

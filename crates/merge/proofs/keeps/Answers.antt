@@ -4,7 +4,6 @@ use mathlib.Core.List.{List}
 use native.Mathlib.Omega.{arith}
 use Rattle.octets.specs.Order.{same}
 use Rattle.octets.proofs.Comparison.{same_refl}
-use Rattle.ranges.specs.Lists.{any_of}
 use Rattle.ranges.proofs.Lists.{any-in, any-of}
 use Rattle.tracked.specs.Bytes.{identityIn}
 use Rattle.tracked.proofs.Holding.{held-formed}

@@ -1,9 +1,8 @@
-use Prim.Native.Nat.{ℕ, ◌-◌, ◌≤◌, ◌<◌}
-use mathlib.Core.Path.{◌≡◌, refl, sym, ap, ◌∙◌}
+use Prim.Native.Nat.{ℕ, ◌-◌, ◌<◌}
+use mathlib.Core.Path.{◌≡◌, sym, ap, ◌∙◌}
 use mathlib.Core.List.{List, []}
 use native.Mathlib.Omega.{arith}
-use lib.ListN.{length, get_or, drop}
-use Rattle.ranges.specs.Lists.{any_of}
+use lib.ListN.{length, get_or}
 use Rattle.shown.proofs.Indexed.{at_in}
 use Rattle.tracked.proofs.Searching.{any_here, any-on, any-over}
 use Rattle.arrange.specs.Blocks.{blocks, Known}

@@ -1,15 +1,13 @@
-use Prim.Native.Nat.{ℕ, ◌+◌, ◌-◌, ◌≤◌, ◌<◌}
-use mathlib.Core.Path.{◌≡◌, refl, sym, ap, ◌∙◌}
+use Prim.Native.Nat.{ℕ, ◌-◌, ◌<◌}
+use mathlib.Core.Path.{◌≡◌, sym, ap, ◌∙◌}
 use mathlib.Core.List.{List, []}
 use native.Mathlib.Omega.{arith}
-use lib.ListN.{length, get_or, drop}
-use Rattle.ranges.specs.Lists.{any_of}
+use lib.ListN.{length, get_or}
 use Rattle.shown.proofs.Indexed.{at_in}
-use Rattle.tracked.specs.Bytes.{fixCount}
 use Rattle.tracked.specs.Parts.{Sound, heldCount}
 use Rattle.tracked.proofs.Searching.{any_here, any-on, any-over}
 use Rattle.arrange.specs.Blocks.{blocks}
-use Rattle.arrange.proofs.Settling.{count-is, within, block_at, sound-at}
+use Rattle.arrange.proofs.Settling.{count-is, block_at, sound-at}
 use Rattle.tracked.specs.Parts.{sameSet}
 use Rattle.merge.specs.Searching.{firstHeld, keepsSet}
 use Rattle.merge.proofs.keeps_set.Goals as goal

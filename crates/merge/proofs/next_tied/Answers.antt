@@ -1,13 +1,13 @@
-use Prim.Native.Nat.{ℕ, ◌+◌, ◌-◌, ◌≤◌, ◌<◌}
+use Prim.Native.Nat.{ℕ, ◌+◌, ◌-◌}
 use mathlib.Core.Path.{◌≡◌, refl, sym, ap, ◌∙◌}
-use mathlib.Core.Bool.{Bool, false}
-use mathlib.Core.List.{List, []}
+use mathlib.Core.Bool.{false}
+use mathlib.Core.List.{[]}
 use native.Mathlib.Omega.{arith}
-use lib.ListN.{length, get_or, take, drop, length-drop}
+use lib.ListN.{get_or, drop, length-drop}
 use lib.Seq.{take_all, get_or-drop}
 use Rattle.ranges.specs.Lists.{any_of}
 use Rattle.arrange.specs.Blocks.{blocks}
-use Rattle.arrange.proofs.Settling.{count-is, within, block_at, sound-at}
+use Rattle.arrange.proofs.Settling.{count-is, block_at, sound-at}
 use Rattle.merge.specs.Searching.{tiesBlock}
 use Rattle.merge.proofs.Counting.{any-more}
 use Rattle.merge.proofs.next_tied.Goals as goal

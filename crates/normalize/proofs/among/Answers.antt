@@ -1,9 +1,8 @@
-use Prim.Native.Nat.{◌-◌, ◌≤◌}
-use mathlib.Core.Path.{◌≡◌, refl, sym, ap, ◌∙◌}
+use Prim.Native.Nat.{◌-◌}
+use mathlib.Core.Path.{◌≡◌, sym, ap, ◌∙◌}
 use native.Mathlib.Omega.{arith}
-use lib.ListN.{take, drop, get_or}
+use lib.ListN.{get_or}
 use Rattle.octets.specs.Order.{same}
-use Rattle.ranges.specs.Lists.{any_of}
 use Rattle.normalize.specs.Working.{identified}
 use Rattle.normalize.proofs.Walking.{any-hit, any-miss, any-past}
 use Rattle.normalize.proofs.among.Goals as goal

@@ -1,5 +1,5 @@
-use Prim.Native.Nat.{ℕ, ◌+◌, ◌-◌, ◌≤◌}
-use mathlib.Core.Path.{◌≡◌, refl, sym, ap, ◌∙◌, subst}
+use Prim.Native.Nat.{ℕ, ◌+◌, ◌-◌}
+use mathlib.Core.Path.{◌≡◌, sym, ap, ◌∙◌, subst}
 use mathlib.Core.List.{List, []}
 use native.Mathlib.Omega.{arith}
 use lib.ListN.{get_or}
@@ -8,7 +8,7 @@ use Rattle.tracked.specs.Bytes.{signersIn, fixIn}
 use Rattle.tracked.specs.Parts.{heldPlaces}
 use Rattle.normalize.specs.Normal as N
 use Rattle.normalize.specs.Normal.{gatherAll}
-use Rattle.normalize.specs.Working.{maxGathered, fixesIn, Laid, signedIn, signedIdentity}
+use Rattle.normalize.specs.Working.{fixesIn, Laid, signedIn, signedIdentity}
 use Rattle.normalize.proofs.Distinct.{gather-few}
 use Rattle.normalize.proofs.Laying.{laid-reads, laid-again}
 use Rattle.normalize.proofs.Listing.{signed-miss, signed-hit, signed-end, signed_is, signed-place, ids-room, id-at}

@@ -1,23 +1,7 @@
-use Prim.Native.Nat.{ℕ, ◌+◌, ◌-◌, ◌≤◌}
-use mathlib.Core.Path.{◌≡◌, refl, sym, ap, ◌∙◌, subst}
-use mathlib.Core.List.{List, []}
-use native.Mathlib.Omega.{arith}
-use lib.ListN.{get_or}
-use Rattle.shown.specs.Fix.{Fix}
-use Rattle.tracked.specs.Bytes.{signersIn, fixIn}
-use Rattle.tracked.specs.Parts.{heldPlaces}
-use Rattle.normalize.specs.Normal as N
+use Prim.Native.Nat.{◌+◌, ◌-◌, ◌≤◌}
+use mathlib.Core.Path.{◌≡◌}
 use Rattle.normalize.specs.Normal.{gatherAll}
-use Rattle.normalize.specs.Working.{maxGathered, fixesIn, Laid, signedIn, signedIdentity}
-use Rattle.normalize.proofs.Distinct.{gather-few}
-use Rattle.normalize.proofs.Laying.{laid-reads, laid-again}
-use Rattle.normalize.proofs.Listing.{signed-miss, signed-hit, signed-end, signed_is, signed-place, ids-room, id-at}
-use Rattle.normalize.proofs.gather_held.Reads as reads
-use Rattle.normalize.proofs.gather_held.Lts as lts
-use Rattle.normalize.proofs.gather.Reads as gather-reads
-use Rattle.normalize.proofs.identity_at.Reads as identity-at-reads
-use Rattle.tracked.proofs.held.Reads as held_reads
-use Rattle.tracked.proofs.signers.Reads as signers-reads
+use Rattle.normalize.specs.Working.{maxGathered, fixesIn, Laid, signedIn}
 use Rattle.normalize.proofs.gather_held.Given as goal
 
 abbrev pub invariant-loop-k : goal.invariant-loop-k

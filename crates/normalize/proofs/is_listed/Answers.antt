@@ -1,8 +1,8 @@
 use Prim.Native.Nat.{◌-◌}
-use mathlib.Core.Path.{◌≡◌, refl, ap, ◌∙◌}
+use mathlib.Core.Path.{◌≡◌, ap, ◌∙◌}
 use Rattle.octets.specs.Order.{same}
 use Rattle.ranges.proofs.Searches.{any-ret, any-go, any_out}
-use Rattle.normalize.specs.Working.{id_at, isListed}
+use Rattle.normalize.specs.Working.{id_at}
 use Rattle.normalize.proofs.is_listed.Goals as goal
 
 pub returns-then-equal : goal.returns-then-equal

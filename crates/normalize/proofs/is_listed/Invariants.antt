@@ -1,12 +1,6 @@
 use Prim.Native.Nat.{◌-◌}
-use mathlib.Core.Path.{◌≡◌, refl, ap, ◌∙◌}
-use Rattle.octets.specs.Order.{same}
-use Rattle.ranges.proofs.Searches.{any-ret, any-go, any_out}
-use Rattle.normalize.specs.Working.{id_at, isListed}
-use Rattle.normalize.proofs.is_listed.Reads as reads
-use Rattle.normalize.proofs.is_listed.Lts as lts
-use Rattle.normalize.proofs.identity_at.Reads as identity-at-reads
-use Rattle.octets.proofs.order.equal.Reads as equal-reads
+use mathlib.Core.Path.{◌≡◌}
+use Rattle.normalize.specs.Working.{isListed}
 use Rattle.normalize.proofs.is_listed.Given as goal
 
 abbrev pub invariant-loop-j : goal.invariant-loop-j

@@ -17,7 +17,7 @@ use Rattle.normalize.specs.Joining.{withFix}
 use Rattle.normalize.specs.Did.{did}
 use Rattle.normalize.specs.Claims.{identityOf}
 use Rattle.normalize.specs.Working.{maxGathered, fixesIn, Laid, Listed, kept, told}
-use Rattle.normalize.proofs.Laying.{laid_none, laid-reads, laid-again, laid-length, laid-few}
+use Rattle.normalize.proofs.Laying.{laid_none, laid-reads, laid-again}
 use Rattle.normalize.proofs.Listing.{signed-with, ids-room}
 use Rattle.normalize.proofs.Settling.{normalized-is, settled}
 use Rattle.normalize.proofs.Telling.{told_is}

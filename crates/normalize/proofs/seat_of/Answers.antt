@@ -1,9 +1,8 @@
-use Prim.Native.Nat.{◌-◌, ◌≤◌}
+use Prim.Native.Nat.{◌-◌}
 use mathlib.Core.Path.{◌≡◌, sym, ap, ◌∙◌}
 use native.Mathlib.Omega.{arith}
 use Rattle.octets.specs.Order.{same}
-use Rattle.ranges.specs.Range.{first}
-use Rattle.ranges.proofs.Range.{first-start, first-hit, first-miss, first-end}
+use Rattle.ranges.proofs.Range.{first-hit, first-miss, first-end}
 use Rattle.normalize.specs.Working.{identified}
 use Rattle.normalize.proofs.seat_of.Goals as goal
 

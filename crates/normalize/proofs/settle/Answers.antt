@@ -8,8 +8,7 @@ use Rattle.tracked.specs.Bytes.{transmissionBytes}
 use Rattle.keeping.specs.Working.{Names}
 use Rattle.normalize.specs.Claims.{identityOf}
 use Rattle.normalize.specs.Working.{Laid, fixesIn}
-use Rattle.normalize.proofs.Laying.{laid-length}
-use Rattle.normalize.proofs.Settling.{laid-good, laid-signed, settled, held-identities}
+use Rattle.normalize.proofs.Settling.{laid-good, settled, held-identities}
 use Rattle.normalize.proofs.settle.Goals as goal
 
 pub keep-kept-requires : goal.keep-kept-requires

@@ -7,7 +7,7 @@ use lib.ListN.{length, take, get_or}
 use Rattle.ranges.specs.Lists.{any_of}
 use Rattle.keeping.specs.declared.Kept.{Kept}
 use Rattle.keeping.specs.Working.{Lies, Keeps}
-use Rattle.keeping.proofs.Lowering.{lesser-left, lesser-right, take-lesser}
+use Rattle.keeping.proofs.Lowering.{take-lesser}
 use Rattle.keeping.proofs.Naming.{refused-lie}
 use Rattle.normalize.specs.Working as W
 use Rattle.normalize.specs.Working.{id_at, identified}

@@ -1,10 +1,9 @@
-use Prim.Native.Nat.{ℕ, ◌+◌, ◌-◌, ◌≤◌}
+use Prim.Native.Nat.{ℕ, ◌-◌}
 use mathlib.Core.Path.{◌≡◌, sym, ap, ◌∙◌}
 use mathlib.Core.Bool.{Bool, not}
 use native.Mathlib.Omega.{arith}
-use lib.ListN.{take, drop, get_or}
+use lib.ListN.{get_or}
 use Rattle.items.specs.Items.{itemIdentity}
-use Rattle.normalize.specs.Working as W
 use Rattle.normalize.specs.Working.{isListed}
 use Rattle.normalize.proofs.Walking.{count-hit, count-miss, count_past}
 use Rattle.normalize.proofs.unlisted.Goals as goal

@@ -1,16 +1,14 @@
-use Prim.Native.Nat.{ℕ, zero, suc, ◌+◌, ◌*◌, ◌-◌, ◌≤◌, ◌<◌}
+use Prim.Native.Nat.{ℕ, zero, suc, ◌+◌, ◌-◌, ◌≤◌, ◌<◌}
 use mathlib.Core.Path.{◌≡◌, refl, sym, ap, ◌∙◌}
-use mathlib.Core.Bool.{Bool, true, false, ◌&&◌}
-use mathlib.Core.List.{List, [], ◌∷◌}
+use mathlib.Core.Bool.{true, false, ◌&&◌}
+use mathlib.Core.List.{List}
 use native.Mathlib.Omega.{arith}
 use native.Mathlib.Nat.{zero-add}
-use borrow.Author.Tests.{not-true, not-false}
-use lib.ListN.{length, take, drop}
+use lib.ListN.{take, drop}
 use lib.Seq.{take-take, drop-drop}
 use Rattle.octets.specs.Order.{isBefore}
 use Rattle.places.specs.Places.{places, ascending, ascendingFrom}
-use Rattle.places.proofs.Walks.{room, step-at}
-use borrow.Author.Rules.{rules}
+use Rattle.places.proofs.Walks.{step-at}
 use Rattle.places.proofs.ascends.Goals as goal
 
 positive : (n : ℕ) → (n ≡ 0 → ⊥) → 1 ≤ n

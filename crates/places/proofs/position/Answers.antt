@@ -3,11 +3,11 @@ use mathlib.Core.Path.{◌≡◌, sym, ap, ◌∙◌}
 use mathlib.Core.Bool.{Bool, true, false}
 use mathlib.Core.List.{List, []}
 use native.Mathlib.Omega.{arith}
-use lib.ListN.{length, get_or, take, drop}
+use lib.ListN.{get_or, take, drop}
 use Rattle.octets.specs.Order.{isBefore}
 use Rattle.places.specs.Places.{places, ascending}
 use Rattle.places.specs.Positions.{rank}
-use Rattle.places.proofs.Walks.{key-room, key_of}
+use Rattle.places.proofs.Walks.{key_of}
 use Rattle.places.proofs.Tables.{length-places}
 use Rattle.places.proofs.Keys.{rank-le, rank-above, rank_below}
 use Rattle.places.proofs.position.Goals as goal

@@ -1,6 +1,6 @@
 use Prim.Native.Nat.{ℕ, suc, ◌+◌, ◌*◌, ◌≤◌, ◌<◌}
 use mathlib.Core.Path.{◌≡◌, refl, sym, ap, ◌∙◌}
-use mathlib.Core.Bool.{Bool, true, false, ◌&&◌}
+use mathlib.Core.Bool.{true, false, ◌&&◌}
 use mathlib.Core.List.{List, ◌++◌}
 use native.Mathlib.Omega.{arith}
 use native.Mathlib.Nat.{suc-mul, mul-le-mul_right}
@@ -11,11 +11,10 @@ use lib.Seq.{length-take-le}
 use Rattle.octets.specs.Order.{same}
 use Rattle.places.specs.Places.{places}
 use Rattle.places.specs.Positions.{rank, key_at, insertAt}
-use Rattle.places.specs.Put.{PutResult, putResult, tryPut}
+use Rattle.places.specs.Put.{putResult, tryPut}
 use Rattle.places.specs.declared.Put.TheVariants.{Held, Full, New}
 use Rattle.places.proofs.Tables.{length-places}
 use Rattle.places.proofs.Keys.{rank-le}
-use borrow.Author.Rules.{rules}
 use Rattle.places.proofs.put_by_key.Goals as goal
 
 module _ (n cap w k : ℕ) (x t : List ℕ) (i : ℕ) (e : i ≡ rank k (take k x) (places w n t)) where

@@ -1,5 +1,4 @@
 use native.Mathlib.Omega.{arith}
-use borrow.Author.Rules.{rules}
 use Rattle.rule.proofs.Choosing.{better-none, better-new, better-old, below_at}
 use Rattle.rule.proofs.better_identity.Goals as goal
 

@@ -1,12 +1,7 @@
-use Prim.Native.Nat.{◌-◌, ◌≤◌}
-use mathlib.Core.Path.{◌≡◌}
+use Prim.Native.Nat.{◌-◌}
 use native.Mathlib.Omega.{arith}
-use borrow.Author.Rules.{rules}
-use Rattle.ranges.specs.Lists.{any_of, countFrom, up_to}
 use Rattle.ranges.proofs.Searches.{searches}
 use Rattle.rule.specs.Standing.{isCovered}
-use Rattle.rule.specs.Related.{itemRelations}
-use Rattle.rule.specs.Rule.{covers}
 use Rattle.rule.proofs.covered.Goals as goal
 
 pub returns-then-covers_at : goal.returns-then-covers_at

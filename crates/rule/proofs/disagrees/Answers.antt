@@ -1,4 +1,3 @@
-use borrow.Author.Rules.{rules}
 use Rattle.items.proofs.Pairing.{code-disagrees}
 use Rattle.rule.proofs.disagrees.Goals as goal
 

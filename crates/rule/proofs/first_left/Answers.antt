@@ -1,13 +1,6 @@
-use Prim.Native.Nat.{◌-◌, ◌≤◌}
-use mathlib.Core.Path.{◌≡◌}
+use Prim.Native.Nat.{◌-◌}
 use native.Mathlib.Omega.{arith}
-use borrow.Author.Rules.{rules}
-use Rattle.ranges.specs.Lists.{filter, countFrom, up_to}
 use Rattle.ranges.proofs.Bools.{not_t, not-false-t}
-use Rattle.items.specs.Items.{aheadAt}
-use Rattle.ranges.specs.Tables.{marked}
-use Rattle.rule.specs.declared.Choice.TheVariants.{Nobody}
-use Rattle.rule.specs.Choosing.{choose, Below}
 use Rattle.rule.proofs.Choosing.{choose-start, choose-hit, choose-miss, choose-out, below_none, below-better}
 use mathlib.Core.Path.{ap}
 use mathlib.Core.Bool.{not}

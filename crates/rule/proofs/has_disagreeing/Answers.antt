@@ -1,10 +1,6 @@
-use Prim.Native.Nat.{◌-◌, ◌≤◌}
-use mathlib.Core.Path.{◌≡◌}
+use Prim.Native.Nat.{◌-◌}
 use native.Mathlib.Omega.{arith}
-use borrow.Author.Rules.{rules}
-use Rattle.ranges.specs.Lists.{any_of, countFrom, up_to}
 use Rattle.ranges.proofs.Searches.{searches}
-use Rattle.items.specs.Items.{disagreesAt}
 use Rattle.rule.proofs.has_disagreeing.Goals as goal
 
 pub returns-then-disagrees : goal.returns-then-disagrees

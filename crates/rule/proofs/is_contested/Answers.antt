@@ -1,5 +1,4 @@
 use mathlib.Core.Path.{refl}
-use borrow.Author.Rules.{rules}
 use Rattle.ranges.proofs.Tables.{cached-at}
 use Rattle.rule.specs.Standing.{isContested}
 use Rattle.rule.proofs.is_contested.Goals as goal

@@ -1,4 +1,3 @@
-use borrow.Author.Rules.{rules}
 use Rattle.ranges.proofs.Tables.{cached-at}
 use Rattle.rule.proofs.is_refused.Goals as goal
 

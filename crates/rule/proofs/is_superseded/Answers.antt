@@ -1,11 +1,7 @@
-use Prim.Native.Nat.{◌-◌, ◌≤◌}
-use mathlib.Core.Path.{◌≡◌}
+use Prim.Native.Nat.{◌-◌}
 use native.Mathlib.Omega.{arith}
-use borrow.Author.Rules.{rules}
-use Rattle.ranges.specs.Lists.{any_of, countFrom, up_to}
 use Rattle.ranges.proofs.Searches.{searches}
-use Rattle.rule.specs.Standing.{replaces, isSuperseded}
-use Rattle.rule.specs.Related.{itemRelations}
+use Rattle.rule.specs.Standing.{isSuperseded}
 use Rattle.rule.proofs.is_superseded.Goals as goal
 
 pub returns-then-replaces : goal.returns-then-replaces

@@ -1,9 +1,7 @@
 use Prim.Native.Nat.{◌-◌, ◌≤◌}
 use mathlib.Core.Path.{◌≡◌}
-use native.Mathlib.Omega.{arith}
 use Rattle.ranges.specs.Lists.{any_of, countFrom, up_to}
-use Rattle.ranges.proofs.Searches.{searches}
-use Rattle.rule.specs.Standing.{replaces, isSuperseded}
+use Rattle.rule.specs.Standing.{replaces}
 use Rattle.rule.specs.Related.{itemRelations}
 use Rattle.rule.proofs.is_superseded.Given as goal
 

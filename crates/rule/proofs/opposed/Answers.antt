@@ -1,11 +1,6 @@
-use Prim.Native.Nat.{◌-◌, ◌≤◌}
-use mathlib.Core.Path.{◌≡◌}
+use Prim.Native.Nat.{◌-◌}
 use native.Mathlib.Omega.{arith}
-use borrow.Author.Rules.{rules}
-use Rattle.ranges.specs.Lists.{any_of, countFrom, up_to}
 use Rattle.ranges.proofs.Searches.{searches}
-use Rattle.rule.specs.Standing.{opposes}
-use Rattle.rule.specs.Related.{itemRelations}
 use Rattle.rule.proofs.opposed.Goals as goal
 
 pub returns-then-opposes : goal.returns-then-opposes

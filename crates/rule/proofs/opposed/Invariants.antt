@@ -1,8 +1,6 @@
 use Prim.Native.Nat.{◌-◌, ◌≤◌}
 use mathlib.Core.Path.{◌≡◌}
-use native.Mathlib.Omega.{arith}
 use Rattle.ranges.specs.Lists.{any_of, countFrom, up_to}
-use Rattle.ranges.proofs.Searches.{searches}
 use Rattle.rule.specs.Standing.{opposes}
 use Rattle.rule.specs.Related.{itemRelations}
 use Rattle.rule.proofs.opposed.Given as goal

@@ -1,5 +1,4 @@
 use mathlib.Core.Path.{refl}
-use borrow.Author.Rules.{rules}
 use Rattle.ranges.proofs.Tables.{cached-at}
 use Rattle.rule.specs.Standing.{is_refused}
 use Rattle.rule.proofs.refused_at.Goals as goal

@@ -1,14 +1,11 @@
 use Prim.Native.Nat.{◌-◌, ◌≤◌}
-use mathlib.Core.Path.{◌≡◌, sym, ◌∙◌}
-use native.Mathlib.Omega.{arith}
+use mathlib.Core.Path.{◌≡◌}
 use Rattle.ranges.specs.Lists.{filter, countFrom, up_to}
-use Rattle.ranges.proofs.Bools.{not_t, not-false-t}
 use Rattle.items.specs.Items.{lowerAt}
 use Rattle.rule.specs.Standing.{replaces}
 use Rattle.rule.specs.Related.{itemRelations}
 use Rattle.rule.specs.declared.Choice.TheVariants.{Nobody}
 use Rattle.rule.specs.Choosing.{choose, Below}
-use Rattle.rule.proofs.Choosing.{choose-start, choose-hit, choose-miss, choose-out, below_none, below-better}
 use Rattle.rule.proofs.replacing.Given as goal
 
 abbrev pub invariant-loop-j : goal.invariant-loop-j

@@ -1,11 +1,6 @@
-use Prim.Native.Nat.{◌-◌, ◌≤◌}
-use mathlib.Core.Path.{◌≡◌}
+use Prim.Native.Nat.{◌-◌}
 use native.Mathlib.Omega.{arith}
-use borrow.Author.Rules.{rules}
-use Rattle.ranges.specs.Lists.{any_of, countFrom, up_to}
 use Rattle.ranges.proofs.Searches.{searches}
-use Rattle.rule.specs.Related.{itemRelations}
-use Rattle.rule.specs.Rule.{resists}
 use Rattle.rule.proofs.resisted.Goals as goal
 
 pub returns-then-resists_at : goal.returns-then-resists_at

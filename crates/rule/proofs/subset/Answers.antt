@@ -1,4 +1,3 @@
-use borrow.Author.Rules.{rules}
 use Rattle.items.proofs.Pairing.{code-subset}
 use Rattle.rule.proofs.subset.Goals as goal
 

@@ -1,11 +1,9 @@
 use Prim.Native.Nat.{◌-◌, ◌≤◌}
 use mathlib.Core.Path.{◌≡◌}
 use mathlib.Core.Bool.{false}
-use native.Mathlib.Omega.{arith}
 use lib.ListN.{length}
 use Rattle.ranges.specs.Lists.{up_to}
 use Rattle.ranges.specs.Tables.{Cached}
-use Rattle.ranges.proofs.Tables.{tables}
 use Rattle.rule.specs.Standing.{supersedes}
 use Rattle.rule.specs.Related.{itemRelations}
 use Rattle.items.specs.Layout.{maxItems}

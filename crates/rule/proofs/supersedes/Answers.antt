@@ -1,7 +1,6 @@
 use mathlib.Core.Path.{◌≡◌, refl}
 use Rattle.items.specs.Items.{isPassed, itemVerified}
 use Rattle.rule.specs.Standing.{supersedes}
-use borrow.Author.Rules.{rules}
 use Rattle.rule.proofs.supersedes.Goals as goal
 
 pub returns-then-has_disagreeing : goal.returns-then-has_disagreeing

@@ -1,4 +1,3 @@
-use borrow.Author.Rules.{rules}
 use Rattle.ranges.proofs.Bools.{answers}
 use Rattle.items.specs.Items.{withinAt}
 use Rattle.rule.proofs.within.Goals as goal

@@ -34,7 +34,7 @@ put_answer-end-requires c =
     let s = c.loop-at.invariant.1 in
     let f = answer-fits _ _ _ _ _ _ _ c.loop-at-test.true s c.in-At.lines call c.in-At.e is-good _ _ c.perform_one-a.ensures in
     let w = put-length s.put in
-    record {n_le_max_answer = f.0; answer_width_in_bounds = omega (arith, f.1, w, c.requires.input_in_bounds)}
+    record { n_le_max_answer = f.0; answer_width_in_bounds = omega (arith, f.1, w, c.requires.input_in_bounds) }
 
 pub loop-at-smaller : goal.loop-at-smaller
 loop-at-smaller c =
@@ -58,4 +58,4 @@ pub returns : goal.returns
 returns c =
     let s = c.loop-at.invariant.1 in
     let h = c.loop-at-test.false in
-    record {upper_bound = (omega (arith, s.room), answered-put _ _ _ _ _ _ _ h s); memory_after = (answered-left _ _ _ _ _ _ _ h s, s.formed, s.bytes)}
+    record { upper_bound = (omega (arith, s.room), answered-put _ _ _ _ _ _ _ h s); memory_after = (answered-left _ _ _ _ _ _ _ h s, s.formed, s.bytes) }

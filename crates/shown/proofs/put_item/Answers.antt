@@ -1,9 +1,5 @@
 use Rattle.text.proofs.Writing.{put-put}
 use native.Mathlib.Omega.{arith}
-use borrow.Author.Rules.{rules}
-use Rattle.shown.proofs.put_item.Reads as reads
-use Rattle.shown.proofs.put_item.Lts as lts
-use Rattle.text.proofs.put_bytes.Reads as put-bytes-reads
 use Rattle.shown.proofs.put_item.Goals as goal
 
 -- the four parts, one after another

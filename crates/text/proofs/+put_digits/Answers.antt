@@ -1,6 +1,6 @@
 use Rattle.text.proofs.Shapes.{digits-one, digits-zero, digits_more}
 use Rattle.text.proofs.Writing.{put_one, put-put, put_as}
-use mathlib.Core.Path.{◌≡◌, sym}
+use mathlib.Core.Path.{sym}
 use native.Mathlib.Omega.{arith}
 use Rattle.text.proofs.+put_digits.Goals as goal
 

@@ -3,7 +3,7 @@ use Rattle.text.proofs.Shapes.{hex-zero, hex-more}
 use Rattle.text.proofs.Writing.{put_one, put-put, put_as, put-none}
 use Prim.Native.Nat.{ℕ, ◌-◌, ◌/◌}
 use mathlib.Core.List.{[], ◌∷◌, ◌++◌}
-use mathlib.Core.Path.{◌≡◌, sym, ap, ◌∙◌}
+use mathlib.Core.Path.{sym, ap, ◌∙◌}
 use native.Mathlib.Omega.{arith}
 use Rattle.text.proofs.+put_hex.Goals as goal
 

@@ -1,13 +1,9 @@
 use mathlib.Core.List.{List}
 use Rattle.text.proofs.Writing.{copy_more}
-use lib.Seq.{sets, length-sets, take_all}
-use lib.ListN.{length, take, get_or, set, length-set, drop_of_length-le}
-use Prim.Native.Nat.{ℕ, ◌≤◌, ◌<◌, ◌-◌, ◌+◌}
-use mathlib.Core.Path.{◌≡◌, refl, sym, ap, ◌∙◌}
+use lib.ListN.{length, get_or, set, length-set}
+use Prim.Native.Nat.{ℕ, ◌<◌, ◌-◌, ◌+◌}
+use mathlib.Core.Path.{ap, ◌∙◌}
 use native.Mathlib.Omega.{arith}
-use borrow.Author.Rules.{rules}
-use Rattle.text.proofs.put_bytes.Reads as reads
-use Rattle.text.proofs.put_bytes.Lts as lts
 use Rattle.text.proofs.put_bytes.Goals as goal
 
 pub loop-i-preserved : goal.loop-i-preserved

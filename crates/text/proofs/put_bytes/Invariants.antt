@@ -1,12 +1,7 @@
-use mathlib.Core.List.{List}
-use Rattle.text.proofs.Writing.{copy_more}
-use lib.Seq.{sets, length-sets, take_all}
-use lib.ListN.{length, take, get_or, set, length-set, drop_of_length-le}
-use Prim.Native.Nat.{ℕ, ◌≤◌, ◌<◌, ◌-◌, ◌+◌}
-use mathlib.Core.Path.{◌≡◌, refl, sym, ap, ◌∙◌}
-use native.Mathlib.Omega.{arith}
-use Rattle.text.proofs.put_bytes.Reads as reads
-use Rattle.text.proofs.put_bytes.Lts as lts
+use lib.Seq.{sets}
+use lib.ListN.{length, take}
+use Prim.Native.Nat.{◌≤◌, ◌-◌}
+use mathlib.Core.Path.{◌≡◌}
 use Rattle.text.proofs.put_bytes.Given as goal
 
 abbrev pub invariant-loop-i : goal.invariant-loop-i

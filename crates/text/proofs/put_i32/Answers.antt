@@ -1,12 +1,9 @@
 use mir.Syntax.{w32}
 use mir.Facts.{to_z-of_z}
-use mathlib.Core.Path.{◌≡◌, refl, sym, ap, ◌∙◌}
-use native.Mathlib.Omega.{arith}
+use mathlib.Core.Path.{ap, ◌∙◌}
 use Rattle.text.specs.OffsetBinary.{offset, offsetText}
 use Rattle.text.proofs.Writing.{put_as}
 use Rattle.text.proofs.Shapes.{signed-offset}
-use Rattle.text.proofs.Signs.{offset-lt}
-use borrow.Author.Rules.{rules}
 use Rattle.text.proofs.put_i32.Goals as goal
 
 pub returns : goal.returns

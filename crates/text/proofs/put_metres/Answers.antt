@@ -1,13 +1,10 @@
 use mir.Syntax.{w32}
 use mir.Facts.{to_z-of_z}
-use mathlib.Core.Path.{◌≡◌, refl, sym, ap, ◌∙◌}
-use native.Mathlib.Omega.{arith}
+use mathlib.Core.Path.{ap, ◌∙◌}
 use Rattle.text.specs.Heights.{metres}
 use Rattle.text.specs.OffsetBinary.{offset, offsetText, offsetMetres}
 use Rattle.text.proofs.Writing.{put_as}
 use Rattle.text.proofs.Shapes.{signed-offset, metres-offset, metres-fits}
-use Rattle.text.proofs.Signs.{offset-lt}
-use borrow.Author.Rules.{rules}
 use Rattle.text.proofs.put_metres.Goals as goal
 
 pub returns : goal.returns

@@ -3,7 +3,6 @@ use Rattle.arithmetic.specs.declared.standing.Measure.{Measure}
 use Rattle.arithmetic.specs.Agree.{number_of, measureIn}
 use Rattle.held.specs.After.{after}
 use Rattle.toastlagoon.specs.Border.{measureOr, agreementOut}
-use borrow.Author.Rules.{rules}
 use Rattle.toastlagoon.proofs.put_agreement.Goals as goal
 
 pub returns-in-Inside : goal.returns-in-Inside

@@ -1,5 +1,5 @@
 -- `show_listing` is safe: a listing fits the output.
-use Rattle.std.proofs.Common.{◌≡◌, ◌≤◌, rules, arith, length, sym, length-take-le}
+use Rattle.std.proofs.Common.{◌≡◌, rules, arith, length, sym, length-take-le}
 use Rattle.drawing.specs.Text.{boardSize}
 use Rattle.tracks.proofs.Listed.{listed-fits}
 use Rattle.tracks.proofs.show_listing.Goals as goal

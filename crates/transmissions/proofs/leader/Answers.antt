@@ -2,7 +2,6 @@ use mathlib.Core.Path.{refl, ◌∙◌}
 use Rattle.transmissions.specs.Members.{leaderOf, outcomeOf}
 use Rattle.decision.specs.Answer.{indices}
 use Rattle.transmissions.proofs.Gathering.{Listed, members-listed}
-use borrow.Author.Rules.{rules}
 use Rattle.transmissions.proofs.leader.Goals as goal
 
 pub outcome-d-requires : goal.outcome-d-requires

@@ -1,15 +1,11 @@
-use Prim.Native.Nat.{◌-◌, ◌≤◌}
-use mathlib.Core.Path.{◌≡◌, refl, sym, ap, ◌∙◌}
+use Prim.Native.Nat.{◌-◌}
+use mathlib.Core.Path.{refl, ◌∙◌}
 use native.Mathlib.Omega.{arith}
-use lib.ListN.{length, length-set}
-use Rattle.ranges.specs.Range.{Collected, Filled}
+use lib.ListN.{length-set}
+use Rattle.ranges.specs.Range.{Filled}
 use Rattle.ranges.proofs.Range.{collected-none, collected-hit, collected-done}
 use Rattle.fixes.specs.Layout.{maxFixes}
-use Rattle.transmissions.specs.Members.{every, leading}
-use borrow.Author.Rules.{rules}
-use Rattle.transmissions.proofs.leaders.Reads as reads
-use Rattle.transmissions.proofs.leaders.Lts as lts
-use Rattle.transmissions.proofs.leading.Reads as leading-reads
+use Rattle.transmissions.specs.Members.{leading}
 use Rattle.transmissions.proofs.leaders.Goals as goal
 
 pub loop-s-init : goal.loop-s-init

@@ -1,14 +1,9 @@
 use Prim.Native.Nat.{◌-◌, ◌≤◌}
-use mathlib.Core.Path.{◌≡◌, refl, sym, ap, ◌∙◌}
-use native.Mathlib.Omega.{arith}
-use lib.ListN.{length, length-set}
-use Rattle.ranges.specs.Range.{Collected, Filled}
-use Rattle.ranges.proofs.Range.{collected-none, collected-hit, collected-done}
+use mathlib.Core.Path.{◌≡◌}
+use lib.ListN.{length}
+use Rattle.ranges.specs.Range.{Collected}
 use Rattle.fixes.specs.Layout.{maxFixes}
 use Rattle.transmissions.specs.Members.{every, leading}
-use Rattle.transmissions.proofs.leaders.Reads as reads
-use Rattle.transmissions.proofs.leaders.Lts as lts
-use Rattle.transmissions.proofs.leading.Reads as leading-reads
 use Rattle.transmissions.proofs.leaders.Given as goal
 
 abbrev pub invariant-loop-s : goal.invariant-loop-s

@@ -1,7 +1,5 @@
-use mathlib.Core.Path.{refl, sym, ◌∙◌}
-use native.Mathlib.Omega.{arith}
-use borrow.Author.Tests.{eq-eqb, ne_eqb}
-use borrow.Author.Rules.{rules}
+use mathlib.Core.Path.{sym}
+use borrow.Author.Tests.{eq-eqb}
 use Rattle.transmissions.proofs.Items.{head-leads}
 use Rattle.transmissions.proofs.leading.Goals as goal
 

@@ -7,12 +7,10 @@ use native.Mathlib.Nat.{zero-add}
 use native.Mathlib.Numerals.{add-one}
 use lib.ListN.{length, length-append}
 use mir.Val.{bool_byte}
-use borrow.Author.Rules.{rules}
 use Rattle.ranges.specs.Range.{collect}
 use Rattle.ranges.specs.Tables.{itself}
 use Rattle.ranges.proofs.Bools.{by}
 use Rattle.ranges.proofs.Range.{collect-snoc}
-use Rattle.fixes.specs.Layout.{maxFixes}
 use Rattle.transmissions.specs.Members.{belongs, members_of}
 use Rattle.transmissions.proofs.member_count.Goals as goal
 

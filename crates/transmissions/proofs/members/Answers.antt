@@ -1,15 +1,11 @@
-use Prim.Native.Nat.{◌-◌, ◌≤◌}
-use mathlib.Core.Path.{◌≡◌, refl, sym, ◌∙◌}
+use Prim.Native.Nat.{◌-◌}
+use mathlib.Core.Path.{refl}
 use native.Mathlib.Omega.{arith}
-use lib.ListN.{length, length-set}
+use lib.ListN.{length-set}
 use borrow.Author.Tests.{eq-eqb, ne_eqb}
-use borrow.Author.Rules.{rules}
-use Rattle.ranges.specs.Range.{Collected}
 use Rattle.ranges.proofs.Range.{collected-none, collected-hit, collected-miss, collected-done}
-use Rattle.ranges.specs.Tables.{itself}
 use Rattle.fixes.specs.Layout.{maxFixes}
 use Rattle.decision.proofs.Arrays.{held-indices}
-use Rattle.transmissions.specs.Members.{belongs}
 use Rattle.transmissions.proofs.members.Goals as goal
 
 pub loop-j-init : goal.loop-j-init

@@ -1,14 +1,7 @@
-use mathlib.Core.Path.{◌≡◌, refl, sym, ap, ◌∙◌}
+use mathlib.Core.Path.{ap, ◌∙◌}
 use native.Mathlib.Omega.{arith}
-use lib.Seq.{length-take-le}
-use Rattle.text.proofs.Writing.{put-length}
 use Rattle.decision.specs.Answer.{decided}
 use Rattle.transmissions.proofs.Gathering.{written}
-use borrow.Author.Rules.{rules}
-use Rattle.transmissions.proofs.outcome.Reads as reads
-use Rattle.transmissions.proofs.outcome.Lts as lts
-use Rattle.decision.proofs.decide.Reads as decide-reads
-use Rattle.transmissions.proofs.put_items.Reads as put-items-reads
 use Rattle.transmissions.proofs.outcome.Goals as goal
 
 pub returns : goal.returns

@@ -1,16 +1,8 @@
-use Prim.Native.Nat.{◌-◌, ◌*◌, ◌≤◌}
-use mathlib.Core.Path.{◌≡◌, refl, sym, ◌∙◌}
+use Prim.Native.Nat.{◌-◌}
 use native.Mathlib.Omega.{arith}
-use lib.ListN.{take}
-use Rattle.text.specs.Buffer.{Put}
-use Rattle.text.proofs.Writing.{put-put, put_as, put-none, put-length}
-use Rattle.items.specs.Layout.{itemSize}
+use Rattle.text.proofs.Writing.{put-put, put_as, put-none}
 use Rattle.transmissions.specs.Members.{items_of}
 use Rattle.transmissions.proofs.Gathering.{items_more}
-use borrow.Author.Rules.{rules}
-use Rattle.transmissions.proofs.put_items.Reads as reads
-use Rattle.transmissions.proofs.put_items.Lts as lts
-use Rattle.transmissions.proofs.put_item.Reads as put-item-reads
 use Rattle.transmissions.proofs.put_items.Goals as goal
 
 pub loop-i-init : goal.loop-i-init

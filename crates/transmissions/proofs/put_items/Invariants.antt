@@ -1,15 +1,9 @@
 use Prim.Native.Nat.{◌-◌, ◌*◌, ◌≤◌}
-use mathlib.Core.Path.{◌≡◌, refl, sym, ◌∙◌}
-use native.Mathlib.Omega.{arith}
+use mathlib.Core.Path.{◌≡◌}
 use lib.ListN.{take}
 use Rattle.text.specs.Buffer.{Put}
-use Rattle.text.proofs.Writing.{put-put, put_as, put-none, put-length}
 use Rattle.items.specs.Layout.{itemSize}
 use Rattle.transmissions.specs.Members.{items_of}
-use Rattle.transmissions.proofs.Gathering.{items_more}
-use Rattle.transmissions.proofs.put_items.Reads as reads
-use Rattle.transmissions.proofs.put_items.Lts as lts
-use Rattle.transmissions.proofs.put_item.Reads as put-item-reads
 use Rattle.transmissions.proofs.put_items.Given as goal
 
 abbrev pub invariant-loop-i : goal.invariant-loop-i

@@ -1,8 +1,6 @@
-use Prim.Native.Nat.{◌-◌, ◌≤◌}
-use mathlib.Core.Path.{◌≡◌, refl, sym, ◌∙◌}
+use Prim.Native.Nat.{◌-◌}
+use mathlib.Core.Path.{sym, ◌∙◌}
 use native.Mathlib.Omega.{arith}
-use lib.ListN.{length, drop}
-use Rattle.values.specs.Values.{digitsAfter}
 use Rattle.values.proofs.Texts.{digit_low, digit-high, digit-over, digit-more, digits-end}
 use Rattle.values.proofs.digits.Goals as goal
 

@@ -1,9 +1,7 @@
 use Prim.Native.Nat.{◌-◌, ◌≤◌}
-use mathlib.Core.Path.{◌≡◌, refl, sym, ◌∙◌}
-use native.Mathlib.Omega.{arith}
+use mathlib.Core.Path.{◌≡◌}
 use lib.ListN.{length, drop}
 use Rattle.values.specs.Values.{digitsAfter}
-use Rattle.values.proofs.Texts.{digit_low, digit-high, digit-over, digit-more, digits-end}
 use Rattle.values.proofs.digits.Given as goal
 
 abbrev pub invariant-loop-i : goal.invariant-loop-i

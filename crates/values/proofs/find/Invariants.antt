@@ -1,9 +1,7 @@
 use Prim.Native.Nat.{◌+◌, ◌-◌, ◌≤◌}
-use mathlib.Core.Path.{◌≡◌, refl, sym, ◌∙◌}
-use native.Mathlib.Omega.{arith}
+use mathlib.Core.Path.{◌≡◌}
 use lib.ListN.{length, drop}
 use Rattle.values.specs.Values.{index_of}
-use Rattle.values.proofs.Texts.{index-here, index-more, index-end}
 use Rattle.values.proofs.find.Given as goal
 
 abbrev pub invariant-loop-i : goal.invariant-loop-i

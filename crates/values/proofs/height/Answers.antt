@@ -1,5 +1,4 @@
 use mathlib.Core.Path.{sym, ap, ◌∙◌}
-use borrow.Author.Rules.{rules}
 use Rattle.octets.specs.Ascii.{ascii}
 use Rattle.values.specs.Enums.{number_in}
 use Rattle.values.proofs.Texts.{height-none, height-read}

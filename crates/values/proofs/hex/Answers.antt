@@ -1,12 +1,11 @@
-use Prim.Native.Nat.{ℕ, ◌-◌, ◌*◌, ◌≤◌}
-use mathlib.Core.Path.{◌≡◌, refl, sym, ap, ◌∙◌}
+use Prim.Native.Nat.{ℕ, ◌-◌, ◌*◌}
+use mathlib.Core.Path.{◌≡◌, sym, ap, ◌∙◌}
 use mathlib.Core.List.{List, ◌++◌}
 use native.Mathlib.Omega.{arith}
 use lib.ListN.{length-set, length, drop, take}
 use Rattle.values.specs.Values.{hexBytes, readHex, map}
 use Rattle.values.specs.Enums.{byteIn}
-use Rattle.values.proofs.Texts.{hex-due, hex-undue, hex-none, hex-step, hex-end, map-nothing}
-use borrow.Author.Rules.{rules}
+use Rattle.values.proofs.Texts.{hex-due, hex-undue, hex-none, hex-step, hex-end}
 use Rattle.values.proofs.hex.Goals as goal
 
 pub returns-then-text-out : goal.returns-then-text-out

@@ -1,11 +1,8 @@
-use Prim.Native.Nat.{ℕ, ◌-◌, ◌*◌, ◌≤◌}
-use mathlib.Core.Path.{◌≡◌, refl, sym, ap, ◌∙◌}
-use mathlib.Core.List.{List, ◌++◌}
-use native.Mathlib.Omega.{arith}
-use lib.ListN.{length-set, length, drop, take}
-use Rattle.values.specs.Values.{hexBytes, readHex, map}
-use Rattle.values.specs.Enums.{byteIn}
-use Rattle.values.proofs.Texts.{hex-due, hex-undue, hex-none, hex-step, hex-end, map-nothing}
+use Prim.Native.Nat.{◌-◌, ◌*◌, ◌≤◌}
+use mathlib.Core.Path.{◌≡◌}
+use mathlib.Core.List.{◌++◌}
+use lib.ListN.{length, drop, take}
+use Rattle.values.specs.Values.{hexBytes, map}
 use Rattle.values.proofs.hex.Given as goal
 
 abbrev pub invariant-loop-i : goal.invariant-loop-i

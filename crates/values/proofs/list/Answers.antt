@@ -1,14 +1,13 @@
-use Prim.Native.Nat.{ℕ, ◌+◌, ◌-◌, ◌≤◌}
-use mathlib.Core.Path.{◌≡◌, refl, sym, ap, ◌∙◌}
+use Prim.Native.Nat.{ℕ, ◌+◌, ◌-◌}
+use mathlib.Core.Path.{◌≡◌, sym, ap, ◌∙◌}
 use mathlib.Core.List.{List, [], ◌∷◌, ◌++◌}
 use mathlib.Core.Option.{some}
 use native.Mathlib.Omega.{arith}
-use lib.ListN.{length, drop, take, set, length-set}
-use borrow.Author.Rules.{rules}
+use lib.ListN.{drop, take, set, length-set}
 use Rattle.record.specs.Layout.{maxTags}
 use Rattle.values.specs.Values.{readNumber, readNumbers, map, pad}
 use Rattle.values.specs.Enums.{number_in}
-use Rattle.values.proofs.Texts.{list-bad, list-last, list-more, list_over, pad-set, map-nothing, taken-set}
+use Rattle.values.proofs.Texts.{list-bad, list-last, list-more, list_over, pad-set, taken-set}
 use Rattle.values.proofs.list.Goals as goal
 
 pub returns-in_default : goal.returns-in_default

@@ -1,13 +1,9 @@
-use Prim.Native.Nat.{ℕ, ◌+◌, ◌-◌, ◌≤◌}
-use mathlib.Core.Path.{◌≡◌, refl, sym, ap, ◌∙◌}
-use mathlib.Core.List.{List, [], ◌∷◌, ◌++◌}
-use mathlib.Core.Option.{some}
-use native.Mathlib.Omega.{arith}
-use lib.ListN.{length, drop, take, set, length-set}
+use Prim.Native.Nat.{◌+◌, ◌-◌, ◌≤◌}
+use mathlib.Core.Path.{◌≡◌}
+use mathlib.Core.List.{◌++◌}
+use lib.ListN.{length, drop, take}
 use Rattle.record.specs.Layout.{maxTags}
-use Rattle.values.specs.Values.{readNumber, readNumbers, map, pad}
-use Rattle.values.specs.Enums.{number_in}
-use Rattle.values.proofs.Texts.{list-bad, list-last, list-more, list_over, pad-set, map-nothing, taken-set}
+use Rattle.values.specs.Values.{readNumbers, map, pad}
 use Rattle.values.proofs.list.Given as goal
 
 abbrev pub invariant-loop-count : goal.invariant-loop-count

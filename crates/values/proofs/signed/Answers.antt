@@ -3,7 +3,6 @@ use mathlib.Core.Path.{◌≡◌, sym, ap, ◌∙◌}
 use mathlib.Core.List.{List}
 use native.Mathlib.Omega.{arith}
 use lib.ListN.{drop}
-use borrow.Author.Rules.{rules}
 use Rattle.octets.proofs.Moves.{tail-lent}
 use Rattle.values.specs.Values.{readNumber, readSigned, negate}
 use Rattle.values.specs.Enums.{number_in}

@@ -1,8 +1,8 @@
-use Prim.Native.Nat.{◌%◌, ℕ, ◌+◌, ◌-◌, ◌*◌, ◌≤◌}
-use mathlib.Core.Path.{◌≡◌, refl, sym, ap, ◌∙◌}
+use Prim.Native.Nat.{◌%◌, ℕ, ◌+◌, ◌-◌, ◌*◌}
+use mathlib.Core.Path.{refl, sym, ap, ◌∙◌}
 use mathlib.Core.List.{List, ◌++◌}
 use native.Mathlib.Omega.{arith}
-use lib.ListN.{replicate, length, get_or, drop, take, set, length-set}
+use lib.ListN.{replicate, get_or, drop, take, set, length-set}
 use Rattle.octets.proofs.Moves.{up}
 use Rattle.values.specs.Values as Val
 use Rattle.values.proofs.Texts.{swap_at, length-swap, all-taken}

@@ -1,11 +1,8 @@
-use Prim.Native.Nat.{◌%◌, ℕ, ◌+◌, ◌-◌, ◌*◌, ◌≤◌}
-use mathlib.Core.Path.{◌≡◌, refl, sym, ap, ◌∙◌}
-use mathlib.Core.List.{List, ◌++◌}
-use native.Mathlib.Omega.{arith}
-use lib.ListN.{replicate, length, get_or, drop, take, set, length-set}
-use Rattle.octets.proofs.Moves.{up}
+use Prim.Native.Nat.{◌+◌, ◌-◌, ◌≤◌}
+use mathlib.Core.Path.{◌≡◌}
+use mathlib.Core.List.{◌++◌}
+use lib.ListN.{length, drop, take}
 use Rattle.values.specs.Values as Val
-use Rattle.values.proofs.Texts.{swap_at, length-swap, all-taken}
 use Rattle.values.proofs.swap_bytes.Given as goal
 
 abbrev pub invariant-loop-i : goal.invariant-loop-i

@@ -1,13 +1,9 @@
-use Prim.Native.Nat.{◌-◌, ◌≤◌}
-use mathlib.Core.Path.{◌≡◌, refl}
+use Prim.Native.Nat.{◌-◌}
+use mathlib.Core.Path.{refl}
 use native.Mathlib.Omega.{arith}
-use lib.ListN.{length, length-set}
-use borrow.Author.Rules.{rules}
-use Rattle.ranges.specs.Range.{Collected}
-use Rattle.ranges.proofs.Range.{collected-none, collected-hit, collected-miss, collected-done}
-use Rattle.record.specs.Fields.{tag_at, tagCount}
+use lib.ListN.{length-set}
+use Rattle.ranges.proofs.Range.{collected-none, collected-hit, collected-miss}
 use Rattle.record.specs.Layout.{maxTags}
-use Rattle.verdict.specs.Added.{isAdded}
 use Rattle.verdict.proofs.added.Goals as goal
 
 pub loop-i-init : goal.loop-i-init

@@ -1,5 +1,4 @@
 use mathlib.Core.Path.{refl}
-use borrow.Author.Rules.{rules}
 use Rattle.record.proofs.Parts.{formed}
 use Rattle.verdict.specs.Supersets.{comparisonOf}
 use Rattle.verdict.proofs.Adding.{tags-of}

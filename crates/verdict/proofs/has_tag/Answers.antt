@@ -1,12 +1,8 @@
-use Prim.Native.Nat.{◌-◌, ◌≤◌}
-use mathlib.Core.Path.{◌≡◌, sym, ◌∙◌}
+use Prim.Native.Nat.{◌-◌}
+use mathlib.Core.Path.{sym, ◌∙◌}
 use native.Mathlib.Omega.{arith}
-use borrow.Author.Rules.{rules}
 use borrow.Author.Tests.{eq-eqb, ne_eqb}
-use Rattle.ranges.specs.Range.{any}
-use Rattle.ranges.proofs.Range.{any-start, any-hit, any-miss, any-end}
-use Rattle.record.specs.Fields.{tagCount}
-use Rattle.verdict.specs.Added.{hasTag}
+use Rattle.ranges.proofs.Range.{any-hit, any-miss, any-end}
 use Rattle.verdict.proofs.has_tag.Goals as goal
 
 pub returns-then-t-tag : goal.returns-then-t-tag

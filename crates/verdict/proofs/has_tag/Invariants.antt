@@ -1,9 +1,6 @@
 use Prim.Native.Nat.{◌-◌, ◌≤◌}
-use mathlib.Core.Path.{◌≡◌, sym, ◌∙◌}
-use native.Mathlib.Omega.{arith}
-use borrow.Author.Tests.{eq-eqb, ne_eqb}
+use mathlib.Core.Path.{◌≡◌}
 use Rattle.ranges.specs.Range.{any}
-use Rattle.ranges.proofs.Range.{any-start, any-hit, any-miss, any-end}
 use Rattle.record.specs.Fields.{tagCount}
 use Rattle.verdict.specs.Added.{hasTag}
 use Rattle.verdict.proofs.has_tag.Given as goal

@@ -1,6 +1,4 @@
 use mathlib.Core.Path.{sym, ◌∙◌}
-use borrow.Author.Rules.{rules}
-use Rattle.ranges.proofs.Bools.{not_t, not-false-t}
 use Rattle.verdict.specs.Supersets.{verdictOf}
 use Rattle.verdict.proofs.superset_verdict.Goals as goal
 

@@ -1,5 +1,4 @@
 use Rattle.arithmetic.specs.Stages.{judgedOf, comparedOf}
-use borrow.Author.Rules.{rules}
 use Rattle.arithmetic.proofs.stages.compared.Goals as goal
 
 pub returns : goal.returns

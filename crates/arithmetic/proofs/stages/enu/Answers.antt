@@ -1,5 +1,4 @@
 use Rattle.arithmetic.specs.Stages.{enuOf}
-use borrow.Author.Rules.{rules}
 use Rattle.arithmetic.proofs.stages.enu.Goals as goal
 
 pub returns : goal.returns

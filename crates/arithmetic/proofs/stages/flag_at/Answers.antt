@@ -1,6 +1,5 @@
 use mathlib.Core.Path.{refl}
 use lib.Ieee.{of_int, of_bits}
-use borrow.Author.Rules.{rules}
 use Rattle.arithmetic.proofs.stages.flag_at.Goals as goal
 
 pub returns : goal.returns

@@ -2,7 +2,6 @@ use mathlib.Core.Path.{sym, ap}
 use lib.Ieee.{of_int, of_bits}
 use Rattle.arithmetic.specs.Stages.{flags_of}
 use Rattle.geometry.specs.declared.linalg.Factor.{Factor}
-use borrow.Author.Rules.{rules}
 use Rattle.arithmetic.proofs.stages.flags.Goals as goal
 
 pub returns-in-None : goal.returns-in-None

@@ -6,7 +6,6 @@ use lib.IntN.{ℤ}
 use lib.Signed.{mag}
 use mir.Val.{to_z, of_z}
 use Rattle.arithmetic.specs.Agree.{geodeticOf}
-use borrow.Author.Rules.{rules}
 use Rattle.arithmetic.proofs.stages.geodetic.Goals as goal
 
 back : (z : ℤ) → mag z < 2 ^ 31 → to_z w32 (of_z w32 z) ≡ z

@@ -1,6 +1,5 @@
-use borrow.Author.Tests.{not-true, not-false}
 use mathlib.Core.Bool.{false}
-use lib.Ieee.{inf, lt, div, of_bits, neg}
+use lib.Ieee.{div, of_bits, neg}
 use Rattle.arithmetic.proofs.Comparing.{is_finite}
 use Rattle.arithmetic.proofs.stages.is_finite.Goals as goal
 

@@ -1,5 +1,4 @@
 use Rattle.arithmetic.specs.Stages.{judgedOf}
-use borrow.Author.Rules.{rules}
 use Rattle.arithmetic.proofs.stages.judged.Goals as goal
 
 pub returns : goal.returns

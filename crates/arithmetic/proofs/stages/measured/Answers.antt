@@ -1,7 +1,6 @@
-use mathlib.Core.Path.{sym, ap, ◌∙◌}
+use mathlib.Core.Path.{sym, ap}
 use Rattle.arithmetic.specs.Stages.{measuredOf}
 use Rattle.geometry.specs.declared.linalg.Factor.{Factor}
-use borrow.Author.Rules.{rules}
 use Rattle.arithmetic.proofs.stages.measured.Goals as goal
 
 pub returns-in-None : goal.returns-in-None

@@ -1,5 +1,4 @@
 use Rattle.arithmetic.specs.Stages.{measuredOf}
-use borrow.Author.Rules.{rules}
 use Rattle.arithmetic.proofs.stages.measured_full.Goals as goal
 
 pub returns-then-three : goal.returns-then-three

@@ -1,9 +1,7 @@
 use mathlib.Core.Path.{◌≡◌, sym, ◌∙◌}
 use mathlib.Core.Bool.{true, false}
-use borrow.Author.Tests.{not-true, not-false}
 use Rattle.arithmetic.specs.Stages.{flagAt}
 use Rattle.arithmetic.proofs.Staged.{none_in, two_in, flat_in, three-in}
-use borrow.Author.Rules.{rules}
 use Rattle.arithmetic.proofs.stages.measured_in.Goals as goal
 
 pub returns-then-not-flag_at : goal.returns-then-not-flag_at

@@ -1,6 +1,5 @@
 use mir.Facts.{to_z-of_z}
 use lib.Ieee.{of_int, of_bits}
-use borrow.Author.Rules.{rules}
 use Rattle.arithmetic.proofs.stages.metres.Goals as goal
 
 pub returns-then-high : goal.returns-then-high

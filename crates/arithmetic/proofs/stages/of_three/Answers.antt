@@ -1,7 +1,6 @@
 use lib.Ieee.{of_bits, round}
 use Rattle.geometry.specs.Numbers.{fromDecimal}
 use Rattle.arithmetic.specs.Agree.{limitOf}
-use borrow.Author.Rules.{rules}
 use Rattle.arithmetic.proofs.stages.of_three.Goals as goal
 
 pub returns : goal.returns

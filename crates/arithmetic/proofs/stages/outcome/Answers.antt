@@ -1,10 +1,8 @@
 use mathlib.Core.Path.{◌≡◌, sym, ◌∙◌}
 use mathlib.Core.Bool.{true, false}
-use borrow.Author.Tests.{not-true, not-false}
 use lib.Ieee.{le}
 use lib.Ieee.Scale.{finite}
 use Rattle.arithmetic.specs.Agree.{outcomeOf, finitely}
-use borrow.Author.Rules.{rules}
 use Rattle.arithmetic.proofs.stages.outcome.Goals as goal
 
 pub returns-then-not-is_finite : goal.returns-then-not-is_finite

@@ -1,5 +1,4 @@
 use Rattle.arithmetic.specs.Stages.{parts_of}
-use borrow.Author.Rules.{rules}
 use Rattle.arithmetic.proofs.stages.parts.Goals as goal
 
 pub returns : goal.returns

@@ -1,8 +1,6 @@
-use lib.ListN.{length}
-use mathlib.Core.Path.{◌≡◌, sym}
+use mathlib.Core.Path.{sym}
 use Rattle.arithmetic.specs.Stages.{numbersOf}
 use Rattle.arithmetic.proofs.Staged.{all_set}
-use borrow.Author.Rules.{rules}
 use Rattle.arithmetic.proofs.stages.put.Goals as goal
 
 pub returns : goal.returns

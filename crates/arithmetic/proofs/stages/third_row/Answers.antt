@@ -1,6 +1,5 @@
 use mathlib.Core.Path.{sym, ap, ◌∙◌}
 use Rattle.arithmetic.specs.Stages.{thirdRowOf}
-use borrow.Author.Rules.{rules}
 use Rattle.arithmetic.proofs.stages.third_row.Goals as goal
 
 pub returns-in-None : goal.returns-in-None

@@ -1,6 +1,5 @@
 use mathlib.Core.Path.{sym, ap, ◌∙◌}
 use Rattle.arithmetic.specs.Stages.{twoRowsOf}
-use borrow.Author.Rules.{rules}
 use Rattle.arithmetic.proofs.stages.two_rows.Goals as goal
 
 pub returns-in-None : goal.returns-in-None

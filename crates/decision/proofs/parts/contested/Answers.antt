@@ -1,5 +1,4 @@
 use mathlib.Core.Path.{sym, ◌∙◌}
-use borrow.Author.Rules.{rules}
 use Rattle.ranges.specs.Lists.{up_to}
 use Rattle.rule.specs.Related.{itemRelations}
 use Rattle.rule.proofs.Choosing.{chose-among}

@@ -5,11 +5,9 @@ use borrow.Author.Rules.{rules}
 use Rattle.ranges.specs.Lists.{up_to}
 use Rattle.ranges.proofs.Sorting.{Strict}
 use Rattle.items.specs.Items.{aheadAt}
-use Rattle.rule.specs.Related.{itemRelations}
-use Rattle.rule.specs.Rule.{stands}
 use Rattle.rule.proofs.Choosing.{chose-among}
 use Rattle.decision.proofs.Sound.{by_rank}
-use Rattle.decision.proofs.Ranking.{Ranking, ranking-none, ranking-more, ranking-end, ranking-full}
+use Rattle.decision.proofs.Ranking.{ranking-none, ranking-more, ranking-end, ranking-full}
 use Rattle.decision.proofs.parts.rank_all.Goals as goal
 
 pub loop-count-init : goal.loop-count-init

@@ -1,6 +1,4 @@
 use mathlib.Core.Path.{sym, ap, ◌∙◌}
-use borrow.Author.Rules.{rules}
-use Rattle.ranges.proofs.Bools.{not_t, not-false-t}
 use Rattle.ranges.proofs.Tables.{cached-at}
 use Rattle.decision.specs.Working.{finding}
 use Rattle.decision.proofs.Findings.{unrefused, refusal-replaced, refusal-opposed}

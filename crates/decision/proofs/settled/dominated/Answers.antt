@@ -1,16 +1,11 @@
-use Prim.Native.Nat.{◌-◌, ◌≤◌}
-use mathlib.Core.Path.{◌≡◌, refl, sym, ap, ◌∙◌}
+use Prim.Native.Nat.{◌-◌}
+use mathlib.Core.Path.{refl, sym, ap, ◌∙◌}
 use native.Mathlib.Omega.{arith}
-use lib.ListN.{length, length-set}
-use borrow.Author.Rules.{rules}
-use Rattle.ranges.specs.Lists.{filter, countFrom, up_to}
-use Rattle.ranges.specs.Range.{Holds}
-use Rattle.ranges.proofs.Bools.{not_t, not-false-t}
+use lib.ListN.{length-set}
+use Rattle.ranges.specs.Lists.{filter, countFrom}
 use Rattle.ranges.proofs.Searches.{holds-none, listed-hit, listed-miss, listed-done}
 use Rattle.items.specs.Layout.{maxItems}
 use Rattle.rule.specs.Standing as S
-use Rattle.rule.specs.Related.{itemRelations}
-use Rattle.rule.specs.Rule as R
 use Rattle.decision.specs.Answer.{indices}
 use Rattle.decision.proofs.Arrays.{held-indices}
 use Rattle.decision.proofs.Passed.{outcome-is}

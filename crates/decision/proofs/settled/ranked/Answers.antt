@@ -3,7 +3,6 @@ use Rattle.rule.specs.Standing as S
 use Rattle.decision.specs.Answer.{indices}
 use Rattle.decision.proofs.Arrays.{held-indices}
 use Rattle.decision.proofs.Passed.{outcome-is}
-use borrow.Author.Rules.{rules}
 use Rattle.decision.proofs.settled.ranked.Goals as goal
 
 pub returns : goal.returns

@@ -1,17 +1,14 @@
-use Prim.Native.Nat.{◌-◌, ◌≤◌}
-use mathlib.Core.Path.{◌≡◌, refl}
+use Prim.Native.Nat.{◌-◌}
+use mathlib.Core.Path.{refl}
 use native.Mathlib.Omega.{arith}
-use lib.ListN.{length, length-set}
-use borrow.Author.Rules.{rules}
-use Rattle.ranges.specs.Range.{Holds}
+use lib.ListN.{length-set}
 use Rattle.ranges.proofs.Searches.{holds-none, holds_more}
 use Rattle.items.specs.Layout.{maxItems}
 use Rattle.items.specs.Pairs.{Prepared}
-use Rattle.rule.specs.Related.{itemRelations}
 use Rattle.decision.specs.Answer.{noRefusal}
 use Rattle.decision.specs.Working.{Settled}
 use Rattle.decision.proofs.Arrays.{held-refusals}
-use Rattle.decision.proofs.Findings.{refusedTo, none-refused, found_none, found-one, all-refused}
+use Rattle.decision.proofs.Findings.{none-refused, found_none, found-one, all-refused}
 use Rattle.decision.proofs.settled.refusals.Goals as goal
 
 pub loop-i-init : goal.loop-i-init

@@ -1,6 +1,5 @@
 use native.Mathlib.Omega.{arith}
 use Rattle.decision.proofs.Passed.{good_of, whole-items}
-use borrow.Author.Rules.{rules}
 use Rattle.decision.proofs.settled.settle.Goals as goal
 
 pub code_all-requires : goal.code_all-requires

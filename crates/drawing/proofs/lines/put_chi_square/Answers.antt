@@ -7,7 +7,6 @@ use Rattle.text.specs.Numbers.{hex}
 use Rattle.text.proofs.Writing.{put_as}
 use Rattle.arithmetic.specs.declared.standing.ChiSquare.{ChiSquare}
 use Rattle.drawing.specs.Lines.{chiSquareText}
-use borrow.Author.Rules.{rules}
 use Rattle.drawing.proofs.lines.put_chi_square.Goals as goal
 
 pub returns-in-Measured : goal.returns-in-Measured

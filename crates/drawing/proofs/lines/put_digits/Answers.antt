@@ -1,10 +1,5 @@
 use native.Mathlib.Omega.{arith}
-use Rattle.text.proofs.Writing.{put-put, put_as}
-use borrow.Author.Rules.{rules}
-use Rattle.drawing.proofs.lines.put_digits.Reads as reads
-use Rattle.drawing.proofs.lines.put_digits.Lts as lts
-use Rattle.text.proofs.put_bytes.Reads as put-bytes-reads
-use Rattle.text.proofs.put_hex.Reads as put-hex-reads
+use Rattle.text.proofs.Writing.{put-put}
 use Rattle.drawing.proofs.lines.put_digits.Goals as goal
 
 pub returns : goal.returns

@@ -1,18 +1,8 @@
-use mathlib.Core.List.{append_assoc}
 use Rattle.octets.specs.Ascii.{ascii}
 use Rattle.drawing.specs.Lines.{fixText}
-use mathlib.Core.Path.{◌≡◌, refl, sym, ap, ◌∙◌}
+use mathlib.Core.Path.{refl}
 use native.Mathlib.Omega.{arith}
 use Rattle.text.proofs.Writing.{put-put, put_as}
-use borrow.Author.Rules.{rules}
-use Rattle.drawing.proofs.lines.put_fix.Reads as reads
-use Rattle.drawing.proofs.lines.put_fix.Lts as lts
-use Rattle.drawing.proofs.lines.put_digits.Reads as put-digits-reads
-use Rattle.drawing.proofs.lines.put_height.Reads as put-height-reads
-use Rattle.drawing.proofs.lines.put_number.Reads as put-number-reads
-use Rattle.drawing.proofs.lines.put_where_when.Reads as put-where-when-reads
-use Rattle.record.proofs.fields.weight.Reads as weight-reads
-use Rattle.text.proofs.put_bytes.Reads as put-bytes-reads
 use Rattle.drawing.proofs.lines.put_fix.Goals as goal
 
 pub returns : goal.returns

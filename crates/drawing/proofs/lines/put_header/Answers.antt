@@ -1,14 +1,7 @@
 use Rattle.octets.specs.Ascii.{ascii}
 use Rattle.drawing.specs.Lines.{header}
-use mathlib.Core.Path.{◌≡◌, refl, sym, ap, ◌∙◌}
-use mathlib.Core.List.{append_assoc}
 use native.Mathlib.Omega.{arith}
-use Rattle.text.proofs.Writing.{put-put, put_as}
-use borrow.Author.Rules.{rules}
-use Rattle.drawing.proofs.lines.put_header.Reads as reads
-use Rattle.drawing.proofs.lines.put_header.Lts as lts
-use Rattle.drawing.proofs.lines.put_number.Reads as put-number-reads
-use Rattle.text.proofs.put_bytes.Reads as put-bytes-reads
+use Rattle.text.proofs.Writing.{put-put}
 use Rattle.drawing.proofs.lines.put_header.Goals as goal
 
 pub returns : goal.returns

@@ -2,16 +2,10 @@ use mir.Facts.{to_z-of_z}
 use mir.Syntax.{w32}
 use Rattle.octets.specs.Ascii.{ascii}
 use Rattle.drawing.specs.Lines.{heightText}
-use mathlib.Core.Path.{◌≡◌, refl, sym, ap, ◌∙◌}
+use mathlib.Core.Path.{refl, sym}
 use native.Mathlib.Omega.{arith}
 use Rattle.text.proofs.Writing.{put-put, put_as}
-use borrow.Author.Rules.{rules, sfits_of}
-use Rattle.drawing.proofs.lines.put_height.Reads as reads
-use Rattle.drawing.proofs.lines.put_height.Lts as lts
-use Rattle.record.proofs.fields.has_height.Reads as has-height-reads
-use Rattle.record.proofs.fields.height.Reads as height-reads
-use Rattle.text.proofs.put_bytes.Reads as put-bytes-reads
-use Rattle.text.proofs.put_metres.Reads as put-metres-reads
+use borrow.Author.Rules.{sfits_of}
 use Rattle.drawing.proofs.lines.put_height.Goals as goal
 
 pub returns-then-has_height : goal.returns-then-has_height

@@ -1,10 +1,5 @@
 use native.Mathlib.Omega.{arith}
-use Rattle.text.proofs.Writing.{put-put, put_as}
-use borrow.Author.Rules.{rules}
-use Rattle.drawing.proofs.lines.put_number.Reads as reads
-use Rattle.drawing.proofs.lines.put_number.Lts as lts
-use Rattle.text.proofs.put_bytes.Reads as put-bytes-reads
-use Rattle.text.proofs.put_u64.Reads as put-u64-reads
+use Rattle.text.proofs.Writing.{put-put}
 use Rattle.drawing.proofs.lines.put_number.Goals as goal
 
 pub returns : goal.returns

@@ -2,7 +2,6 @@ use Rattle.octets.specs.Ascii.{ascii}
 use Rattle.drawing.specs.Lines.{refusedLine}
 use native.Mathlib.Omega.{arith}
 use Rattle.text.proofs.Writing.{put-put}
-use borrow.Author.Rules.{rules}
 use Rattle.drawing.proofs.lines.put_refused.Goals as goal
 
 pub returns : goal.returns

@@ -1,14 +1,9 @@
 use Rattle.text.specs.Numbers.{signed}
-use mathlib.Core.Path.{◌≡◌, refl, sym, ap, ◌∙◌}
+use mathlib.Core.Path.{ap}
 use mir.Facts.{to_z-of_z}
 use mir.Syntax.{w32}
 use native.Mathlib.Omega.{arith}
 use Rattle.text.proofs.Writing.{put-put, put_as}
-use borrow.Author.Rules.{rules}
-use Rattle.drawing.proofs.lines.put_signed.Reads as reads
-use Rattle.drawing.proofs.lines.put_signed.Lts as lts
-use Rattle.text.proofs.put_bytes.Reads as put-bytes-reads
-use Rattle.text.proofs.put_i32.Reads as put-i32-reads
 use Rattle.drawing.proofs.lines.put_signed.Goals as goal
 
 pub returns : goal.returns

@@ -1,18 +1,10 @@
-use mathlib.Core.Path.{◌≡◌, refl, sym, ap, ◌∙◌}
 use mir.Facts.{to_z-of_z}
 use mir.Syntax.{w32}
 use Rattle.octets.specs.Ascii.{ascii}
 use Rattle.drawing.specs.Lines.{whereWhen}
 use native.Mathlib.Omega.{arith}
-use Rattle.text.proofs.Writing.{put-put, put_as}
-use borrow.Author.Rules.{rules, sfits_of}
-use Rattle.drawing.proofs.lines.put_where_when.Reads as reads
-use Rattle.drawing.proofs.lines.put_where_when.Lts as lts
-use Rattle.drawing.proofs.lines.put_number.Reads as put-number-reads
-use Rattle.drawing.proofs.lines.put_signed.Reads as put-signed-reads
-use Rattle.record.proofs.fields.latitude.Reads as latitude-reads
-use Rattle.record.proofs.fields.longitude.Reads as longitude-reads
-use Rattle.record.proofs.fields.time.Reads as time-reads
+use Rattle.text.proofs.Writing.{put-put}
+use borrow.Author.Rules.{sfits_of}
 use Rattle.drawing.proofs.lines.put_where_when.Goals as goal
 
 pub returns : goal.returns

@@ -6,16 +6,13 @@ use lib.Bits.{bit_or}
 use lib.ListN.{length}
 use Rattle.octets.specs.Lesser.{lesserOf}
 use Rattle.octets.specs.Words.{word_bytes}
-use Rattle.places.specs.Places.{places}
 use Rattle.record.specs.Formed.{wellFormed}
 use Rattle.record.proofs.Parts.{formed}
 use Rattle.models.specs.Identity.{citedInputs}
-use Rattle.models.specs.Summary.{summarySize}
 use Rattle.models.proofs.Sets.{cited-length}
 use Rattle.fixes.specs.Layout.{fixIdentity, fixRecord, fixSigners}
 use Rattle.fixes.specs.Gathered.{jointAt}
 use Rattle.fixes.proofs.Gathering.{lesser-has}
-use borrow.Author.Rules.{rules}
 use Rattle.fixes.proofs.representatives.joint.Goals as goal
 
 -- the parts of the place, as they were found, are those of the definition

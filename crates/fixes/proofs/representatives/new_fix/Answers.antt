@@ -6,7 +6,6 @@ use Rattle.models.specs.Summary.{summarySize}
 use Rattle.models.proofs.Sets.{cited-length, identity-length}
 use Rattle.items.specs.Layout.{hashSize}
 use Rattle.fixes.proofs.Entering.{made}
-use borrow.Author.Rules.{rules}
 use Rattle.fixes.proofs.representatives.new_fix.Goals as goal
 
 pub place_of-requires : goal.place_of-requires

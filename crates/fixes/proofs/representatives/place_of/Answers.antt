@@ -2,7 +2,6 @@ use mathlib.Core.Path.{refl}
 use Rattle.octets.specs.Words.{word_bytes}
 use Rattle.octets.proofs.Numbers.{length-word-bytes}
 use Rattle.fixes.proofs.Filling.{filled}
-use borrow.Author.Rules.{rules}
 use Rattle.fixes.proofs.representatives.place_of.Goals as goal
 
 pub returns : goal.returns

@@ -1,13 +1,9 @@
-use Prim.Native.Nat.{ℕ, ◌+◌, ◌-◌, ◌*◌}
-use mathlib.Core.Path.{sym, ap, ◌∙◌}
+use Prim.Native.Nat.{◌+◌, ◌-◌}
 use native.Mathlib.Omega.{arith}
-use lib.ListN.{length, length-take, length-drop, length-replicate}
-use Rattle.places.specs.Places.{places}
+use lib.ListN.{length-take, length-drop}
 use Rattle.places.proofs.Walks.{room}
 use Rattle.record.specs.Layout.{recordSize}
-use Rattle.models.specs.Summary.{summarySize}
-use Rattle.fixes.specs.Layout.{maxFixes, fixSize}
-use Rattle.fixes.proofs.Walking.{Walked, walk_start, walk-formed, walk-next, walk_end}
+use Rattle.fixes.proofs.Walking.{walk_start, walk-formed, walk-next, walk_end}
 use Rattle.fixes.proofs.representatives.represent.Goals as goal
 
 pub loop-i-init : goal.loop-i-init

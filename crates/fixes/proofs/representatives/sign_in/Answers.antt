@@ -1,18 +1,16 @@
 use Prim.Native.Nat.{ℕ}
-use mathlib.Core.Path.{◌≡◌, ap, ◌∙◌}
+use mathlib.Core.Path.{◌≡◌}
 use mathlib.Core.Bool.{true}
 use mathlib.Core.List.{List}
 use native.Mathlib.Omega.{arith}
-use lib.ListN.{length}
 use Rattle.places.specs.Places.{places}
 use Rattle.places.proofs.Walks.{room}
 use Rattle.record.specs.Formed.{wellFormed}
 use Rattle.models.specs.Summary.{summarySize}
 use Rattle.fixes.specs.Layout.{fixSize}
 use Rattle.fixes.specs.Gathered.{Gathered}
-use Rattle.fixes.proofs.Soundness.{gathered-long, gathered-ordered, record-formed}
-use Rattle.fixes.proofs.Entering.{Entered, made-length, entered, Found, found, again, fresh, never-full}
-use borrow.Author.Rules.{rules}
+use Rattle.fixes.proofs.Soundness.{gathered-long, record-formed}
+use Rattle.fixes.proofs.Entering.{Entered, entered, Found, found, again, fresh, never-full}
 use Rattle.fixes.proofs.representatives.sign_in.Goals as goal
 
 pub overflow_cast-i : goal.overflow_cast-i

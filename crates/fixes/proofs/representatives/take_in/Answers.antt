@@ -5,7 +5,6 @@ use mathlib.Core.List.{List}
 use native.Mathlib.Omega.{arith}
 use lib.ListN.{length, take}
 use lib.Seq.{length-take-le}
-use borrow.Author.Tests.{not-true, not-false}
 use Rattle.places.specs.Places.{places, table_of}
 use Rattle.places.proofs.Tables.{length-places}
 use Rattle.record.specs.Layout.{recordSize}
@@ -15,7 +14,6 @@ use Rattle.fixes.specs.Layout.{maxFixes, fixSize}
 use Rattle.fixes.specs.Representatives.{enterRecord, takeSlot}
 use Rattle.fixes.proofs.Soundness.{gathered-is}
 use Rattle.fixes.proofs.Entering.{taken}
-use borrow.Author.Rules.{rules}
 use Rattle.fixes.proofs.representatives.take_in.Goals as goal
 
 pub slice_bounds-counts-end : goal.slice_bounds-counts-end

@@ -2,7 +2,6 @@ use mir.Facts.{to_z-of_z}
 use lib.Ieee.{of_bits, round}
 use Rattle.geometry.specs.Numbers.{fromDecimal}
 use Rattle.geometry.specs.Angles.{radiansOf, degree}
-use borrow.Author.Rules.{rules}
 use Rattle.geometry.proofs.angles.radians.Goals as goal
 
 pub returns : goal.returns

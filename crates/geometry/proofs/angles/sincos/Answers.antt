@@ -1,7 +1,7 @@
 use mir.Syntax.{w32}
 use mir.Facts.{to_z-of_z}
 use Rattle.geometry.specs.Angles.{sincosOf}
-use borrow.Author.Rules.{rules, sfits_of}
+use borrow.Author.Rules.{sfits_of}
 use Rattle.geometry.proofs.angles.sincos.Goals as goal
 
 pub returns : goal.returns

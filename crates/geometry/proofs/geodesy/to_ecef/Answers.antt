@@ -1,6 +1,5 @@
 use mathlib.Core.Path.{◌≡◌, refl}
 use lib.Ieee.{of_int, of_bits, div, mul, sub, round, binary64}
-use borrow.Author.Rules.{rules}
 use Rattle.geometry.specs.Numbers.{fromDecimal}
 use Rattle.geometry.specs.Geodesy.{toEcef, eccentricity2, flattening}
 use Rattle.geometry.proofs.geodesy.to_ecef.Goals as goal

@@ -2,7 +2,6 @@ use mathlib.Core.Path.{ap, ◌∙◌}
 use mathlib.Core.Bool.{not}
 use Rattle.geometry.specs.Factors.{factorOf}
 use Rattle.geometry.proofs.Comparing.{not-above}
-use borrow.Author.Rules.{rules}
 use Rattle.geometry.proofs.linalg.cholesky.Goals as goal
 
 pub returns-then-not-c : goal.returns-then-not-c

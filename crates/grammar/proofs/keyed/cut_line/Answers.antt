@@ -50,8 +50,7 @@ returns c =
     let key : List ℕ = c.args.key.now in
     let at : ℕ = c.args.at in
     let alike : c.equal.result ≡ same (take (at + length key - at) (drop at i)) key = c.equal.ensures in
-    let begins : same (take (at + length key - at) (drop at i)) key ≡ true = sym alike ∙ c.if-not-equal.false in
-    (
+    let begins : same (take (at + length key - at) (drop at i)) key ≡ true = sym alike ∙ c.if-not-equal.false in (
       cut-text i c.args.lines (dueText key (drop at i)) _ _ (line-whole i key at c.find-to.result begins c.find-to.ensures.0 (omega arith)),
       refl,
       omega arith,

@@ -8,8 +8,7 @@ use Rattle.grammar.proofs.operations.convict.Goals as goal
 pub returns : goal.returns
 unfolding G.readConviction ascii
 returns c =
-    let e = c.number-e in
-    (
+    let e = c.number-e in (
       part-last c.args.c e.result.next e.result.value c.args.input.now G.readEngine conviction e.ensures.0,
       omega (arith, c.requires, e.ensures.1),
     )

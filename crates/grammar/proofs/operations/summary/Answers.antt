@@ -13,8 +13,7 @@ returns c =
     let b = c.inputs-i in
     let p = c.number-s in
     let m = c.number-m in
-    let e = c.number-e in
-    (
+    let e = c.number-e in (
       four-parts c.args.c e.result.next m.result.next p.result.next b.result.next e.result.value m.result.value p.result.value b.result.bytes c.args.input.now
           G.readEngine (G.readLine (ascii "model=") (Val.readNumber Val.u8)) (G.readLine (ascii "spec=") (Val.readNumber Val.u16)) (G.readLine (ascii "inputs=") (Val.readHex inputsSize)) summary
           e.ensures.0 m.ensures.0 p.ensures.0 b.ensures.0,

@@ -13,8 +13,7 @@ returns c =
     let h = c.height-h in
     let o = c.signed-o in
     let a = c.signed-a in
-    let t = c.number-t in
-    (
+    let t = c.number-t in (
       four-parts c.args.c t.result.next a.result.next o.result.next h.result.next t.result.value a.result.value o.result.value (h.result.flag ∷ word_bytes 4 h.result.bits) c.args.input.now
           (G.readLine (ascii "time=") (Val.readNumber Val.u64)) (G.readLine (ascii "lat=") Val.readSigned) (G.readLine (ascii "lon=") Val.readSigned) (G.readLine (ascii "height=") Val.readHeight) G.placeBytes
           t.ensures.0 a.ensures.0 o.ensures.0 h.ensures.0,

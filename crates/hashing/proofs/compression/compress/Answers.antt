@@ -1,4 +1,3 @@
-use Rattle.std.proofs.Common.{rules}
 use Rattle.hashing.specs.Blake2s.{compressBlock}
 use Rattle.hashing.proofs.compression.compress.Goals as goal
 

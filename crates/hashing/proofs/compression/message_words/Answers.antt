@@ -1,4 +1,3 @@
-use Rattle.std.proofs.Common.{rules}
 use Rattle.hashing.specs.Blake2s.{words_of}
 use Rattle.hashing.proofs.compression.message_words.Goals as goal
 

@@ -1,4 +1,3 @@
-use Rattle.std.proofs.Common.{rules}
 use native.Mathlib.Nat.{mod-add-mod}
 use Rattle.hashing.specs.Blake2s.{addWord}
 use Rattle.hashing.proofs.mixing.add.Goals as goal

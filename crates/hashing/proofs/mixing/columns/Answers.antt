@@ -1,4 +1,3 @@
-use Rattle.std.proofs.Common.{rules}
 use Rattle.hashing.specs.Blake2s.{mixColumns}
 use Rattle.hashing.proofs.mixing.columns.Goals as goal
 

@@ -1,4 +1,3 @@
-use Rattle.std.proofs.Common.{rules}
 use Rattle.hashing.specs.Blake2s.{mixDiagonals}
 use Rattle.hashing.proofs.mixing.diagonals.Goals as goal
 

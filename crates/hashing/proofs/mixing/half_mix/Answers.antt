@@ -1,4 +1,3 @@
-use Rattle.std.proofs.Common.{rules}
 use Rattle.hashing.specs.Blake2s.{halfMix}
 use Rattle.hashing.proofs.mixing.half_mix.Goals as goal
 

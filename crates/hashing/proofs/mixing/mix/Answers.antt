@@ -1,4 +1,3 @@
-use Rattle.std.proofs.Common.{rules}
 use Rattle.hashing.specs.Blake2s.{mixWords}
 use Rattle.hashing.proofs.mixing.mix.Goals as goal
 

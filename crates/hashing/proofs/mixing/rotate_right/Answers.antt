@@ -1,6 +1,5 @@
 use Rattle.std.proofs.Common.{rules}
 use Rattle.hashing.specs.Blake2s.{rotateRight}
-use borrow.Author.Rules.{rules}
 use Rattle.hashing.proofs.mixing.rotate_right.Goals as goal
 
 pub returns : goal.returns

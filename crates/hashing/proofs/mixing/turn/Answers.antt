@@ -1,4 +1,3 @@
-use Rattle.std.proofs.Common.{rules}
 use Rattle.hashing.specs.Blake2s.{turnWord}
 use Rattle.hashing.proofs.mixing.turn.Goals as goal
 

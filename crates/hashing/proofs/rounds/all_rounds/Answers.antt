@@ -1,4 +1,3 @@
-use Rattle.std.proofs.Common.{rules}
 use Rattle.hashing.specs.Blake2s.{rounds}
 use Rattle.hashing.proofs.rounds.all_rounds.Goals as goal
 

@@ -1,4 +1,3 @@
-use Rattle.std.proofs.Common.{rules}
 use Rattle.hashing.specs.Blake2s.{roundBy, sigma}
 use Rattle.hashing.proofs.rounds.rounds_2_3.Goals as goal
 

@@ -1,4 +1,3 @@
-use Rattle.std.proofs.Common.{rules}
 use Rattle.hashing.specs.Blake2s.{roundBy, sigma}
 use Rattle.hashing.proofs.rounds.rounds_6_7.Goals as goal
 

@@ -1,10 +1,9 @@
 use mathlib.Core.Path.{refl, sym, ◌∙◌}
 use native.Mathlib.Omega.{arith}
 use lib.Seq.{length-take-le}
-use borrow.Author.Tests.{eq-eqb, ne_eqb, not-true, not-false}
+use borrow.Author.Tests.{eq-eqb, ne_eqb}
 use Rattle.record.specs.Layout.{recordSize}
 use Rattle.held.proofs.Signatures.{signers-at}
-use borrow.Author.Rules.{rules}
 use Rattle.held.proofs.formed.place_formed.Goals as goal
 
 pub slice_bounds-well_formed-end : goal.slice_bounds-well_formed-end

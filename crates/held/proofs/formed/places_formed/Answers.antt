@@ -2,10 +2,10 @@ use Prim.Native.Nat.{ℕ, ◌+◌, ◌-◌, ◌≤◌}
 use mathlib.Core.Path.{◌≡◌, ap, ◌∙◌}
 use mathlib.Core.List.{List}
 use native.Mathlib.Omega.{arith}
-use lib.ListN.{length, take, drop, length-take, length-drop}
+use lib.ListN.{length, take, drop}
 use Rattle.held.specs.Limits.{placeSize}
 use Rattle.held.specs.Signed.{placeFormed, beginFormed}
-use Rattle.held.proofs.Testing.{Passed, passed_none, passed-room, passed-not, passed-next, passed-all, begin-lent}
+use Rattle.held.proofs.Testing.{passed-room, passed-not, passed-next, passed-all, begin-lent}
 use mathlib.Core.Bool.{not}
 use Rattle.held.proofs.formed.places_formed.Goals as goal
 

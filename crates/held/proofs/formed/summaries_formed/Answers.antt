@@ -1,9 +1,5 @@
 use Prim.Native.Nat.{◌-◌}
-use native.Mathlib.Omega.{arith}
-use lib.ListN.{length-take, length-drop}
-use Rattle.models.specs.Summary.{summarySize}
-use Rattle.held.specs.Summaries.{summaryFormed}
-use Rattle.held.proofs.Testing.{Passed, passed_none, passed-room, passed-not, passed-next, passed-all}
+use Rattle.held.proofs.Testing.{passed-not, passed-next, passed-all}
 use mathlib.Core.Path.{ap}
 use mathlib.Core.Bool.{not}
 use Rattle.held.proofs.formed.summaries_formed.Goals as goal

@@ -1,9 +1,7 @@
 use Prim.Native.Nat.{◌-◌}
-use native.Mathlib.Omega.{arith}
-use lib.ListN.{length-take, length-drop}
 use Rattle.models.specs.Summary.{summarySize}
 use Rattle.held.specs.Summaries.{summaryFormed}
-use Rattle.held.proofs.Testing.{Passed, passed_none, passed-room, passed-not, passed-next, passed-all}
+use Rattle.held.proofs.Testing.{Passed}
 use Rattle.held.proofs.formed.summaries_formed.Given as goal
 
 abbrev pub invariant-loop-i : goal.invariant-loop-i

@@ -1,9 +1,7 @@
 use Prim.Native.Nat.{◌-◌, ◌*◌}
-use mathlib.Core.Path.{◌∙◌}
-use native.Mathlib.Omega.{arith}
 use Rattle.models.specs.Summary.{summarySize}
-use Rattle.held.proofs.Striking.{Left, left-none, left-lower, left-ends, left-inside, left-gone, left-stays, left-cleared}
-use Rattle.held.proofs.Summarized.{summariesWithout, of-engine, of-another, whole-moved}
+use Rattle.held.proofs.Striking.{left-none, left-gone, left-stays, left-cleared}
+use Rattle.held.proofs.Summarized.{of-engine, of-another, whole-moved}
 use Rattle.held.proofs.strikes.strike_summaries.Goals as goal
 
 pub loop-i-init : goal.loop-i-init

@@ -5,7 +5,6 @@ use lib.ListN.{length, take, drop, set, replicate}
 use Rattle.octets.specs.Words.{word_bytes}
 use Rattle.octets.specs.Writes.{putWord}
 use Rattle.models.specs.Summary.{summaryOf, inputsSize, summarySize, summaryInputsAt}
-use borrow.Author.Rules.{rules}
 use Rattle.held.proofs.summaries.new_summary.Goals as goal
 
 made : (e model spec : ℕ) (inputs p y : List ℕ) → p ≡ putWord 2 2 spec (set (set (replicate summarySize 0) 0 e) 1 model)

@@ -6,7 +6,6 @@ use Prim.Native.Nat.{◌<◌, ◌^◌}
 use lib.IntN.{ℤ}
 use lib.Signed.{mag}
 use Rattle.items.specs.Claimed.{claim_of}
-use borrow.Author.Rules.{rules}
 use Rattle.items.proofs.claims.claimed.Goals as goal
 
 -- what the machine reads back of a signed number that fits

@@ -1,9 +1,7 @@
 use Prim.Native.Nat.{◌-◌, ◌≤◌}
-use mathlib.Core.Path.{◌≡◌, refl}
-use native.Mathlib.Omega.{arith}
+use mathlib.Core.Path.{◌≡◌}
 use lib.ListN.{length}
 use Rattle.items.specs.Pairs.{CodedRow}
-use Rattle.items.proofs.Pairing.{coded_none, coded-all}
 use Rattle.items.proofs.pairs.code_all.Given as goal
 
 abbrev pub invariant-loop-i : goal.invariant-loop-i

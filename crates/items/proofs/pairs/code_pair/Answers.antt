@@ -1,13 +1,10 @@
-use borrow.Author.Tests.{not-true, not-false}
 use mathlib.Core.Path.{◌≡◌, refl, sym, ap, ◌∙◌}
 use mathlib.Core.Bool.{true, false}
 use mathlib.Core.List.{List}
 use Prim.Native.Nat.{ℕ}
-use native.Mathlib.Omega.{arith}
 use Rattle.arithmetic.specs.Agree.{agreesOf}
 use Rattle.items.specs.Items.{itemConsistent, subsetAt, agreementAt}
 use Rattle.items.specs.Pairs.{pairCode}
-use borrow.Author.Rules.{rules}
 use Rattle.items.proofs.pairs.code_pair.Goals as goal
 
 -- the code of each way

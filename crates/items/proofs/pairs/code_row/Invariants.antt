@@ -1,9 +1,7 @@
 use Prim.Native.Nat.{◌-◌, ◌≤◌}
-use mathlib.Core.Path.{◌≡◌, refl}
-use native.Mathlib.Omega.{arith}
-use lib.ListN.{length, length-set}
+use mathlib.Core.Path.{◌≡◌}
+use lib.ListN.{length}
 use Rattle.items.specs.Pairs.{CodedRow}
-use Rattle.items.proofs.Pairing.{coded-more, coded-next}
 use Rattle.items.proofs.pairs.code_row.Given as goal
 
 abbrev pub invariant-loop-j : goal.invariant-loop-j

@@ -1,7 +1,6 @@
 use Rattle.arithmetic.proofs.Staged.{staged}
 use Rattle.items.specs.Items.{agreementAt}
 use mathlib.Core.Path.{refl}
-use borrow.Author.Rules.{rules}
 use Rattle.items.proofs.pairs.compared.Goals as goal
 
 pub returns : goal.returns

@@ -1,12 +1,6 @@
 use Rattle.items.proofs.Pairing.{prepared-turn}
-use Prim.Native.Nat.{ℕ, ◌-◌, ◌≤◌, ◌<◌}
-use mathlib.Core.Path.{◌≡◌, refl}
+use Prim.Native.Nat.{◌-◌}
 use native.Mathlib.Omega.{arith}
-use lib.ListN.{length}
-use Rattle.arithmetic.specs.Stages.{entry_of, preparedOf}
-use Rattle.items.specs.Items.{itemRecord}
-use Rattle.items.specs.Claimed.{claim_of}
-use borrow.Author.Rules.{rules}
 use Rattle.items.proofs.pairs.prepare_all.Goals as goal
 
 pub loop-i-preserved : goal.loop-i-preserved

@@ -1,7 +1,5 @@
-use Rattle.items.proofs.Pairing.{prepared-turn}
 use Prim.Native.Nat.{ℕ, ◌-◌, ◌≤◌, ◌<◌}
-use mathlib.Core.Path.{◌≡◌, refl}
-use native.Mathlib.Omega.{arith}
+use mathlib.Core.Path.{◌≡◌}
 use lib.ListN.{length}
 use Rattle.arithmetic.specs.Stages.{entry_of, preparedOf}
 use Rattle.items.specs.Items.{itemRecord}

@@ -1,10 +1,6 @@
-use mathlib.Core.Path.{refl, sym, ap, ◌∙◌}
+use mathlib.Core.Path.{refl}
 use native.Mathlib.Omega.{arith}
-use Rattle.places.specs.Places.{places}
-use Rattle.models.specs.Summary.{summarySize}
-use Rattle.models.specs.Answers.{value_of}
 use Rattle.models.proofs.Agreeing.{ends, as-agreed}
-use borrow.Author.Rules.{rules}
 use Rattle.models.proofs.citations.agreed_as.Goals as goal
 
 pub overflow_mul-i : goal.overflow_mul-i

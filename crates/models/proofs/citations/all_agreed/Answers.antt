@@ -1,13 +1,9 @@
-use Prim.Native.Nat.{◌-◌, ◌≤◌}
-use mathlib.Core.Path.{◌≡◌, refl, sym, ◌∙◌}
+use Prim.Native.Nat.{◌-◌}
+use mathlib.Core.Path.{refl, sym, ◌∙◌}
 use native.Mathlib.Omega.{arith}
-use lib.ListN.{length, drop}
-use borrow.Author.Tests.{not-true, not-false}
 use Rattle.places.specs.Places.{places}
 use Rattle.models.specs.Summary.{summarySize}
-use Rattle.models.specs.Models.{allAgreed}
 use Rattle.models.proofs.Citing.{agreed-next, agreed-end}
-use borrow.Author.Rules.{rules}
 use Rattle.models.proofs.citations.all_agreed.Goals as goal
 
 pub returns-then-not-agreed_as : goal.returns-then-not-agreed_as

@@ -1,12 +1,9 @@
 use Prim.Native.Nat.{◌-◌, ◌≤◌}
-use mathlib.Core.Path.{◌≡◌, refl, sym, ◌∙◌}
-use native.Mathlib.Omega.{arith}
+use mathlib.Core.Path.{◌≡◌}
 use lib.ListN.{length, drop}
-use borrow.Author.Tests.{not-true, not-false}
 use Rattle.places.specs.Places.{places}
 use Rattle.models.specs.Summary.{summarySize}
 use Rattle.models.specs.Models.{allAgreed}
-use Rattle.models.proofs.Citing.{agreed-next, agreed-end}
 use Rattle.models.proofs.citations.all_agreed.Given as goal
 
 abbrev pub invariant-loop-i : goal.invariant-loop-i

@@ -1,12 +1,9 @@
-use Prim.Native.Nat.{◌-◌, ◌≤◌}
-use mathlib.Core.Path.{◌≡◌, refl, sym, ◌∙◌}
+use Prim.Native.Nat.{◌-◌}
+use mathlib.Core.Path.{refl, sym, ◌∙◌}
 use native.Mathlib.Omega.{arith}
-use lib.ListN.{length, drop}
 use Rattle.places.specs.Places.{places}
 use Rattle.models.specs.Summary.{summarySize}
-use Rattle.models.specs.Missing.{anyMissing}
 use Rattle.models.proofs.Citing.{missing-next, missing-end}
-use borrow.Author.Rules.{rules}
 use Rattle.models.proofs.citations.any_missing.Goals as goal
 
 pub returns-then-is_missing : goal.returns-then-is_missing

@@ -1,11 +1,9 @@
 use Prim.Native.Nat.{◌-◌, ◌≤◌}
-use mathlib.Core.Path.{◌≡◌, refl, sym, ◌∙◌}
-use native.Mathlib.Omega.{arith}
+use mathlib.Core.Path.{◌≡◌}
 use lib.ListN.{length, drop}
 use Rattle.places.specs.Places.{places}
 use Rattle.models.specs.Summary.{summarySize}
 use Rattle.models.specs.Missing.{anyMissing}
-use Rattle.models.proofs.Citing.{missing-next, missing-end}
 use Rattle.models.proofs.citations.any_missing.Given as goal
 
 abbrev pub invariant-loop-i : goal.invariant-loop-i

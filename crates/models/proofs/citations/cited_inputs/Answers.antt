@@ -4,7 +4,6 @@ use lib.ListN.{length-take}
 use Rattle.record.proofs.Parts.{formed}
 use Rattle.models.specs.Identity.{citedInputs}
 use Rattle.models.proofs.Citing.{models-part}
-use borrow.Author.Rules.{rules}
 use Rattle.models.proofs.citations.cited_inputs.Goals as goal
 
 pub model_count-requires : goal.model_count-requires

@@ -2,7 +2,6 @@ use mathlib.Core.Path.{refl, ◌∙◌}
 use native.Mathlib.Omega.{arith}
 use Rattle.record.proofs.Parts.{formed}
 use Rattle.models.proofs.Citing.{models-part}
-use borrow.Author.Rules.{rules}
 use Rattle.models.proofs.citations.counts.Goals as goal
 
 pub model_count-requires : goal.model_count-requires

@@ -1,17 +1,11 @@
-use Prim.Native.Nat.{ℕ, ◌+◌, ◌-◌, ◌*◌, ◌≤◌, ◌<◌}
-use mathlib.Core.Path.{◌≡◌, sym, ap, ◌∙◌}
-use mathlib.Core.List.{List, ◌∷◌, ◌++◌}
-use native.Mathlib.Omega.{arith}
-use lib.ListN.{length, get_or, take, drop}
-use lib.Seq.{length-take-le}
-use Rattle.hashing.specs.Blake2s.{blake2s256}
+use Prim.Native.Nat.{◌+◌, ◌-◌, ◌*◌, ◌≤◌}
+use mathlib.Core.Path.{◌≡◌}
+use mathlib.Core.List.{◌∷◌, ◌++◌}
+use lib.ListN.{length, take, drop}
 use Rattle.places.specs.Places.{places}
 use Rattle.record.specs.Layout.{maxModels}
 use Rattle.models.specs.Summary.{summarySize, inputsSize}
-use Rattle.models.specs.Models.{state_of}
-use Rattle.models.specs.Identity.{agreedInputs, inputsInOrder, citedDomain}
-use Rattle.models.proofs.Citing.{inputs-joined, all-joined}
-use Rattle.octets.specs.Ascii.{ascii}
+use Rattle.models.specs.Identity.{inputsInOrder, citedDomain}
 use Rattle.models.proofs.citations.inputs_hash.Given as goal
 
 abbrev pub invariant-loop-i : goal.invariant-loop-i

@@ -1,15 +1,12 @@
 use Prim.Native.Nat.{ℕ, ◌+◌, ◌-◌, ◌*◌, ◌≤◌}
-use mathlib.Core.Path.{◌≡◌, refl, sym, ap, ◌∙◌}
-use mathlib.Core.List.{append-nil}
+use mathlib.Core.Path.{◌≡◌, refl, ◌∙◌}
 use native.Mathlib.Omega.{arith}
 use lib.ListN.{length, take, drop, length-take}
 use Rattle.octets.specs.Words.{word_at}
 use Rattle.places.specs.Places.{places}
 use Rattle.models.specs.Summary.{summarySize, summarySpecAt, summaryInputsAt, inputsSize}
 use Rattle.models.specs.Models.{agreed, state_of}
-use Rattle.models.specs.Answers.{value_of}
 use Rattle.models.proofs.Agreeing.{ends, as-agreed}
-use borrow.Author.Rules.{rules}
 use Rattle.models.proofs.citations.join_inputs.Goals as goal
 
 pub overflow_mul-start : goal.overflow_mul-start

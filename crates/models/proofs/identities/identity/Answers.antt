@@ -1,12 +1,9 @@
 use Prim.Native.Nat.{ℕ}
-use mathlib.Core.Path.{sym, ap, ◌∙◌}
+use mathlib.Core.Path.{ap, ◌∙◌}
 use mathlib.Core.List.{List, ◌++◌}
-use native.Mathlib.Omega.{arith}
-use lib.Seq.{length-take-le}
 use Rattle.hashing.specs.Blake2s.{blake2s256}
 use Rattle.models.specs.Identity.{identityFrom}
 use Rattle.octets.specs.Ascii.{ascii}
-use borrow.Author.Rules.{rules}
 use Rattle.models.proofs.identities.identity.Goals as goal
 
 pub returns : goal.returns

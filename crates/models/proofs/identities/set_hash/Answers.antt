@@ -1,16 +1,14 @@
-use Prim.Native.Nat.{ℕ, ◌+◌, ◌-◌, ◌*◌, ◌≤◌}
-use mathlib.Core.Path.{◌≡◌, sym, ap, ◌∙◌}
+use Prim.Native.Nat.{ℕ, ◌+◌, ◌-◌, ◌*◌}
+use mathlib.Core.Path.{◌≡◌, ap, ◌∙◌}
 use mathlib.Core.List.{List, ◌∷◌, ◌++◌}
 use native.Mathlib.Omega.{arith}
-use lib.ListN.{length, take, drop}
-use lib.Seq.{length-take-le}
+use lib.ListN.{take, drop}
 use Rattle.hashing.specs.Blake2s.{blake2s256}
 use Rattle.record.specs.Layout as L
 use Rattle.record.specs.Fields.{messageLength, message, tagCount}
 use Rattle.record.proofs.Parts.{Formed, formed, message-fits}
 use Rattle.models.specs.Identity.{tagBytes, setHash}
 use Rattle.models.proofs.Citing.{set-parts}
-use borrow.Author.Rules.{rules}
 use Rattle.models.proofs.identities.set_hash.Goals as goal
 
 pub message_length-requires : goal.message_length-requires

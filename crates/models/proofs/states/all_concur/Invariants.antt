@@ -1,11 +1,7 @@
 use Prim.Native.Nat.{◌-◌, ◌*◌, ◌≤◌}
-use mathlib.Core.Path.{◌≡◌, refl, sym, ◌∙◌}
-use native.Mathlib.Omega.{arith}
-use native.Mathlib.Nat.{sub-zero}
-use lib.ListN.{drop, length-take, length-drop}
-use borrow.Author.Tests.{not-true, not-false}
+use mathlib.Core.Path.{◌≡◌}
+use lib.ListN.{drop}
 use Rattle.places.specs.Places.{places, allPlaces}
-use Rattle.places.proofs.Walks.{room, step-at, all-next, all_end}
 use Rattle.models.specs.Summary.{summarySize, spec_of, summaryInputs}
 use Rattle.models.specs.Answers.{concurs}
 use Rattle.models.proofs.states.all_concur.Given as goal

@@ -1,13 +1,8 @@
-use Prim.Native.Nat.{◌+◌, ◌-◌, ◌*◌, ◌≤◌}
-use mathlib.Core.Path.{◌≡◌}
+use Prim.Native.Nat.{◌-◌}
 use native.Mathlib.Omega.{arith}
-use native.Mathlib.Nat.{sub-zero}
-use lib.ListN.{drop}
 use borrow.Author.Tests.{eq-eqb, ne_eqb}
-use Rattle.places.specs.Places.{places}
-use Rattle.places.proofs.Walks.{room, step-at}
+use Rattle.places.proofs.Walks.{step-at}
 use Rattle.models.specs.Summary.{summarySize}
-use Rattle.models.specs.Answers.{first_of}
 use Rattle.models.proofs.Walks.{first-here, first_next, first-end}
 use Rattle.models.proofs.states.first.Goals as goal
 

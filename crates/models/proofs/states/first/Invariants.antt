@@ -1,14 +1,9 @@
 use Prim.Native.Nat.{◌+◌, ◌-◌, ◌*◌, ◌≤◌}
 use mathlib.Core.Path.{◌≡◌}
-use native.Mathlib.Omega.{arith}
-use native.Mathlib.Nat.{sub-zero}
 use lib.ListN.{drop}
-use borrow.Author.Tests.{eq-eqb, ne_eqb}
 use Rattle.places.specs.Places.{places}
-use Rattle.places.proofs.Walks.{room, step-at}
 use Rattle.models.specs.Summary.{summarySize}
 use Rattle.models.specs.Answers.{first_of}
-use Rattle.models.proofs.Walks.{first-here, first_next, first-end}
 use Rattle.models.proofs.states.first.Given as goal
 
 abbrev pub invariant-loop-i : goal.invariant-loop-i

@@ -1,5 +1,4 @@
 use Rattle.models.proofs.Agreeing.{lacks}
-use borrow.Author.Rules.{rules}
 use Rattle.models.proofs.states.is_missing.Goals as goal
 
 pub returns : goal.returns

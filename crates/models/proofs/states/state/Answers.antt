@@ -7,7 +7,6 @@ use Rattle.octets.proofs.Moves.{tail-lent}
 use Rattle.places.specs.Places.{places}
 use Rattle.models.specs.Summary.{summarySize}
 use Rattle.models.proofs.Agreeing.{told, without, unanimous, divided}
-use borrow.Author.Rules.{rules}
 use Rattle.models.proofs.states.state.Goals as goal
 
 pub returns-then-count-i : goal.returns-then-count-i

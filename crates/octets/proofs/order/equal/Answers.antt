@@ -20,8 +20,7 @@ returns-then-u64_at c =
 
 pub returns-then-n-i-le8 : goal.returns-then-n-i-le8
 returns-then-n-i-le8 c =
-    let l = c in
-    let s = l.args in
+    let s = c.args in
     let p = all-bytes s.a.now (λ i. (c.type_inv.a i).fits) in
     let q = all-bytes s.b.now (λ i. (c.type_inv.b i).fits) in
     let w = sym c.u64_at.ensures ∙ c.if-u64_at.false ∙ c.u64_at-2.ensures in

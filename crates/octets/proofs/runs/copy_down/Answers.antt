@@ -55,16 +55,12 @@ loop-k-init c = let a = c.args in (omega arith, refl, begin a.s.now a.from a.to 
 
 pub loop-k-preserved : goal.loop-k-preserved
 loop-k-preserved c =
-    let l = c in
-    let s = l in
-    let a = s.args in
-    (omega arith, rw length-set l.loop-k.invariant.1, rw l.loop-k.invariant.2 (turn a.s.now a.from a.to a.w s.requires.to_le_from s.requires.w_in_bounds l.loop-k.k (omega arith)))
+    let a = c.args in
+    (omega arith, rw length-set c.loop-k.invariant.1, rw c.loop-k.invariant.2 (turn a.s.now a.from a.to a.w c.requires.to_le_from c.requires.w_in_bounds c.loop-k.k (omega arith)))
 
 pub returns : goal.returns
 unfolding moved
 returns c =
-    let l = c in
-    let s = l in
-    let a = s.args in
-    let e : l.loop-k.k ≡ a.w = omega arith in
-    l.loop-k.invariant.2 ∙ rw e (finish a.s.now a.from a.to a.w s.requires.to_le_from s.requires.w_in_bounds)
+    let a = c.args in
+    let e : c.loop-k.k ≡ a.w = omega arith in
+    c.loop-k.invariant.2 ∙ rw e (finish a.s.now a.from a.to a.w c.requires.to_le_from c.requires.w_in_bounds)

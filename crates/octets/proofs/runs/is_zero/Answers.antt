@@ -24,8 +24,7 @@ past s i any h = rw (drop_of_length-le s h) (and-unit (eqb any 0))
 
 pub loop-i-preserved : goal.loop-i-preserved
 loop-i-preserved c =
-    let l = c in
-    l.loop-i.invariant ∙ turn l.args.s.now l.loop-i.i l.loop-i.any (omega arith)
+    c.loop-i.invariant ∙ turn c.args.s.now c.loop-i.i c.loop-i.any (omega arith)
 
 pub returns : goal.returns
 returns c = sym (c.loop-i.invariant ∙ past c.args.s.now c.loop-i.i c.loop-i.any c.loop-i-test.false)

@@ -41,11 +41,9 @@ loop-j-init c = (omega arith, omega arith, refl, start c.args.s.now c.args.w c.r
 
 pub loop-j-preserved : goal.loop-j-preserved
 loop-j-preserved c =
-    let l = c in
-    (omega arith, omega arith, rw length-set l.loop-j.invariant.2, rw l.loop-j.invariant.3 (turn l.args.s.now l.args.w l.loop-j.j (omega arith) (omega arith)))
+    (omega arith, omega arith, rw length-set c.loop-j.invariant.2, rw c.loop-j.invariant.3 (turn c.args.s.now c.args.w c.loop-j.j (omega arith) (omega arith)))
 
 pub returns : goal.returns
 returns c =
-    let l = c in
-    let e : l.loop-j.j ≡ l.args.w = omega arith in
-    l.loop-j.invariant.3 ∙ rw e (finish l.args.s.now l.args.w l.requires)
+    let e : c.loop-j.j ≡ c.args.w = omega arith in
+    c.loop-j.invariant.3 ∙ rw e (finish c.args.s.now c.args.w c.requires)

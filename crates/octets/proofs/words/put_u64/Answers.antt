@@ -4,5 +4,4 @@ use Rattle.octets.proofs.words.put_u64.Goals as goal
 
 pub returns : goal.returns
 returns c =
-    let s = c in
-    rw (c.put_u32-2.ensures, c.put_u32.ensures) (put-halves 4 4 s.args.at s.args.x s.args.s.now (omega arith))
+    rw (c.put_u32-2.ensures, c.put_u32.ensures) (put-halves 4 4 c.args.at c.args.x c.args.s.now (omega arith))

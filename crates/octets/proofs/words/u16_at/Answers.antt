@@ -5,7 +5,6 @@ use Rattle.octets.proofs.words.u16_at.Goals as goal
 
 pub returns : goal.returns
 returns c =
-    let s = c in
-    let l = s.args.s.now in
-    let at = s.args.at in
+    let l = c.args.s.now in
+    let at = c.args.at in
     omega (arith, word-halves 1 1 at l (omega arith), word-one at l (omega arith), word-one (at + 1) l (omega arith))

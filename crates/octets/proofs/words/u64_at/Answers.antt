@@ -3,4 +3,4 @@ use Rattle.octets.proofs.Numbers.{word-halves}
 use Rattle.octets.proofs.words.u64_at.Goals as goal
 
 pub returns : goal.returns
-returns c = let s = c in omega (arith, word-halves 4 4 s.args.at s.args.s.now (omega arith))
+returns c = omega (arith, word-halves 4 4 c.args.at c.args.s.now (omega arith))

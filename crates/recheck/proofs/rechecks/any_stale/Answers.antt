@@ -1,6 +1,6 @@
-use Prim.Native.Nat.{ℕ, ◌+◌, ◌*◌, ◌-◌, ◌≤◌, ◌<◌}
+use Prim.Native.Nat.{ℕ, ◌-◌, ◌<◌}
 use mathlib.Core.Path.{◌≡◌, refl, sym, ap, ◌∙◌}
-use mathlib.Core.Bool.{Bool, true}
+use mathlib.Core.Bool.{true}
 use mathlib.Core.List.{List, [], map}
 use native.Mathlib.Omega.{arith}
 use lib.ListN.{length, drop, get_or}
@@ -8,14 +8,11 @@ use Rattle.ranges.specs.Lists.{any_of}
 use Rattle.ranges.proofs.Lists.{any-map}
 use Rattle.places.specs.Places.{places}
 use Rattle.models.specs.Summary.{summarySize}
-use Rattle.held.specs.Limits.{maxSummaries}
-use Rattle.tracked.specs.Layout.{transmissionSize}
 use Rattle.tracked.specs.Bytes.{transmissionIn}
-use Rattle.stored.specs.Layout.{transmissionCountAt}
 use Rattle.stored.specs.Memory.{summaryCount, summaryTable, summariesIn, transmissionCount, transmissionPlaces}
 use Rattle.stored.specs.Steps.{block_at}
 use Rattle.stored.proofs.Changing.{any_here, any-later, any-past}
-use Rattle.stored.proofs.Opened.{Opened, opened, transmissions-length, placeAt, at_place, place-room, sound-at}
+use Rattle.stored.proofs.Opened.{Opened, opened, transmissions-length, at_place, place-room, sound-at}
 use Rattle.recheck.specs.Recheck.{hasStale}
 use Rattle.recheck.proofs.rechecks.any_stale.Invariants.{test}
 use Rattle.recheck.proofs.rechecks.any_stale.Goals as goal

@@ -1,21 +1,14 @@
-use Prim.Native.Nat.{ℕ, ◌+◌, ◌-◌, ◌<◌}
-use mathlib.Core.Path.{◌≡◌, refl, sym, ap, ◌∙◌}
+use Prim.Native.Nat.{◌-◌, ◌<◌}
+use mathlib.Core.Path.{◌≡◌, sym, ap, ◌∙◌}
 use mathlib.Core.Bool.{Bool, not}
 use mathlib.Core.List.{List, []}
-use native.Mathlib.Omega.{arith}
-use lib.ListN.{length, drop, get_or}
-use Rattle.ranges.specs.Lists.{any_of}
-use Rattle.places.specs.Places.{places}
-use Rattle.models.specs.Summary.{summarySize}
+use lib.ListN.{length, get_or}
 use Rattle.shown.specs.Fix.{Fix}
-use Rattle.tracked.specs.Held.{heldIn}
-use Rattle.tracked.specs.Bytes.{fixIn, transmissionIn}
-use Rattle.tracked.specs.Parts.{heldCount, Sound}
-use Rattle.stored.specs.Memory.{summaryTable}
+use Rattle.tracked.specs.Bytes.{fixIn}
+use Rattle.tracked.specs.Parts.{heldCount}
 use Rattle.stored.specs.Steps.{block_at}
 use Rattle.stored.proofs.Changing.{any_here, any-later, any-past}
 use Rattle.stored.proofs.Resigning.{fixes-count, held-fix}
-use Rattle.recheck.specs.Recheck.{stands}
 use Rattle.recheck.proofs.Standing.{lent-block}
 use Rattle.recheck.proofs.rechecks.has_stale.Invariants.{stale, fixesAt}
 use Rattle.recheck.proofs.rechecks.has_stale.Goals as goal

@@ -1,22 +1,17 @@
-use Prim.Native.Nat.{ℕ, ◌+◌, ◌-◌, ◌<◌}
-use mathlib.Core.Path.{◌≡◌, refl, sym, ap, ◌∙◌}
+use Prim.Native.Nat.{ℕ, ◌-◌}
+use mathlib.Core.Path.{◌≡◌}
 use mathlib.Core.Bool.{Bool, not}
-use mathlib.Core.List.{List, []}
-use native.Mathlib.Omega.{arith}
-use lib.ListN.{length, drop, get_or}
+use mathlib.Core.List.{List}
+use lib.ListN.{drop}
 use Rattle.ranges.specs.Lists.{any_of}
 use Rattle.places.specs.Places.{places}
 use Rattle.models.specs.Summary.{summarySize}
 use Rattle.shown.specs.Fix.{Fix}
 use Rattle.tracked.specs.Held.{heldIn}
-use Rattle.tracked.specs.Bytes.{fixIn, transmissionIn}
-use Rattle.tracked.specs.Parts.{heldCount, Sound}
+use Rattle.tracked.specs.Bytes.{transmissionIn}
 use Rattle.stored.specs.Memory.{summaryTable}
 use Rattle.stored.specs.Steps.{block_at}
-use Rattle.stored.proofs.Changing.{any_here, any-later, any-past}
-use Rattle.stored.proofs.Resigning.{fixes-count, held-fix}
 use Rattle.recheck.specs.Recheck.{stands}
-use Rattle.recheck.proofs.Standing.{lent-block}
 use Rattle.recheck.proofs.rechecks.has_stale.Given as goal
 
 -- of the fixes held at a byte, where n summaries count

@@ -11,12 +11,12 @@ use Rattle.tracked.specs.Layout.{transmissionSize}
 use Rattle.tracked.specs.Known.{knownSize, Knows}
 use Rattle.arrange.specs.Arranged.{maxTransmissions}
 use Rattle.arrange.specs.Blocks.{Known, sheetAt}
-use Rattle.stored.specs.Layout.{transmissionCountAt, transmissionsAt, trackSize}
-use Rattle.stored.specs.Memory.{summaryCount, transmissionCount, summaryTable, transmissionTable, summariesIn, transmissionPlaces}
+use Rattle.stored.specs.Layout.{trackSize}
+use Rattle.stored.specs.Memory.{summaryCount, transmissionCount, transmissionTable, summariesIn, transmissionPlaces}
 use Rattle.stored.specs.Steps.{block_at, OnlyAt}
 use Rattle.stored.proofs.Opened.{Opened, opened, transmissions-length, transmissions-wide, transmissions-are, block-sound, mem-at, placeAt}
 use Rattle.recheck.specs.Steps.{standingBytes}
-use Rattle.recheck.proofs.Rearranging.{Rewritten, rewritten-none, rewritten-size, rewritten-front, rewritten-block, rewritten-next, rewritten-all, front-size, few-places, all-signed, standing-size, front-summaries}
+use Rattle.recheck.proofs.Rearranging.{rewritten-none, rewritten-size, rewritten-front, rewritten-block, rewritten-next, rewritten-all, front-size, few-places, all-signed, standing-size, front-summaries}
 use Rattle.recheck.proofs.Identities.{knows_same, known-block, known-put, lent-sheet, put_only}
 use borrow.Author.Rules.{rules}
 use Rattle.recheck.proofs.rechecks.renew_all.Goals as goal

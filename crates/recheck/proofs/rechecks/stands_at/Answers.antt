@@ -7,9 +7,8 @@ use Rattle.tracked.specs.Parts.{heldPlaces}
 use Rattle.stored.specs.Memory.{summaryTable}
 use Rattle.recheck.specs.Recheck.{stands}
 use Rattle.recheck.proofs.Standing.{lent-block}
-use Prim.Native.Nat.{ℕ, ◌+◌, ◌-◌}
-use mathlib.Core.Path.{◌≡◌, refl, sym, ap, ap₂, ◌∙◌}
-use native.Mathlib.Omega.{arith}
+use Prim.Native.Nat.{ℕ, ◌-◌}
+use mathlib.Core.Path.{ap, ◌∙◌}
 use Rattle.recheck.proofs.rechecks.stands_at.Goals as goal
 
 pub held-f-requires : goal.held-f-requires

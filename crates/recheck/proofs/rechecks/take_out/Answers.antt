@@ -1,15 +1,15 @@
 use Prim.Native.Nat.{ℕ, ◌+◌, ◌-◌, ◌≤◌}
-use mathlib.Core.Path.{◌≡◌, refl, sym, ap, ◌∙◌}
+use mathlib.Core.Path.{◌≡◌, refl, ap, ◌∙◌}
 use mathlib.Core.List.{List, ◌++◌, map}
 use native.Mathlib.Omega.{arith}
-use lib.ListN.{length, take, drop, length-set}
+use lib.ListN.{length, take, drop}
 use borrow.Rule.Slice.PartMut.{same_len_mid}
 use Rattle.octets.specs.Bytes.{Bytes}
 use Rattle.octets.proofs.Numbers.{all-bytes}
 use Rattle.tracked.specs.Bytes.{transmissionBytes}
 use Rattle.arrange.specs.Arranged.{maxTransmissions, arranged}
 use Rattle.arrange.specs.Blocks.{blockTable}
-use Rattle.stored.specs.Layout.{transmissionCountAt, transmissionsAt, trackSize}
+use Rattle.stored.specs.Layout.{transmissionsAt, trackSize}
 use Rattle.stored.specs.Memory.{convictedIn, transmissionCount}
 use Rattle.stored.proofs.Opened.{Opened, opened}
 use Rattle.recheck.proofs.Renewing.{arranged-at-most}

@@ -1,16 +1,15 @@
 use Prim.Native.Nat.{ℕ, ◌+◌, ◌-◌, ◌≤◌}
-use mathlib.Core.Path.{◌≡◌, refl, sym, ap, ◌∙◌}
+use mathlib.Core.Path.{◌≡◌, refl, ap, ◌∙◌}
 use mathlib.Core.List.{List, ◌++◌}
 use native.Mathlib.Omega.{arith}
 use lib.ListN.{length, take, drop}
-use borrow.Rule.Slice.PartMut.{same_len_mid}
 use Rattle.octets.specs.Bytes.{Bytes}
 use Rattle.octets.specs.Masks.{withBit}
 use Rattle.octets.proofs.Numbers.{all-bytes}
 use Rattle.held.specs.Limits.{maxSummaries, summariesSize}
-use Rattle.arrange.specs.Arranged.{maxTransmissions, arranged}
+use Rattle.arrange.specs.Arranged.{maxTransmissions}
 use Rattle.stored.specs.Layout.{summariesAt, trackSize}
-use Rattle.stored.specs.Memory.{convictedIn, summaryCount}
+use Rattle.stored.specs.Memory.{summaryCount}
 use Rattle.stored.proofs.Opened.{Opened, opened}
 use Rattle.recheck.proofs.Renewing.{arranged-at-most}
 use Rattle.recheck.proofs.Stricken.{us, lent_length, summaries-left, struck, struck-known}

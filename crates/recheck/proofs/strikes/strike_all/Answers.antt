@@ -1,5 +1,5 @@
 use Prim.Native.Nat.{ℕ, ◌+◌, ◌*◌, ◌-◌, ◌≤◌, ◌<◌}
-use mathlib.Core.Path.{◌≡◌, refl, sym, ap, ◌∙◌}
+use mathlib.Core.Path.{◌≡◌, refl, ap, ◌∙◌}
 use mathlib.Core.List.{List, [], ◌++◌, Memᴰ}
 use native.Mathlib.Omega.{arith}
 use lib.ListN.{length, get_or, take, drop}
@@ -9,7 +9,7 @@ use Rattle.tracked.specs.Layout.{transmissionSize}
 use Rattle.tracked.specs.Known.{knownSize, Knows}
 use Rattle.arrange.specs.Arranged.{maxTransmissions}
 use Rattle.arrange.specs.Blocks.{Known, sheetAt}
-use Rattle.stored.specs.Layout.{transmissionCountAt, transmissionsAt, trackSize}
+use Rattle.stored.specs.Layout.{trackSize}
 use Rattle.stored.specs.Memory.{transmissionCount, transmissionTable, transmissionPlaces}
 use Rattle.stored.specs.Steps.{block_at}
 use Rattle.stored.proofs.Opened.{Opened, opened, transmissions-length, transmissions-wide, transmissions-are, block-sound, mem-at, placeAt}
@@ -17,7 +17,7 @@ use Rattle.stored.proofs.Resigning.{only-put, part-put}
 use Rattle.recheck.specs.Steps.{withoutBytes}
 use Rattle.recheck.proofs.Standing.{lent-block}
 use Rattle.recheck.proofs.Identities.{knows_same, known-block, known-put, lent-sheet}
-use Rattle.recheck.proofs.Rearranging.{Rewritten, rewritten-none, rewritten-size, rewritten-block, rewritten-next, rewritten-all, front-size, few-places, put-lent, without-size}
+use Rattle.recheck.proofs.Rearranging.{rewritten-none, rewritten-size, rewritten-block, rewritten-next, rewritten-all, front-size, few-places, put-lent, without-size}
 use borrow.Author.Rules.{rules}
 use Rattle.recheck.proofs.strikes.strike_all.Goals as goal
 

@@ -10,7 +10,7 @@ use Rattle.tracked.specs.Held.{HeldTransmission}
 use Rattle.tracked.specs.Bytes.{transmissionBytes}
 use Rattle.arrange.specs.Arranged.{maxTransmissions}
 use Rattle.arrange.specs.Blocks.{blockTable}
-use Rattle.stored.specs.Layout.{transmissionCountAt, transmissionsAt, trackSize}
+use Rattle.stored.specs.Layout.{transmissionsAt, trackSize}
 use Rattle.stored.specs.Memory.{convictedIn, transmissionCount}
 use Rattle.stored.proofs.Blocks.{Kept}
 use Rattle.stored.proofs.Opened.{Opened, opened}

@@ -1,16 +1,14 @@
-use Prim.Native.Nat.{ℕ, zero, suc, ◌+◌, ◌-◌, ◌*◌, ◌^◌, ◌≤◌, ◌<◌}
-use mathlib.Core.Path.{◌≡◌, refl, sym, ap, ap₂, ◌∙◌}
-use mathlib.Core.Bool.{Bool, true, false, cond, ◌&&◌, ◌||◌}
-use mathlib.Core.List.{List, [], ◌∷◌}
+use Prim.Native.Nat.{ℕ, ◌+◌, ◌-◌, ◌≤◌, ◌<◌}
+use mathlib.Core.Path.{◌≡◌, refl, sym, ◌∙◌}
+use mathlib.Core.Bool.{true, false}
+use mathlib.Core.List.{List}
 use native.Mathlib.Omega.{arith}
-use lib.ListN.{length, get_or, take, drop}
-use lib.Dec.{ltb, leb, eqb}
-use borrow.Author.Tests.{lt-ltb, le-ltb, le-leb, lt-leb, eq-eqb, ne_eqb, not-true, not-false}
+use lib.ListN.{take, drop}
+use borrow.Author.Tests.{le-leb, lt-leb}
 use Rattle.octets.specs.Runs.{allZero}
 use Rattle.record.specs.Layout.{maxModels, maxModel, modelsAt, specAt}
 use Rattle.record.specs.Fields.{modelCount}
 use Rattle.record.specs.Formed.{modelsFormed, allUpTo}
-use borrow.Author.Rules.{rules}
 use Rattle.record.proofs.formed.models_formed.Goals as goal
 
 module _ (r : List ℕ) (n : ℕ) (e : n ≡ modelCount r) where

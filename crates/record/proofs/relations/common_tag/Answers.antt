@@ -1,18 +1,12 @@
-use Prim.Native.Nat.{ℕ, zero, suc, ◌+◌, ◌-◌, ◌*◌, ◌^◌, ◌≤◌, ◌<◌}
-use mathlib.Core.Path.{◌≡◌, refl, sym, ap, ap₂, ◌∙◌}
-use mathlib.Core.Bool.{Bool, true, false, cond, ◌&&◌, ◌||◌}
-use mathlib.Core.List.{List, [], ◌∷◌}
+use Prim.Native.Nat.{ℕ, ◌-◌}
+use mathlib.Core.Path.{◌≡◌, refl, sym, ◌∙◌}
+use mathlib.Core.Bool.{true, false}
+use mathlib.Core.List.{List}
 use native.Mathlib.Omega.{arith}
-use lib.ListN.{length, get_or, take, drop}
-use lib.Dec.{ltb, leb, eqb}
-use borrow.Author.Tests.{lt-ltb, le-ltb, le-leb, lt-leb, eq-eqb, ne_eqb, not-true, not-false}
-use Rattle.record.specs.Layout.{maxTags}
-use Rattle.record.specs.Fields.{tags, tagsFrom}
-use Rattle.record.specs.Formed.{ascends}
+use Rattle.record.specs.Fields.{tags}
 use Rattle.record.specs.Relations.{anyIn, sharesTag}
 use Rattle.record.proofs.Parts.{formed, begun}
 use Rattle.record.proofs.Merging.{next-ascends, shared-none, shared-past, shared-less, shared-skip, shared-both}
-use borrow.Author.Rules.{rules}
 use Rattle.record.proofs.relations.common_tag.Goals as goal
 
 unshared : (a b : List ℕ) → sharesTag a b ≡ anyIn (tags a) (tags b)

@@ -1,19 +1,10 @@
-use Prim.Native.Nat.{ℕ, zero, suc, ◌+◌, ◌-◌, ◌*◌, ◌≤◌, ◌<◌}
-use mathlib.Core.Path.{◌≡◌, refl, sym, ap, ◌∙◌}
-use mathlib.Core.Bool.{Bool, true, false, cond, ◌&&◌, ◌||◌}
-use mathlib.Core.List.{List, [], ◌∷◌}
-use native.Mathlib.Omega.{arith}
-use native.Mathlib.Numerals.{add-one}
-use lib.ListN.{length, get_or, take, drop, drop_of_length-le}
-use lib.Seq.{drop-cons}
-use lib.Dec.{ltb, leb, eqb}
-use borrow.Author.Tests.{lt-ltb, le-ltb, le-leb, lt-leb, eq-eqb, ne_eqb, not-true, not-false}
+use Prim.Native.Nat.{◌+◌, ◌-◌, ◌≤◌}
+use mathlib.Core.Path.{◌≡◌}
+use mathlib.Core.Bool.{true}
 use Rattle.record.specs.Layout.{maxTags}
 use Rattle.record.specs.Fields.{tags, tagsFrom}
 use Rattle.record.specs.Formed.{ascends}
 use Rattle.record.specs.Relations.{allIn}
-use Rattle.record.proofs.Parts.{formed, begun}
-use Rattle.record.proofs.Merging.{next-ascends, contained-none, contained-past, contained-less, contained-skip, contained-both}
 use Rattle.record.proofs.relations.contained.Given as goal
 
 abbrev pub invariant-loop-i : goal.invariant-loop-i

@@ -1,10 +1,6 @@
-use Prim.Native.Nat.{ℕ, ◌-◌}
-use mathlib.Core.Path.{◌≡◌, refl, ap, ap₂, ◌∙◌}
+use Prim.Native.Nat.{◌-◌}
 use native.Mathlib.Omega.{arith}
-use lib.Dec.{ltb}
-use Rattle.record.specs.Fields.{tag_at}
 use Rattle.record.proofs.Parts.{formed}
-use borrow.Author.Rules.{rules}
 use Rattle.record.proofs.relations.ends_before.Goals as goal
 
 pub tag_count-n-requires : goal.tag_count-n-requires

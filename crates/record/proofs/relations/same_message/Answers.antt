@@ -1,19 +1,14 @@
-use Prim.Native.Nat.{ℕ, zero, suc, ◌+◌, ◌-◌, ◌*◌, ◌≤◌, ◌<◌}
-use mathlib.Core.Path.{◌≡◌, refl, sym, ap, ap₂, ◌∙◌}
-use mathlib.Core.Bool.{Bool, true, false, cond, ◌&&◌, ◌||◌}
-use mathlib.Core.List.{List, [], ◌∷◌}
+use Prim.Native.Nat.{ℕ, ◌+◌, ◌-◌}
+use mathlib.Core.Path.{◌≡◌, sym, ap, ap₂, ◌∙◌}
+use mathlib.Core.Bool.{true}
+use mathlib.Core.List.{List}
 use native.Mathlib.Omega.{arith}
-use native.Mathlib.Numerals.{add-one}
-use lib.ListN.{length, get_or, take, drop, drop_of_length-le}
-use lib.Seq.{drop-cons}
-use lib.Dec.{ltb, leb, eqb}
-use borrow.Author.Tests.{lt-ltb, le-ltb, le-leb, lt-leb, eq-eqb, ne_eqb, not-true, not-false}
+use lib.ListN.{length, take, drop}
 use Rattle.octets.specs.Order.{same}
 use Rattle.octets.proofs.Comparison.{not_same}
 use Rattle.record.specs.Layout.{messageAt}
 use Rattle.record.specs.Fields.{message, messageLength}
 use Rattle.record.proofs.Parts.{formed, message-has, message-fits}
-use borrow.Author.Rules.{rules}
 use Rattle.record.proofs.relations.same_message.Goals as goal
 
 parts : (a b : List ℕ) (n : ℕ) → n ≡ messageLength a → n ≡ messageLength b → same (take (messageAt + n - messageAt) (drop messageAt a)) (take (messageAt + n - messageAt) (drop messageAt b)) ≡ same (message a) (message b)

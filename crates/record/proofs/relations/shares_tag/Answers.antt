@@ -1,8 +1,7 @@
-use mathlib.Core.Path.{◌≡◌, sym, ◌∙◌}
+use mathlib.Core.Path.{sym, ◌∙◌}
 use borrow.Author.Tests.{ltb-true}
 use Rattle.record.proofs.Parts.{formed}
 use Rattle.record.proofs.Laws.{shares-sym, apart-shares-none}
-use borrow.Author.Rules.{rules}
 use Rattle.record.proofs.relations.shares_tag.Goals as goal
 
 pub returns-then-ends_before : goal.returns-then-ends_before

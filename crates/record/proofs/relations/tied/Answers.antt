@@ -1,5 +1,3 @@
-use borrow.Author.Rules.{rules}
-use borrow.Author.Tests.{not-true, not-false}
 use Rattle.ranges.proofs.Bools.{ret-f, ret-t}
 use Rattle.record.specs.Relations.{tied}
 use Rattle.record.proofs.relations.tied.Goals as goal

@@ -75,7 +75,7 @@ add_signer-requires-clause-i_lt_max_records c =
     let b : Bytes m = all-bytes m (λ i. (c.slice_known-1.given i).fits) in
     let t : List ℕ = c.put_by_key-tried.new.t in
     let way : RecordWay m o b e r r-size c.put_by_key-tried.result t =
-        record-way m o b e r r-size c.u16_at-n.result c.new_place-p.result c.put_by_key-tried.result t c.u16_at-n.ensures c.new_place-p.ensures c.put_by_key-tried.ensures in
+    record-way m o b e r r-size c.u16_at-n.result c.new_place-p.result c.put_by_key-tried.result t c.u16_at-n.ensures c.new_place-p.ensures c.put_by_key-tried.ensures in
     held-within m o b e r r-size t way c.in-Held.i c.in-Held.is
 
 pub overflow_add-n : goal.overflow_add-n
@@ -103,7 +103,7 @@ returns-in-Held c =
     let b : Bytes m = all-bytes m (λ i. (c.slice_known-1.given i).fits) in
     let t : List ℕ = c.put_by_key-tried.new.t in
     let way : RecordWay m o b e r r-size c.put_by_key-tried.result t =
-        record-way m o b e r r-size c.u16_at-n.result c.new_place-p.result c.put_by_key-tried.result t c.u16_at-n.ensures c.new_place-p.ensures c.put_by_key-tried.ensures in
+    record-way m o b e r r-size c.u16_at-n.result c.new_place-p.result c.put_by_key-tried.result t c.u16_at-n.ensures c.new_place-p.ensures c.put_by_key-tried.ensures in
     record-again m o b e r r-size t way c.in-Held.i c.in-Held.is c.add_signer.new.memory c.add_signer.ensures
 
 pub returns-in-Full : goal.returns-in-Full
@@ -116,7 +116,7 @@ returns-in-Full c =
     let b : Bytes m = all-bytes m (λ i. (c.slice_known-1.given i).fits) in
     let t : List ℕ = c.put_by_key-tried.new.t in
     let way : RecordWay m o b e r r-size c.put_by_key-tried.result t =
-        record-way m o b e r r-size c.u16_at-n.result c.new_place-p.result c.put_by_key-tried.result t c.u16_at-n.ensures c.new_place-p.ensures c.put_by_key-tried.ensures in
+    record-way m o b e r r-size c.u16_at-n.result c.new_place-p.result c.put_by_key-tried.result t c.u16_at-n.ensures c.new_place-p.ensures c.put_by_key-tried.ensures in
     record-full m o b e r r-size t way c.in-Full.is
 
 pub returns-in-New : goal.returns-in-New
@@ -129,5 +129,5 @@ returns-in-New c =
     let b : Bytes m = all-bytes m (λ i. (c.slice_known-1.given i).fits) in
     let t : List ℕ = c.put_by_key-tried.new.t in
     let way : RecordWay m o b e r r-size c.put_by_key-tried.result t =
-        record-way m o b e r r-size c.u16_at-n.result c.new_place-p.result c.put_by_key-tried.result t c.u16_at-n.ensures c.new_place-p.ensures c.put_by_key-tried.ensures in
+    record-way m o b e r r-size c.u16_at-n.result c.new_place-p.result c.put_by_key-tried.result t c.u16_at-n.ensures c.new_place-p.ensures c.put_by_key-tried.ensures in
     record-new m o b e r r-size t c.put_u16.new.s c.u16_at-n.result c.u16_at-n.ensures way c.in-New.is c.put_u16.ensures

@@ -1,14 +1,13 @@
 use Prim.Native.Nat.{ℕ, ◌-◌, ◌≤◌, ◌<◌}
-use mathlib.Core.Path.{◌≡◌, refl, sym, ap, ◌∙◌}
+use mathlib.Core.Path.{◌≡◌, refl, sym, ◌∙◌}
 use mathlib.Core.Bool.{Bool, false, ◌&&◌}
 use mathlib.Core.List.{List}
 use lib.ListN.{length, take, drop}
-use borrow.Author.Tests.{le-leb, lt-leb, not-true, not-false}
+use borrow.Author.Tests.{le-leb, lt-leb}
 use Rattle.octets.proofs.Moves.{tail-lent}
 use Rattle.held.specs.Signed.{beginFormed}
 use Rattle.tracked.specs.Layout.{maxStanding, maxRefused, fixSize, refusedSize, refusedAt}
 use Rattle.tracked.specs.Bytes.{fixCount, refusedCount, fixTable, refusedTable, filledBy, transmissionFormed}
-use mathlib.Core.Bool.{not}
 use Rattle.stored.proofs.formed.transmission_formed.Goals as goal
 
 -- ---- the definition, by the checks of the function

@@ -1,10 +1,5 @@
 use Prim.Native.Nat.{◌-◌}
-use native.Mathlib.Omega.{arith}
-use lib.ListN.{length-take, length-drop}
-use Rattle.held.specs.Signed.{beginFormed}
-use Rattle.held.proofs.Testing.{Passed, passed_none, passed-room, passed-not, passed-next, passed-all}
-use Rattle.tracked.specs.Layout.{transmissionSize}
-use Rattle.tracked.specs.Bytes.{transmissionFormed}
+use Rattle.held.proofs.Testing.{passed-not, passed-next, passed-all}
 use mathlib.Core.Path.{ap}
 use mathlib.Core.Bool.{not}
 use Rattle.stored.proofs.formed.transmissions_formed.Goals as goal

@@ -1,8 +1,6 @@
 use Prim.Native.Nat.{◌-◌}
-use native.Mathlib.Omega.{arith}
-use lib.ListN.{length-take, length-drop}
 use Rattle.held.specs.Signed.{beginFormed}
-use Rattle.held.proofs.Testing.{Passed, passed_none, passed-room, passed-not, passed-next, passed-all}
+use Rattle.held.proofs.Testing.{Passed}
 use Rattle.tracked.specs.Layout.{transmissionSize}
 use Rattle.tracked.specs.Bytes.{transmissionFormed}
 use Rattle.stored.proofs.formed.transmissions_formed.Given as goal

@@ -2,7 +2,6 @@ use Prim.Native.Nat.{ℕ, ◌-◌, ◌≤◌, ◌<◌}
 use mathlib.Core.Path.{◌≡◌, refl, sym, ◌∙◌}
 use mathlib.Core.Bool.{Bool, false, ◌&&◌}
 use mathlib.Core.List.{List}
-use native.Mathlib.Omega.{arith}
 use lib.ListN.{length, get_or, take, drop}
 use borrow.Author.Tests.{le-leb, lt-leb, eq-eqb, ne_eqb}
 use Rattle.ranges.proofs.Bools.{and_assoc}
@@ -15,10 +14,8 @@ use Rattle.held.specs.Signed.{beginFormed}
 use Rattle.tracked.specs.Layout.{transmissionSize}
 use Rattle.tracked.specs.Bytes.{filledBy, transmissionFormed}
 use Rattle.arrange.specs.Arranged.{maxTransmissions}
-use Rattle.stored.specs.Layout.{pairSize, transmissionCountAt, zeroAt, transmissionsAt, trackSize}
+use Rattle.stored.specs.Layout.{pairSize, zeroAt, transmissionsAt, trackSize}
 use Rattle.stored.specs.Memory.{convictedIn, summaryCount, transmissionCount, summaryTable, transmissionTable, summariesIn, wellFormed}
-use mathlib.Core.Path.{ap}
-use mathlib.Core.Bool.{not}
 use Rattle.stored.proofs.formed.well_formed.Goals as goal
 
 -- ---- the definition, by the checks of the function

@@ -3,7 +3,6 @@ use mathlib.Core.Path.{ap, ◌∙◌}
 use native.Mathlib.Omega.{arith}
 use Rattle.octets.specs.Writes.{putWord}
 use Rattle.tracked.specs.Layout.{signersAt}
-use Rattle.tracked.proofs.Holding.{held-room}
 use Rattle.stored.proofs.Resigning.{resigned}
 use Rattle.stored.proofs.signatures.put_signers.Goals as goal
 

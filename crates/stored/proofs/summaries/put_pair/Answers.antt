@@ -1,10 +1,9 @@
-use Prim.Native.Nat.{ℕ, ◌+◌, ◌*◌, ◌≤◌}
-use mathlib.Core.Path.{◌≡◌, refl, sym, ap, ◌∙◌}
+use Prim.Native.Nat.{ℕ}
+use mathlib.Core.Path.{◌≡◌, refl, ap, ◌∙◌}
 use mathlib.Core.Bool.{true}
 use mathlib.Core.List.{List}
 use native.Mathlib.Omega.{arith}
 use lib.ListN.{length, take, drop}
-use borrow.Rule.Slice.PartMut.{same_len_mid}
 use Rattle.octets.specs.Bytes.{Bytes}
 use Rattle.octets.proofs.Numbers.{all-bytes}
 use Rattle.places.specs.Places.{places, ascending}
@@ -13,7 +12,7 @@ use Rattle.held.specs.Limits.{summariesSize}
 use Rattle.stored.specs.Layout.{pairSize, summariesAt}
 use Rattle.stored.specs.Memory.{summaryCount, summaryTable}
 use Rattle.stored.proofs.Opened.{Opened, opened, summaries-ascend, summary-bytes-length}
-use Rattle.stored.proofs.Pairs.{withTable, PairWay, pair-way, pair-full, pair-new, held-inside, pair-unwritten, pair-again}
+use Rattle.stored.proofs.Pairs.{PairWay, pair-way, pair-full, pair-new, held-inside, pair-unwritten, pair-again}
 use borrow.Author.Rules.{rules}
 use Rattle.stored.proofs.summaries.put_pair.Goals as goal
 

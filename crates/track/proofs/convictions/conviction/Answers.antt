@@ -1,4 +1,4 @@
-use Rattle.std.proofs.Common.{◌≡◌, ℕ, true, List, sym, ◌∙◌, arith, rules}
+use Rattle.std.proofs.Common.{◌≡◌, ℕ, true, List, sym, ◌∙◌}
 use Rattle.held.specs.After.{after}
 use Rattle.stored.specs.Memory.{wellFormed, decode, on_memory}
 use Rattle.recheck.specs.Recheck.{recheck, strikeEngine}

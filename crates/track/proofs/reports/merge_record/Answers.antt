@@ -1,4 +1,4 @@
-use Rattle.std.proofs.Common.{◌≡◌, ℕ, ◌+◌, ◌-◌, ◌≤◌, true, List, ◌++◌, length, take, drop, sym, refl, ap, ◌∙◌, arith, rules}
+use Rattle.std.proofs.Common.{◌≡◌, ℕ, ◌+◌, ◌-◌, ◌≤◌, List, ◌++◌, length, take, drop, refl, ap, ◌∙◌, arith, rules}
 use borrow.Rule.Slice.PartMut.{same_len_mid}
 use Rattle.octets.specs.Bytes.{Bytes}
 use Rattle.octets.proofs.Numbers.{all-bytes}
@@ -7,8 +7,8 @@ use Rattle.models.specs.Summary.{summarySize}
 use Rattle.held.specs.Limits.{maxEngine}
 use Rattle.tracked.specs.Bytes.{fixBytes}
 use Rattle.merge.specs.Merged.{number_of}
-use Rattle.stored.specs.Layout.{transmissionCountAt, transmissionsAt, trackSize}
-use Rattle.stored.specs.Memory.{summaryCount, summaryTable, summariesIn, transmissionCount}
+use Rattle.stored.specs.Layout.{transmissionsAt, trackSize}
+use Rattle.stored.specs.Memory.{summaryTable, summariesIn}
 use Rattle.stored.proofs.Opened.{Opened, opened, summary-bytes-length}
 use Rattle.track.specs.Steps.{reportedFix}
 use Rattle.track.proofs.Reported.{new-size, new-formed, report-ready, step-few, stepped-is}

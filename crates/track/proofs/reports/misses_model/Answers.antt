@@ -1,8 +1,4 @@
-use Rattle.std.proofs.Common.{ℕ, ap, ◌∙◌, arith, rules}
-use Rattle.places.specs.Places.{places}
-use Rattle.models.specs.Summary.{summarySize}
-use Rattle.models.specs.Missing.{citesMissing}
-use Rattle.stored.specs.Memory.{summaryTable}
+use Rattle.std.proofs.Common.{arith}
 use Rattle.stored.proofs.Opened.{opened, summary-bytes-length}
 use Rattle.track.proofs.reports.misses_model.Goals as goal
 

@@ -1,4 +1,4 @@
-use Rattle.std.proofs.Common.{ℕ, List, ◌++◌, length, ap, ◌∙◌, ap₂, arith, rules}
+use Rattle.std.proofs.Common.{ℕ, List, ◌++◌, length, ap, ◌∙◌, ap₂, arith}
 use Rattle.octets.specs.Words.{word_bytes}
 use Rattle.places.specs.Places.{places}
 use Rattle.models.specs.Summary.{summarySize}

@@ -1,4 +1,4 @@
-use Rattle.std.proofs.Common.{◌≡◌, ℕ, ◌≤◌, true, false, List, sym, refl, ap, ◌∙◌, arith, rules}
+use Rattle.std.proofs.Common.{◌≡◌, ℕ, ◌≤◌, true, false, List, sym, ap, ◌∙◌, arith}
 use Rattle.octets.specs.Masks.{bit}
 use Rattle.record.specs.Formed as R
 use Rattle.models.specs.Missing.{citesMissing}
@@ -9,7 +9,6 @@ use Rattle.stored.specs.Memory.{wellFormed, decode, commit, on_memory}
 use Rattle.stored.proofs.Opened.{opened}
 use Rattle.track.specs.Track.{trackReport}
 use Rattle.track.proofs.Answers.{no-track, on-track, refuses, report-2, report-3, report-4, report-6, report-rest, decoded-convicted, decoded-summaries}
-use mathlib.Core.Bool.{not}
 use Rattle.track.proofs.reports.report.Goals as goal
 
 pub returns-then-not-well_formed : goal.returns-then-not-well_formed

@@ -1,10 +1,5 @@
-use Rattle.std.proofs.Common.{ℕ, ap, ◌∙◌, arith, rules}
-use Rattle.places.specs.Places.{places}
-use Rattle.models.specs.Summary.{summarySize}
-use Rattle.models.specs.Models.{state_of}
-use Rattle.stored.specs.Memory.{summaryTable}
+use Rattle.std.proofs.Common.{arith}
 use Rattle.stored.proofs.Opened.{opened, summary-bytes-length}
-use Rattle.track.specs.Track.{isDisputed}
 use Rattle.track.proofs.summaries.disputed_in.Goals as goal
 
 pub u16_at-n-requires : goal.u16_at-n-requires

@@ -1,4 +1,4 @@
-use Rattle.std.proofs.Common.{◌≡◌, ℕ, ◌≤◌, true, false, List, length, sym, refl, ap, ◌∙◌, arith, length-append, rules, le-leb}
+use Rattle.std.proofs.Common.{◌≡◌, ℕ, ◌≤◌, true, false, List, length, sym, refl, ap, ◌∙◌, arith, length-append, le-leb}
 use Rattle.octets.specs.Masks.{bit}
 use Rattle.octets.specs.Words.{word_bytes}
 use Rattle.octets.proofs.Numbers.{length-word-bytes}
@@ -8,7 +8,7 @@ use Rattle.held.specs.After.{after}
 use Rattle.held.specs.Summaries.{summaryFormed}
 use Rattle.held.specs.Limits.{maxEngine}
 use Rattle.stored.specs.Track.{Track, Outcome, refused}
-use Rattle.stored.specs.Memory.{convictedIn, wellFormed, decode, commit, on_memory}
+use Rattle.stored.specs.Memory.{wellFormed, decode, commit, on_memory}
 use Rattle.stored.proofs.Opened.{opened}
 use Rattle.track.specs.Track.{trackSummary, holdPair}
 use Rattle.track.proofs.Answers.{no-track, on-track, refuses, summary-2, summary-9-model, summary-9-inputs, summary-4, summary-rest, decoded-convicted}

@@ -1,15 +1,11 @@
-use Prim.Native.Nat.{◌-◌, ◌≤◌}
+use Prim.Native.Nat.{◌-◌}
 use mathlib.Core.Bool.{false}
-use mathlib.Core.Path.{◌≡◌, refl, sym, ap, ◌∙◌}
+use mathlib.Core.Path.{refl}
 use native.Mathlib.Omega.{arith}
-use lib.ListN.{length, length-set}
-use Rattle.ranges.specs.Range.{Collected, Filled}
+use lib.ListN.{length-set}
+use Rattle.ranges.specs.Range.{Filled}
 use Rattle.ranges.proofs.Range.{collected-none, collected-hit, collected-done}
 use Rattle.fixes.specs.Layout.{maxFixes}
-use Rattle.transmissions.specs.Members.{every, belongs}
-use borrow.Author.Rules.{rules}
-use Rattle.transmissions.proofs.latest.heads.Reads as reads
-use Rattle.transmissions.proofs.latest.heads.Lts as lts
 use Rattle.transmissions.proofs.latest.heads.Goals as goal
 
 pub loop-s-init : goal.loop-s-init

@@ -5,13 +5,6 @@ use borrow.Author.Tests.{lt-ltb, le-ltb}
 use Rattle.record.specs.Fields.{time}
 use Rattle.fixes.specs.Layout.{fixRecord}
 use Rattle.transmissions.specs.Latest.{laterFix}
-use borrow.Author.Rules.{rules}
-use Rattle.transmissions.proofs.latest.later_fix.Reads as reads
-use Rattle.transmissions.proofs.latest.later_fix.Lts as lts
-use Rattle.fixes.proofs.identity.Reads as identity-reads
-use Rattle.fixes.proofs.record_of.Reads as record-of-reads
-use Rattle.octets.proofs.order.precedes.Reads as precedes-reads
-use Rattle.record.proofs.fields.time.Reads as time-reads
 use Rattle.transmissions.proofs.latest.later_fix.Goals as goal
 
 pub returns-then-b-a : goal.returns-then-b-a

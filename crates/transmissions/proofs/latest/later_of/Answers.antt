@@ -1,6 +1,5 @@
 use native.Mathlib.Omega.{arith}
 use Rattle.rule.proofs.Choosing.{better-none, better-new, better-old, below_at}
-use borrow.Author.Rules.{rules}
 use Rattle.transmissions.proofs.latest.later_of.Goals as goal
 
 pub returns-in_default : goal.returns-in_default

@@ -1,11 +1,7 @@
 use native.Mathlib.Omega.{arith}
 use mathlib.Core.Path.{sym, ◌∙◌}
 use Rattle.rule.proofs.Choosing.{chose-among}
-use Rattle.transmissions.proofs.Showing.{Showing, showing-none, showing-more, showing-end, showing-full}
-use borrow.Author.Rules.{rules}
-use Rattle.transmissions.proofs.latest.latest.Reads as reads
-use Rattle.transmissions.proofs.latest.latest.Lts as lts
-use Rattle.transmissions.proofs.latest.latest_left.Reads as latest-left-reads
+use Rattle.transmissions.proofs.Showing.{showing-more, showing-end, showing-full}
 use Rattle.transmissions.proofs.latest.latest.Goals as goal
 
 pub returns-in_default : goal.returns-in_default

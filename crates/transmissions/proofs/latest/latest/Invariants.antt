@@ -1,10 +1,4 @@
-use native.Mathlib.Omega.{arith}
-use mathlib.Core.Path.{sym, ◌∙◌}
-use Rattle.rule.proofs.Choosing.{chose-among}
-use Rattle.transmissions.proofs.Showing.{Showing, showing-none, showing-more, showing-end, showing-full}
-use Rattle.transmissions.proofs.latest.latest.Reads as reads
-use Rattle.transmissions.proofs.latest.latest.Lts as lts
-use Rattle.transmissions.proofs.latest.latest_left.Reads as latest-left-reads
+use Rattle.transmissions.proofs.Showing.{Showing}
 use Rattle.transmissions.proofs.latest.latest.Given as goal
 
 abbrev pub invariant-loop-k : goal.invariant-loop-k

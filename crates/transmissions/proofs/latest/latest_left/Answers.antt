@@ -1,16 +1,6 @@
-use Prim.Native.Nat.{◌-◌, ◌≤◌}
-use mathlib.Core.Path.{◌≡◌}
+use Prim.Native.Nat.{◌-◌}
 use native.Mathlib.Omega.{arith}
-use Rattle.ranges.proofs.Bools.{not_t, not-false-t}
-use Rattle.ranges.specs.Lists.{filter, countFrom}
-use Rattle.ranges.specs.Tables.{marked}
-use Rattle.rule.specs.Choosing.{choose, Below}
 use Rattle.rule.proofs.Choosing.{choose-start, choose-hit, choose-miss, choose-out, below_none, below-better}
-use Rattle.transmissions.specs.Latest.{later, latestLeft}
-use borrow.Author.Rules.{rules}
-use Rattle.transmissions.proofs.latest.latest_left.Reads as reads
-use Rattle.transmissions.proofs.latest.latest_left.Lts as lts
-use Rattle.transmissions.proofs.latest.later_of.Reads as later-of-reads
 use Rattle.transmissions.proofs.latest.latest_left.Goals as goal
 
 pub loop-i-init : goal.loop-i-init
