@@ -1,5 +1,5 @@
 -- The bytes of a transmission in a track (document 01, 'The track and the session'), the transmission that bytes hold, and which bytes hold one.
-use Rattle.std.specs.Prelude.{ℕ, ◌*◌, Bool, ◌&&◌, List, ◌∷◌, ◌++◌, map, leb, length, take, drop, get_or}
+use Rattle.std.specs.Prelude.{ℕ, ◌*◌, Bool, ◌&&◌, List, ◌∷◌, ◌++◌, map, leb, eqb, length, take, drop, get_or}
 use Rattle.octets.specs.Words.{word_at, word_bytes}
 use Rattle.octets.specs.Runs.{allZero}
 use Rattle.places.specs.Places.{places, table_of, allPlaces}

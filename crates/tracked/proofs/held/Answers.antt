@@ -1,3 +1,4 @@
+use Prim.Native.Nat.{◌-◌}
 use mathlib.Core.Path.{refl}
 use Rattle.items.proofs.Pairing.{width}
 use Rattle.tracked.specs.Layout as L
