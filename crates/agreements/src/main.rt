@@ -365,31 +365,25 @@ fn show_random(rt: &impl Print, x: u64) -> io::Result<()> {
 }
 
 fn show_all_series(rt: &impl Print) -> io::Result<()> {
-    let mut i: u64 = 960;
-    while i < 1124 {
+    for i in 960..1124 {
         show_series(rt, floats::of_bits(i * 0x10_0000_0000_0000))?;
-        i += 1;
     }
     Ok(())
 }
 
 fn show_turns(rt: &impl Print) -> io::Result<()> {
-    let mut i: u64 = 0;
-    while i < 42 {
+    for i in 0..42 {
         show_turn(rt, angle(i))?;
-        i += 1;
     }
     Ok(())
 }
 
 fn show_all_named(rt: &impl Print) -> io::Result<()> {
-    let mut i: u64 = 0;
-    while i < 13 {
+    for i in 0..13 {
         show_named(rt, named(i), 500_000_000, true)?;
         show_named(rt, named(i), 500_000_000, false)?;
         show_named(rt, named(i), 500_002_700, true)?;
         show_named(rt, named(i), 500_002_700, false)?;
-        i += 1;
     }
     Ok(())
 }
@@ -402,21 +396,17 @@ fn show_limit(rt: &impl Print, i: u64) -> io::Result<()> {
 }
 
 fn show_limits(rt: &impl Print) -> io::Result<()> {
-    let mut i: u64 = 0;
-    while i < 6 {
+    for i in 0..6 {
         show_limit(rt, i)?;
-        i += 1;
     }
     Ok(())
 }
 
 fn show_randoms(rt: &impl Print) -> io::Result<()> {
     let mut x: u64 = 0x9e37_79b9_7f4a_7c15;
-    let mut i: u64 = 0;
-    while i < 400 {
+    for i in 0..400 {
         x = next(x);
         show_random(rt, x)?;
-        i += 1;
     }
     Ok(())
 }

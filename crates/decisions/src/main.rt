@@ -36,13 +36,11 @@ fn wide(x: u8) -> u64 {
 }
 
 fn show_indices(rt: &impl Print, list: [u8; 96], count: u8) -> io::Result<()> {
-    let mut i: u8 = 0;
-    while i < 96 {
+    for i in 0..96 {
         if count <= i {
             return Ok(());
         }
         show(rt, wide(list[i as usize]))?;
-        i += 1;
     }
     Ok(())
 }
@@ -60,13 +58,11 @@ fn show_refusal(rt: &impl Print, r: Refusal) -> io::Result<()> {
 }
 
 fn show_refusals(rt: &impl Print, list: [Refusal; 96], count: u8) -> io::Result<()> {
-    let mut i: u8 = 0;
-    while i < 96 {
+    for i in 0..96 {
         if count <= i {
             return Ok(());
         }
         show_refusal(rt, list[i as usize])?;
-        i += 1;
     }
     Ok(())
 }
@@ -90,13 +86,11 @@ fn show_decision(rt: &impl Print, d: Decision) -> io::Result<()> {
 }
 
 fn show_tags(rt: &impl Print, list: [u64; 16], count: u8) -> io::Result<()> {
-    let mut i: u8 = 0;
-    while i < 16 {
+    for i in 0..16 {
         if count <= i {
             return Ok(());
         }
         show(rt, list[i as usize])?;
-        i += 1;
     }
     Ok(())
 }
@@ -166,12 +160,10 @@ fn step(rt: &(impl Input + Print), buffer: &mut [u8]) -> io::Result<bool> {
 
 fn main(rt: HostRuntime) -> io::Result<()> {
     let mut buffer = console::large_buffer();
-    let mut i: u64 = 0;
-    while i < 1000 {
+    for i in 0..1000 {
         if !step(&rt, &mut buffer)? {
             return Ok(());
         }
-        i += 1;
     }
     Ok(())
 }

@@ -16,11 +16,9 @@ fn digit(x: u8) -> u8 {
 // The digits of a digest, and a line's end.
 fn hex_line(d: [u8; 32]) -> [u8; 65] {
     let mut line = [b'\n'; 65];
-    let mut i = 0;
-    while i < 32 {
+    for i in 0..32 {
         line[i * 2] = digit(d[i] / 16);
         line[i * 2 + 1] = digit(d[i]);
-        i += 1;
     }
     line
 }
@@ -33,20 +31,16 @@ fn print_digest(rt: &impl Print, input: &[u8]) -> io::Result<()> {
 fn fill(s: &mut [u8])
     ensures { length s.new ≡ length s.old }
 {
-    let mut i = 0;
-    while i < s.len() {
+    for i in 0..s.len() {
         s[i] = (i % 251) as u8;
-        i += 1;
     }
 }
 
 fn print_lengths(rt: &impl Print, s: &[u8]) -> io::Result<()>
     requires { 4096 ≤ length s.now }
 {
-    let mut n = 0;
-    while n < 261 {
+    for n in 0..261 {
         print_digest(rt, &s[..n])?;
-        n += 1;
     }
     print_digest(rt, &s[..1000])?;
     print_digest(rt, &s[..4096])

@@ -46,10 +46,8 @@ fn show_state(rt: &impl Print, s: ModelState) -> io::Result<()> {
 fn show_states(rt: &impl Print, table: &[u8], count: usize) -> io::Result<()>
     requires { count * summarySize ≤ length table.now }
 {
-    let mut model: u8 = 0;
-    while model < 5 {
+    for model in 0..5 {
         show_state(rt, models::states::state(table, count, model))?;
-        model += 1;
     }
     Ok(())
 }
@@ -64,10 +62,8 @@ fn show_flag(rt: &impl Print, b: bool) -> io::Result<()> {
 
 fn show_hash(rt: &impl Print, h: &[u8]) -> io::Result<()> {
     word(rt, b" ")?;
-    let mut i = 0;
-    while i < h.len() {
-        print!(rt; "{:02x}", h[i])?;
-        i += 1;
+    for x in h {
+        print!(rt; "{x:02x}")?;
     }
     Ok(())
 }
@@ -146,12 +142,10 @@ fn step(rt: &(impl Input + Print), buffer: &mut [u8]) -> io::Result<bool> {
 
 fn main(rt: HostRuntime) -> io::Result<()> {
     let mut buffer = console::large_buffer();
-    let mut i: u64 = 0;
-    while i < 1000 {
+    for i in 0..1000 {
         if !step(&rt, &mut buffer)? {
             return Ok(());
         }
-        i += 1;
     }
     Ok(())
 }

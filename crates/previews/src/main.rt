@@ -57,10 +57,8 @@ fn show_too_small(rt: &impl Print, memory: &[u8], engine: u32) -> io::Result<()>
 }
 
 fn show_all(rt: &impl Print, memory: &[u8]) -> io::Result<()> {
-    let mut engine: u32 = 0;
-    while engine < NUMBERS {
+    for engine in 0..NUMBERS {
         show_preview(rt, memory, engine)?;
-        engine += 1;
     }
     show_too_small(rt, memory, 0)?;
     show_too_small(rt, memory, NUMBERS)
@@ -79,12 +77,10 @@ fn step(rt: &(impl Input + Print)) -> io::Result<bool> {
 }
 
 fn main(rt: HostRuntime) -> io::Result<()> {
-    let mut i: u32 = 0;
-    while i < MAX_REGISTERS {
+    for i in 0..MAX_REGISTERS {
         if !step(&rt)? {
             return Ok(());
         }
-        i += 1;
     }
     Ok(())
 }

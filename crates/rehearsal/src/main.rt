@@ -55,11 +55,9 @@ fn announce(rt: &impl Print, number: u64) -> io::Result<()> {
 }
 
 fn main(rt: HostRuntime) -> io::Result<()> {
-    let mut number: u64 = 1;
-    while number <= 152 {
+    for number in 1..153 {
         announce(&rt, number)?;
         rehearse(&rt, next_length(&rt)?)?;
-        number += 1;
     }
     Ok(())
 }

@@ -111,13 +111,11 @@ fn show_indices(rt: &impl Print, s: &[u8], at: usize) -> io::Result<()>
     requires { at + indicesSize ≤ length s.now }
 {
     let count = size(s[at]);
-    let mut i = 0;
-    while i < MAX_ITEMS {
+    for i in 0..MAX_ITEMS {
         if count <= i {
             return Ok(());
         }
         show(rt, wide(s[at + 1 + i]))?;
-        i += 1;
     }
     Ok(())
 }
@@ -149,13 +147,11 @@ fn show_refusals(rt: &impl Print, s: &[u8], at: usize) -> io::Result<()>
     requires { at + refusalsSize ≤ length s.now }
 {
     let count = size(s[at]);
-    let mut i = 0;
-    while i < MAX_ITEMS {
+    for i in 0..MAX_ITEMS {
         if count <= i {
             return Ok(());
         }
         show_refusal(rt, s, at + 1 + i * REFUSAL_SIZE)?;
-        i += 1;
     }
     Ok(())
 }
@@ -224,12 +220,10 @@ fn step(rt: &(impl Input + Print), buffer: &mut [u8]) -> io::Result<bool> {
 
 fn main(rt: HostRuntime) -> io::Result<()> {
     let mut buffer = console::large_buffer();
-    let mut i: u64 = 0;
-    while i < 10000 {
+    for i in 0..10000 {
         if !step(&rt, &mut buffer)? {
             return Ok(());
         }
-        i += 1;
     }
     Ok(())
 }

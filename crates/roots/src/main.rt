@@ -81,21 +81,15 @@ fn show_random(rt: &impl Print, x: u64, i: u64) -> io::Result<()> {
 
 fn main(rt: HostRuntime) -> io::Result<()> {
     let mut x: u64 = 0x9e37_79b9_7f4a_7c15;
-    let mut i: u64 = 0;
-    while i < 42 {
+    for i in 0..42 {
         show(&rt, edge(i))?;
-        i += 1;
     }
-    i = 1;
-    while i < 101 {
+    for i in 1..101 {
         show_square(&rt, i)?;
-        i += 1;
     }
-    i = 0;
-    while i < 200 {
+    for i in 0..200 {
         x = next(x);
         show_random(&rt, x, i)?;
-        i += 1;
     }
     Ok(())
 }

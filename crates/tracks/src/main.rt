@@ -43,11 +43,9 @@ fn low(x: u8) -> u8 {
 // The digits of a hash.
 fn hex(hash: [u8; 32]) -> [u8; 64] {
     let mut text = [0u8; 64];
-    let mut i = 0;
-    while i < 32 {
+    for i in 0..32 {
         text[i * 2] = high(hash[i]);
         text[i * 2 + 1] = low(hash[i]);
-        i += 1;
     }
     text
 }
@@ -146,12 +144,10 @@ fn fresh_track() -> [u8; TRACK_SIZE] {
 // So many calls on a fresh track; false where one is cut short.
 fn run(rt: &(impl Input + Print), count: u16) -> io::Result<bool> {
     let mut memory = fresh_track();
-    let mut i: u16 = 0;
-    while i < count {
+    for i in 0..count {
         if !call(rt, &mut memory)? {
             return Ok(false);
         }
-        i += 1;
     }
     Ok(true)
 }
@@ -171,12 +167,10 @@ fn replay(rt: &(impl Input + Print)) -> io::Result<bool> {
 }
 
 fn main(rt: HostRuntime) -> io::Result<()> {
-    let mut i: u32 = 0;
-    while i < MAX_LISTS {
+    for i in 0..MAX_LISTS {
         if !replay(&rt)? {
             return Ok(());
         }
-        i += 1;
     }
     Ok(())
 }
