@@ -3,3 +3,4 @@ pub mod Comparison
 pub mod Lookup
 pub mod Zeros
 pub mod Moves
+pub mod Puts

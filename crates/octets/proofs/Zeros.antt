@@ -2,7 +2,7 @@
 use Prim.Native.Nat.{ℕ, zero, suc}
 use mathlib.Core.Path.{◌≡◌, refl, ap, ◌∙◌}
 use mathlib.Core.Bool.{true, false, ◌&&◌}
-use mathlib.Core.List.{List, [], ◌∷◌, ◌++◌}
+use mathlib.Core.List.{List, [], ◌∷◌}
 use native.Mathlib.Omega.{arith}
 use lib.Dec.{eqb}
 use lib.Bits.{bit_or, or_add_and, and_le_l, and_le_r}
@@ -20,11 +20,6 @@ pub run-zero : (n : ℕ) → allZero (replicate n 0) ≡ true
 unfolding allZero
 run-zero zero = refl
 run-zero (suc n) = run-zero n
-
-pub all-zero-append : (s t : List ℕ) → allZero (s ++ t) ≡ (allZero s && allZero t)
-unfolding allZero
-all-zero-append [] t = refl
-all-zero-append (b ∷ s) t = by (eqb b 0) (λ h. rw h (all-zero-append s t)) (λ h. rw h refl)
 
 -- a bitwise or is zero exactly when both parts are
 pub or-zero : (a b : ℕ) → eqb (bit_or a b) 0 ≡ (eqb a 0 && eqb b 0)

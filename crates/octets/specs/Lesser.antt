@@ -1,5 +1,4 @@
--- No claim rests on this definition: it says which of two lent slices is handed back (document 01, 'How to write each place': "of two lent record slices the
--- lesser is returned").
+-- Which of two lent slices is handed back: the one whose bytes come first.
 use Rattle.std.specs.Prelude.{ℕ, cond, List}
 use Rattle.octets.specs.Order.{isBefore}
 

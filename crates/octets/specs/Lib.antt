@@ -1,5 +1,5 @@
--- Numbers in bytes (Words), texts in bytes (Ascii), byte order (Order), masks (Masks), runs of zeros (Runs); that all are bytes (Bytes), what a write leaves (Writes), and which of two slices is handed back
--- (Lesser).
+-- Numbers in bytes (Words), texts in bytes (Ascii), byte order (Order), masks (Masks), runs of zeros (Runs); that all are bytes (Bytes), what a write leaves (Writes), which of two slices is handed back
+-- (Lesser), and what is claimed (Claims).
 pub mod Words
 pub mod Order
 pub mod Masks
@@ -8,3 +8,5 @@ pub mod Ascii
 pub mod Bytes
 pub mod Writes
 pub mod Lesser
+pub mod Put
+pub mod Claims

@@ -1,4 +1,4 @@
--- Sets of small numbers as masks: "bit n for engine n", "bit i is the i-th tag" (document 01, 'The record' and 'The register'). Bit 0 is the lowest.
+-- Sets of small numbers as masks: bit n stands for engine n, bit i for the i-th tag. Bit 0 is the lowest.
 use Rattle.std.specs.Prelude.{ℕ, zero, suc, ◌+◌, ◌*◌, ◌/◌, ◌%◌, Bool, eqb}
 
 -- whether bit n of a mask is set

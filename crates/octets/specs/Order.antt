@@ -1,4 +1,4 @@
--- Byte order: "compares strings by their first differing byte" (document 01, its opening paragraph). Where one string is the beginning of the other,
+-- Byte order: two strings are compared by their first differing byte. Where one string is the beginning of the other,
 -- the shorter comes first.
 use Rattle.std.specs.Prelude.{ℕ, Bool, true, false, cond, not, ◌&&◌, List, [], ◌∷◌, ltb}
 

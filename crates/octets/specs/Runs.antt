@@ -1,4 +1,4 @@
--- Runs of zeros: "the rest is zero", "Unused bytes are zero" (document 01, 'The record' and 'The register').
+-- Runs of zeros: what a record or a table does not use is zero.
 use Rattle.std.specs.Prelude.{ℕ, Bool, true, ◌&&◌, List, [], ◌∷◌, eqb}
 
 -- every byte is zero

@@ -1,4 +1,4 @@
--- Numbers in memory: "Numbers in memory are little-endian" (document 01, its opening paragraph). A number of n bytes has its lowest byte first.
+-- Numbers in memory, which are little-endian: a number of n bytes has its lowest byte first.
 use Rattle.std.specs.Prelude.{ℕ, zero, suc, ◌+◌, ◌-◌, ◌*◌, ◌/◌, ◌%◌, cond, List, [], ◌∷◌, ltb, ℤ, pos, negsuc, take, drop}
 
 -- the number that a string of bytes stands for

@@ -5,6 +5,7 @@
 // mask's width.
 #![tactic(auto)]
 
+pub mod claims;
 pub mod masks;
 pub mod order;
 pub mod runs;

@@ -1,7 +1,6 @@
 // Byte order: strings are compared by their first differing byte.
 ghost use Rattle.std.specs.Prelude.{◌≡◌, ◌≤◌, length, take, drop};
 ghost use Rattle.octets.specs.Order.{isBefore, same};
-ghost use Rattle.octets.specs.Lesser.{lesserOf};
 
 use crate::words::u64_at;
 
@@ -32,15 +31,13 @@ fn alike(a: &[u8], b: &[u8]) -> usize
 fn precedes_from(a: &[u8], b: &[u8], at: usize) -> bool
     ensures { result ≡ isBefore (drop at a.now) (drop at b.now) }
 {
-    let mut i = at;
-    while i < b.len() {
+    for i in at..b.len() {
         if a.len() <= i {
             return true;
         }
         if a[i] != b[i] {
             return a[i] < b[i];
         }
-        i += 1;
     }
     false
 }
@@ -67,12 +64,10 @@ fn equal_from(a: &[u8], b: &[u8], at: usize) -> bool
     requires { length a.now ≡ length b.now }
     ensures { result ≡ same (drop at a.now) (drop at b.now) }
 {
-    let mut i = at;
-    while i < b.len() {
+    for i in at..b.len() {
         if a[i] != b[i] {
             return false;
         }
-        i += 1;
     }
     true
 }
@@ -97,11 +92,4 @@ pub fn equal(a: &[u8], b: &[u8]) -> bool
         return true;
     }
     equal_from(a, b, i)
-}
-
-// Of two lent slices the one that comes first; the first where they are equal.
-pub fn lesser<'a>(a: &'a [u8], b: &'a [u8]) -> &'a [u8]
-    ensures { result.now ≡ lesserOf a.now b.now }
-{
-    if precedes(b, a) { b } else { a }
 }

@@ -1,16 +1,15 @@
 // Runs of zeros, and moves within a slice.
 ghost use Rattle.std.specs.Prelude.{◌≡◌, ◌++◌, ◌+◌, ◌-◌, ◌≤◌, length, take, drop, replicate};
 ghost use Rattle.octets.specs.Runs.{allZero};
+ghost use Rattle.octets.specs.Put.{Put};
 
 // Whether every byte is zero. Looks at all of them, without a branch for each.
 pub fn is_zero(s: &[u8]) -> bool
     ensures { result ≡ allZero s.now }
 {
-    let mut any: u8 = 0;
-    let mut i = 0;
-    while i < s.len() {
-        any = any | s[i];
-        i += 1;
+    let mut any = 0;
+    for byte in s {
+        any |= *byte;
     }
     any == 0
 }
@@ -19,11 +18,7 @@ pub fn is_zero(s: &[u8]) -> bool
 pub fn clear(s: &mut [u8])
     ensures { s.new ≡ replicate (length s.old) 0 }
 {
-    let mut j = 0;
-    while j < s.len() {
-        s[j] = 0;
-        j += 1;
-    }
+    s.fill(0);
 }
 
 // Copies `from` to the front of `to`, where the bytes behind them stay, and answers how many that were.
@@ -37,14 +32,22 @@ pub fn copy(from: &[u8], to: &mut [u8]) -> usize
     n
 }
 
+// Copies `from` to a place of `to`, and answers the place behind it.
+pub fn put_bytes(to: &mut [u8], at: usize, from: &[u8]) -> usize
+    requires { at + length from.now ≤ length to.old }
+    ensures { Put to.old at from.now result to.new }
+{
+    let end = at + from.len();
+    to[at..end].copy_from_slice(from);
+    end
+}
+
 // Moves the bytes up by w. The first w stay, and the last w are lost.
 pub fn shift_up(s: &mut [u8], w: usize)
     requires { w ≤ length s.old }
     ensures { s.new ≡ take w s.old ++ take (length s.old - w) s.old }
 {
-    let mut j = s.len();
-    while w < j {
-        j -= 1;
+    for j in (w..s.len()).rev() {
         s[j] = s[j - w];
     }
 }
@@ -55,9 +58,7 @@ pub fn copy_down(s: &mut [u8], from: usize, to: usize, w: usize)
     requires w_in_bounds { from + w ≤ length s.old }
     ensures { s.new ≡ take to s.old ++ (take w (drop from s.old) ++ drop (to + w) s.old) }
 {
-    let mut k = 0;
-    while k < w {
+    for k in 0..w {
         s[to + k] = s[from + k];
-        k += 1;
     }
 }

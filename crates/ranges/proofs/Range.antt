@@ -1,6 +1,6 @@
 -- Laws of tests over a range of indices: a turn of a loop over them, and what the first and the list of those at which a test holds mean.
-use mathlib.Core.Path.{◌≡◌, refl, sym, ap, ap₂, ◌∙◌, subst}
-use mathlib.Core.Bool.{Bool, true, false, cond, ◌||◌, true≢false, false≢true}
+use mathlib.Core.Path.{◌≡◌, refl, sym, ap, ◌∙◌, subst}
+use mathlib.Core.Bool.{Bool, true, false, cond, true≢false, false≢true}
 use mathlib.Core.Logic.{⊎_elim}
 use mathlib.Core.List.Memᴰ
 use mathlib.Core.List.{List, [], ◌∷◌, ◌++◌, map, map-id, append-nil, Memᴰ}
@@ -106,15 +106,7 @@ first-not-past g k (suc f) i h l e =
 pub any-start : (g : ℕ → Bool) (n : ℕ) → any g 0 n ≡ any g 0 (n - 0)
 any-start g n = rw sub-zero refl
 
-pub first-start : (g : ℕ → Bool) (n : ℕ) → first g 0 n ≡ first g 0 (n - 0)
-first-start g n = rw sub-zero refl
-
 -- ---- tests that agree over a range
-
-pub any-ext : (g h : ℕ → Bool) (k f : ℕ) → ((i : ℕ) → k ≤ i → i < k + f → g i ≡ h i) → any g k f ≡ any h k f
-unfolding any
-any-ext g h k zero e = refl
-any-ext g h k (suc f) e = ap₂ ◌||◌ (e k (omega arith) (omega arith)) (any-ext g h (suc k) f (λ i p q. e i (omega arith) (omega arith)))
 
 -- ---- the list of the indices at which a test holds
 pub filt-mem : (g : ℕ → Bool) (k f i : ℕ) → k ≤ i → i < k + f → g i ≡ true → Memᴰ i (filt g k f)

@@ -8,7 +8,7 @@ use native.Mathlib.Nat.{sub-zero, add-zero, zero-add}
 use native.Mathlib.Numerals.{add-one}
 use lib.ListN.{length, replicate, set, length-append}
 use Rattle.ranges.specs.Lists.{any_of, filter, countFrom, up_to}
-use Rattle.ranges.specs.Range.{Holds, any, filt}
+use Rattle.ranges.specs.Range.{Holds, filt}
 use Rattle.ranges.proofs.Bools.{by}
 use Rattle.ranges.proofs.Range.{filled_none, filled_more}
 use Rattle.ranges.proofs.Lists.{filter-few, count-length}
@@ -106,11 +106,6 @@ module _ (N : ℕ) (g : ℕ → Bool) (a : List ℕ) (k i : ℕ) (w : Holds N 0 
   listed-done n p q = let e : i ≡ n = omega arith in subst (λ (j : ℕ). Holds N 0 a k (filter g (up_to j))) e w
 
 -- ---- the same by a range of indices
-
-pub any-range : (g : ℕ → Bool) (k n : ℕ) → any_of g (countFrom k n) ≡ any g k n
-unfolding any_of countFrom any
-any-range g k zero = refl
-any-range g k (suc n) = rw (any-range g (suc k) n) refl
 
 pub filter_range : (g : ℕ → Bool) (k n : ℕ) → filter g (countFrom k n) ≡ filt g k n
 unfolding filter countFrom filt

@@ -3,7 +3,7 @@ use mathlib.Core.Path.{◌≡◌, refl, sym, ap, ◌∙◌}
 use mathlib.Core.List.{List, ◌++◌, append_assoc}
 use native.Mathlib.Omega.{arith}
 use native.Mathlib.Nat.{add-zero, add_assoc}
-use lib.ListN.{length, get_or, take, drop, set, length-append, length-take, length-drop, length-set, take-append-drop, get_or-append}
+use lib.ListN.{length, get_or, take, drop, set, length-append, length-take, length-drop, take-append-drop, get_or-append}
 use lib.Seq.{take_at, length-take-le, get_or-append-add, get_or-take, get_or-drop}
 use Rattle.octets.proofs.Moves.{up, read-high}
 use Rattle.octets.proofs.runs.copy_down.Invariants.{moved}
@@ -51,16 +51,16 @@ module _ (s : List ℕ) (from to w : ℕ) (h : to ≤ from) (l : from + w ≤ le
       ap (λ (x : List ℕ). take (to + w) x ++ drop (to + w) s) q ∙ ap (λ (x : List ℕ). x ++ drop (to + w) s) (take_at p (drop (to + w) s) (to + w) z) ∙ sym q
 
 pub loop-k-init : goal.loop-k-init
-loop-k-init c = let a = c.args in (omega arith, refl, begin a.s.now a.from a.to a.w c.requires.to_le_from c.requires.w_in_bounds)
+loop-k-init c = let a = c.args in begin a.s.now a.from a.to a.w c.requires.to_le_from c.requires.w_in_bounds
 
 pub loop-k-preserved : goal.loop-k-preserved
 loop-k-preserved c =
     let a = c.args in
-    (omega arith, rw length-set c.loop-k.invariant.1, rw c.loop-k.invariant.2 (turn a.s.now a.from a.to a.w c.requires.to_le_from c.requires.w_in_bounds c.loop-k.k (omega arith)))
+    rw c.loop-k.invariant (turn a.s.now a.from a.to a.w c.requires.to_le_from c.requires.w_in_bounds c.loop-k.k (omega arith))
 
 pub returns : goal.returns
 unfolding moved
 returns c =
     let a = c.args in
     let e : c.loop-k.k ≡ a.w = omega arith in
-    c.loop-k.invariant.2 ∙ rw e (finish a.s.now a.from a.to a.w c.requires.to_le_from c.requires.w_in_bounds)
+    c.loop-k.invariant ∙ rw e (finish a.s.now a.from a.to a.w c.requires.to_le_from c.requires.w_in_bounds)

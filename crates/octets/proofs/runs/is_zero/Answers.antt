@@ -22,9 +22,8 @@ past : (s : List ℕ) (i any : ℕ) → length s ≤ i → (eqb any 0 && allZero
 unfolding allZero
 past s i any h = rw (drop_of_length-le s h) (and-unit (eqb any 0))
 
-pub loop-i-preserved : goal.loop-i-preserved
-loop-i-preserved c =
-    c.loop-i.invariant ∙ turn c.args.s.now c.loop-i.i c.loop-i.any (omega arith)
+pub loop-byte-preserved : goal.loop-byte-preserved
+loop-byte-preserved c = c.loop-byte.invariant ∙ turn c.args.s.now c.loop-byte.byte-index c.loop-byte.any (omega arith)
 
 pub returns : goal.returns
-returns c = sym (c.loop-i.invariant ∙ past c.args.s.now c.loop-i.i c.loop-i.any c.loop-i-test.false)
+returns c = sym (c.loop-byte.invariant ∙ past c.args.s.now c.loop-byte.byte-index c.loop-byte.any c.loop-byte-test.false)

@@ -4,7 +4,7 @@ use Prim.Native.Nat.{ℕ, ◌+◌, ◌-◌, ◌≤◌, ◌<◌}
 use mathlib.Core.Path.{◌≡◌, refl, sym, ap, ◌∙◌}
 use mathlib.Core.List.{List, ◌++◌, append-nil}
 use native.Mathlib.Omega.{arith}
-use lib.ListN.{length, get_or, take, drop, set, length-take, length-set, length-append}
+use lib.ListN.{length, get_or, take, drop, set, length-take, length-append}
 use Rattle.octets.proofs.Moves.{down, read_low}
 use Rattle.octets.proofs.runs.shift_up.Invariants.{moved}
 use Rattle.octets.proofs.runs.shift_up.Goals as goal
@@ -37,13 +37,13 @@ unfolding moved
 finish s w h = rw (drop_at (take w s) (take (length s - w) s) w (length-take-le w s h)) refl
 
 pub loop-j-init : goal.loop-j-init
-loop-j-init c = (omega arith, omega arith, refl, start c.args.s.now c.args.w c.requires)
+loop-j-init c = (omega arith, start c.args.s.now c.args.w c.requires)
 
 pub loop-j-preserved : goal.loop-j-preserved
 loop-j-preserved c =
-    (omega arith, omega arith, rw length-set c.loop-j.invariant.2, rw c.loop-j.invariant.3 (turn c.args.s.now c.args.w c.loop-j.j (omega arith) (omega arith)))
+    (omega arith, rw c.loop-j.invariant.1 (turn c.args.s.now c.args.w c.loop-j.j (omega arith) (omega arith)))
 
 pub returns : goal.returns
 returns c =
     let e : c.loop-j.j ≡ c.args.w = omega arith in
-    c.loop-j.invariant.3 ∙ rw e (finish c.args.s.now c.args.w c.requires)
+    c.loop-j.invariant.1 ∙ rw e (finish c.args.s.now c.args.w c.requires)

@@ -8,7 +8,4 @@ unfoldable pub moved : List ℕ → ℕ → List ℕ
 moved s w = take w s ++ take (length s - w) s
 
 abbrev pub invariant-loop-j : goal.invariant-loop-j
-invariant-loop-j l = (l.w ≤ l.j) × (l.j ≤ length l.initial.s) × (length l.s ≡ length l.initial.s) × (l.s ≡ take l.j l.initial.s ++ drop l.j (moved l.initial.s l.w))
-
-abbrev pub decreases-loop-j : goal.decreases-loop-j
-decreases-loop-j l = l.j
+invariant-loop-j l = (l.w ≤ l.j) × (l.s ≡ take l.j l.initial.s ++ drop l.j (moved l.initial.s l.w))
