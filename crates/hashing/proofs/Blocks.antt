@@ -1,9 +1,7 @@
 -- Laws of the blocks of an input: which bytes of the memory they are, and that the last one, filled up, has 64.
-use Rattle.std.proofs.Common.{◌≡◌, ℕ, zero, suc, ◌+◌, ◌-◌, ◌*◌, ◌≤◌, List, ◌++◌, length, take, drop, replicate, sym, ◌∙◌, append-nil, le_of_eq, add-one, arith, length-append, length-drop, length-take, take_all}
+use Rattle.std.proofs.Common.{◌≡◌, ℕ, zero, suc, ◌+◌, ◌-◌, ◌*◌, ◌≤◌, List, ◌++◌, length, take, drop, replicate, sym, ◌∙◌, append-nil, le_of_eq, add-one, arith, length-drop, length-take, take_all}
 use native.Mathlib.Nat.{sub-zero, zero-sub, suc-sub-suc}
-use lib.ListN.{length-replicate}
-use lib.Seq.{take-length}
-use Rattle.hashing.specs.Blake2s.{padBlock, words_of, block, blocksBefore, compressBlock, chainBlocks, hashWords}
+use Rattle.hashing.specs.Blake2s.{padBlock, words_of, blocksBefore, compressBlock, chainBlocks, hashWords}
 
 drop-replicate : (n m a : ℕ) → drop n (replicate m a) ≡ replicate (m - n) a
 drop-replicate zero m a = rw sub-zero
@@ -14,10 +12,6 @@ drop-replicate (suc n) (suc m) a = rw suc-sub-suc (drop-replicate n m a)
 pub zero-filled : (s : List ℕ) → length s ≤ 64 → s ++ drop (length s) (replicate 64 0) ≡ padBlock s
 unfolding padBlock
 zero-filled s h = rw drop-replicate
-
-pub length-padded : (s : List ℕ) → length s ≤ 64 → length (padBlock s) ≡ 64
-unfolding padBlock
-length-padded s h = simp (length-append, length-replicate) (omega arith)
 
 padded-full : (s : List ℕ) → length s ≡ 64 → padBlock s ≡ s
 unfolding padBlock

@@ -1,5 +1,5 @@
 -- Laws of the hash as bytes: it has 32, each below 256, for every input. And how eight words are laid out one after the other.
-use Rattle.std.proofs.Common.{◌≡◌, ℕ, ◌+◌, ◌*◌, ◌<◌, ◌≤◌, List, [], ◌∷◌, ◌++◌, length, take, drop, sym, refl, ap, ◌∙◌, append_assoc, append-nil, add-one, arith, length-append, drop_of_length-le, length-take-le, take_all, take-suc, drop-drop, take_at}
+use Rattle.std.proofs.Common.{◌≡◌, ℕ, ◌+◌, ◌*◌, ◌<◌, List, [], ◌∷◌, ◌++◌, length, take, drop, sym, refl, ap, ◌∙◌, append_assoc, append-nil, add-one, arith, length-append, length-take-le, take-suc, drop-drop, take_at}
 use lib.Seq.{drop-append-add}
 use Rattle.octets.specs.Words.{word_bytes}
 use Rattle.octets.specs.Writes.{putWord}
@@ -48,6 +48,3 @@ module _ (ws out : List ℕ) (i : ℕ) (h : i < length ws) where
       let r : drop (i * 4 + 4) (bytesOfWords (take i ws) ++ drop (i * 4) out) ≡ drop (i * 4 + 4) out =
       ap (λ (n : ℕ). drop (n + 4) (bytesOfWords (take i ws) ++ drop (i * 4) out)) (sym d) ∙ drop-append-add (bytesOfWords (take i ws)) (drop (i * 4) out) 4 ∙ drop-drop 4 (i * 4) out in
       rw (more, e, take_at (bytesOfWords (take i ws)) (drop (i * 4) out) (i * 4) d, r, append_assoc)
-
-pub all-written : (ws out : List ℕ) (i : ℕ) → length ws ≤ i → length out ≤ i * 4 → bytesOfWords (take i ws) ++ drop (i * 4) out ≡ bytesOfWords ws
-all-written ws out i h k = rw (take_all i ws h, drop_of_length-le out k, append-nil)

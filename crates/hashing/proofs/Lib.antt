@@ -1,4 +1,3 @@
 pub mod Blocks
 pub mod Digest
 pub mod Vectors
-pub mod Words

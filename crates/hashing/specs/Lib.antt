@@ -1,1 +1,2 @@
 pub mod Blake2s
+pub mod Claims

@@ -1,6 +1,7 @@
 // BLAKE2s-256 without a key (RFC 7693), of any string of bytes in memory.
 #![tactic(auto)]
 
+pub mod claims;
 mod compression;
 mod mixing;
 mod rounds;
@@ -57,12 +58,10 @@ fn chain(s: &[u8], n: usize) -> [u32; 8]
         compression::IV6,
         compression::IV7,
     ];
-    let mut i = 0;
-    while i < n {
+    for i in 0..n {
         let at = i * BLOCK;
         let end = at + BLOCK;
         h = compress(&h, &s[at..end], end as u64, NOT_LAST);
-        i += 1;
     }
     h
 }
@@ -83,10 +82,8 @@ fn word_bytes(h: [u32; 8]) -> [u8; 32]
     ensures { result ≡ bytesOfWords h }
 {
     let mut out = [0; 32];
-    let mut i = 0;
-    while i < 8 {
+    for i in 0..8 {
         put_u32(&mut out, i * 4, h[i]);
-        i += 1;
     }
     out
 }

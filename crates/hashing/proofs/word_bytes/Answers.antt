@@ -1,4 +1,4 @@
-use Rattle.std.proofs.Common.{◌-◌, ◌*◌, length, get_or, replicate, refl, ap, ◌∙◌, arith, rules}
+use Rattle.std.proofs.Common.{◌*◌, length, get_or, replicate, refl, ap, ◌∙◌, arith}
 use Rattle.hashing.proofs.Digest.{written}
 use Rattle.octets.specs.Writes.{putWord}
 use Rattle.octets.proofs.Numbers.{length-put}
@@ -7,14 +7,13 @@ use Rattle.hashing.proofs.word_bytes.Goals as goal
 
 pub loop-i-init : goal.loop-i-init
 unfolding bytesOfWords
-loop-i-init c = (omega arith, search rules, refl, refl)
+loop-i-init c = (refl, refl)
 
 pub loop-i-preserved : goal.loop-i-preserved
-loop-i-preserved c = let ws = c.args.h in
+loop-i-preserved c =
+    let ws = c.args.h in
     let l = c.loop-i in
     let e = c.put_u32.ensures in (
-      omega arith,
-      l.invariant.1,
-      ap length e ∙ length-put 4 (l.i * 4) (get_or ws l.i 0) l.out (omega arith) ∙ l.invariant.2,
-      e ∙ ap (putWord 4 (l.i * 4) (get_or ws l.i 0)) l.invariant.3 ∙ written ws (replicate 32 0) l.i (omega arith),
+      ap length e ∙ length-put 4 (l.i * 4) (get_or ws l.i 0) l.out (omega arith) ∙ l.invariant.0,
+      e ∙ ap (putWord 4 (l.i * 4) (get_or ws l.i 0)) l.invariant.1 ∙ written ws (replicate 32 0) l.i (omega arith),
     )

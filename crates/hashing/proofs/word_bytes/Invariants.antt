@@ -1,9 +1,6 @@
-use Rattle.std.proofs.Common.{◌≡◌, ◌-◌, ◌*◌, ◌≤◌, ◌++◌, length, take, drop}
+use Rattle.std.proofs.Common.{◌≡◌, ◌*◌, ◌++◌, length, take, drop}
 use Rattle.hashing.specs.Blake2s.{bytesOfWords}
 use Rattle.hashing.proofs.word_bytes.Given as goal
 
 abbrev pub invariant-loop-i : goal.invariant-loop-i
-invariant-loop-i l = (l.i ≤ 8) × (length l.h ≡ 8) × (length l.out ≡ 32) × (l.out ≡ bytesOfWords (take l.i l.h) ++ drop (l.i * 4) l.initial.out)
-
-abbrev pub decreases-loop-i : goal.decreases-loop-i
-decreases-loop-i l = 8 - l.i
+invariant-loop-i l = (length l.out ≡ 32) × (l.out ≡ bytesOfWords (take l.i l.h) ++ drop (l.i * 4) l.initial.out)
