@@ -3,13 +3,13 @@
 --   root-is-squareRoot : (x : Float) → T (fits binary64 x) → SquareRoot x (root x)
 --   squareRoot-is-root : (x r : Float) → T (fits binary64 x) → SquareRoot x r → r ≡ root x
 -- Together they are the claim of specs/Claims, `root-is-ieee754`.
--- `in-range` says that the exact root is far below where 4.3.1 rounds to an infinity. The rest are the theorem's cases.
-use Rattle.std.proofs.Common.{◌≡◌, ℕ, zero, suc, ◌+◌, ◌-◌, ◌*◌, ◌/◌, ◌%◌, ◌^◌, ◌<◌, ◌≤◌, Bool, true, false, ◌&&◌, T, eqb, ltb, leb, ℤ, pos, negsuc, sym, refl, ap, ◌∙◌, subst, lt_trans, le_of_eq, lt_of_le_of_lt, lt_irrefl, mul-le-mul, add_comm, le_antisymm, lt_of_mul-lt-mul_right, mul-lt-mul_of_pos_right, mul-pos, pow-suc, lt_of_not-le, mul_right_comm, arith, lit<, eqb→eq, ltb→lt, pow_pos, ne_eqb, leb-false}
+-- The rest are the theorem's cases.
+use Rattle.std.proofs.Common.{◌≡◌, ℕ, zero, suc, ◌+◌, ◌-◌, ◌*◌, ◌/◌, ◌%◌, ◌^◌, ◌<◌, ◌≤◌, Bool, true, false, T, ℤ, pos, negsuc, sym, refl, ap, ◌∙◌, subst, lt_trans, lt_of_le_of_lt, lt_irrefl, mul-le-mul, add_comm, le_antisymm, mul-pos, pow-suc, lt_of_not-le, arith, lit<, eqb→eq, pow_pos, ne_eqb, leb-false}
 use native.Mathlib.Decide.{dec_le}
 use borrow.Author.Tests.{lt-leb}
-use lib.Ieee.{Float, nan, inf, fin, binary64, up, down, size, fits, of_bits, to_bits}
+use lib.Ieee.{Float, nan, inf, fin, binary64, down, size, fits, of_bits, to_bits}
 use lib.Ieee.Bits.{of_bits-to_bits, of_bits-fits}
-use lib.Ieee.Fits.{up_pos, and_r}
+use lib.Ieee.Fits.{up_pos}
 use lib.Ieee.Positive.{positive_of_value, first_pos}
 use Rattle.floats.specs.Root.{root, rootBits, rootOf, rootFinite, field_of, digitsIn}
 use Rattle.floats.specs.Claims.{RootIsIeee754}
@@ -104,10 +104,6 @@ root-is-squareRoot (fin s zero e) f = rw (zero_is s e f) (root-zero s)
 root-is-squareRoot (fin false (suc m) e) f = root-positive m e f
 root-is-squareRoot (fin true (suc m) e) f = root-negative m e f
 
--- the same of every bit pattern
-pub root-of-bits : (b : ℕ) → SquareRoot (of_bits binary64 b) (root (of_bits binary64 b))
-root-of-bits b = root-is-squareRoot (of_bits binary64 b) (of_bits-fits binary64 b)
-
 -- ---- there is no other
 same_bits : (m n : ℕ) (e d : ℤ) → units (fin false m e) ≡ units (fin false n d) → to_bits binary64 (fin false m e) ≡ to_bits binary64 (fin false n d)
 unfolding to_bits
@@ -145,16 +141,6 @@ squareRoot-is-root (inf true) r f h = h ∙ sym root-minus-infinity
 squareRoot-is-root (fin s zero e) r f h = h ∙ sym (root-is-squareRoot (fin s zero e) f)
 squareRoot-is-root (fin false (suc m) e) r f h = only_one (units (fin false (suc m) e) * 2 ^ 1074) r (root (fin false (suc m) e)) h (root-positive m e f)
 squareRoot-is-root (fin true (suc m) e) r f h = h ∙ sym (root-negative m e f)
-
--- the exact root is below 2 ^ 1023, which is 2 ^ 2097 units: 4.3.1 rounds to an infinity only from 2 ^ 1024 - 2 ^ 970 on
-pub in-range : (s : Bool) (m : ℕ) (e : ℤ) → T (fits binary64 (fin s (suc m) e)) → units (fin s (suc m) e) * 2 ^ 1074 < 2 ^ 2097 * 2 ^ 2097
-unfolding fits
-in-range s m e f =
-    let x = fin s (suc m) e in
-    let l : suc m * up e < 2 ^ 1024 * down e = ltb→lt (suc m * up e) (2 ^ 1024 * down e) (and_r (eqb (suc m % 2) 1 && ltb (suc m) (2 ^ 53) && leb (down e) (2 ^ 1074)) _ f) in
-    let u : units x * down e < 2 ^ 2098 * down e =
-    lt_of_le_of_lt (le_of_eq (sym (units-value x f tt).value.1)) (subst (λ (z : ℕ). suc m * up e * 2 ^ 1074 < z) (mul_right_comm (2 ^ 1024) (down e) (2 ^ 1074)) (mul-lt-mul_of_pos_right l (pow_pos 1074))) in
-    lt_trans (mul-lt-mul_of_pos_right (lt_of_mul-lt-mul_right (down e) u) (pow_pos 1074)) (lit< tt)
 
 -- what is claimed
 pub root-is-ieee754 : RootIsIeee754

@@ -1,5 +1,5 @@
 -- The root in whole numbers: `isqrt` is the whole part of the root, and the digits that are kept of it are within half of the last one of the root itself.
-use Rattle.std.proofs.Common.{◌≡◌, ℕ, zero, suc, ◌+◌, ◌-◌, ◌*◌, ◌/◌, ◌%◌, ◌^◌, ◌<◌, ◌≤◌, Bool, true, false, cond, not, T, eqb, leb, le_trans, mul_assoc, add-mul, pow-suc, mul-add, mul_left_comm, arith, eqb→eq, leb→le}
+use Rattle.std.proofs.Common.{◌≡◌, ℕ, zero, suc, ◌+◌, ◌*◌, ◌/◌, ◌%◌, ◌^◌, ◌<◌, ◌≤◌, Bool, true, false, cond, not, T, eqb, leb, le_trans, mul_assoc, add-mul, pow-suc, mul-add, mul_left_comm, arith, eqb→eq, leb→le}
 use Prim.Native.Nat.{compare, Ordering}
 use lib.Dec.{nleb→lt, is_le, compare_is_eq}
 use lib.Ieee.{nearest}

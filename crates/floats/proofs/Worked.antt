@@ -4,7 +4,7 @@ use lib.Count.{count_leading_zeros}
 use lib.Ieee.{nan, binary64, of_int, of_bits, to_bits}
 use Rattle.floats.specs.Root.{root, rootBits, rootFinite, rootOf, digitsOf, isqrt}
 
--- the worked case of document 01: the root of 4 is 2
+-- a worked case: the root of 4 is 2
 pub root-of-4 : root (of_int binary64 (pos 4)) ≡ of_int binary64 (pos 2)
 unfolding root rootBits rootFinite rootOf digitsOf isqrt count_leading_zeros of_int of_bits to_bits
 root-of-4 = refl

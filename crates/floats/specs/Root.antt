@@ -1,5 +1,5 @@
--- The square root of a binary64, worked out from its bits: document 01, 'Agreement' (`sqrt` is IEEE 754's, nearest-even,
--- worked out from the bits; a negative non-zero value or NaN gives NaN).
+-- The square root of a binary64, worked out from its bits: to nearest, ties to even; of a negative value that is not zero, and of NaN,
+-- it is NaN.
 -- `SquareRoot` says what IEEE 754 asks of a square root, without a way to find it, and proofs/Ieee754 that this is it.
 use Rattle.std.specs.Prelude.{ℕ, zero, suc, ◌+◌, ◌-◌, ◌*◌, ◌/◌, ◌%◌, ◌^◌, cond, ◌==◌, from_bits, nat_le, to_bits, Float}
 use Rattle.std.specs.Int.Count.{count_leading_zeros}

@@ -6,6 +6,8 @@ ghost use Rattle.std.specs.Float.{binary64};
 ghost use Rattle.std.specs.Float.Ieee.Nearest.{closest};
 ghost use Rattle.floats.specs.Root as Root;
 
+pub mod claims;
+
 // The weight of a pattern's sign, the pattern of the infinity, the one that is written for a NaN, and the weight of the exponent's
 // field.
 const SIGN: u64 = 0x8000_0000_0000_0000;

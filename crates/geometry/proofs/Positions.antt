@@ -1,4 +1,4 @@
--- Document 01, 'Positions to check', as far as they are of this crate: 4.
+-- Three angles at edges of the ranges.
 use mathlib.Core.Path.{refl}
 use Rattle.geometry.specs.Claims.{Position4}
 

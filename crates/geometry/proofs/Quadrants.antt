@@ -1,7 +1,7 @@
--- The five ranges of an angle, the laws that document 01's floor division has, and that the ranges give what it gives.
+-- The five ranges of an angle, the laws of the formula's division, and that the ranges give what it gives.
 use mathlib.Core.Path.{◌≡◌, refl, sym, ap, ◌∙◌}
 use Prim.Native.Nat.{ℕ, zero, suc, ◌+◌, ◌-◌, ◌*◌, ◌/◌, ◌%◌, ◌≤◌, ◌<◌}
-use native.Mathlib.Nat.{lt_trans, lt_of_le_of_lt, le_trans, le_of_lt}
+use native.Mathlib.Nat.{lt_of_le_of_lt, le_trans, le_of_lt}
 use native.Mathlib.Decide.{dec_lt}
 use native.Mathlib.Omega.{arith}
 use borrow.Author.Tests.{lt-ltb, le-ltb}
@@ -9,8 +9,6 @@ use lib.Dec.{le→leb, lt→ltb, leb→le, ltb→lt, lit<}
 use lib.IntN.{ℤ, pos, negsuc, sub_ℕ, neg_ℤ, neg_ℤ-neg_ℤ, ◌+ℤ◌, ◌-ℤ◌, ◌*ℤ◌, +ℤ_comm, -ℤ-+ℤ_cancel}
 use lib.Ieee.{Float}
 use lib.Signed.{◌≤ℤ◌, ◌<ℤ◌}
-use mir.Syntax.{w32}
-use mir.Val.{SFits}
 use Rattle.geometry.specs.Angles.{quadrantOf, rightAngles, rest_of, turn_of, sincosOf, radiansOf, sineOf, cosineOf}
 use Rattle.geometry.specs.Formula.{floorDiv, floorMod, formulaQ, formulaTurn, formulaSincos}
 use Rattle.geometry.specs.Claims.{InRange, CoveredOnce, QuadrantAndRest, InI32, InFive, RangesAreTheFormula, Edges}
@@ -105,7 +103,7 @@ once (pos n) Two h = two-above n (leb→le 1350000000 n h.le)
 pub covered-once : CoveredOnce
 covered-once = record { covered = covered; once = once }
 
--- ---- the laws of document 01's division, which say which q and r they are: for every integer v
+-- ---- the laws of the formula's division, which say which q and r they are: for every integer v
 
 -- v = 900,000,000 q + r
 whole-law : (v : ℤ) → v ≡ pos 900000000 *ℤ formulaQ v +ℤ rest_of (formulaQ v) v
@@ -246,16 +244,3 @@ edges =
       first_two = (refl, refl);
       greatest = (refl, refl);
     }
-
--- ---- what the code needs: an i32 less the right angles of its quadrant is an i32
-
-in-i32 : (v : ℤ) → SFits w32 v → InI32 v
-in-i32 (pos n) h = (across, up (omega (arith, h.sfits)))
-in-i32 (negsuc n) h = (down (omega (arith, h.sfits)), across)
-
-pub rest-fits : (v : ℤ) → SFits w32 v → SFits w32 (rest_of (rightAngles (quadrantOf v)) v)
-rest-fits v h = go (rest_of (rightAngles (quadrantOf v)) v) (rest v (five v (in-i32 v h)))
-  where
-    go : (r : ℤ) → InRange Zero r → SFits w32 r
-    go (pos n) i = record { sfits = lt_trans (ltb→lt n 450000000 i.1.lt) (lit< tt) }
-    go (negsuc n) i = record { sfits = lt_of_le_of_lt (leb→le n 449999999 i.0.le) (lit< tt) }

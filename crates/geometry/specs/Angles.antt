@@ -1,5 +1,5 @@
--- The sine and the cosine of an angle v in 1e-7 degree: the stand-in of document 01, section 'Agreement', its quadrant chosen by ranges of v (document 02, A.3).
--- Formula has 01's own way to the quadrant, and Claims that both give the same for every i32.
+-- The sine and the cosine of an angle v in 1e-7 degree: a series, its quadrant chosen by ranges of v (docs/REFERENCE.md, 'Agreement and decision').
+-- Formula has the quadrant by a division that rounds down, and Claims that both give the same for every i32.
 use Rattle.std.specs.Prelude.{ℕ, zero, suc, ◌*◌, ◌^◌, false, cond, ℤ, pos, neg_ℤ, ◌-ℤ◌, ◌*ℤ◌, Float}
 use mathlib.Core.List.{[], ◌∷◌, foldl}
 use Rattle.std.specs.Int.Signed.{lt_z}

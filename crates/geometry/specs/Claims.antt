@@ -21,7 +21,7 @@ pub record CoveredOnce : Type 0 where
   pub covered : (v : ℤ) → InRange (quadrantOf v) v
   pub once : (v : ℤ) (q : Quadrant) → InRange q v → quadrantOf v ≡ q
 
--- ---- document 01's formula
+-- ---- the formula with a division that rounds down
 
 -- which q and r the formula gives, for every whole number v
 pub record QuadrantAndRest : Type 0 where
@@ -55,9 +55,9 @@ pub record RangesAreTheFormula : Type 0 where
   -- and the same sine and cosine
   pub sincos : (v : ℤ) → InFive v → sincosOf v ≡ formulaSincos v
 
--- ---- document 01, 'Positions to check', as far as they are of this crate
+-- ---- three angles at edges of the ranges
 
--- 4: v = 450,000,000 gives q 1, 449,999,999 gives q 0, -450,000,001 gives q -1
+-- v = 450,000,000 gives q 1, 449,999,999 gives q 0, -450,000,001 gives q -1
 abbrev pub Position4 : Type 0
 Position4 =
     (rightAngles (quadrantOf (pos 450_000_000)) ≡ pos 1)

@@ -1,7 +1,6 @@
 -- No claim rests on these definitions: they say how the Cholesky factor of a covariance and the squared length under it are worked out. `measured-is`, in
--- arithmetic's proofs/Staged.antt, says that they are what `chiSquareOf` measures, of document 01's section 'Agreement'.
-use Rattle.std.specs.Prelude.{cond, List, [], ◌∷◌, Float}
-use Rattle.std.proofs.Math.Option.{Option, none, some}
+-- arithmetic's proofs/Staged.antt, says that they are what `chiSquareOf` measures.
+use Rattle.std.specs.Prelude.{cond, List, [], ◌∷◌, Float, Option, Some, None}
 use Rattle.floats.specs.Root.{root}
 use Rattle.geometry.specs.Numbers.{◌⊕◌, ◌⊖◌, ◌⊗◌, ◌⊘◌, whole, notAbove}
 use Rattle.geometry.specs.declared.geodesy.Vec3.{Vec3}
@@ -9,11 +8,11 @@ use Rattle.geometry.specs.declared.linalg.Covariance.{Covariance}
 use Rattle.geometry.specs.declared.linalg.TwoRows.{TwoRows}
 use Rattle.geometry.specs.declared.linalg.ThirdRow.{ThirdRow}
 use Rattle.geometry.specs.declared.linalg.Factor.{Factor}
-use Rattle.geometry.specs.declared.linalg.Factor.TheVariants.{None, Flat, Full}
+use Rattle.geometry.specs.declared.linalg.Factor.TheVariants.{Flat, Full}
 
 -- ---- both factors of a covariance at once: that for two rows is the upper left of that for three
 
-unfoldable pub factorOf : Covariance → Factor
+unfoldable pub factorOf : Covariance → Option Factor
 factorOf c =
     let l00 = root c.xx in
     let l10 = c.xy ⊘ l00 in
@@ -25,18 +24,18 @@ factorOf c =
     let l22 = root d2 in
     let rows : TwoRows = record { l00 = l00; l10 = l10; l11 = l11 } in
     let third : ThirdRow = record { l20 = l20; l21 = l21; l22 = l22 } in
-    cond (notAbove c.xx) None (cond (notAbove d1) None (cond (notAbove d2) (Flat rows) (Full rows third)))
+    cond (notAbove c.xx) None (cond (notAbove d1) None (cond (notAbove d2) (Some (Flat rows)) (Some (Full rows third))))
 
--- what each case says: the factor of document 01's two rows, and of its three, if there is one
-abbrev pub factorOfTwo : Factor → Option (List Float)
-factorOfTwo None = none
-factorOfTwo (Flat r) = some (r.l00 ∷ whole 0 ∷ r.l10 ∷ r.l11 ∷ [])
-factorOfTwo (Full r t) = some (r.l00 ∷ whole 0 ∷ r.l10 ∷ r.l11 ∷ [])
+-- what each case says: the factor of two rows, and of three, if there is one
+abbrev pub factorOfTwo : Option Factor → Option (List Float)
+factorOfTwo None = None
+factorOfTwo (Some (Flat r)) = Some (r.l00 ∷ whole 0 ∷ r.l10 ∷ r.l11 ∷ [])
+factorOfTwo (Some (Full r t)) = Some (r.l00 ∷ whole 0 ∷ r.l10 ∷ r.l11 ∷ [])
 
-abbrev pub factorOfThree : Factor → Option (List Float)
-factorOfThree None = none
-factorOfThree (Flat r) = none
-factorOfThree (Full r t) = some (r.l00 ∷ whole 0 ∷ whole 0 ∷ r.l10 ∷ r.l11 ∷ whole 0 ∷ t.l20 ∷ t.l21 ∷ t.l22 ∷ [])
+abbrev pub factorOfThree : Option Factor → Option (List Float)
+factorOfThree None = None
+factorOfThree (Some (Flat r)) = None
+factorOfThree (Some (Full r t)) = Some (r.l00 ∷ whole 0 ∷ whole 0 ∷ r.l10 ∷ r.l11 ∷ whole 0 ∷ t.l20 ∷ t.l21 ∷ t.l22 ∷ [])
 
 -- the squared length under a factor for two rows, and for three
 unfoldable pub flatLength : TwoRows → Vec3 → Float

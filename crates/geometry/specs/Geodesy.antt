@@ -1,5 +1,5 @@
--- Positions on the WGS84 ellipsoid: geo.rs, line by line (document 01, section 'Agreement'). A latitude and a longitude stand
--- as their sine and cosine, since document 01's stand-in takes the angle itself and no radians.
+-- Positions on the WGS84 ellipsoid: geo.rs of sky-commons/tally, line by line. A latitude and a longitude stand
+-- as their sine and cosine, since the series of Angles takes the angle itself and no radians.
 use Rattle.std.specs.Prelude.{Float}
 use Rattle.std.specs.Float.Ieee.{neg}
 use Rattle.floats.specs.Root.{root}

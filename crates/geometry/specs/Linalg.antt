@@ -1,8 +1,7 @@
--- The Cholesky factor of a symmetric matrix and the two solves with it: linalg.rs, line by line (document 01, section 'Agreement').
+-- The Cholesky factor of a symmetric matrix and the two solves with it: linalg.rs of sky-commons/tally, line by line.
 -- A matrix of n rows is the list of its n * n numbers, row by row. A loop `for k in 0..j` is a recursion on the count j.
-use Rattle.std.specs.Prelude.{ℕ, zero, suc, ◌+◌, ◌-◌, ◌*◌, Bool, cond, List, get_or, set, replicate, Float}
-use Rattle.std.proofs.Math.Option.{Option, none, some}
-use Rattle.std.specs.Float.{nan, inf}
+use Rattle.std.specs.Prelude.{ℕ, zero, suc, ◌+◌, ◌-◌, ◌*◌, cond, List, get_or, set, replicate, Float, Option, Some, None}
+use Rattle.std.specs.Float.{nan}
 use Rattle.floats.specs.Root.{root}
 use Rattle.geometry.specs.Numbers.{◌⊕◌, ◌⊖◌, ◌⊗◌, ◌⊘◌, whole, notAbove}
 
@@ -26,11 +25,11 @@ rowsBelow n a r j i (suc d) l =
 
 -- for j in j..j + d: the diagonal less its squares, refused where it is a NaN or not above zero; its root; the rows below it
 unfoldable pub columns : ℕ → List Float → ℕ → ℕ → List Float → Option (List Float)
-columns n a j zero l = some l
+columns n a j zero l = Some l
 columns n a j (suc d) l =
     let diagonal = less (entry n a j j) (λ k. entry n l j k ⊗ entry n l j k) j in
     let r = root diagonal in
-    cond (notAbove diagonal) none (columns n a (suc j) d (rowsBelow n a r j (suc j) d (set l (j * n + j) r)))
+    cond (notAbove diagonal) None (columns n a (suc j) d (rowsBelow n a r j (suc j) d (set l (j * n + j) r)))
 
 unfoldable pub choleskyOf : ℕ → List Float → Option (List Float)
 choleskyOf n a = columns n a 0 n (replicate (n * n) (whole 0))

@@ -1,6 +1,6 @@
--- Binary64 numbers as the definitions of this crate write them (document 01, section 'Agreement': operation by operation).
+-- Binary64 numbers as the definitions of this crate write them, operation by operation.
 -- Each operation rounds once, to the nearest value and at a tie to the even one. None is fused with another.
-use Rattle.std.specs.Prelude.{ℕ, ◌^◌, Bool, true, false, ◌||◌, pos, Float}
+use Rattle.std.specs.Prelude.{ℕ, ◌^◌, Bool, false, ◌||◌, pos, Float}
 use Rattle.std.specs.Float.{binary64}
 use Rattle.std.specs.Float.Ieee.{round, of_int, is_nan, le}
 use Rattle.std.specs.Float.Ieee as I

@@ -57,6 +57,7 @@ fn radians(r: i32) -> f64
     r as f64 * E7 * DEGREE
 }
 
+// The sine of an angle in radians, by its series.
 pub fn sine_series(u: f64) -> f64
     ensures { result ≡ sineSeries u }
 {
@@ -70,6 +71,7 @@ pub fn sine_series(u: f64) -> f64
     g * u + 1.0
 }
 
+// The cosine of an angle in radians, by its series.
 pub fn cosine_series(u: f64) -> f64
     ensures { result ≡ cosineSeries u }
 {
@@ -96,6 +98,7 @@ fn turned(q: Quadrant, s: f64, c: f64) -> Turn
     }
 }
 
+// The sine and the cosine of an angle in 1e-7 degree.
 pub fn sincos(v: i32) -> Turn
     ensures { result ≡ sincosOf v }
 {

@@ -4,6 +4,7 @@ ghost use Rattle.geometry.specs.Geodesy.{toEcef, enuBasis, subOf, dotOf};
 
 use crate::angles::Turn;
 
+// A vector of the earth's frame, or of east, north and up, in metres.
 #[derive(Clone, Copy)]
 pub struct Vec3 {
     pub x: f64,
@@ -19,6 +20,7 @@ pub struct Basis {
     pub up: Vec3,
 }
 
+// A place: latitude and longitude by their sines and cosines, and metres above the ellipsoid.
 #[derive(Clone, Copy)]
 pub struct Geodetic {
     pub lat: Turn,
@@ -33,6 +35,7 @@ pub const F: f64 = 1.0 / 298.257223563;
 
 pub const E2: f64 = F * (2.0 - F);
 
+// A place in the earth's frame.
 pub fn to_ecef(position: Geodetic) -> Vec3
     ensures { result ≡ toEcef position }
 {
@@ -46,6 +49,7 @@ pub fn to_ecef(position: Geodetic) -> Vec3
     }
 }
 
+// East, north and up at a place.
 pub fn enu_basis(position: Geodetic) -> Basis
     ensures { result ≡ enuBasis position }
 {
@@ -69,6 +73,7 @@ pub fn enu_basis(position: Geodetic) -> Basis
     Basis { east, north, up }
 }
 
+// The difference of two vectors.
 pub fn sub(a: Vec3, b: Vec3) -> Vec3
     ensures { result ≡ subOf a b }
 {
@@ -79,6 +84,7 @@ pub fn sub(a: Vec3, b: Vec3) -> Vec3
     }
 }
 
+// The product of two vectors.
 pub fn dot(a: Vec3, b: Vec3) -> f64
     ensures { result ≡ dotOf a b }
 {

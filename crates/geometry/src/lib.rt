@@ -3,5 +3,6 @@
 #![tactic(auto)]
 
 pub mod angles;
+pub mod claims;
 pub mod geodesy;
 pub mod linalg;

@@ -23,6 +23,7 @@ pub struct TwoRows {
     pub l11: f64,
 }
 
+// The row of the factor for three that the factor for two has not.
 #[derive(Clone, Copy)]
 pub struct ThirdRow {
     pub l20: f64,
@@ -30,36 +31,35 @@ pub struct ThirdRow {
     pub l22: f64,
 }
 
-// What there is of a covariance: no factor, one for two rows alone, or one for three, whose first two rows are that for two.
+// A covariance's factor: one for two rows alone, or one for three, whose first two rows are that for two.
 #[derive(Clone, Copy)]
 pub enum Factor {
-    None,
     Flat(TwoRows),
     Full(TwoRows, ThirdRow),
 }
 
-// A diagonal that is a NaN is not above zero either.
-pub fn cholesky(c: Covariance) -> Factor
+// The factor of a covariance, where it has one. A diagonal that is a NaN is not above zero either.
+pub fn cholesky(c: Covariance) -> Option<Factor>
     ensures { result ≡ factorOf c }
 {
     if !(c.xx > 0.0) {
-        return Factor::None;
+        return None;
     }
     let l00 = floats::root(c.xx);
     let l10 = c.xy / l00;
     let l20 = c.xz / l00;
     let d1 = c.yy - l10 * l10;
     if !(d1 > 0.0) {
-        return Factor::None;
+        return None;
     }
     let l11 = floats::root(d1);
     let l21 = (c.yz - l20 * l10) / l11;
     let d2 = c.zz - l20 * l20 - l21 * l21;
     if !(d2 > 0.0) {
-        return Factor::Flat(TwoRows { l00, l10, l11 });
+        return Some(Factor::Flat(TwoRows { l00, l10, l11 }));
     }
     let l22 = floats::root(d2);
-    Factor::Full(TwoRows { l00, l10, l11 }, ThirdRow { l20, l21, l22 })
+    Some(Factor::Full(TwoRows { l00, l10, l11 }, ThirdRow { l20, l21, l22 }))
 }
 
 // Forward, backward and the sum of products, in east and north.
