@@ -1,5 +1,6 @@
-pub mod Writing
 pub mod Shapes
-pub mod Signs
 pub mod Readback
 pub mod Rounding
+pub mod Appending
+pub mod Numerals
+pub mod Single

@@ -1,6 +1,5 @@
 -- What the text of a number says: its digits read back as the number, it has no leading zero and no '-0', and its width is bounded.
 use mathlib.Core.Path.{◌≡◌, refl, sym, ap, ◌∙◌}
-use mathlib.Core.Bool.{Bool, true, false, cond}
 use mathlib.Core.List.{List, [], ◌∷◌, ◌++◌}
 use Prim.Native.Nat.{ℕ, zero, suc, ◌+◌, ◌-◌, ◌*◌, ◌/◌, ◌%◌, ◌^◌, ◌≤◌, ◌<◌}
 use native.Mathlib.Omega.{arith}
@@ -12,7 +11,7 @@ use lib.Signed.{mag}
 use lib.ListN.{length, get_or, length-append, get_or-append}
 use Rattle.ranges.proofs.Bools.{by}
 use Rattle.octets.specs.Ascii.{ascii}
-use Rattle.text.specs.Numbers.{digits, decimal, signed, hex, hexDigit, decimalValue}
+use Rattle.text.specs.Numbers.{digits, signed, hex, hexDigit, decimalValue}
 use Rattle.text.specs.Heights.{metres}
 use Rattle.text.specs.Claims.{hexValue, hexDigitValue, DecimalReadsBack, NoLeadingZero, NoMinusZero, DecimalWidth, HexReadsBack, HeightNotMinusZero, HeightTexts}
 use Rattle.text.proofs.Shapes.{digits-one, metres-fits}

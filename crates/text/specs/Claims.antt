@@ -1,5 +1,5 @@
--- What is claimed of the texts of numbers (document 01, 'The board' and 'The track and the session'). The proofs are in proofs/Readback and
--- proofs/Rounding.
+-- What is claimed of the texts of numbers (docs/REFERENCE.md, 'Register and board' and 'Session'). The contracts of src/claims.rt name it; the proofs are in
+-- proofs/Readback and proofs/Rounding.
 use Rattle.std.specs.Prelude.{ℕ, suc, ◌+◌, ◌-◌, ◌*◌, ◌/◌, ◌%◌, ◌^◌, ◌≤◌, ◌<◌, ◌≡◌, cond, List, [], ◌∷◌, ltb, ℤ, pos, negsuc, neg_ℤ, nat_abs, length, get_or}
 use Prim.Native.String.{String}
 use Rattle.std.specs.Int.Signed.{mag}
@@ -19,7 +19,7 @@ hexValue a (d ∷ t) = hexValue (a * 16 + hexDigitValue d) t
 abbrev pub DecimalReadsBack : Type 0
 DecimalReadsBack = (n : ℕ) → n < 2 ^ 64 → decimalValue 0 (decimal n) ≡ n
 
--- "without leading zeros": the first digit is not '0', but for zero, which is '0' alone
+-- the first digit is not '0', but for zero, which is '0' alone
 abbrev pub NoLeadingZero : Type 0
 NoLeadingZero = (decimal 0 ≡ ascii "0") × ((n : ℕ) → n < 2 ^ 64 → 0 < n → get_or (decimal n) 0 0 ≡ 48 → ⊥)
 
@@ -42,12 +42,12 @@ pub record MetresAreNearest : Type 0 where
   pub asked : (h : ℤ) → NearestMetre h (metres h)
   pub only : (h m : ℤ) → NearestMetre h m → m ≡ metres h
 
--- document 01's rule, "half away from zero", which 02 amends
+-- another rule, "half away from zero", in place of "half to the even metre"
 abbrev pub halfAway : ℤ → ℤ
 halfAway (pos n) = pos ((n + 500) / 1000)
 halfAway (negsuc n) = neg_ℤ (pos ((suc n + 500) / 1000))
 
--- "Other values round as before": all but the exact halves of a metre
+-- only the exact halves of a metre are rounded otherwise by it
 abbrev pub OnlyHalvesMoved : Type 0
 OnlyHalvesMoved = (h : ℤ) → (nat_abs h % 1000 ≡ 500 → ⊥) → metres h ≡ halfAway h
 
@@ -60,7 +60,7 @@ abbrev pub Written : ℤ → String → Type 0
 Written h text = signed (metres h) ≡ ascii text
 
 pub record HeightTexts : Type 0 where
-  -- position 5 of document 01, as document 02, A.4, amends it
+  -- exact halves, and a height below one
   pub under-half : Written (pos 499) "0"
   pub half : Written (pos 500) "0"
   pub one-and-half : Written (pos 1500) "2"

@@ -1,5 +1,4 @@
-pub mod Buffer
 pub mod Numbers
 pub mod Heights
 pub mod Claims
-pub mod OffsetBinary
+pub mod Texts

@@ -1,5 +1,5 @@
--- Numbers as text, in ASCII: decimal "without leading zeros (a minus only on a negative one)" and lowercase hex digits, "highest first"
--- (document 01, 'The track and the session' and 'The board').
+-- Numbers as text, in ASCII: decimal without leading zeros, with a minus only where the number is negative, and lowercase hex digits, highest first
+-- (docs/REFERENCE.md, 'Session' and 'Register and board').
 use Rattle.std.specs.Prelude.{ℕ, zero, suc, ◌+◌, ◌-◌, ◌*◌, ◌/◌, ◌%◌, cond, List, [], ◌∷◌, ◌++◌, ltb, ℤ, pos, negsuc}
 
 -- the last k + 1 decimal digits of n, without leading zeros
