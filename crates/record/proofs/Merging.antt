@@ -1,24 +1,24 @@
 -- Two lists that ascend, gone through together: what one step says of membership.
 use Prim.Native.Nat.{ℕ, zero, suc, ◌+◌, ◌-◌, ◌≤◌, ◌<◌}
-use mathlib.Core.Path.{◌≡◌, refl, sym, ap, ap₂, ◌∙◌}
-use mathlib.Core.Bool.{Bool, true, false, cond, ◌&&◌, ◌||◌, false≢true}
+use mathlib.Core.Path.{◌≡◌, refl, ap, ◌∙◌}
+use mathlib.Core.Bool.{true, false}
 use mathlib.Core.List.{List, [], ◌∷◌}
 use native.Mathlib.Omega.{arith}
 use native.Mathlib.Nat.{lt_trans}
-use lib.Dec.{ltb, eqb}
-use borrow.Author.Tests.{lt-ltb, le-ltb, ltb-true, eq-eqb, ne_eqb, eqb-true}
-use Rattle.ranges.proofs.Bools.{by, and_left, and_right}
+use lib.Dec.{ltb}
+use borrow.Author.Tests.{ltb-true, eq-eqb, ne_eqb}
+use Rattle.ranges.proofs.Bools.{and_left, and_right}
 use Rattle.record.specs.Fields.{tag_at, tagsFrom}
 use Rattle.record.specs.Formed.{ascends, ascendsFrom}
 use Rattle.record.specs.Relations.{member, allIn, anyIn}
 
 -- ---- tags by index
 
-tags-step : (r : List ℕ) (n i : ℕ) → i < n → tagsFrom r i (n - i) ≡ tag_at r i ∷ tagsFrom r (i + 1) (n - (i + 1))
+pub tags-step : (r : List ℕ) (n i : ℕ) → i < n → tagsFrom r i (n - i) ≡ tag_at r i ∷ tagsFrom r (i + 1) (n - (i + 1))
 unfolding tagsFrom
 tags-step r n i h = let e : n - i ≡ suc (n - (i + 1)) = omega arith in rw e refl
 
-tags-end : (r : List ℕ) (n i : ℕ) → n ≤ i → tagsFrom r i (n - i) ≡ []
+pub tags-end : (r : List ℕ) (n i : ℕ) → n ≤ i → tagsFrom r i (n - i) ≡ []
 unfolding tagsFrom
 tags-end r n i h = let e : n - i ≡ 0 = omega arith in rw e refl
 
@@ -31,11 +31,6 @@ from-head x y l h = ltb-true x y (and_left (ltb x y) (ascendsFrom y l) h)
 from_tail : (x y : ℕ) (l : List ℕ) → ascendsFrom x (y ∷ l) ≡ true → ascendsFrom y l ≡ true
 unfolding ascendsFrom
 from_tail x y l h = and_right (ltb x y) (ascendsFrom y l) h
-
-from-lower : (w x : ℕ) (l : List ℕ) → w < x → ascendsFrom x l ≡ true → ascendsFrom w l ≡ true
-unfolding ascendsFrom
-from-lower w x [] g h = refl
-from-lower w x (y ∷ l) g h = rw (lt-ltb w y (lt_trans g (from-head x y l h))) (from_tail x y l h)
 
 pub ascends-tail : (x : ℕ) (l : List ℕ) → ascends (x ∷ l) ≡ true → ascends l ≡ true
 unfolding ascends

@@ -1,17 +1,15 @@
 -- A record is its fields: two well-formed records whose fields are equal are equal bytes.
 use Prim.Native.Nat.{ℕ, zero, suc, ◌+◌, ◌-◌, ◌*◌, ◌^◌, ◌≤◌, ◌<◌}
 use mathlib.Core.Path.{◌≡◌, refl, sym, ap, ap₂, ◌∙◌}
-use mathlib.Core.Bool.{Bool, true, false, cond, false≢true}
+use mathlib.Core.Bool.{Bool, true, false, false≢true}
 use mathlib.Core.List.{List, [], ◌∷◌, ◌++◌}
 use native.Mathlib.Omega.{arith}
-use native.Mathlib.Nat.{add_assoc, zero-add}
-use native.Mathlib.Numerals.{add-one}
 use lib.Dec.{ltb, eqb}
 use lib.IntN.{ℤ, pos, negsuc, pos-ne-negsuc}
 use lib.ListN.{length, get_or, take, drop, replicate, take-append-drop, length-take, length-drop, drop_of_length-le}
-use lib.Seq.{drop-drop, take-add, length-take-le, take-suc, drop-cons}
-use borrow.Author.Tests.{lt-ltb, le-ltb, ltb-true, ltb-false, eqb-true, eqb-false, eq-eqb}
-use Rattle.octets.specs.Words.{word, word_bytes, word_at, signed_of, signedAt}
+use lib.Seq.{drop-drop, length-take-le, drop-cons}
+use borrow.Author.Tests.{eqb-true}
+use Rattle.octets.specs.Words.{word_bytes, word_at, signed_of, signedAt}
 use Rattle.octets.specs.Runs.{allZero}
 use Rattle.ranges.proofs.Bools.{by}
 use Rattle.octets.specs.Bytes.{Bytes}
@@ -22,12 +20,19 @@ use Rattle.record.specs.Fields as F
 use Rattle.record.specs.Formed.{wellFormed}
 use Rattle.record.proofs.Parts.{Formed, formed, message-has, message-fits}
 
+-- the two parts of a height: its flag, and its number
+abbrev pub flagged : List ℕ → Bool
+flagged r = eqb (F.byte_at L.heightFlagAt r) 1
+
+abbrev pub heightNumber : List ℕ → ℤ
+heightNumber r = signedAt L.heightAt r
+
 pub record SameFields (a b : List ℕ) : Type 0 where
   pub time : F.time a ≡ F.time b
   pub latitude : F.latitude a ≡ F.latitude b
   pub longitude : F.longitude a ≡ F.longitude b
-  pub hasHeight : F.hasHeight a ≡ F.hasHeight b
-  pub height : F.height a ≡ F.height b
+  pub flag : flagged a ≡ flagged b
+  pub height : heightNumber a ≡ heightNumber b
   pub message : F.message a ≡ F.message b
   pub tags : F.tags a ≡ F.tags b
   pub used : F.used a ≡ F.used b
@@ -95,7 +100,7 @@ module _ (a b : List ℕ) where
         let w : L.tagsAt + 8 * (i + 1) ≡ L.tagsAt + 8 * i + 8 = omega arith in
         piece (L.tagsAt + 8 * i) 8 (word_piece 8 (L.tagsAt + 8 * i) (omega arith) x) (rw w at (words-piece n (i + 1) (omega arith) y (rw z at q)))
 
-tags-length : (r : List ℕ) (i n : ℕ) → length (F.tagsFrom r i n) ≡ n
+pub tags-length : (r : List ℕ) (i n : ℕ) → length (F.tagsFrom r i n) ≡ n
 unfolding F.tagsFrom
 tags-length r i zero = refl
 tags-length r i (suc n) = ap suc (tags-length r (i + 1) n)
@@ -103,7 +108,7 @@ tags-length r i (suc n) = ap suc (tags-length r (i + 1) n)
 models-length : (r : List ℕ) → Formed r → length (F.models r) ≡ F.modelCount r
 models-length r f = let s = f.size in let k = f.cited in simp (length-take, length-drop) (omega arith)
 
-flag_same : (a b : List ℕ) → Formed a → Formed b → F.hasHeight a ≡ F.hasHeight b → F.byte_at L.heightFlagAt a ≡ F.byte_at L.heightFlagAt b
+flag_same : (a b : List ℕ) → Formed a → Formed b → flagged a ≡ flagged b → F.byte_at L.heightFlagAt a ≡ F.byte_at L.heightFlagAt b
 flag_same a b f g e =
     by (eqb (F.byte_at L.heightFlagAt a) 1)
     (λ p. eqb-true _ 1 p ∙ sym (eqb-true _ 1 (sym e ∙ p)))
@@ -150,7 +155,7 @@ fields-whole a b ba bb wa wb s =
     let m₁ = piece a b L.messageAt (F.messageLength a) (s.message ∙ ap (λ (x : ℕ). take x (drop L.messageAt b)) (sym m)) m₂ in
     let m₀ = piece a b L.messageLengthAt 1 (byte-piece a b ba bb la lb L.messageLengthAt (omega arith) m) m₁ in
     let h₁ = piece a b L.heightAt 4 (signed-piece a b ba bb la lb L.heightAt (omega arith) s.height) m₀ in
-    let h₀ = piece a b L.heightFlagAt 1 (byte-piece a b ba bb la lb L.heightFlagAt (omega arith) (flag_same a b f g s.hasHeight)) h₁ in
+    let h₀ = piece a b L.heightFlagAt 1 (byte-piece a b ba bb la lb L.heightFlagAt (omega arith) (flag_same a b f g s.flag)) h₁ in
     let l₁ = piece a b L.lonAt 4 (signed-piece a b ba bb la lb L.lonAt (omega arith) s.longitude) h₀ in
     let l₀ = piece a b L.latAt 4 (signed-piece a b ba bb la lb L.latAt (omega arith) s.latitude) l₁ in
     piece a b L.timeAt 8 (word_piece a b ba bb la lb 8 L.timeAt (omega arith) s.time) l₀

@@ -1,11 +1,155 @@
-// A record: one engine's fix of one transmission, in 222 lent bytes. What its fields say, which
-// bytes are a record, and how two records relate.
-//
-// A field's reader asks that the slice has a record's length; what compares two records asks that
-// both are well-formed. `formed::well_formed` takes any slice.
+// A record: one engine's fix of one transmission, in 222 lent bytes. A `Record` is made by `parse` alone, or where a caller shows
+// that the bytes are a record; so whoever has one asks for nothing more.
 #![tactic(auto)]
 
-pub mod fields;
-pub mod formed;
+ghost use Rattle.std.specs.Prelude.{◌≡◌, ◌≤◌, ◌<◌, ◌*◌, true, length, take, drop, is_some, IfSome};
+ghost use Rattle.record.specs.Layout.{recordSize, maxTags, maxModels, longMessage, tagsAt};
+ghost use Rattle.record.specs.Fields as F;
+ghost use Rattle.record.specs.Formed.{wellFormed};
+
+pub mod claims;
+mod formed;
 pub mod layout;
 pub mod relations;
+
+// The fields of `formed` that the code goes by stand beside it, so that they are at hand wherever a record is.
+#[derive(Clone, Copy)]
+pub struct Record<'a> {
+    pub bytes: &'a [u8],
+    ghost formed: { wellFormed bytes.now ≡ true },
+    ghost size: { length bytes.now ≡ recordSize },
+    ghost message_fits: { F.messageLength bytes.now ≤ longMessage },
+    ghost some_tag: { 1 ≤ F.tagCount bytes.now },
+    ghost tags_fit: { F.tagCount bytes.now ≤ maxTags },
+    ghost models_fit: { F.modelCount bytes.now ≤ maxModels },
+}
+
+impl<'a> Record<'a> {
+    // The record that these bytes are, if they are one.
+    pub fn parse(bytes: &'a [u8]) -> Option<Record<'a>>
+        ensures formed { is_some result ≡ wellFormed bytes.now }
+        ensures same { IfSome result (λ r. r.bytes.now ≡ bytes.now) }
+    {
+        if formed::well_formed(bytes) {
+            Some(Record::of(bytes))
+        } else {
+            None
+        }
+    }
+
+    // The record that these bytes are known to be.
+    pub fn of(bytes: &'a [u8]) -> Record<'a>
+        requires { wellFormed bytes.now ≡ true }
+        ensures { result.bytes.now ≡ bytes.now }
+    {
+        Record { bytes }
+    }
+
+    // Transmit time, in nanoseconds.
+    pub fn time(self) -> u64
+        ensures { result ≡ F.time self.entry.bytes.now }
+    {
+        octets::words::u64_at(self.bytes, layout::TIME_AT)
+    }
+
+    // Latitude, in 1e-7 degree.
+    pub fn latitude(self) -> i32
+        ensures { result ≡ F.latitude self.entry.bytes.now }
+    {
+        octets::words::i32_at(self.bytes, layout::LAT_AT)
+    }
+
+    // Longitude, in 1e-7 degree.
+    pub fn longitude(self) -> i32
+        ensures { result ≡ F.longitude self.entry.bytes.now }
+    {
+        octets::words::i32_at(self.bytes, layout::LON_AT)
+    }
+
+    // Height in millimetres, where there is one.
+    pub fn height(self) -> Option<i32>
+        ensures { result ≡ F.height self.entry.bytes.now }
+    {
+        if self.bytes[layout::HEIGHT_FLAG_AT] == 1 {
+            Some(octets::words::i32_at(self.bytes, layout::HEIGHT_AT))
+        } else {
+            None
+        }
+    }
+
+    // The message, of 7 or 14 bytes.
+    pub fn message(self) -> &'a [u8]
+        ensures value { result.now ≡ F.message self.entry.bytes.now }
+        ensures size { length result.now ≡ F.messageLength self.entry.bytes.now }
+        ensures fits { length result.now ≤ longMessage }
+    {
+        let end = layout::MESSAGE_AT + self.bytes[layout::MESSAGE_LENGTH_AT] as usize;
+        let bytes = self.bytes;
+        &bytes[layout::MESSAGE_AT..end]
+    }
+
+    // The number of tags.
+    pub fn tag_count(self) -> usize
+        ensures value { result ≡ F.tagCount self.entry.bytes.now }
+        ensures bounds { (1 ≤ result) × (result ≤ maxTags) }
+    {
+        self.bytes[layout::TAG_COUNT_AT] as usize
+    }
+
+    // The i-th tag.
+    pub fn tag(self, i: usize) -> u64
+        requires { i < maxTags }
+        ensures { result ≡ F.tag_at self.entry.bytes.now i }
+    {
+        octets::words::u64_at(self.bytes, layout::TAGS_AT + 8 * i)
+    }
+
+    // The tags as they stand, each in 8 bytes with the lowest first.
+    pub fn tag_bytes(self) -> &'a [u8]
+        ensures value { result.now ≡ take (8 * F.tagCount self.entry.bytes.now) (drop tagsAt self.entry.bytes.now) }
+        ensures size { length result.now ≡ 8 * F.tagCount self.entry.bytes.now }
+    {
+        let end = layout::TAGS_AT + 8 * self.tag_count();
+        let bytes = self.bytes;
+        &bytes[layout::TAGS_AT..end]
+    }
+
+    // Which tags were used: bit i stands for the i-th.
+    pub fn used(self) -> u16
+        ensures { result ≡ F.used self.entry.bytes.now }
+    {
+        octets::words::u16_at(self.bytes, layout::USED_AT)
+    }
+
+    // The number of used tags.
+    pub fn weight(self) -> u32
+        ensures { result ≡ F.weight self.entry.bytes.now }
+    {
+        octets::masks::count_u16(self.used())
+    }
+
+    // The models cited, in their order.
+    pub fn models(self) -> &'a [u8]
+        ensures value { result.now ≡ F.models self.entry.bytes.now }
+        ensures few { length result.now ≤ maxModels }
+    {
+        let end = layout::MODELS_AT + self.bytes[layout::MODEL_COUNT_AT] as usize;
+        let bytes = self.bytes;
+        &bytes[layout::MODELS_AT..end]
+    }
+
+    // The spec.
+    pub fn spec(self) -> u16
+        ensures { result ≡ F.spec self.entry.bytes.now }
+    {
+        octets::words::u16_at(self.bytes, layout::SPEC_AT)
+    }
+
+    // The bits of the i-th number of the covariance.
+    pub fn covariance_bits(self, i: usize) -> u64
+        requires { i < 6 }
+        ensures { result ≡ F.covarianceBits self.entry.bytes.now i }
+    {
+        octets::words::u64_at(self.bytes, layout::COVARIANCE_AT + 8 * i)
+    }
+}

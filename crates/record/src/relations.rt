@@ -1,41 +1,68 @@
 // How two records relate. Tags ascend, so two records' tags are gone through together, once.
 ghost use Rattle.std.specs.Prelude.{◌≡◌, true, ◌-◌, ltb};
+ghost use Rattle.octets.specs.Lesser.{lesserOf};
 ghost use Rattle.record.specs.Fields.{tag_at, tagCount, tags};
-ghost use Rattle.record.specs.Formed.{wellFormed};
 ghost use Rattle.record.specs.Relations as R;
 
-use crate::{fields, layout};
+use crate::Record;
 
-// Whether the messages are the same, their lengths included.
-pub fn same_message(a: &[u8], b: &[u8]) -> bool
-    requires a_value { wellFormed a.now ≡ true }
-    requires b_value { wellFormed b.now ≡ true }
-    ensures { result ≡ R.sameMessage a.now b.now }
-{
-    let n = fields::message_length(a);
-    if n != fields::message_length(b) {
-        return false;
+impl<'a> Record<'a> {
+    // Whether the messages are the same, their lengths included.
+    pub fn has_message_of(self, other: Record<'a>) -> bool
+        ensures { result ≡ R.sameMessage self.entry.bytes.now other.entry.bytes.now }
+    {
+        octets::order::equal(self.message(), other.message())
     }
-    let e = layout::MESSAGE_AT + n as usize;
-    octets::order::equal(&a[layout::MESSAGE_AT..e], &b[layout::MESSAGE_AT..e])
+
+    // Whether this has fewer tags than the other.
+    fn has_fewer_tags_than(self, other: Record<'a>) -> bool
+        ensures { result ≡ ltb (tagCount self.entry.bytes.now) (tagCount other.entry.bytes.now) }
+    {
+        self.tag_count() < other.tag_count()
+    }
+
+    #[tactic(auto, unfolding(crate::specs::Relations::subset))]
+    // Whether this is a subset of the other: the same message, fewer tags, and all of them the other's.
+    pub fn is_subset_of(self, other: Record<'a>) -> bool
+        ensures { result ≡ R.subset self.entry.bytes.now other.entry.bytes.now }
+    {
+        self.has_fewer_tags_than(other) && self.has_message_of(other) && contained(self, other)
+    }
+
+    #[tactic(auto, unfolding(crate::specs::Relations::tied))]
+    // Whether the two are tied: message and at least one tag are common.
+    pub fn is_tied_to(self, other: Record<'a>) -> bool
+        ensures { result ≡ R.tied self.entry.bytes.now other.entry.bytes.now }
+    {
+        self.has_message_of(other) && shares_tag(self, other)
+    }
+}
+
+// Of two records the one whose bytes come first; the first where they are equal.
+pub fn lesser<'a>(a: Record<'a>, b: Record<'a>) -> Record<'a>
+    ensures { result.bytes.now ≡ lesserOf a.entry.bytes.now b.entry.bytes.now }
+{
+    if octets::order::precedes(b.bytes, a.bytes) {
+        b
+    } else {
+        a
+    }
 }
 
 // Whether every tag of a is one of b's.
-pub fn contained(a: &[u8], b: &[u8]) -> bool
-    requires a_value { wellFormed a.now ≡ true }
-    requires b_value { wellFormed b.now ≡ true }
-    ensures { result ≡ R.allIn (tags a.now) (tags b.now) }
+pub fn contained(a: Record, b: Record) -> bool
+    ensures { result ≡ R.allIn (tags a.entry.bytes.now) (tags b.entry.bytes.now) }
 {
-    let n = fields::tag_count(a) as usize;
-    let m = fields::tag_count(b) as usize;
+    let n = a.tag_count();
+    let m = b.tag_count();
     let mut i = 0;
     let mut j = 0;
     while i < n {
         if m <= j {
             return false;
         }
-        let x = fields::tag(a, i);
-        let y = fields::tag(b, j);
+        let x = a.tag(i);
+        let y = b.tag(j);
         if x < y {
             return false;
         }
@@ -48,47 +75,27 @@ pub fn contained(a: &[u8], b: &[u8]) -> bool
     true
 }
 
-// Whether a is a subset of b: the same message, fewer tags, and all of them b's.
-pub fn subset(a: &[u8], b: &[u8]) -> bool
-    requires a_value { wellFormed a.now ≡ true }
-    requires b_value { wellFormed b.now ≡ true }
-    ensures { result ≡ R.subset a.now b.now }
-{
-    if fields::tag_count(b) <= fields::tag_count(a) {
-        return false;
-    }
-    if !same_message(a, b) {
-        return false;
-    }
-    contained(a, b)
-}
-
 // Whether the last tag of a comes before the first of b: then, since tags ascend, every tag of a is below every tag of b.
-fn ends_before(a: &[u8], b: &[u8]) -> bool
-    requires a_value { wellFormed a.now ≡ true }
-    requires b_value { wellFormed b.now ≡ true }
-    ensures { result ≡ ltb (tag_at a.now (tagCount a.now - 1)) (tag_at b.now 0) }
+fn ends_before(a: Record, b: Record) -> bool
+    ensures { result ≡ ltb (tag_at a.entry.bytes.now (tagCount a.entry.bytes.now - 1)) (tag_at b.entry.bytes.now 0) }
 {
-    let n = fields::tag_count(a) as usize;
-    fields::tag(a, n - 1) < fields::tag(b, 0)
+    a.tag(a.tag_count() - 1) < b.tag(0)
 }
 
 // Whether some tag of a is one of b's: both are gone through.
-fn common_tag(a: &[u8], b: &[u8]) -> bool
-    requires a_value { wellFormed a.now ≡ true }
-    requires b_value { wellFormed b.now ≡ true }
-    ensures { result ≡ R.sharesTag a.now b.now }
+fn common_tag(a: Record, b: Record) -> bool
+    ensures { result ≡ R.sharesTag a.entry.bytes.now b.entry.bytes.now }
 {
-    let n = fields::tag_count(a) as usize;
-    let m = fields::tag_count(b) as usize;
+    let n = a.tag_count();
+    let m = b.tag_count();
     let mut i = 0;
     let mut j = 0;
     while i < n {
         if m <= j {
             return false;
         }
-        let x = fields::tag(a, i);
-        let y = fields::tag(b, j);
+        let x = a.tag(i);
+        let y = b.tag(j);
         if x < y {
             i += 1;
             continue;
@@ -103,10 +110,8 @@ fn common_tag(a: &[u8], b: &[u8]) -> bool
 }
 
 // Whether some tag of a is one of b's. Where the tags of one record all lie below those of the other, two comparisons tell.
-pub fn shares_tag(a: &[u8], b: &[u8]) -> bool
-    requires a_value { wellFormed a.now ≡ true }
-    requires b_value { wellFormed b.now ≡ true }
-    ensures { result ≡ R.sharesTag a.now b.now }
+fn shares_tag(a: Record, b: Record) -> bool
+    ensures { result ≡ R.sharesTag a.entry.bytes.now b.entry.bytes.now }
 {
     if ends_before(a, b) {
         return false;
@@ -115,16 +120,4 @@ pub fn shares_tag(a: &[u8], b: &[u8]) -> bool
         return false;
     }
     common_tag(a, b)
-}
-
-// Whether two records are tied: message and at least one tag are common.
-pub fn tied(a: &[u8], b: &[u8]) -> bool
-    requires a_value { wellFormed a.now ≡ true }
-    requires b_value { wellFormed b.now ≡ true }
-    ensures { result ≡ R.tied a.now b.now }
-{
-    if !same_message(a, b) {
-        return false;
-    }
-    shares_tag(a, b)
 }

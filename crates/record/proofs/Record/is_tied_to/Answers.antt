@@ -1,0 +1,11 @@
+use Rattle.std.proofs.Common.{◌≡◌, ◌∙◌, sym, Bool, true, List, ℕ}
+use Rattle.record.specs.Relations.{sameMessage, sharesTag, tied}
+use Rattle.record.proofs.Record.is_tied_to.Goals as goal
+
+-- where the messages are the same, the tags tell
+by_tags : (a b : List ℕ) (r : Bool) → sameMessage a b ≡ true → r ≡ sharesTag a b → r ≡ tied a b
+unfolding tied
+by_tags a b r h e = rw h e
+
+pub returns-then-has_message_of : goal.returns-then-has_message_of
+returns-then-has_message_of c = by_tags c.args.self.bytes.now c.args.other.bytes.now c.shares_tag.result (sym c.has_message_of.ensures ∙ c.if-has_message_of.true) c.shares_tag.ensures

@@ -1,0 +1,81 @@
+-- The relations of records are those of their values, and a record is its value: two records with one value are the same bytes.
+use Prim.Native.Nat.{ℕ, ◌<◌}
+use Rattle.std.proofs.Common.{◌≡◌, true, false, ◌&&◌, List, length, get_or, refl, sym, ap, ap₂, ◌∙◌, arith, ltb, Option, Some, None, is_some}
+use lib.IntN.{ℤ, pos}
+use Rattle.octets.specs.Bytes.{Bytes}
+use Rattle.octets.specs.Order.{same}
+use Rattle.record.specs.Fields as F
+use Rattle.record.specs.Formed.{wellFormed}
+use Rattle.record.specs.Relations as R
+use Rattle.record.specs.Value.{Value, value_of, isSubset, isTied}
+use Rattle.record.specs.Layout as L
+use Rattle.record.proofs.Parts.{Formed, formed}
+use Rattle.record.proofs.Whole.{flagged, heightNumber, tags-length, fields-whole}
+use Rattle.ranges.proofs.Bools.{by}
+use Rattle.octets.specs.Words.{word, signed_of}
+use Rattle.octets.specs.Runs.{allZero}
+use Rattle.octets.proofs.Zeros.{zero-run}
+use lib.Dec.{eqb}
+use lib.ListN.{take, drop, replicate, length-drop}
+use lib.Seq.{length-take-le}
+use Rattle.std.proofs.lemmas.Bool.{false≢true}
+use Rattle.std.specs.Option.{unwrap_or}
+use Prim.Native.Nat.{zero, suc}
+
+pub subset-value : (a b : List ℕ) → R.subset a b ≡ isSubset (value_of a) (value_of b)
+unfolding R.subset
+subset-value a b =
+    ap₂ (λ (n m : ℕ). same (F.message a) (F.message b) && (ltb n m && R.allIn (F.tags a) (F.tags b))) (sym (tags-length a 0 (F.tagCount a))) (sym (tags-length b 0 (F.tagCount b)))
+
+pub tied-value : (a b : List ℕ) → R.tied a b ≡ isTied (value_of a) (value_of b)
+unfolding R.tied R.sharesTag
+tied-value a b = refl
+
+-- ---- nothing is forgotten
+
+covariance-at : (r : List ℕ) (i : ℕ) → i < 6 → get_or (value_of r).covariance i 0 ≡ F.covarianceBits r i
+covariance-at r zero h = refl
+covariance-at r (suc zero) h = refl
+covariance-at r (suc (suc zero)) h = refl
+covariance-at r (suc (suc (suc zero))) h = refl
+covariance-at r (suc (suc (suc (suc zero)))) h = refl
+covariance-at r (suc (suc (suc (suc (suc zero))))) h = refl
+covariance-at r (suc (suc (suc (suc (suc (suc i)))))) h = absurd (omega arith)
+
+-- without a height its bytes are zero
+blank : (r : List ℕ) → Formed r → flagged r ≡ false → take 4 (drop L.heightAt r) ≡ replicate 4 0
+blank r f p =
+    let z : allZero (take 4 (drop L.heightAt r)) ≡ true = by (eqb (F.byte_at L.heightFlagAt r) 0) (λ e. rw e at f.flag) (λ e. absurd (false≢true (sym p ∙ (rw e at f.flag)))) in
+    let n : length (take 4 (drop L.heightAt r)) ≡ 4 = length-take-le 4 (drop L.heightAt r) (rw (length-drop, f.size) (omega arith)) in
+    zero-run (take 4 (drop L.heightAt r)) z ∙ ap (λ (m : ℕ). replicate m 0) n
+
+module _ (a b : List ℕ) (f : Formed a) (g : Formed b) (e : F.height a ≡ F.height b) where
+  same-height : (flagged a ≡ flagged b) × (heightNumber a ≡ heightNumber b)
+  same-height =
+      by (flagged a)
+      (λ p. by (flagged b)
+      (λ q. let h : Some (heightNumber a) ≡ Some (heightNumber b) = rw (p, q) at e in (p ∙ sym q, ap (λ (o : Option ℤ). unwrap_or o (pos 0)) h))
+      (λ q. let h : Some (heightNumber a) ≡ None = rw (p, q) at e in absurd (some-not-none (heightNumber a) h)))
+      (λ p. by (flagged b)
+      (λ q. let h : None ≡ Some (heightNumber b) = rw (p, q) at e in absurd (some-not-none (heightNumber b) (sym h)))
+      (λ q. (p ∙ sym q, ap (λ (s : List ℕ). signed_of (word s)) (blank a f p ∙ sym (blank b g q)))))
+    where
+      some-not-none : (z : ℤ) → Some z ≡ None → ⊥
+      some-not-none z h = false≢true (sym (ap is_some h))
+
+pub value-whole : (a b : List ℕ) → Bytes a → Bytes b → wellFormed a ≡ true → wellFormed b ≡ true → value_of a ≡ value_of b → a ≡ b
+value-whole a b ba bb wa wb e =
+    let h = same-height a b (formed a wa) (formed b wb) (ap (λ (v : Value). v.height) e) in
+    fields-whole a b ba bb wa wb (record {
+      time = ap (λ (v : Value). v.time) e;
+      latitude = ap (λ (v : Value). v.latitude) e;
+      longitude = ap (λ (v : Value). v.longitude) e;
+      flag = h.0;
+      height = h.1;
+      message = ap (λ (v : Value). v.message) e;
+      tags = ap (λ (v : Value). v.tags) e;
+      used = ap (λ (v : Value). v.used) e;
+      models = ap (λ (v : Value). v.models) e;
+      spec = ap (λ (v : Value). v.spec) e;
+      covariance = λ (i : ℕ) (l : i < 6). sym (covariance-at a i l) ∙ ap (λ (v : Value). get_or v.covariance i 0) e ∙ covariance-at b i l;
+    })

@@ -1,0 +1,42 @@
+-- What a record says, as a value: each field of a type that says no more than the record does.
+use Rattle.std.specs.Prelude.{ℕ, Bool, ◌&&◌, List, [], ◌∷◌, ℤ, Option, ltb, length}
+use Rattle.octets.specs.Order.{same}
+use Rattle.record.specs.Fields as F
+use Rattle.record.specs.Relations.{allIn, anyIn}
+
+pub record Value : Type 0 where
+  pub time : ℕ
+  pub latitude : ℤ
+  pub longitude : ℤ
+  pub height : Option ℤ
+  pub message : List ℕ
+  pub tags : List ℕ
+  pub used : ℕ
+  pub models : List ℕ
+  pub spec : ℕ
+  -- the bits of xx, xy, xz, yy, yz, zz
+  pub covariance : List ℕ
+
+-- the value of a record's bytes
+abbrev pub value_of : List ℕ → Value
+value_of r =
+    record {
+      time = F.time r;
+      latitude = F.latitude r;
+      longitude = F.longitude r;
+      height = F.height r;
+      message = F.message r;
+      tags = F.tags r;
+      used = F.used r;
+      models = F.models r;
+      spec = F.spec r;
+      covariance = F.covarianceBits r 0 ∷ F.covarianceBits r 1 ∷ F.covarianceBits r 2 ∷ F.covarianceBits r 3 ∷ F.covarianceBits r 4 ∷ F.covarianceBits r 5 ∷ [];
+    }
+
+-- the same message, and fewer tags, each of them the other's
+abbrev pub isSubset : Value → Value → Bool
+isSubset a b = same a.message b.message && (ltb (length a.tags) (length b.tags) && allIn a.tags b.tags)
+
+-- message and at least one tag are common
+abbrev pub isTied : Value → Value → Bool
+isTied a b = same a.message b.message && anyIn a.tags b.tags
