@@ -1,6 +1,6 @@
 // Prints numbers as their bits, 16 hex digits each: the constants; both series at powers of two, where each coefficient shows;
 // sines and cosines; and for pairs of claims the agreement, the same from a table of prepared fixes, whether they agree, and the
-// smaller's horizontal sigma. make_stdout.py works out the same from document 01 and the Rust's text.
+// smaller's horizontal sigma. make_stdout.py works out the same from the formulas and the Rust's text.
 #![tactic(auto)]
 
 ghost use Rattle.std.specs.Prelude.{◌≤◌, length};
@@ -281,19 +281,14 @@ fn show_agrees(rt: &impl Print, a: Agreement) -> io::Result<()> {
     show(rt, 0.0)
 }
 
-fn staged(table: &mut [f64], smaller: Claimed, larger: Claimed) -> Agreement
-    requires { 42 ≤ length table.old }
-{
-    arithmetic::prepare(smaller, table, 0);
-    arithmetic::prepare(larger, table, 1);
-    arithmetic::compare(table, 0, 1)
+fn staged(smaller: Claimed, larger: Claimed) -> Agreement {
+    arithmetic::compare(&arithmetic::prepare(smaller), &arithmetic::prepare(larger))
 }
 
 fn show_pair(rt: &impl Print, smaller: Claimed, larger: Claimed) -> io::Result<()> {
-    let mut table = [0.0; 42];
     let whole = arithmetic::agreement(smaller, larger);
     show_agreement(rt, whole)?;
-    show_agreement(rt, staged(&mut table, smaller, larger))?;
+    show_agreement(rt, staged(smaller, larger))?;
     show_agrees(rt, whole)?;
     gap(rt)?;
     show(rt, arithmetic::horizontal_sigma_m(smaller.covariance))?;
@@ -306,15 +301,13 @@ fn show_named(rt: &impl Print, c: Covariance, lat: i32, has_height: bool) -> io:
         Claimed {
             lat: 500_000_000,
             lon: 100_000_000,
-            has_height,
-            height: 1500,
+            height: has_height.then_some(1500),
             covariance: c,
         },
         Claimed {
             lat,
             lon: 100_000_000,
-            has_height,
-            height: 1500,
+            height: has_height.then_some(1500),
             covariance: c,
         },
     )
@@ -327,15 +320,13 @@ fn show_at_limit(rt: &impl Print, v: u64, lat: i32, lon: i32, has_height: bool) 
         Claimed {
             lat: 500_000_000,
             lon: 100_000_000,
-            has_height,
-            height: 1500,
+            height: has_height.then_some(1500),
             covariance: c,
         },
         Claimed {
             lat,
             lon,
-            has_height,
-            height: 1500,
+            height: has_height.then_some(1500),
             covariance: c,
         },
     )
@@ -350,15 +341,13 @@ fn show_random(rt: &impl Print, x: u64) -> io::Result<()> {
         Claimed {
             lat: angle(lat),
             lon: angle(lon),
-            has_height: x / 0x10_0000 % 2 == 0,
-            height: height(x / 0x1_0000 % 8),
+            height: (x / 0x10_0000 % 2 == 0).then_some(height(x / 0x1_0000 % 8)),
             covariance: c,
         },
         Claimed {
             lat: angle(lat + x / 4096 % 3),
             lon: angle(lon + x / 16384 % 3),
-            has_height: x / 0x1000_0000 % 2 == 0,
-            height: height(x / 0x100_0000 % 8),
+            height: (x / 0x1000_0000 % 2 == 0).then_some(height(x / 0x100_0000 % 8)),
             covariance: c,
         },
     )

@@ -2,7 +2,7 @@
 use mathlib.Core.Path.{◌≡◌, refl, sym, ap, subst, ◌∙◌}
 use mathlib.Core.Bool.{Bool, true, false, not, true≢false}
 use mathlib.Core.List.{List}
-use mathlib.Core.Option.{Option, none, some}
+use Rattle.std.specs.Prelude.{Option, Some, None}
 use Prim.Native.Nat.{ℕ, suc, ◌<◌, ◌^◌}
 use lib.Dec.{T}
 use native.Mathlib.Omega.{arith}
@@ -29,10 +29,10 @@ use Rattle.arithmetic.proofs.Comparing.{by}
 
 -- ---- an outcome under a limit
 
-some_inj : {A : Type 0} {x y : A} → some x ≡ some y → x ≡ y
+some_inj : {A : Type 0} {x y : A} → Some x ≡ Some y → x ≡ y
 some_inj e = cc
 
-never : {A : Type 0} {n : A} → none ≡ some n → ⊥
+never : {A : Type 0} {n : A} → None ≡ Some n → ⊥
 never e = absurd (let z : true ≡ false = cc in true≢false z)
 
 finite-no-nan : (x : Float) → finite x ≡ true → is_nan x ≡ false
@@ -59,7 +59,7 @@ module _ (limit x : Float) where
   unfolding outcomeOf
   outside e = rw e
 
-  measured-out : measureIn (outcomeOf limit (Measured x)) ≡ some numbers
+  measured-out : measureIn (outcomeOf limit (Measured x)) ≡ Some numbers
   unfolding measureIn
   measured-out = by (le x limit) (λ e. rw (inside e)) (λ e. rw (outside e))
 
@@ -78,7 +78,7 @@ module _ (limit x : Float) where
   not-unmeasurable : outcomeOf limit (Measured x) ≡ Unmeasurable → ⊥
   unfolding measureIn
   not-unmeasurable e =
-      let f : measureIn (outcomeOf limit (Measured x)) ≡ none = ap measureIn e in
+      let f : measureIn (outcomeOf limit (Measured x)) ≡ None = ap measureIn e in
       never (sym f ∙ measured-out)
 
 -- by its cases, an outcome that has these numbers is inside them or outside
@@ -109,17 +109,17 @@ module _ (limit : Float) (m : Measure) where
       let g : numbers limit x ≡ m = cc in
       subst (λ (n : Measure). le n.chi2 n.limit ≡ false) g t)
 
-  same_numbers : (x : Float) → measureIn (outcomeOf limit (Measured x)) ≡ some m → numbers limit x ≡ m
+  same_numbers : (x : Float) → measureIn (outcomeOf limit (Measured x)) ≡ Some m → numbers limit x ≡ m
   same_numbers x e = some_inj (sym (measured-out limit x) ∙ e)
 
-  inside-if : (o : ChiSquare) → measureIn (outcomeOf limit o) ≡ some m → le m.chi2 m.limit ≡ true → outcomeOf limit o ≡ Inside m
+  inside-if : (o : ChiSquare) → measureIn (outcomeOf limit o) ≡ Some m → le m.chi2 m.limit ≡ true → outcomeOf limit o ≡ Inside m
   unfolding outcomeOf measureIn
   inside-if Unmeasured e t = cc
   inside-if (Measured x) e t =
       let g = same_numbers x e in
       inside limit x (subst (λ (n : Measure). le n.chi2 n.limit ≡ true) (sym g) t) ∙ ap (λ (n : Measure). Inside n) g
 
-  outside-if : (o : ChiSquare) → measureIn (outcomeOf limit o) ≡ some m → le m.chi2 m.limit ≡ false → outcomeOf limit o ≡ Outside m
+  outside-if : (o : ChiSquare) → measureIn (outcomeOf limit o) ≡ Some m → le m.chi2 m.limit ≡ false → outcomeOf limit o ≡ Outside m
   unfolding outcomeOf measureIn
   outside-if Unmeasured e t = cc
   outside-if (Measured x) e t =
@@ -146,12 +146,12 @@ module _ (smaller larger : Claimed) where
 
   -- there is nothing, or a sum that is finite
   ways : (A : Type 0) → (NothingMeasured smaller larger → A)
-      → ((factor : List Float) → factorUnder smaller larger ≡ some factor → finite (sumWith smaller larger factor) ≡ true → A) → A
+      → ((factor : List Float) → factorUnder smaller larger ≡ Some factor → finite (sumWith smaller larger factor) ≡ true → A) → A
   ways A n m = go (factorUnder smaller larger) refl
     where
       go : (o : Option (List Float)) → factorUnder smaller larger ≡ o → A
-      go none e = n (refused e)
-      go (some f) e = by (finite (sumWith smaller larger f)) (λ t. m f e t) (λ t. n (overflows f e t))
+      go None e = n (refused e)
+      go (Some f) e = by (finite (sumWith smaller larger f)) (λ t. m f e t) (λ t. n (overflows f e t))
 
   pub nothing : NothingMeasured smaller larger → out ≡ Unmeasurable
   unfolding agreementOf chiSquareOf lengthUnder finitely outcomeOf
@@ -163,7 +163,7 @@ module _ (smaller larger : Claimed) where
   nothing-before (refused e) = rw e
   nothing-before (overflows factor e f) = rw (e, f)
 
-  module _ (factor : List Float) (e : factorUnder smaller larger ≡ some factor) (f : finite (sumWith smaller larger factor) ≡ true) where
+  module _ (factor : List Float) (e : factorUnder smaller larger ≡ Some factor) (f : finite (sumWith smaller larger factor) ≡ true) where
     abbrev sum : Float
     sum = sumWith smaller larger factor
 
@@ -175,22 +175,22 @@ module _ (smaller larger : Claimed) where
     unfolding agreementBefore chiSquareBefore lengthBefore finiteOr
     summed-before = rw (e, f)
 
-    measured-sum : measureIn out ≡ some (numbers (limitOf three) sum)
+    measured-sum : measureIn out ≡ Some (numbers (limitOf three) sum)
     measured-sum = ap measureIn summed ∙ measured-out (limitOf three) sum
 
-    is_sum : (m : Measure) → measureIn out ≡ some m → numbers (limitOf three) sum ≡ m
+    is_sum : (m : Measure) → measureIn out ≡ Some m → numbers (limitOf three) sum ≡ m
     is_sum m g = some_inj (sym measured-sum ∙ g)
 
-  nothing_said : (m : Measure) → NothingMeasured smaller larger → measureIn out ≡ some m → ⊥
+  nothing_said : (m : Measure) → NothingMeasured smaller larger → measureIn out ≡ Some m → ⊥
   unfolding measureIn
   nothing_said m n g =
       never (sym (ap measureIn (nothing n)) ∙ g)
 
-inside-measured : {a : Agreement} (m : Measure) → a ≡ Inside m → measureIn a ≡ some m
+inside-measured : {a : Agreement} (m : Measure) → a ≡ Inside m → measureIn a ≡ Some m
 unfolding measureIn
 inside-measured m e = ap measureIn e
 
-outside-measured : {a : Agreement} (m : Measure) → a ≡ Outside m → measureIn a ≡ some m
+outside-measured : {a : Agreement} (m : Measure) → a ≡ Outside m → measureIn a ≡ Some m
 unfolding measureIn
 outside-measured m e = ap measureIn e
 
@@ -219,13 +219,13 @@ inside-exactly-when smaller larger m =
     )
 
 -- the limit of what is measured is one of the two
-limit-said : (smaller larger : Claimed) (m : Measure) → measureIn (agreementOf smaller larger) ≡ some m → is_nan m.limit ≡ false
+limit-said : (smaller larger : Claimed) (m : Measure) → measureIn (agreementOf smaller larger) ≡ Some m → is_nan m.limit ≡ false
 limit-said smaller larger m g =
     ways smaller larger (is_nan m.limit ≡ false)
     (λ n. absurd (nothing_said smaller larger m n g))
     (λ factor e f. subst (λ (x : Measure). is_nan x.limit ≡ false) (is_sum smaller larger factor e f m g) (limit-no-nan (threeOf smaller larger)))
 
-module _ (smaller larger : Claimed) (m : Measure) (g : measureIn (agreementOf smaller larger) ≡ some m) where
+module _ (smaller larger : Claimed) (m : Measure) (g : measureIn (agreementOf smaller larger) ≡ Some m) where
   apart : le m.chi2 m.limit ≡ not (lt m.limit m.chi2)
   apart = above m (finite-numbers smaller larger m g).0 (limit-said smaller larger m g)
 
@@ -247,7 +247,7 @@ outside-exactly-when smaller larger m =
     )
 
 -- where there is a sum that is finite, it is measured
-measurable : (smaller larger : Claimed) (factor : List Float) → factorUnder smaller larger ≡ some factor → finite (sumWith smaller larger factor) ≡ true
+measurable : (smaller larger : Claimed) (factor : List Float) → factorUnder smaller larger ≡ Some factor → finite (sumWith smaller larger factor) ≡ true
     → agreementOf smaller larger ≡ Unmeasurable → ⊥
 measurable smaller larger factor e f u =
     not-unmeasurable (limitOf (threeOf smaller larger)) (sumWith smaller larger factor) (sym (summed smaller larger factor e f) ∙ u)
@@ -351,7 +351,7 @@ stored-bounded smaller larger =
     (to_bits-lt binary64 x (sum_fits (threeOf smaller larger) (differenceOf smaller larger) factor)))
 
 -- a covariance whose first entry is a NaN, zero or negative is refused
-first-none : (three : Bool) (c : Covariance) → notAbove c.xx ≡ true → choleskyOf (rows_of three) (matrixOf three c) ≡ none
+first-none : (three : Bool) (c : Covariance) → notAbove c.xx ≡ true → choleskyOf (rows_of three) (matrixOf three c) ≡ None
 unfolding choleskyOf columns less rowsBelow matrixOf
 first-none true c e = rw e
 first-none false c e = rw e

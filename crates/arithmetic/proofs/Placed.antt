@@ -1,4 +1,4 @@
--- A fix is placed by document 01's formula for the sine and the cosine: geometry's law of the five ranges, at its two angles.
+-- A fix is placed by the formula for the sine and the cosine: geometry's law of the five ranges, at its two angles.
 use Rattle.geometry.proofs.Quadrants.{ranges-are-the-formula}
 use Rattle.arithmetic.specs.Agree.{geodeticOf}
 use Rattle.arithmetic.specs.Claims.{PlacedByFormula}

@@ -1,4 +1,4 @@
--- Document 01, 'Positions to check', as far as they are of this crate: 1 and 2.
+-- The limit, and a covariance of zeros.
 use mathlib.Core.Path.{refl, ap}
 use lib.Ieee.{of_bits, to_bits, round, le, is_nan, of_int}
 use Rattle.geometry.specs.Numbers.{fromDecimal, notAbove}

@@ -1,11 +1,20 @@
--- A horizontal sigma is 0 where the mean variance is a NaN or not above zero (document 01, 'Traps': Rust's `max` drops a NaN).
+-- A horizontal sigma is the root of the mean variance, and 0 where that is a NaN or not above zero (Rust's `max` drops a NaN).
 use mathlib.Core.Path.{◌≡◌, refl, ap, ◌∙◌}
 use mathlib.Core.Bool.{true, false}
 use lib.Ieee.{Float, nan, lt, mul, of_int, round}
+use Rattle.floats.specs.Root.{root}
 use Rattle.floats.proofs.Ieee754.{root-zero}
 use Rattle.geometry.specs.Numbers.{◌⊕◌, ◌⊗◌, whole, fromDecimal}
 use Rattle.arithmetic.specs.Agree.{sigmaOf}
 use Rattle.geometry.specs.declared.linalg.Covariance.{Covariance}
+
+pub high-root : (c : Covariance) → lt (whole 0) (fromDecimal 5 1 ⊗ (c.xx ⊕ c.yy)) ≡ true → root (fromDecimal 5 1 ⊗ (c.xx ⊕ c.yy)) ≡ sigmaOf c
+unfolding sigmaOf
+high-root c e = rw e
+
+pub low-root : (c : Covariance) → lt (whole 0) (fromDecimal 5 1 ⊗ (c.xx ⊕ c.yy)) ≡ false → root (whole 0) ≡ sigmaOf c
+unfolding sigmaOf
+low-root c e = rw e
 
 pub low-sigma : (c : Covariance) → lt (whole 0) (fromDecimal 5 1 ⊗ (c.xx ⊕ c.yy)) ≡ false → sigmaOf c ≡ whole 0
 unfolding sigmaOf of_int

@@ -1,7 +1,6 @@
 -- Whether a larger fix lies within a smaller one's uncertainty: `standing::agreement`, `Agreement::agrees`, and the merge's
--- `horizontal_sigma_m`, operation by operation (document 01, section 'Agreement'), with the outcomes of document 02, A.7.
-use Rattle.std.specs.Prelude.{ℕ, ◌-◌, Bool, true, false, cond, ◌&&◌, List, [], ◌∷◌, ℤ, pos, Float}
-use Rattle.std.proofs.Math.Option.{Option, none, some}
+-- `horizontal_sigma_m`, operation by operation (docs/REFERENCE.md, 'Agreement and decision').
+use Rattle.std.specs.Prelude.{ℕ, ◌-◌, Bool, true, false, cond, ◌&&◌, List, [], ◌∷◌, ℤ, pos, Float, Option, Some, None, is_some, unwrap_or}
 use Rattle.std.specs.Float.{binary64}
 use Rattle.std.specs.Float.Ieee.{of_int, le, lt}
 use Rattle.std.specs.Float.Ieee.Scale.{finite}
@@ -25,8 +24,8 @@ limitOf true = fromDecimal 16_266 3
 limitOf false = fromDecimal 1_381_551 5
 
 -- millimetres as metres; a height that is absent counts as 0
-abbrev pub metresOf : Bool → ℤ → Float
-metresOf high mm = of_int binary64 (cond high mm (pos 0)) ⊘ whole 1000
+abbrev pub metresOf : Option ℤ → Float
+metresOf height = of_int binary64 (unwrap_or height (pos 0)) ⊘ whole 1000
 
 -- Claimed::geodetic
 unfoldable pub geodeticOf : Claimed → Geodetic
@@ -34,7 +33,7 @@ geodeticOf claim =
     record {
       lat = sincosOf claim.lat;
       lon = sincosOf claim.lon;
-      height_m = metresOf claim.has_height claim.height;
+      height_m = metresOf claim.height;
     }
 
 -- the covariance's rows and columns: three with both heights, else those of east and north
@@ -57,13 +56,13 @@ sumUnder n enu factor =
     let solved = solveOf n factor enu in
     plus (λ at. item enu at ⊗ item solved at) (n - 1)
 
--- Document 02, A.7: "No number where none was measured". A sum that is a NaN or an infinity is no number, and without a factor there is no sum.
+-- There is no number where none was measured: a sum that is a NaN or an infinity is no number, and without a factor there is no sum.
 unfoldable pub finitely : Float → ChiSquare
 finitely x = cond (finite x) (Measured x) Unmeasured
 
 unfoldable pub lengthUnder : ℕ → List Float → Option (List Float) → ChiSquare
-lengthUnder n enu none = Unmeasured
-lengthUnder n enu (some factor) = finitely (sumUnder n enu factor)
+lengthUnder n enu None = Unmeasured
+lengthUnder n enu (Some factor) = finitely (sumUnder n enu factor)
 
 unfoldable pub chiSquareOf : Bool → Covariance → List Float → ChiSquare
 chiSquareOf three c enu = lengthUnder (rows_of three) enu (choleskyOf (rows_of three) (matrixOf three c))
@@ -78,9 +77,9 @@ differenceOf smaller larger =
 
 -- whether both state a height
 abbrev pub threeOf : Claimed → Claimed → Bool
-threeOf smaller larger = smaller.has_height && larger.has_height
+threeOf smaller larger = is_some smaller.height && is_some larger.height
 
--- "inside or outside, each with chi-square and limit, or unmeasurable without a number"; a chi-square equal to its limit agrees
+-- inside or outside, each with chi-square and limit, or unmeasurable without a number; a chi-square equal to its limit agrees
 unfoldable pub outcomeOf : Float → ChiSquare → Agreement
 outcomeOf limit Unmeasured = Unmeasurable
 outcomeOf limit (Measured chi2) =
@@ -92,7 +91,7 @@ agreementOf smaller larger =
     let three = threeOf smaller larger in
     outcomeOf (limitOf three) (chiSquareOf three smaller.covariance (differenceOf smaller larger))
 
--- Agreement::agrees; "It still counts as disagreement for the decision", what is unmeasurable
+-- Agreement::agrees; what is unmeasurable counts as disagreeing
 unfoldable pub agreesOf : Agreement → Bool
 agreesOf (Inside m) = true
 agreesOf (Outside m) = false
@@ -104,16 +103,16 @@ chiSquareIn (Inside m) = Measured m.chi2
 chiSquareIn (Outside m) = Measured m.chi2
 chiSquareIn Unmeasurable = Unmeasured
 
--- "When an answer is an enum, a definition gives this paper's number and values for each of its cases" (document 01, 'How to write each place')
+-- the number of each outcome, as it is answered
 unfoldable pub number_of : Agreement → ℕ
 number_of (Inside m) = 0
 number_of (Outside m) = 1
 number_of Unmeasurable = 2
 
 unfoldable pub measureIn : Agreement → Option Measure
-measureIn (Inside m) = some m
-measureIn (Outside m) = some m
-measureIn Unmeasurable = none
+measureIn (Inside m) = Some m
+measureIn (Outside m) = Some m
+measureIn Unmeasurable = None
 
 -- (0.5 * (xx + yy)).max(0.0).sqrt(), where Rust's `max` drops a NaN
 unfoldable pub sigmaOf : Covariance → Float

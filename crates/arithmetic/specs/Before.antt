@@ -1,8 +1,7 @@
--- Agreement as the Rust has it, `standing::agreement` and `Agreement::agrees`, and as document 01's section 'Agreement' had it before document 02, A.7: a
+-- Agreement as the Rust has it, `standing::agreement` and `Agreement::agrees`, and as it was here at first: a
 -- chi-square and its limit, the first infinite where nothing was measured. No contract cites it: specs/Claims says how agreement stands to it. What is
 -- compared with the Rust is the library, whose numbers are these by that.
-use Rattle.std.specs.Prelude.{ℕ, Bool, false, cond, List, Float}
-use Rattle.std.proofs.Math.Option.{Option, none, some}
+use Rattle.std.specs.Prelude.{ℕ, Bool, false, cond, List, Float, Option, Some, None}
 use Rattle.std.specs.Float.{inf}
 use Rattle.std.specs.Float.Ieee.{le}
 use Rattle.std.specs.Float.Ieee.Scale.{finite}
@@ -14,8 +13,8 @@ use Rattle.arithmetic.specs.declared.standing.Measure.{Measure}
 
 -- the squared length of enu under a factor, infinite where there is none
 unfoldable pub lengthBefore : ℕ → List Float → Option (List Float) → Float
-lengthBefore n enu none = inf false
-lengthBefore n enu (some factor) = sumUnder n enu factor
+lengthBefore n enu None = inf false
+lengthBefore n enu (Some factor) = sumUnder n enu factor
 
 unfoldable pub chiSquareBefore : Bool → Covariance → List Float → Float
 chiSquareBefore three c enu = lengthBefore (rows_of three) enu (choleskyOf (rows_of three) (matrixOf three c))

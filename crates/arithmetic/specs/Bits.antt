@@ -1,5 +1,4 @@
--- A chi-square in 64 bits, as a track stores it (document 01, 'The track and the session': "chi-square f64"): "the track's bytes still hold infinity" where there
--- is no number (document 02, A.7).
+-- A chi-square in 64 bits, as a track stores it: an f64, and positive infinity where there is no number.
 use Rattle.std.specs.Prelude.{ℕ, cond, eqb}
 use Rattle.std.specs.Float.{binary64}
 use Rattle.std.specs.Float.Ieee.{of_bits, to_bits}

@@ -1,7 +1,6 @@
--- What is claimed of agreement, beside that the code gives what document 01's section 'Agreement' and document 02's A.7 say. Each statement is a type; the
--- theorem of it has its name, in proofs/Outcomes, proofs/Placed and proofs/Positions.
-use Rattle.std.specs.Prelude.{◌≡◌, true, false, ◌↔◌, List, ◌+◌, Float}
-use Rattle.std.proofs.Math.Option.{Option, none, some}
+-- What is claimed of agreement, beside that the code gives what Agree says. Each statement is a type; src/claims.rt has a function whose contract
+-- it is.
+use Rattle.std.specs.Prelude.{◌≡◌, true, false, ◌↔◌, List, ◌+◌, Float, Option, Some, None}
 use Rattle.std.specs.Float.{inf, binary64}
 use Rattle.std.specs.Float.Ieee.{of_bits, to_bits, is_nan, le, lt}
 use Rattle.std.specs.Float.Ieee.Scale.{finite}
@@ -18,25 +17,25 @@ use Rattle.arithmetic.specs.declared.standing.Measure.{Measure}
 use Rattle.arithmetic.specs.declared.standing.Agreement.TheVariants.{Inside, Outside, Unmeasurable}
 use Rattle.arithmetic.specs.declared.standing.ChiSquare.TheVariants.{Measured}
 
--- ---- the outcomes (document 02, A.7)
+-- ---- the outcomes
 
 -- inside and outside there is a number: no NaN, and no infinity
 abbrev pub FiniteNumbers : Type 0
 FiniteNumbers =
     (smaller larger : Claimed) (m : Measure)
-    → measureIn (agreementOf smaller larger) ≡ some m
+    → measureIn (agreementOf smaller larger) ≡ Some m
     → (is_nan m.chi2 ≡ false) × (finite m.chi2 ≡ true)
 
 -- inside is exactly 'at most the limit', and outside 'above the limit'
 abbrev pub InsideExactlyWhen : Type 0
 InsideExactlyWhen =
     (smaller larger : Claimed) (m : Measure)
-    → (agreementOf smaller larger ≡ Inside m) ↔ ((measureIn (agreementOf smaller larger) ≡ some m) × (le m.chi2 m.limit ≡ true))
+    → (agreementOf smaller larger ≡ Inside m) ↔ ((measureIn (agreementOf smaller larger) ≡ Some m) × (le m.chi2 m.limit ≡ true))
 
 abbrev pub OutsideExactlyWhen : Type 0
 OutsideExactlyWhen =
     (smaller larger : Claimed) (m : Measure)
-    → (agreementOf smaller larger ≡ Outside m) ↔ ((measureIn (agreementOf smaller larger) ≡ some m) × (lt m.limit m.chi2 ≡ true))
+    → (agreementOf smaller larger ≡ Outside m) ↔ ((measureIn (agreementOf smaller larger) ≡ Some m) × (lt m.limit m.chi2 ≡ true))
 
 -- the factor that `agreementOf` solves with, and the sum that it gets
 abbrev pub factorUnder : Claimed → Claimed → Option (List Float)
@@ -47,8 +46,8 @@ sumWith smaller larger factor = sumUnder (rows_of (threeOf smaller larger)) (dif
 
 -- Cholesky refuses the smaller fix's covariance, or the sum is a NaN or an infinity.
 pub data NothingMeasured (smaller larger : Claimed) : Type 0 where
-  refused : factorUnder smaller larger ≡ none → NothingMeasured smaller larger
-  overflows : (factor : List Float) → factorUnder smaller larger ≡ some factor → finite (sumWith smaller larger factor) ≡ false → NothingMeasured smaller larger
+  refused : factorUnder smaller larger ≡ None → NothingMeasured smaller larger
+  overflows : (factor : List Float) → factorUnder smaller larger ≡ Some factor → finite (sumWith smaller larger factor) ≡ false → NothingMeasured smaller larger
 
 -- it is unmeasurable exactly where there is nothing to measure with, and the number is the sum elsewhere
 abbrev pub UnmeasurableExactlyWhen : Type 0
@@ -57,25 +56,25 @@ UnmeasurableExactlyWhen = (smaller larger : Claimed) → (agreementOf smaller la
 abbrev pub ElseTheSum : Type 0
 ElseTheSum =
     (smaller larger : Claimed) (factor : List Float)
-    → factorUnder smaller larger ≡ some factor
+    → factorUnder smaller larger ≡ Some factor
     → finite (sumWith smaller larger factor) ≡ true
-    → measureIn (agreementOf smaller larger) ≡ some (record { chi2 = sumWith smaller larger factor; limit = limitOf (threeOf smaller larger) })
+    → measureIn (agreementOf smaller larger) ≡ Some (record { chi2 = sumWith smaller larger factor; limit = limitOf (threeOf smaller larger) })
 
 -- ---- against agreement as it was before
 
--- "Unmeasurable takes each case that gave positive infinity before"
+-- unmeasurable is each case that gave positive infinity before, and no other
 abbrev pub UnmeasurableWasInfinite : Type 0
 UnmeasurableWasInfinite = (smaller larger : Claimed) → (agreementOf smaller larger ≡ Unmeasurable) ↔ ((agreementBefore smaller larger).chi2 ≡ inf false)
 
 -- inside and outside have the numbers of before
 abbrev pub NumbersAsBefore : Type 0
-NumbersAsBefore = (smaller larger : Claimed) (m : Measure) → measureIn (agreementOf smaller larger) ≡ some m → agreementBefore smaller larger ≡ m
+NumbersAsBefore = (smaller larger : Claimed) (m : Measure) → measureIn (agreementOf smaller larger) ≡ Some m → agreementBefore smaller larger ≡ m
 
 -- and what agrees is what agreed
 abbrev pub AgreesAsBefore : Type 0
 AgreesAsBefore = (smaller larger : Claimed) → agreesOf (agreementOf smaller larger) ≡ agreedBefore (agreementBefore smaller larger)
 
--- "the track's bytes still hold infinity there": what is stored is the bits of before, and is read back as it was
+-- a track's bytes still hold infinity there: what is stored is the bits of before, and is read back as it was
 abbrev pub BitsAsBefore : Type 0
 BitsAsBefore = (smaller larger : Claimed) → storedBits (chiSquareIn (agreementOf smaller larger)) ≡ to_bits binary64 (agreementBefore smaller larger).chi2
 
@@ -84,7 +83,7 @@ StoredReadBack = (smaller larger : Claimed) → storedChiSquare (storedBits (chi
 
 -- ---- the position
 
--- the sines and cosines that a fix is placed by are those of document 01's formula, for all angles of 32 bits
+-- the sines and cosines that a fix is placed by are those of the formula with a division that rounds down, for all angles of 32 bits
 abbrev pub PlacedByFormula : Type 0
 PlacedByFormula =
     (claim : Claimed)
@@ -92,7 +91,7 @@ PlacedByFormula =
     → InI32 claim.lon
     → ((geodeticOf claim).lat ≡ formulaSincos claim.lat) × ((geodeticOf claim).lon ≡ formulaSincos claim.lon)
 
--- ---- document 01, 'Positions to check', as far as they are of this crate
+-- ---- the limit, and a covariance of zeros
 
 -- the next f64 above a positive one
 abbrev pub next : Float → Float

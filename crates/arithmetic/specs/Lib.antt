@@ -1,4 +1,4 @@
--- Agreement (documents 01 and 02): what it is (Agree), how a chi-square is stored (Bits), what agreement was before document 02 (Before), what is claimed of
+-- Agreement: what it is (Agree), how a chi-square is stored (Bits), what agreement was with an infinity for no number (Before), what is claimed of
 -- it (Claims), and how it is worked out (Stages).
 pub mod Agree
 pub mod Bits

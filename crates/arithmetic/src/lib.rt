@@ -2,29 +2,30 @@
 // operation in one fixed order.
 #![tactic(auto)]
 
-ghost use Rattle.std.specs.Prelude.{◌≡◌, ◌+◌, ◌*◌, ◌≤◌, length};
+ghost use Rattle.std.specs.Prelude.{◌≡◌};
 ghost use Rattle.arithmetic.specs.Agree.{agreementOf, agreesOf, chiSquareIn, sigmaOf};
 ghost use Rattle.arithmetic.specs.Bits.{storedBits, storedChiSquare};
-ghost use Rattle.arithmetic.specs.Stages.{preparedSize, preparedOf, comparedOf, entry_of, entered};
+ghost use Rattle.arithmetic.specs.declared.standing.Claimed.{Claimed as Claim};
+ghost use Rattle.arithmetic.specs.Stages.{parts_of, comparedOf};
 
+pub mod claims;
 mod stages;
 pub mod standing;
 
 use geometry::linalg::Covariance;
-use standing::{Agreement, ChiSquare, Claimed};
+use standing::{Agreement, ChiSquare, Claimed, Prepared};
 
-// How many numbers a prepared fix has.
-pub const PREPARED: usize = 21;
-
+// How a larger fix stands to a smaller one.
 pub fn agreement(smaller: Claimed, larger: Claimed) -> Agreement
     ensures { result ≡ agreementOf smaller larger }
 {
     // The larger fix's place waits for nothing of the smaller's factor, whose roots wait for one another: it is worked out first.
     let to = geometry::geodesy::to_ecef(stages::geodetic(larger));
-    let from = stages::parts(smaller);
-    stages::judged(from, to, larger.has_height)
+    let from = prepare(smaller);
+    stages::judged(&from, to, larger.height.is_some())
 }
 
+// Whether that is agreement: what is unmeasurable disagrees.
 pub fn agrees(a: Agreement) -> bool
     ensures { result ≡ agreesOf a }
 {
@@ -35,6 +36,7 @@ pub fn agrees(a: Agreement) -> bool
     }
 }
 
+// The chi-square of an agreement, where there is one.
 pub fn chi_square(a: Agreement) -> ChiSquare
     ensures { result ≡ chiSquareIn a }
 {
@@ -65,6 +67,7 @@ pub fn stored_chi_square(bits: u64) -> ChiSquare
     ChiSquare::Measured(floats::of_bits(bits))
 }
 
+// The horizontal deviation of a covariance, in metres: the root of the mean of its variances east and north, 0 where that is a NaN or below 0.
 pub fn horizontal_sigma_m(c: Covariance) -> f64
     ensures { result ≡ sigmaOf c }
 {
@@ -75,25 +78,23 @@ pub fn horizontal_sigma_m(c: Covariance) -> f64
     floats::root(0.0)
 }
 
-// Fix i of a table of prepared fixes.
-pub fn prepare(claim: Claimed, table: &mut [f64], i: usize)
-    requires { i * preparedSize + preparedSize ≤ length table.old }
-    ensures { table.new ≡ entered table.old i (preparedOf claim) }
+// What a fix's agreement with any other needs of it alone.
+pub fn prepare(claim: Claimed) -> Prepared
+    ensures { result ≡ parts_of claim }
 {
-    let parts = stages::parts(claim);
-    let from = i * PREPARED;
-    let end = from + PREPARED;
-    stages::put(&mut table[from..end], parts);
+    let position = stages::geodetic(claim);
+    Prepared {
+        ecef: geometry::geodesy::to_ecef(position),
+        basis: geometry::geodesy::enu_basis(position),
+        factor: geometry::linalg::cholesky(claim.covariance),
+        has_height: claim.height.is_some(),
+    }
 }
 
-// The agreement of two prepared fixes of a table, with no root and no sine or cosine.
-pub fn compare(table: &[f64], smaller: usize, larger: usize) -> Agreement
-    requires { (smaller * preparedSize + preparedSize ≤ length table.now) × (larger * preparedSize + preparedSize ≤ length table.now) }
-    ensures { result ≡ comparedOf (entry_of table.now smaller) (entry_of table.now larger) }
+// The agreement of two prepared fixes, with no root and no sine or cosine: that of the claims that they were prepared from.
+pub fn compare(smaller: &Prepared, larger: &Prepared) -> Agreement
+    ensures compared { result ≡ comparedOf smaller.now larger.now }
+    ensures agreement { (a b : Claim) → smaller.now ≡ parts_of a → larger.now ≡ parts_of b → result ≡ agreementOf a b }
 {
-    let a = smaller * PREPARED;
-    let b = larger * PREPARED;
-    let a_end = a + PREPARED;
-    let b_end = b + PREPARED;
-    stages::compared(&table[a..a_end], &table[b..b_end])
+    stages::judged(smaller, larger.ecef, larger.has_height)
 }

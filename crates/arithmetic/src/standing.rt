@@ -1,15 +1,43 @@
 // What a fix claims, and how another stands to it.
-use geometry::linalg::Covariance;
+use geometry::geodesy::{Basis, Vec3};
+use geometry::linalg::{Covariance, Factor};
 
-// What a fix claims: 1e-7 degree, millimetres above the ellipsoid where it has a height, and how sure.
+// What a fix claims: 1e-7 degree, millimetres above the ellipsoid where it states a height, and how sure.
 #[derive(Clone, Copy)]
 pub struct Claimed {
     pub lat: i32,
     pub lon: i32,
-    pub has_height: bool,
-    pub height: i32,
+    pub height: Option<i32>,
     pub covariance: Covariance,
 }
+
+// What depends on one fix alone, worked out once and compared with many: its position, its directions, the factor of its covariance, if
+// there is one, and whether it has a height.
+#[derive(Clone, Copy)]
+pub struct Prepared {
+    pub ecef: Vec3,
+    pub basis: Basis,
+    pub factor: Option<Factor>,
+    pub has_height: bool,
+}
+
+const NOWHERE: Vec3 = Vec3 {
+    x: 0.0,
+    y: 0.0,
+    z: 0.0,
+};
+
+// What fills a table before its fixes are prepared.
+pub const UNPREPARED: Prepared = Prepared {
+    ecef: NOWHERE,
+    basis: Basis {
+        east: NOWHERE,
+        north: NOWHERE,
+        up: NOWHERE,
+    },
+    factor: None,
+    has_height: false,
+};
 
 // The squared length of a difference under the smaller fix's covariance, and the most that agrees.
 #[derive(Clone, Copy)]

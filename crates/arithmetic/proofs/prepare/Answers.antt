@@ -1,10 +1,7 @@
-use Rattle.arithmetic.proofs.Staged.{width, entered-is}
-use Rattle.arithmetic.specs.Stages.{preparedOf, numbersOf, parts_of}
-use Prim.Native.Nat.{◌*◌}
+use Rattle.arithmetic.specs.Stages.{parts_of}
 use Rattle.arithmetic.proofs.prepare.Goals as goal
 
 pub returns : goal.returns
-unfolding preparedOf
+unfolding parts_of
 returns c =
-    let a = c.args in
-    rw (c.put.ensures, c.parts-parts.ensures, width (a.i * 21)) (entered-is a.table.now a.i (numbersOf (parts_of a.claim)))
+    rw (c.is_some.ensures, c.cholesky.ensures, c.enu_basis.ensures, c.to_ecef.ensures, c.geodetic-position.ensures)

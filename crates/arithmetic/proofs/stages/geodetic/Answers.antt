@@ -22,5 +22,4 @@ returns c =
       c.sincos-lat.ensures,
       back a.lat t.0.1,
       back a.lon t.1.0.1,
-      back a.height t.1.1.1.0.1,
     )

@@ -1,4 +1,3 @@
-use mathlib.Core.Bool.{false}
 use lib.Ieee.{div, of_bits, neg}
 use Rattle.arithmetic.proofs.Comparing.{is_finite}
 use Rattle.arithmetic.proofs.stages.is_finite.Goals as goal

@@ -1,11 +1,8 @@
 use mir.Facts.{to_z-of_z}
+use mir.Syntax.{w32}
 use lib.Ieee.{of_int, of_bits}
 use Rattle.arithmetic.proofs.stages.metres.Goals as goal
 
-pub returns-then-high : goal.returns-then-high
-unfolding of_int of_bits
-returns-then-high c = rw (to_z-of_z c.ranges.height, c.if-high.true)
-
 pub returns : goal.returns
 unfolding of_int of_bits
-returns c = rw c.if-high.false
+returns c = rw (to_z-of_z {w = w32} (record { sfits = c.unwrap_or.type_inv }), c.unwrap_or.ensures)

@@ -1,7 +1,0 @@
-use mathlib.Core.Path.{refl}
-use lib.Ieee.{of_int, of_bits}
-use Rattle.arithmetic.proofs.stages.zeros.Goals as goal
-
-pub returns : goal.returns
-unfolding of_int of_bits
-returns c = refl
