@@ -1,6 +1,6 @@
 -- What a search for whom an item is refused against shows: its refusal, and the list of the refusals of the items so far.
 use mathlib.Core.Path.{◌≡◌, refl, sym, ap, ◌∙◌}
-use mathlib.Core.Bool.{Bool, true, false, true≢false}
+use mathlib.Core.Bool.{true, false, true≢false}
 use mathlib.Core.List.{List, [], ◌∷◌, ◌++◌, map, flat_map, append-nil}
 use Prim.Native.Nat.{ℕ, ◌+◌, ◌*◌, ◌≤◌}
 use native.Mathlib.Omega.{arith}
@@ -9,7 +9,7 @@ use Rattle.ranges.proofs.Bools.{by}
 use Rattle.ranges.specs.Lists.{filter, countFrom, up_to}
 use Rattle.ranges.proofs.Searches.{flat-more}
 use Rattle.items.specs.Layout.{itemSize}
-use Rattle.rule.specs.declared.Choice.TheVariants.{Nobody, Item}
+use Rattle.std.specs.Prelude.{Option, None, Some, is_some, unwrap_or}
 use Rattle.rule.specs.Outcome as O
 use Rattle.rule.specs.Standing as S
 use Rattle.rule.specs.Standing.{Relations, replaces, isSuperseded, opposes, isContested, is_refused, replaced, opposed, refusalOf}
@@ -17,8 +17,6 @@ use Rattle.rule.specs.Related.{itemRelations}
 use Rattle.rule.specs.Choosing.{choose}
 use Rattle.rule.proofs.Choosing.{chose_none, chose-item}
 use Rattle.decision.specs.declared.Refusal.{Refusal}
-use Rattle.decision.specs.declared.Finding.{Finding}
-use Rattle.decision.specs.declared.Finding.TheVariants.{Unrefused, Refused}
 use Rattle.decision.specs.Answer.{refusal, noRefusal, outcome}
 use Rattle.decision.specs.Working.{finding}
 use Rattle.decision.proofs.Laws.{refused-one, refused_none}
@@ -28,21 +26,21 @@ use Rattle.arithmetic.specs.declared.standing.ChiSquare.{ChiSquare}
 module _ (r : Relations ℕ ChiSquare) (all : List ℕ) (i : ℕ) where
   -- ---- a refusal by whom a search found
 
-  pub none-replaces : (l : List ℕ) → choose r.lower Nobody l ≡ Nobody → Unrefused ≡ finding (replaced r all i l)
+  pub none-replaces : (l : List ℕ) → choose r.lower None l ≡ None → None ≡ finding (replaced r all i l)
   unfolding finding
   none-replaces l e = rw (chose_none r.lower l e) refl
 
-  pub none-opposes : (l : List ℕ) → choose r.lower Nobody l ≡ Nobody → Unrefused ≡ finding (opposed r all i l)
+  pub none-opposes : (l : List ℕ) → choose r.lower None l ≡ None → None ≡ finding (opposed r all i l)
   unfolding finding
   none-opposes l e = rw (chose_none r.lower l e) refl
 
-  pub one-replaces : (l : List ℕ) (k : ℕ) (c : ChiSquare) → choose r.lower Nobody l ≡ Item k → c ≡ r.chiSquare k i
-      → Refused (record { refused = i; kept = k; chi2 = c; superseded = true }) ≡ finding (replaced r all i l)
+  pub one-replaces : (l : List ℕ) (k : ℕ) (c : ChiSquare) → choose r.lower None l ≡ Some k → c ≡ r.chiSquare k i
+      → Some (record { refused = i; kept = k; chi2 = c; superseded = true }) ≡ finding (replaced r all i l)
   unfolding finding
   one-replaces l k c e q = let w = chose-item r.lower l k e in rw (w.2, w.3, q) refl
 
-  pub one-opposes : (l : List ℕ) (k : ℕ) (c : ChiSquare) → choose r.lower Nobody l ≡ Item k → c ≡ r.chiSquare i k
-      → Refused (record { refused = i; kept = k; chi2 = c; superseded = false }) ≡ finding (opposed r all i l)
+  pub one-opposes : (l : List ℕ) (k : ℕ) (c : ChiSquare) → choose r.lower None l ≡ Some k → c ≡ r.chiSquare i k
+      → Some (record { refused = i; kept = k; chi2 = c; superseded = false }) ≡ finding (opposed r all i l)
   unfolding finding
   one-opposes l k c e q = let w = chose-item r.lower l k e in rw (w.2, w.3, q) refl
 
@@ -51,7 +49,7 @@ module _ (r : Relations ℕ ChiSquare) (all : List ℕ) (i : ℕ) where
   unfolding refusalOf
   refusal-replaced e = rw e refl
 
-  pub unrefused : is_refused r all i ≡ false → Unrefused ≡ finding (refusalOf r all i)
+  pub unrefused : is_refused r all i ≡ false → None ≡ finding (refusalOf r all i)
   unfolding finding
   unrefused e = ap finding (sym (refused_none r all i e))
 
@@ -61,13 +59,8 @@ module _ (r : Relations ℕ ChiSquare) (all : List ℕ) (i : ℕ) where
 
 -- ---- the refusals so far
 
-abbrev isRefusal : Finding → Bool
-isRefusal Unrefused = false
-isRefusal (Refused x) = true
-
-abbrev theRefusal : Finding → Refusal
-theRefusal Unrefused = noRefusal
-theRefusal (Refused x) = x
+abbrev the_refusal : Option Refusal → Refusal
+the_refusal o = unwrap_or o noRefusal
 
 -- the refusals of the items before i, of n items
 abbrev pub refusedTo : Relations ℕ ChiSquare → ℕ → ℕ → List Refusal
@@ -77,23 +70,23 @@ pub none-refused : (r : Relations ℕ ChiSquare) (n : ℕ) → refusedTo r n 0 �
 unfolding countFrom flat_map
 none-refused r n = refl
 
-module _ (r : Relations ℕ ChiSquare) (n i : ℕ) (f : Finding) (e : f ≡ finding (refusalOf r (up_to n) i)) where
-  pub found_none : f ≡ Unrefused → refusedTo r n (i + 1) ≡ refusedTo r n i
+module _ (r : Relations ℕ ChiSquare) (n i : ℕ) (f : Option Refusal) (e : f ≡ finding (refusalOf r (up_to n) i)) where
+  pub found_none : f ≡ None → refusedTo r n (i + 1) ≡ refusedTo r n i
   unfolding finding
   found_none q =
       let so = flat_map (refusalOf r (up_to n)) (up_to i) in
       ap (map refusal) (flat-more (refusalOf r (up_to n)) i ∙ ap (λ l. so ++ l) (empty (refusalOf r (up_to n) i) (sym e ∙ q)) ∙ append-nil so)
     where
-      empty : (l : List (O.Refused ℕ ChiSquare)) → finding l ≡ Unrefused → l ≡ []
+      empty : (l : List (O.Refused ℕ ChiSquare)) → finding l ≡ None → l ≡ []
       empty [] e = refl
-      empty (x ∷ l) e = absurd (true≢false (ap isRefusal e))
+      empty (x ∷ l) e = absurd (true≢false (ap is_some e))
 
-  pub found-one : (x : Refusal) → f ≡ Refused x → refusedTo r n (i + 1) ≡ refusedTo r n i ++ (x ∷ [])
+  pub found-one : (x : Refusal) → f ≡ Some x → refusedTo r n (i + 1) ≡ refusedTo r n i ++ (x ∷ [])
   unfolding finding
   found-one x q =
-      let p : is_refused r (up_to n) i ≡ true = by (is_refused r (up_to n) i) (λ t. t) (λ t. absurd (true≢false (ap isRefusal (sym q ∙ e ∙ ap finding (refused_none r (up_to n) i t))))) in
+      let p : is_refused r (up_to n) i ≡ true = by (is_refused r (up_to n) i) (λ t. t) (λ t. absurd (true≢false (ap is_some (sym q ∙ e ∙ ap finding (refused_none r (up_to n) i t))))) in
       let y = refused-one r (up_to n) i p in
-      let z : x ≡ refusal y.0 = ap theRefusal (sym q ∙ e ∙ ap finding y.1) in
+      let z : x ≡ refusal y.0 = ap the_refusal (sym q ∙ e ∙ ap finding y.1) in
       let so = flat_map (refusalOf r (up_to n)) (up_to i) in
       ap (map refusal) (flat-more (refusalOf r (up_to n)) i ∙ ap (λ l. so ++ l) y.1) ∙ map_snoc so y.0 ∙ ap (λ v. map refusal so ++ (v ∷ [])) (sym z)
     where

@@ -1,4 +1,4 @@
--- The laws of a decision, over any items (document 01, 'Decide'): every item falls in exactly one of ranked, dominated, refused; ranked is empty only without
+-- The laws of a decision, over any items: every item falls in exactly one of ranked, dominated, refused; ranked is empty only without
 -- items; what a refusal names; the order of the items makes no difference.
 use mathlib.Core.Path.{◌≡◌, refl, sym, ap, ap₂, ◌∙◌, subst}
 use mathlib.Core.Bool.{Bool, true, false, not, ◌&&◌, ◌||◌}

@@ -1,4 +1,4 @@
--- Document 01, 'Positions to check', 3: S in M in L, equal inputs, only S and L disagreeing: M ranked, S dominated, L refused.
+-- S in M in L, equal inputs, only S and L disagreeing: M ranked, S dominated, L refused.
 use mathlib.Core.Path.{refl}
 use mathlib.Core.List.{flat_map}
 use lib.Count.{count_leading_zeros}

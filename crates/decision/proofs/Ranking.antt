@@ -19,7 +19,7 @@ use Rattle.ranges.proofs.Lists.{filter-in, filter-of, filter_same, sort-perm, up
 use Rattle.ranges.proofs.Sorting.{Strict, strict-sub, sort-first}
 use Rattle.ranges.proofs.Searches.{filter_range, filter-up, holds-none, holds_more}
 use Rattle.items.specs.Layout.{maxItems}
-use Rattle.rule.specs.declared.Choice.TheVariants.{Nobody, Item}
+use Rattle.std.specs.Prelude.{None, Some}
 use Rattle.rule.specs.Choosing.{choose}
 use Rattle.rule.proofs.Choosing.{chose_none, chose-among, chose-first}
 
@@ -59,7 +59,7 @@ module _ (before : ℕ → ℕ → Bool) (n : ℕ) (test : ℕ → Bool) where
         )
         (Permᴰ.symm (filt-one (marked left) b 0 n (omega arith) (omega arith) e))
 
-    first : (b : ℕ) → choose before Nobody (filter (marked left) (up_to n)) ≡ Item b
+    first : (b : ℕ) → choose before None (filter (marked left) (up_to n)) ≡ Some b
         → sort before (filter (marked left) (up_to n)) ≡ b ∷ sort before (filter (marked (set left b false)) (up_to n))
     first b e =
         let l = filter (marked left) (up_to n) in
@@ -74,7 +74,7 @@ module _ (before : ℕ → ℕ → Bool) (n : ℕ) (test : ℕ → Bool) where
         let z = filter-of (marked left) (up_to n) y u.0 (and_left (marked left y) (not (eqb y b)) v) in
         or (chose-first before l b s e y z) (λ p. absurd (q p)) (λ p. p))
 
-    pub ranking-more : (b : ℕ) → k < n → choose before Nobody (filter (marked left) (up_to n)) ≡ Item b → Ranking before n test (set list k b) (k + 1) (set left b false)
+    pub ranking-more : (b : ℕ) → k < n → choose before None (filter (marked left) (up_to n)) ≡ Some b → Ranking before n test (set list k b) (k + 1) (set left b false)
     ranking-more b h e = record {
       few = omega arith;
       wide = length-set left b false ∙ w.wide;
@@ -87,7 +87,7 @@ module _ (before : ℕ → ℕ → Bool) (n : ℕ) (test : ℕ → Bool) where
     done : sort before (filter (marked left) (up_to n)) ≡ [] → Holds maxItems 0 list k (sort before (filter test (up_to n)))
     done e = subst (λ (l : List ℕ). Holds maxItems 0 list k l) (sym (w.rest ∙ ap (λ (l : List ℕ). w.so_far ++ l) e ∙ append-nil w.so_far)) w.holds
 
-    pub ranking-end : choose before Nobody (filter (marked left) (up_to n)) ≡ Nobody → Holds maxItems 0 list k (sort before (filter test (up_to n)))
+    pub ranking-end : choose before None (filter (marked left) (up_to n)) ≡ None → Holds maxItems 0 list k (sort before (filter test (up_to n)))
     unfolding sort
     ranking-end e = done (ap (sort before) (chose_none before (filter (marked left) (up_to n)) e))
 

@@ -1,4 +1,4 @@
--- What is decided is what was decided before document 02, A.7, but for the numbers of what is unmeasurable.
+-- What is decided is what the Rust decides, but for the numbers of what is unmeasurable.
 use mathlib.Core.Path.{◌≡◌, refl, sym, ap, ◌∙◌}
 use mathlib.Core.Bool.{Bool, not, ◌&&◌}
 use mathlib.Core.List.{List, [], ◌∷◌, map}

@@ -1,4 +1,4 @@
--- The whole answer of `decide` (document 01, 'Decide' and 'Answers and refusals'): 8 for over 96 items, a malformed item, or two with one identity;
+-- The whole answer of `decide` (docs/REFERENCE.md, 'Operations'): 8 for over 96 items, a malformed item, or two with one identity;
 -- else 0 with what is decided, in arrays with counts whose unused places are fixed.
 use Rattle.std.specs.Prelude.{Bool, false, not, cond, ◌||◌, List, [], ◌++◌, map, ℕ, ◌-◌, ◌*◌, ◌/◌, ◌%◌, ltb, eqb, length, replicate}
 use Rattle.ranges.specs.Lists.{any_of, up_to}

@@ -1,4 +1,4 @@
--- The decision as the Rust has it, and as it was before document 02, A.7: by agreement as it was before, whose chi-square is a number, infinite where nothing was
+-- The decision as the Rust has it, by agreement as the Rust has it, whose chi-square is a number, infinite where nothing was
 -- measured. What is claimed is that nothing else of a decision changed; the theorem is `decided-as-before` in proofs/Remeasured.
 use Rattle.std.specs.Prelude.{◌≡◌, Bool, false, not, ◌&&◌, List, map, ℕ, ◌/◌, Float, length}
 use Rattle.std.specs.Float.{inf}

@@ -1,5 +1,5 @@
--- What is claimed of every decision (document 01, 'Decide' and 'Positions to check'). A reader who believes this file, and the definitions it names, needs none
--- of the proofs; proofs/Decided and proofs/Positions have a theorem of each of these types.
+-- What is claimed of every decision. A reader who believes this file, and the definitions it names, needs none of the proofs; src/claims.rt has a function whose
+-- contract each of these is.
 use Rattle.std.specs.Prelude.{◌≡◌, true, false, ℕ, ◌*◌, ◌/◌, ◌<◌, length, take, drop}
 use mathlib.Core.List.{List, [], ◌∷◌, ◌++◌, map, Memᴰ, Permᴰ}
 use Rattle.ranges.specs.Lists.{Ascending, up_to}
@@ -18,7 +18,7 @@ use Rattle.arithmetic.specs.declared.standing.ChiSquare.{ChiSquare}
 abbrev pub listedIn : {A C : Type 0} → Outcome A C → List A
 listedIn o = o.ranked ++ (o.dominated ++ map (λ x. x.item) o.refused)
 
--- "Every index falls in exactly one of ranked, dominated, refused": together they are the items in another order. So it is of any items.
+-- Every item falls in exactly one of ranked, dominated, refused: together they are the items in another order. So it is of any items.
 abbrev pub EachOnce : Type 1
 EachOnce = (A C : Type 0) (r : Relations A C) (all : List A) → Permᴰ (listedIn (decide r all)) all
 
@@ -26,7 +26,7 @@ EachOnce = (A C : Type 0) (r : Relations A C) (all : List A) → Permᴰ (listed
 abbrev pub itemCount : List ℕ → ℕ
 itemCount s = length s / itemSize
 
--- "A refusal that isn't superseding names a consistent, disagreeing, unsuperseded subset", with the chi-square of the two.
+-- A refusal that is not superseding names a consistent, disagreeing, unsuperseded subset, with the chi-square of the two.
 pub record Contest (s : List ℕ) (item against : ℕ) : Type 0 where
   pub an_item : against < itemCount s
   pub consistent : itemConsistent s against ≡ true
@@ -86,9 +86,9 @@ pub record SameDecision (s t : List ℕ) (to : ℕ → ℕ) : Type 0 where
 abbrev pub OrderFree : Type 0
 OrderFree = (s t : List ℕ) (to : ℕ → ℕ) → bad s ≡ false → bad t ≡ false → Reordered s t to → SameDecision s t to
 
--- ---- Positions to check
+-- ---- three nested sets
 
--- "3 P: S in M in L, equal inputs, only S and L disagreeing: M ranked, S dominated, L refused."
+-- S in M in L, equal inputs, only S and L disagreeing: M is ranked, S dominated, L refused
 abbrev pub OnlyTheEndsDisagree : Type 0
 OnlyTheEndsDisagree =
     (agreesOf (agreementOf (claim_of S) (claim_of M)) ≡ true)

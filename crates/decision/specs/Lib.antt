@@ -1,5 +1,5 @@
 -- The decision: the whole answer (Answer) of what the crate `rule` says is decided, what is claimed of every decision (Claims, with the items of Positions), how it
--- stands to the decision before document 02, A.7 (Before), and what the code keeps while it decides (Working).
+-- stands to the decision that the Rust makes (Before), and what the code keeps while it decides (Working).
 pub mod Answer
 pub mod Positions
 pub mod Claims

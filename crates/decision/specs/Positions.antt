@@ -1,4 +1,4 @@
--- The items of document 01's third position to check.
+-- Three items, S within M within L, of which only the ends disagree.
 use Rattle.std.specs.Prelude.{List, [], ◌∷◌, ◌++◌, ℕ, replicate}
 use Rattle.octets.specs.Words.{word_bytes}
 use Rattle.record.specs.Worked.{recordWith}

@@ -1,5 +1,5 @@
 -- No claim rests on these definitions: they say what the lent tables hold once the items are settled, what is found of an item, and what is decided of at most one.
-use Rattle.std.specs.Prelude.{◌≡◌, false, List, [], ◌∷◌, ℕ, replicate}
+use Rattle.std.specs.Prelude.{◌≡◌, false, List, [], ◌∷◌, ℕ, replicate, Option, None, Some}
 use Rattle.ranges.specs.Lists.{any_of, up_to}
 use Rattle.items.specs.Layout.{maxItems}
 use Rattle.items.specs.Pairs.{Whole, Coded}
@@ -7,8 +7,7 @@ use Rattle.rule.specs.declared.Marks.{Marks}
 use Rattle.rule.specs.Outcome as O
 use Rattle.rule.specs.Rule.{Marked}
 use Rattle.decision.specs.declared.Decision.{Decision}
-use Rattle.decision.specs.declared.Finding.{Finding}
-use Rattle.decision.specs.declared.Finding.TheVariants.{Unrefused, Refused}
+use Rattle.decision.specs.declared.Refusal.{Refusal}
 use Rattle.decision.specs.Answer.{badAt, indices, refusal, refusals}
 use Rattle.arithmetic.specs.declared.standing.ChiSquare.{ChiSquare}
 
@@ -24,9 +23,9 @@ pub record Settled (s : List ℕ) (n : ℕ) (codes : List ℕ) (m : Marks) : Typ
   pub marked : Marked s n m
 
 -- a refusal, if there is one
-unfoldable pub finding : List (O.Refused ℕ ChiSquare) → Finding
-finding [] = Unrefused
-finding (x ∷ l) = Refused (refusal x)
+unfoldable pub finding : List (O.Refused ℕ ChiSquare) → Option Refusal
+finding [] = None
+finding (x ∷ l) = Some (refusal x)
 
 -- the first n of at most one item ranked, and no other listed
 unfoldable pub plainly : ℕ → ℕ → Decision

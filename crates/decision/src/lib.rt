@@ -6,28 +6,24 @@
 
 ghost use Rattle.std.specs.Prelude.{◌≡◌, false, ◌+◌, ◌*◌, ◌≤◌, ◌<◌, length};
 ghost use Rattle.ranges.specs.Lists.{any_of, up_to};
-ghost use Rattle.arithmetic.specs.Stages.{preparedSize};
 ghost use Rattle.items.specs.Layout.{itemSize, maxItems};
 ghost use Rattle.items.specs.Items.{sameIdentity};
 ghost use Rattle.items.specs.Pairs.{stride};
 ghost use Rattle.decision.specs.Answer.{badAt, bad, outcome, decision, decided};
 ghost use Rattle.decision.specs.Working.{few, plainly};
 
-use arithmetic::standing::ChiSquare;
+use arithmetic::standing::{ChiSquare, Prepared, UNPREPARED};
 use items::layout::{ITEM_SIZE, MAX_ITEMS};
 
+pub mod claims;
 mod parts;
 pub mod settled;
 
 // Up to this many items have small tables, which cost little to clear.
 pub const FEW: usize = 10;
 
-// The sizes of the tables of prepared numbers and of codes.
-pub const FEW_NUMBERS: usize = FEW * arithmetic::PREPARED;
-
+// The sizes of the tables of codes.
 pub const FEW_CODES: usize = FEW * MAX_ITEMS;
-
-pub const MANY_NUMBERS: usize = MAX_ITEMS * arithmetic::PREPARED;
 
 pub const MANY_CODES: usize = MAX_ITEMS * MAX_ITEMS;
 
@@ -41,12 +37,14 @@ pub struct Refusal {
     pub superseded: bool,
 }
 
+// Refusals, ascending by the refused item, and how many they are.
 #[derive(Clone, Copy)]
 pub struct Refusals {
     pub list: [Refusal; MAX_ITEMS],
     pub count: u8,
 }
 
+// Indices of items, and how many they are.
 #[derive(Clone, Copy)]
 pub struct Indices {
     pub list: [u8; MAX_ITEMS],
@@ -67,48 +65,35 @@ pub struct Decision {
     pub refusals: Refusals,
 }
 
-// Whether an item is refused, and how.
-#[derive(Clone, Copy)]
-pub enum Finding {
-    Unrefused,
-    Refused(Refusal),
-}
-
 // Whether item i has the identity of one before it.
 fn repeated(s: &[u8], i: u8) -> bool
     requires { i * itemSize + itemSize ≤ length s.now }
     ensures { result ≡ any_of (sameIdentity s.now i) (up_to i) }
 {
-    let mut j: u8 = 0;
-    while j < i {
+    for j in 0..i {
         if items::same_identity(s, i, j) {
             return true;
         }
-        j += 1;
     }
     false
 }
 
+#[tactic(auto, unfolding(crate::specs::Answer::badAt))]
 fn bad_at(s: &[u8], i: u8) -> bool
     requires { i * itemSize + itemSize ≤ length s.now }
     ensures { result ≡ badAt s.now i }
 {
-    if !items::well_formed(s, i) {
-        return true;
-    }
-    repeated(s, i)
+    items::parsed_record(s, i).is_none() || repeated(s, i)
 }
 
 fn any_bad(s: &[u8], n: u8) -> bool
     requires { n * itemSize ≤ length s.now }
     ensures { result ≡ any_of (badAt s.now) (up_to n) }
 {
-    let mut i: u8 = 0;
-    while i < n {
+    for i in 0..n {
         if bad_at(s, i) {
             return true;
         }
-        i += 1;
     }
     false
 }
@@ -156,8 +141,8 @@ fn plain(answer: u8, n: u8) -> Decision
 }
 
 // Decides in the lent tables.
-fn decide_in(s: &[u8], n: u8, table: &mut [f64], codes: &mut [u8]) -> Decision
-    requires { (bad s.now ≡ false) × (length s.now ≡ n * itemSize) × (n * preparedSize ≤ length table.old) × (n * stride ≤ length codes.old) }
+fn decide_in(s: &[u8], n: u8, table: &mut [Prepared], codes: &mut [u8]) -> Decision
+    requires { (bad s.now ≡ false) × (length s.now ≡ n * itemSize) × (n ≤ length table.old) × (n * stride ≤ length codes.old) }
     ensures { result ≡ decision (outcome s.now) }
 {
     let m = settled::settle(s, n, table, codes);
@@ -176,7 +161,7 @@ fn decide_few(s: &[u8], n: u8) -> Decision
     requires { (bad s.now ≡ false) × (length s.now ≡ n * itemSize) × (n ≤ few) }
     ensures { result ≡ decision (outcome s.now) }
 {
-    let mut table = [0.0; FEW_NUMBERS];
+    let mut table = [UNPREPARED; FEW];
     let mut codes = [0u8; FEW_CODES];
     decide_in(s, n, &mut table, &mut codes)
 }
@@ -185,11 +170,12 @@ fn decide_many(s: &[u8], n: u8) -> Decision
     requires { (bad s.now ≡ false) × (length s.now ≡ n * itemSize) × (n ≤ maxItems) }
     ensures { result ≡ decision (outcome s.now) }
 {
-    let mut table = [0.0; MANY_NUMBERS];
+    let mut table = [UNPREPARED; MAX_ITEMS];
     let mut codes = [0u8; MANY_CODES];
     decide_in(s, n, &mut table, &mut codes)
 }
 
+// What is decided of items in bytes, of `items::layout::ITEM_SIZE` each: any bytes may be lent.
 pub fn decide(s: &[u8]) -> Decision
     ensures { result ≡ decided s.now }
 {

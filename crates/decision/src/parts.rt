@@ -5,7 +5,7 @@ ghost use Rattle.ranges.specs.Range.{Holds};
 ghost use Rattle.ranges.specs.Tables.{Cached};
 ghost use Rattle.items.specs.Layout.{itemSize, maxItems};
 ghost use Rattle.items.specs.Items.{aheadAt};
-ghost use Rattle.items.specs.Pairs.{Prepared};
+ghost use Rattle.items.specs.Pairs.{AllPrepared};
 ghost use Rattle.rule.specs.Standing as S;
 ghost use Rattle.rule.specs.Related.{itemRelations};
 ghost use Rattle.rule.specs.Rule.{Ready};
@@ -13,21 +13,25 @@ ghost use Rattle.rule.specs.Rule.{stands as isStanding};
 ghost use Rattle.decision.specs.Answer.{badAt};
 ghost use Rattle.decision.specs.Working.{finding};
 
-use crate::{Finding, Indices, Refusal};
+use crate::{Indices, Refusal};
+use arithmetic::standing::Prepared;
 use items::layout::MAX_ITEMS;
-use rule::Choice;
 
 // The refusal of item i that another takes the place of.
-fn replaced(s: &[u8], codes: &[u8], table: &[f64], n: u8, sup: &[bool; MAX_ITEMS], i: u8) -> Finding
-    requires { (i < n) × (n ≤ maxItems) × Ready s.now codes.now n × Cached false sup.now (S.supersedes (itemRelations s.now) (up_to n)) n × Prepared s.now table.now n }
+fn replaced(
+    s: &[u8],
+    codes: &[u8],
+    table: &[Prepared],
+    n: u8,
+    sup: &[bool; MAX_ITEMS],
+    i: u8,
+) -> Option<Refusal>
+    requires { (i < n) × (n ≤ maxItems) × Ready s.now codes.now n × Cached false sup.now (S.supersedes (itemRelations s.now) (up_to n)) n × AllPrepared s.now table.now n }
     ensures { result ≡ finding (S.replaced (itemRelations s.now) (up_to n) i (filter (S.replaces (itemRelations s.now) (up_to n) i) (up_to n))) }
 {
-    let by = rule::replacing(s, codes, n, sup, i);
-    let Choice::Item(k) = by else {
-        return Finding::Unrefused;
-    };
+    let k = rule::replacing(s, codes, n, sup, i)?;
     let chi2 = items::pairs::chi_square(s, n, table, k, i);
-    Finding::Refused(Refusal {
+    Some(Refusal {
         refused: i,
         kept: k,
         chi2,
@@ -36,16 +40,20 @@ fn replaced(s: &[u8], codes: &[u8], table: &[f64], n: u8, sup: &[bool; MAX_ITEMS
 }
 
 // The refusal of item i that another opposes.
-fn contested(s: &[u8], codes: &[u8], table: &[f64], n: u8, sd: &[bool; MAX_ITEMS], i: u8) -> Finding
-    requires { (i < n) × (n ≤ maxItems) × Ready s.now codes.now n × Cached false sd.now (S.isSuperseded (itemRelations s.now) (up_to n)) n × Prepared s.now table.now n }
+fn contested(
+    s: &[u8],
+    codes: &[u8],
+    table: &[Prepared],
+    n: u8,
+    sd: &[bool; MAX_ITEMS],
+    i: u8,
+) -> Option<Refusal>
+    requires { (i < n) × (n ≤ maxItems) × Ready s.now codes.now n × Cached false sd.now (S.isSuperseded (itemRelations s.now) (up_to n)) n × AllPrepared s.now table.now n }
     ensures { result ≡ finding (S.opposed (itemRelations s.now) (up_to n) i (filter (S.opposes (itemRelations s.now) (up_to n) i) (up_to n))) }
 {
-    let by = rule::opposing(s, codes, n, sd, i);
-    let Choice::Item(k) = by else {
-        return Finding::Unrefused;
-    };
+    let k = rule::opposing(s, codes, n, sd, i)?;
     let chi2 = items::pairs::chi_square(s, n, table, i, k);
-    Finding::Refused(Refusal {
+    Some(Refusal {
         refused: i,
         kept: k,
         chi2,
@@ -57,18 +65,18 @@ fn contested(s: &[u8], codes: &[u8], table: &[f64], n: u8, sd: &[bool; MAX_ITEMS
 pub fn refusal_of(
     s: &[u8],
     codes: &[u8],
-    table: &[f64],
+    table: &[Prepared],
     n: u8,
     sup: &[bool; MAX_ITEMS],
     sd: &[bool; MAX_ITEMS],
     rf: &[bool; MAX_ITEMS],
     i: u8,
-) -> Finding
-    requires { (i < n) × (n ≤ maxItems) × Ready s.now codes.now n × Cached false sup.now (S.supersedes (itemRelations s.now) (up_to n)) n × Cached false sd.now (S.isSuperseded (itemRelations s.now) (up_to n)) n × Prepared s.now table.now n × Cached false rf.now (S.is_refused (itemRelations s.now) (up_to n)) n }
+) -> Option<Refusal>
+    requires { (i < n) × (n ≤ maxItems) × Ready s.now codes.now n × Cached false sup.now (S.supersedes (itemRelations s.now) (up_to n)) n × Cached false sd.now (S.isSuperseded (itemRelations s.now) (up_to n)) n × AllPrepared s.now table.now n × Cached false rf.now (S.is_refused (itemRelations s.now) (up_to n)) n }
     ensures { result ≡ finding (S.refusalOf (itemRelations s.now) (up_to n) i) }
 {
     if !rf[i as usize] {
-        return Finding::Unrefused;
+        return None;
     }
     if sd[i as usize] {
         return replaced(s, codes, table, n, sup, i);
@@ -76,6 +84,7 @@ pub fn refusal_of(
     contested(s, codes, table, n, sd, i)
 }
 
+// The items that stand, in rank.
 pub fn rank_all(s: &[u8], n: u8, stands: [bool; MAX_ITEMS]) -> Indices
     requires { (n ≤ maxItems) × (n * itemSize ≤ length s.now) × (any_of (badAt s.now) (up_to n) ≡ false) × Cached false stands (isStanding (itemRelations s.now) (up_to n)) n }
     ensures { Holds maxItems 0 result.list result.count (sort (aheadAt s.now) (filter (isStanding (itemRelations s.now) (up_to n)) (up_to n))) }
@@ -85,7 +94,7 @@ pub fn rank_all(s: &[u8], n: u8, stands: [bool; MAX_ITEMS]) -> Indices
     let mut count: u8 = 0;
     while count < n {
         let first = rule::first_left(s, n, &left);
-        let Choice::Item(b) = first else {
+        let Some(b) = first else {
             return Indices { list, count };
         };
         list[count as usize] = b;

@@ -2,23 +2,22 @@
 // the decision from it. So nobody pays for a part that he does not ask for, or for room that his items do not need.
 ghost use Rattle.std.specs.Prelude.{◌≡◌, false, map, ◌*◌, ◌≤◌, ◌<◌, length};
 ghost use Rattle.ranges.specs.Lists.{up_to};
-ghost use Rattle.arithmetic.specs.Stages.{preparedSize};
 ghost use Rattle.items.specs.Layout.{itemSize};
-ghost use Rattle.items.specs.Pairs.{stride, Prepared};
+ghost use Rattle.items.specs.Pairs.{stride, AllPrepared};
 ghost use Rattle.rule.specs.Standing as S;
 ghost use Rattle.rule.specs.Related.{itemRelations};
 ghost use Rattle.decision.specs.Answer as D;
 ghost use Rattle.decision.specs.Working.{Settled, finding};
 
-use crate::{Finding, Indices, Refusal, Refusals, parts};
-use arithmetic::standing::ChiSquare;
+use crate::{Indices, Refusal, Refusals, parts};
+use arithmetic::standing::{ChiSquare, Prepared};
 use items::layout::MAX_ITEMS;
 use rule::Marks;
 
 // Prepares n items, compares them, and marks them.
-pub fn settle(s: &[u8], n: u8, table: &mut [f64], codes: &mut [u8]) -> Marks
-    requires { (D.bad s.now ≡ false) × (length s.now ≡ n * itemSize) × (n * preparedSize ≤ length table.old) × (n * stride ≤ length codes.old) }
-    ensures { Prepared s.now table.new n × Settled s.now n codes.new result }
+pub fn settle(s: &[u8], n: u8, table: &mut [Prepared], codes: &mut [u8]) -> Marks
+    requires { (D.bad s.now ≡ false) × (length s.now ≡ n * itemSize) × (n ≤ length table.old) × (n * stride ≤ length codes.old) }
+    ensures { AllPrepared s.now table.new n × Settled s.now n codes.new result }
 {
     items::pairs::prepare_all(s, n, table);
     items::pairs::code_all(s, n, table, codes);
@@ -42,22 +41,26 @@ pub fn dominated(s: &[u8], n: u8, codes: &[u8], m: Marks) -> Indices
     let rf = m.refused;
     let mut list = [0u8; MAX_ITEMS];
     let mut count: u8 = 0;
-    let mut i: u8 = 0;
-    while i < n {
+    for i in 0..n {
         if !rule::dominated_at(s, codes, n, &rf, i) {
-            i += 1;
             continue;
         }
         list[count as usize] = i;
         count += 1;
-        i += 1;
     }
     Indices { list, count }
 }
 
 // The refusal of item i, if it is refused.
-pub fn refusal(s: &[u8], n: u8, table: &[f64], codes: &[u8], m: Marks, i: u8) -> Finding
-    requires { (i < n) × Prepared s.now table.now n × Settled s.now n codes.now m }
+pub fn refusal(
+    s: &[u8],
+    n: u8,
+    table: &[Prepared],
+    codes: &[u8],
+    m: Marks,
+    i: u8,
+) -> Option<Refusal>
+    requires { (i < n) × AllPrepared s.now table.now n × Settled s.now n codes.now m }
     ensures { result ≡ finding (S.refusalOf (itemRelations s.now) (up_to n) i) }
 {
     let sup = m.superseding;
@@ -67,8 +70,8 @@ pub fn refusal(s: &[u8], n: u8, table: &[f64], codes: &[u8], m: Marks, i: u8) ->
 }
 
 // The refusals.
-pub fn refusals(s: &[u8], n: u8, table: &[f64], codes: &[u8], m: Marks) -> Refusals
-    requires { Prepared s.now table.now n × Settled s.now n codes.now m }
+pub fn refusals(s: &[u8], n: u8, table: &[Prepared], codes: &[u8], m: Marks) -> Refusals
+    requires { AllPrepared s.now table.now n × Settled s.now n codes.now m }
     ensures { result ≡ D.refusals (map D.refusal (D.outcome s.now).refused) }
 {
     let sup = m.superseding;
@@ -82,16 +85,13 @@ pub fn refusals(s: &[u8], n: u8, table: &[f64], codes: &[u8], m: Marks) -> Refus
     };
     let mut list = [none; MAX_ITEMS];
     let mut count: u8 = 0;
-    let mut i: u8 = 0;
-    while i < n {
+    for i in 0..n {
         let found = parts::refusal_of(s, codes, table, n, &sup, &sd, &rf, i);
-        let Finding::Refused(x) = found else {
-            i += 1;
+        let Some(x) = found else {
             continue;
         };
         list[count as usize] = x;
         count += 1;
-        i += 1;
     }
     Refusals { list, count }
 }

@@ -6,13 +6,11 @@ use Prim.Native.Nat.{ℕ, ◌+◌, ◌-◌, ◌*◌, ◌≤◌, ◌<◌}
 use native.Mathlib.Omega.{arith}
 use borrow.Author.Count.{below_more}
 use lib.Dec.{eqb}
-use lib.Ieee.{Float}
 use lib.ListN.{length, get_or, take, drop, set, length-set, length-drop}
 use lib.Seq.{length-take-le, get_or-set_same, get_or-set_other}
 use Rattle.arithmetic.specs.Agree.{agreesOf}
-use Rattle.arithmetic.specs.Stages.{preparedSize, preparedOf, entry_of, entered}
-use Rattle.arithmetic.specs.declared.standing.Claimed.{Claimed}
-use Rattle.arithmetic.proofs.Staged.{entry_here, entry_other, length-entered, length-prepared}
+use Rattle.arithmetic.specs.Stages.{parts_of}
+use Rattle.arithmetic.specs.declared.standing.Prepared.{Prepared}
 use Rattle.items.specs.Layout.{maxItems}
 use Rattle.items.specs.Items.{itemRecord, itemConsistent, subsetAt, agreementAt, disagreesAt}
 use Rattle.items.specs.Claimed.{claim_of}
@@ -31,24 +29,13 @@ pub taken : (w a : ℕ) (t : List ℕ) → a + w ≤ length t → length (take w
 taken w a t h = length-take-le w (drop a t) (rw length-drop (omega arith))
 
 -- a prepared claim more
-pub prepared-more : (s : List ℕ) (t : List Float) (i n : ℕ) (claim : Claimed) → claim ≡ claim_of (itemRecord s i) → i < n → n * preparedSize ≤ length t
-    → ((k : ℕ) → k < i → entry_of t k ≡ preparedOf (claim_of (itemRecord s k)))
-    → (k : ℕ) → k < i + 1 → entry_of (entered t i (preparedOf claim)) k ≡ preparedOf (claim_of (itemRecord s k))
-prepared-more s t i n claim e h l g =
-    let room : i * preparedSize + preparedSize ≤ length t = omega arith in
-    below_more (λ k. entry_of (entered t i (preparedOf claim)) k ≡ preparedOf (claim_of (itemRecord s k))) i
-    (λ k z. entry_other t i (preparedOf claim) (length-prepared claim) room k (λ q. omega arith) ∙ g k z)
-    (entry_here t i (preparedOf claim) (length-prepared claim) room ∙ ap preparedOf e)
-
-pub prepared-turn : (s : List ℕ) (t₀ t u : List Float) (i n : ℕ) (claim : Claimed)
-    → n * preparedSize ≤ length t₀ → i < n → claim ≡ claim_of (itemRecord s i) → length t ≡ length t₀
-    → ((k : ℕ) → k < i → entry_of t k ≡ preparedOf (claim_of (itemRecord s k)))
-    → u ≡ entered t i (preparedOf claim)
-    → (length u ≡ length t₀) × ((k : ℕ) → k < i + 1 → entry_of u k ≡ preparedOf (claim_of (itemRecord s k)))
-prepared-turn s t₀ t u i n claim room h c l g e = (
-  ap length e ∙ length-entered t i (preparedOf claim) (length-prepared claim) (omega arith) ∙ l,
-  λ k z. ap (λ (w : List Float). entry_of w k) e ∙ prepared-more s t i n claim c h (omega arith) g k z,
-)
+pub prepared-more : (s : List ℕ) (t : List Prepared) (i : ℕ) (x : Prepared) → x ≡ parts_of (claim_of (itemRecord s i)) → i < length t
+    → ((k : ℕ) → k < i → (p : Prepared) → get_or t k p ≡ parts_of (claim_of (itemRecord s k)))
+    → (k : ℕ) → k < i + 1 → (p : Prepared) → get_or (set t i x) k p ≡ parts_of (claim_of (itemRecord s k))
+prepared-more s t i x e h g =
+    below_more (λ k. (p : Prepared) → get_or (set t i x) k p ≡ parts_of (claim_of (itemRecord s k))) i
+    (λ k z p. get_or-set_other t i k x p (λ q. omega arith) ∙ g k z p)
+    (λ p. get_or-set_same t i x p h ∙ e)
 
 -- ---- the codes
 

@@ -1,4 +1,4 @@
--- What a record claims (document 01, 'The record' and 'Agreement'), and the order by a number that `rank` goes by.
+-- What a record claims (docs/REFERENCE.md, 'Agreement and decision'), and the order by a number that `rank` goes by.
 use Rattle.std.specs.Prelude.{Bool, true, false, cond, List, ℕ, ltb, Float}
 use Rattle.std.specs.Float.{binary64}
 use Rattle.std.specs.Float.Ieee.{of_bits}
@@ -18,7 +18,6 @@ claim_of r =
     record {
       lat = F.latitude r;
       lon = F.longitude r;
-      has_height = F.hasHeight r;
       height = F.height r;
       covariance = covarianceOf r;
     }

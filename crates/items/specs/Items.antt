@@ -1,4 +1,4 @@
--- What the bytes of the items say (document 01, 'Decide' and 'Agreement'): an item's fields, and the relations between items that a decision goes by.
+-- What the bytes of the items say (docs/REFERENCE.md, 'Item of a decision' and 'Agreement and decision'): an item's fields, and the relations between items that a decision goes by.
 use Rattle.std.specs.Prelude.{Bool, true, false, not, cond, ◌&&◌, List, ℕ, ◌+◌, ◌*◌, ltb, eqb, get_or, take, drop}
 use Rattle.octets.specs.Order.{isBefore, same}
 use Rattle.octets.specs.Words.{word_at}

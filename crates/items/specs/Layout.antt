@@ -1,4 +1,4 @@
--- The layout of an item of a decision (document 01, 'Decide'): a record, model inputs, an identity, standing, and three flags, each field from the one
+-- The layout of an item of a decision (docs/REFERENCE.md, 'Item of a decision'): a record, model inputs, an identity, standing, and three flags, each field from the one
 -- before it. Other crates cite these names and no number of their own.
 use Rattle.std.specs.Prelude.{ℕ, ◌+◌}
 use Rattle.record.specs.Layout.{recordSize}

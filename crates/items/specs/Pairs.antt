@@ -1,9 +1,10 @@
 -- No claim rests on these definitions: they say what the tables hold that a decision is worked out from. Each item's claim is prepared once, and each
 -- ordered pair of items has a code.
-use Rattle.std.specs.Prelude.{◌≡◌, true, cond, List, ℕ, ◌+◌, ◌*◌, ◌≤◌, ◌<◌, Float, length, get_or}
+use Rattle.std.specs.Prelude.{◌≡◌, true, cond, List, ℕ, ◌+◌, ◌*◌, ◌≤◌, ◌<◌, length, get_or}
 use Rattle.record.specs.Formed.{wellFormed}
 use Rattle.arithmetic.specs.Agree.{agreesOf}
-use Rattle.arithmetic.specs.Stages.{preparedSize, preparedOf, entry_of}
+use Rattle.arithmetic.specs.Stages.{parts_of}
+use Rattle.arithmetic.specs.declared.standing.Prepared.{Prepared}
 use Rattle.items.specs.Layout.{maxItems, itemSize}
 use Rattle.items.specs.Items.{itemRecord, itemConsistent, subsetAt, agreementAt}
 use Rattle.items.specs.Claimed.{claim_of}
@@ -23,9 +24,9 @@ pub record Whole (s : List ℕ) (n : ℕ) : Type 0 where
   pub formed : (i : ℕ) → i < n → wellFormed (itemRecord s i) ≡ true
 
 -- the first n entries are the prepared claims of the items
-pub record Prepared (s : List ℕ) (t : List Float) (n : ℕ) : Type 0 where
-  pub room : n * preparedSize ≤ length t
-  pub entries : (i : ℕ) → i < n → entry_of t i ≡ preparedOf (claim_of (itemRecord s i))
+pub record AllPrepared (s : List ℕ) (t : List Prepared) (n : ℕ) : Type 0 where
+  pub room : n ≤ length t
+  pub entries : (i : ℕ) → i < n → (p : Prepared) → get_or t i p ≡ parts_of (claim_of (itemRecord s i))
 
 -- the codes of the pairs of n items
 pub record Coded (s : List ℕ) (m : List ℕ) (n : ℕ) : Type 0 where

@@ -2,14 +2,17 @@
 // that a decision is worked out from.
 #![tactic(auto)]
 
-ghost use Rattle.std.specs.Prelude.{◌≡◌, true, ◌+◌, ◌*◌, ◌≤◌, ◌<◌, length};
+ghost use Rattle.std.specs.Prelude.{◌≡◌, ◌+◌, ◌*◌, ◌≤◌, ◌<◌, length, is_some};
 ghost use Rattle.octets.specs.Order.{same};
 ghost use Rattle.record.specs.Layout.{recordSize};
 ghost use Rattle.record.specs.Formed.{wellFormed};
 ghost use Rattle.items.specs.Layout.{itemSize, hashSize};
 ghost use Rattle.items.specs.Items as I;
+ghost use Rattle.items.specs.Pairs.{Whole};
 
-pub mod claims;
+use record::Record;
+
+pub mod claimed;
 pub mod layout;
 pub mod pairs;
 
@@ -44,6 +47,7 @@ pub fn verified_case(b: u8) -> Verified
     Verified::Unjudged
 }
 
+// Whether an item was verified and passed.
 pub fn is_passed(v: Verified) -> bool
     ensures { result ≡ I.isPassed v }
 {
@@ -54,14 +58,30 @@ pub fn is_passed(v: Verified) -> bool
     }
 }
 
-// The record of item i.
-pub fn record_of(s: &[u8], i: u8) -> &[u8]
+// The bytes of item i's record, which are a record where the items are whole.
+pub fn record_bytes(s: &[u8], i: u8) -> &[u8]
     requires { i * itemSize + itemSize ≤ length s.now }
     ensures { (result.now ≡ I.itemRecord s.now i) × (length result.now ≡ recordSize) }
 {
     let a = i as usize * layout::ITEM_SIZE;
     let e = a + layout::INPUTS_AT;
     &s[a..e]
+}
+
+// The record of item i, if its bytes are one.
+pub fn parsed_record(s: &[u8], i: u8) -> Option<Record>
+    requires { i * itemSize + itemSize ≤ length s.now }
+    ensures { is_some result ≡ wellFormed (I.itemRecord s.now i) }
+{
+    Record::parse(record_bytes(s, i))
+}
+
+// The record of item i of n whole items.
+pub fn record_of(s: &[u8], n: u8, i: u8) -> Record
+    requires { (i < n) × Whole s.now n }
+    ensures { result.bytes.now ≡ I.itemRecord s.now i }
+{
+    Record::of(record_bytes(s, i))
 }
 
 // The 32 bytes of item i from `at` on: its model inputs or its identity.
@@ -91,6 +111,7 @@ fn verified_at(s: &[u8], i: u8) -> Verified
     verified_case(s[at])
 }
 
+// Whether item i is consistent.
 pub fn consistent(s: &[u8], i: u8) -> bool
     requires { i * itemSize + itemSize ≤ length s.now }
     ensures { result ≡ I.itemConsistent s.now i }
@@ -104,7 +125,8 @@ pub fn candidate_at(s: &[u8], i: u8) -> Candidate
     ensures { result ≡ I.candidateOf s.now i }
 {
     let standing = octets::words::u64_at(s, i as usize * layout::ITEM_SIZE + layout::STANDING_AT);
-    let weight = record::fields::weight(record_of(s, i));
+    let used = octets::words::u16_at(record_bytes(s, i), record::layout::USED_AT);
+    let weight = octets::masks::count_u16(used);
     let consistent = consistent(s, i);
     let preferred = flag(s, i, layout::PREFERRED_AT);
     let verified = verified_at(s, i);
@@ -151,6 +173,7 @@ fn same_hash(s: &[u8], i: u8, j: u8, at: usize) -> bool
     octets::order::equal(hash_of(s, i, at), hash_of(s, j, at))
 }
 
+// Whether two items have one identity.
 pub fn same_identity(s: &[u8], i: u8, j: u8) -> bool
     requires { (i * itemSize + itemSize ≤ length s.now) × (j * itemSize + itemSize ≤ length s.now) }
     ensures { result ≡ I.sameIdentity s.now i j }
@@ -158,6 +181,7 @@ pub fn same_identity(s: &[u8], i: u8, j: u8) -> bool
     same_hash(s, i, j, layout::IDENTITY_AT)
 }
 
+// Whether two items have the same model inputs.
 pub fn same_inputs(s: &[u8], i: u8, j: u8) -> bool
     requires { (i * itemSize + itemSize ≤ length s.now) × (j * itemSize + itemSize ≤ length s.now) }
     ensures { result ≡ I.sameInputs s.now i j }
@@ -165,22 +189,7 @@ pub fn same_inputs(s: &[u8], i: u8, j: u8) -> bool
     same_hash(s, i, j, layout::INPUTS_AT)
 }
 
-pub fn well_formed(s: &[u8], i: u8) -> bool
-    requires { i * itemSize + itemSize ≤ length s.now }
-    ensures { result ≡ wellFormed (I.itemRecord s.now i) }
-{
-    record::formed::well_formed(record_of(s, i))
-}
-
-// Whether item i's record is a subset of item j's.
-pub fn subset(s: &[u8], i: u8, j: u8) -> bool
-    requires item_size_in_bounds { (i * itemSize + itemSize ≤ length s.now) × (j * itemSize + itemSize ≤ length s.now) }
-    requires i_value { (wellFormed (I.itemRecord s.now i) ≡ true) × (wellFormed (I.itemRecord s.now j) ≡ true) }
-    ensures { result ≡ I.subsetAt s.now i j }
-{
-    record::relations::subset(record_of(s, i), record_of(s, j))
-}
-
+#[tactic(auto, unfolding(crate::specs::Items::aheadByWeight))]
 // More weight first, then the lower identity.
 fn ahead_by_weight(s: &[u8], i: u8, j: u8, a: Candidate, b: Candidate) -> bool
     requires item_size_in_bounds { (i * itemSize + itemSize ≤ length s.now) × (j * itemSize + itemSize ≤ length s.now) }
@@ -196,6 +205,7 @@ fn ahead_by_weight(s: &[u8], i: u8, j: u8, a: Candidate, b: Candidate) -> bool
     lower(s, i, j)
 }
 
+#[tactic(auto, unfolding(crate::specs::Items::aheadByStanding))]
 // More standing first, then as above.
 fn ahead_by_standing(s: &[u8], i: u8, j: u8, a: Candidate, b: Candidate) -> bool
     requires item_size_in_bounds { (i * itemSize + itemSize ≤ length s.now) × (j * itemSize + itemSize ≤ length s.now) }
@@ -211,6 +221,7 @@ fn ahead_by_standing(s: &[u8], i: u8, j: u8, a: Candidate, b: Candidate) -> bool
     ahead_by_weight(s, i, j, a, b)
 }
 
+#[tactic(auto, unfolding(crate::specs::Items::aheadAt))]
 // Whether item i ranks before item j: preferred first, then as above.
 pub fn ahead(s: &[u8], i: u8, j: u8) -> bool
     requires { (i * itemSize + itemSize ≤ length s.now) × (j * itemSize + itemSize ≤ length s.now) }

@@ -3,13 +3,11 @@
 // out again where it is asked for: at most once for each item that is refused.
 ghost use Rattle.std.specs.Prelude.{◌≡◌, ◌+◌, ◌*◌, ◌≤◌, ◌<◌, length};
 ghost use Rattle.arithmetic.specs.Agree.{chiSquareIn};
-ghost use Rattle.arithmetic.specs.Stages.{preparedSize};
-ghost use Rattle.items.specs.Layout.{itemSize};
 ghost use Rattle.items.specs.Items.{agreementAt};
-ghost use Rattle.items.specs.Pairs.{pairCode, stride, Whole, Prepared, Coded, CodedRow};
+ghost use Rattle.items.specs.Pairs.{pairCode, stride, Whole, AllPrepared, Coded, CodedRow};
 
 use crate::layout::MAX_ITEMS;
-use arithmetic::standing::{Agreement, ChiSquare};
+use arithmetic::standing::{Agreement, ChiSquare, Prepared};
 
 // The codes of a pair of items: the second is no subset of the first; a subset; a consistent one that disagrees.
 pub const APART: u8 = 0;
@@ -19,31 +17,31 @@ pub const SUBSET: u8 = 1;
 pub const DISAGREES: u8 = 2;
 
 // Prepares the claim of each of n items.
-pub fn prepare_all(s: &[u8], n: u8, table: &mut [f64])
-    requires { (n * itemSize ≤ length s.now) × (n * preparedSize ≤ length table.old) }
-    ensures { Prepared s.now table.new n }
+pub fn prepare_all(s: &[u8], n: u8, table: &mut [Prepared])
+    requires { (n ≤ length table.old) × Whole s.now n }
+    ensures { AllPrepared s.now table.new n }
 {
-    let mut i: u8 = 0;
-    while i < n {
-        arithmetic::prepare(crate::claims::claim_at(s, i), table, i as usize);
-        i += 1;
+    for i in 0..n {
+        let claim = crate::claimed::claimed(crate::record_of(s, n, i));
+        table[i as usize] = arithmetic::prepare(claim);
     }
 }
 
 // How item i compares with its subset j.
-fn compared(s: &[u8], n: u8, table: &[f64], i: u8, j: u8) -> Agreement
-    requires { (i < n) × (j < n) × Prepared s.now table.now n }
+fn compared(s: &[u8], n: u8, table: &[Prepared], i: u8, j: u8) -> Agreement
+    requires { (i < n) × (j < n) × AllPrepared s.now table.now n }
     ensures { result ≡ agreementAt s.now i j }
 {
-    arithmetic::compare(table, j as usize, i as usize)
+    arithmetic::compare(&table[j as usize], &table[i as usize])
 }
 
+#[tactic(auto, unfolding(crate::specs::Pairs::pairCode, crate::specs::Items::subsetAt))]
 // The code of a pair.
-fn code_pair(s: &[u8], n: u8, table: &[f64], i: u8, j: u8) -> u8
-    requires { (i < n) × (j < n) × Whole s.now n × Prepared s.now table.now n }
+fn code_pair(s: &[u8], n: u8, table: &[Prepared], i: u8, j: u8) -> u8
+    requires { (i < n) × (j < n) × Whole s.now n × AllPrepared s.now table.now n }
     ensures { result ≡ pairCode s.now i j }
 {
-    if !crate::subset(s, j, i) {
+    if !crate::record_of(s, n, j).is_subset_of(crate::record_of(s, n, i)) {
         return APART;
     }
     if !crate::consistent(s, j) {
@@ -56,34 +54,29 @@ fn code_pair(s: &[u8], n: u8, table: &[f64], i: u8, j: u8) -> u8
 }
 
 // The codes of item i with each other, beside those of the items before it.
-fn code_row(s: &[u8], n: u8, table: &[f64], i: u8, codes: &mut [u8])
-    requires { (i < n) × Whole s.now n × Prepared s.now table.now n × CodedRow s.now codes.old n i 0 }
+fn code_row(s: &[u8], n: u8, table: &[Prepared], i: u8, codes: &mut [u8])
+    requires { (i < n) × Whole s.now n × AllPrepared s.now table.now n × CodedRow s.now codes.old n i 0 }
     ensures { CodedRow s.now codes.new n (i + 1) 0 }
 {
     let from = i as usize * MAX_ITEMS;
-    let mut j: u8 = 0;
-    while j < n {
-        let at = from + j as usize;
-        codes[at] = code_pair(s, n, table, i, j);
-        j += 1;
+    for j in 0..n {
+        codes[from + j as usize] = code_pair(s, n, table, i, j);
     }
 }
 
 // The codes of each pair of n items.
-pub fn code_all(s: &[u8], n: u8, table: &[f64], codes: &mut [u8])
-    requires { (n * stride ≤ length codes.old) × Whole s.now n × Prepared s.now table.now n }
+pub fn code_all(s: &[u8], n: u8, table: &[Prepared], codes: &mut [u8])
+    requires { (n * stride ≤ length codes.old) × Whole s.now n × AllPrepared s.now table.now n }
     ensures { Coded s.now codes.new n }
 {
-    let mut i: u8 = 0;
-    while i < n {
+    for i in 0..n {
         code_row(s, n, table, i, codes);
-        i += 1;
     }
 }
 
 // The chi-square of item i against its subset j.
-pub fn chi_square(s: &[u8], n: u8, table: &[f64], i: u8, j: u8) -> ChiSquare
-    requires { (i < n) × (j < n) × Prepared s.now table.now n }
+pub fn chi_square(s: &[u8], n: u8, table: &[Prepared], i: u8, j: u8) -> ChiSquare
+    requires { (i < n) × (j < n) × AllPrepared s.now table.now n }
     ensures { result ≡ chiSquareIn (agreementAt s.now i j) }
 {
     arithmetic::chi_square(compared(s, n, table, i, j))

@@ -1,4 +1,4 @@
--- What is decided of items (document 01, 'Decide').
+-- What is decided of items: each is ranked, dominated or refused.
 use Rattle.std.specs.Prelude.{Bool, List}
 
 -- a refused item, the one that it is refused against, what was measured between them, and whether that one took its place

@@ -1,4 +1,4 @@
--- What is decided of a list of items (document 01, 'Decide', as `standing::decide` and `rank`). Of the items only how two of them relate is known, and of what is
+-- What is decided of a list of items (as `standing::decide` and `rank` of sky-commons/tally). Of the items only how two of them relate is known, and of what is
 -- measured between two only which refusal carries it, so that nothing here sees a byte, a float or an index.
 use Rattle.std.specs.Prelude.{Bool, true, false, not, cond, ◌&&◌, ◌||◌}
 use mathlib.Core.List.{List, [], ◌∷◌, flat_map}

@@ -2,7 +2,7 @@
 // of the rest by rank. Each test is a function of one or two indices, and each table is filled by one loop.
 #![tactic(auto)]
 
-ghost use Rattle.std.specs.Prelude.{◌≡◌, false, ◌*◌, ◌≤◌, ◌<◌, length};
+ghost use Rattle.std.specs.Prelude.{◌≡◌, false, ◌*◌, ◌≤◌, ◌<◌, length, None};
 ghost use Rattle.ranges.specs.Lists.{any_of, filter, up_to};
 ghost use Rattle.ranges.specs.Tables.{Cached, marked};
 ghost use Rattle.items.specs.Layout.{itemSize, maxItems};
@@ -22,13 +22,6 @@ pub struct Marks {
     pub superseding: [bool; MAX_ITEMS],
     pub superseded: [bool; MAX_ITEMS],
     pub refused: [bool; MAX_ITEMS],
-}
-
-// What a search for the first of some items finds.
-#[derive(Clone, Copy)]
-pub enum Choice {
-    Nobody,
-    Item(u8),
 }
 
 // Whether item i's record is a subset of item j's.
@@ -64,12 +57,10 @@ fn has_disagreeing(s: &[u8], codes: &[u8], n: u8, i: u8) -> bool
     requires { (i < n) × Ready s.now codes.now n }
     ensures { result ≡ any_of (disagreesAt s.now i) (up_to n) }
 {
-    let mut j: u8 = 0;
-    while j < n {
+    for j in 0..n {
         if disagrees(s, codes, n, i, j) {
             return true;
         }
-        j += 1;
     }
     false
 }
@@ -88,12 +79,10 @@ fn resisted(s: &[u8], codes: &[u8], n: u8, i: u8) -> bool
     requires { (i < n) × Ready s.now codes.now n }
     ensures { result ≡ any_of (resists (itemRelations s.now) i) (up_to n) }
 {
-    let mut j: u8 = 0;
-    while j < n {
+    for j in 0..n {
         if resists_at(s, codes, n, i, j) {
             return true;
         }
-        j += 1;
     }
     false
 }
@@ -117,10 +106,8 @@ fn super_table(s: &[u8], codes: &[u8], n: u8) -> [bool; MAX_ITEMS]
     ensures { Cached false result (S.supersedes (itemRelations s.now) (up_to n)) n }
 {
     let mut m = [false; MAX_ITEMS];
-    let mut i: u8 = 0;
-    while i < n {
+    for i in 0..n {
         m[i as usize] = supersedes(s, codes, n, i);
-        i += 1;
     }
     m
 }
@@ -140,12 +127,10 @@ fn is_superseded(s: &[u8], codes: &[u8], n: u8, sup: &[bool; MAX_ITEMS], i: u8) 
     requires { (i < n) × (n ≤ maxItems) × Ready s.now codes.now n × Cached false sup.now (S.supersedes (itemRelations s.now) (up_to n)) n }
     ensures { result ≡ S.isSuperseded (itemRelations s.now) (up_to n) i }
 {
-    let mut j: u8 = 0;
-    while j < n {
+    for j in 0..n {
         if replaces(s, codes, n, sup, i, j) {
             return true;
         }
-        j += 1;
     }
     false
 }
@@ -156,10 +141,8 @@ fn superseded_table(s: &[u8], codes: &[u8], n: u8, sup: &[bool; MAX_ITEMS]) -> [
     ensures { Cached false result (S.isSuperseded (itemRelations s.now) (up_to n)) n }
 {
     let mut m = [false; MAX_ITEMS];
-    let mut i: u8 = 0;
-    while i < n {
+    for i in 0..n {
         m[i as usize] = is_superseded(s, codes, n, sup, i);
-        i += 1;
     }
     m
 }
@@ -179,12 +162,10 @@ fn opposed(s: &[u8], codes: &[u8], n: u8, sd: &[bool; MAX_ITEMS], i: u8) -> bool
     requires { (i < n) × (n ≤ maxItems) × Ready s.now codes.now n × Cached false sd.now (S.isSuperseded (itemRelations s.now) (up_to n)) n }
     ensures { result ≡ any_of (S.opposes (itemRelations s.now) (up_to n) i) (up_to n) }
 {
-    let mut j: u8 = 0;
-    while j < n {
+    for j in 0..n {
         if opposes(s, codes, n, sd, i, j) {
             return true;
         }
-        j += 1;
     }
     false
 }
@@ -238,10 +219,8 @@ fn refused_table(
     ensures { Cached false result (S.is_refused (itemRelations s.now) (up_to n)) n }
 {
     let mut m = [false; MAX_ITEMS];
-    let mut i: u8 = 0;
-    while i < n {
+    for i in 0..n {
         m[i as usize] = refused_at(s, codes, n, sup, sd, i);
-        i += 1;
     }
     m
 }
@@ -262,51 +241,45 @@ pub fn mark_all(s: &[u8], codes: &[u8], n: u8) -> Marks
 }
 
 // The lower identity of best, if there is one, and k.
-fn better_identity(s: &[u8], n: u8, best: Choice, k: u8) -> Choice
+fn better_identity(s: &[u8], n: u8, best: Option<u8>, k: u8) -> Option<u8>
     requires { (n * itemSize ≤ length s.now) × (k < n) × Below n best }
     ensures { result ≡ better (lowerAt s.now) best k }
 {
-    let Choice::Item(b) = best else {
-        return Choice::Item(k);
+    let Some(b) = best else {
+        return Some(k);
     };
     if items::lower(s, k, b) {
-        return Choice::Item(k);
+        return Some(k);
     }
     best
 }
 
 // The lowest identity of what takes the place of item i.
-pub fn replacing(s: &[u8], codes: &[u8], n: u8, sup: &[bool; MAX_ITEMS], i: u8) -> Choice
+pub fn replacing(s: &[u8], codes: &[u8], n: u8, sup: &[bool; MAX_ITEMS], i: u8) -> Option<u8>
     requires { (i < n) × (n ≤ maxItems) × Ready s.now codes.now n × Cached false sup.now (S.supersedes (itemRelations s.now) (up_to n)) n }
-    ensures { result ≡ choose (lowerAt s.now) Choice.Nobody (filter (S.replaces (itemRelations s.now) (up_to n) i) (up_to n)) }
+    ensures { result ≡ choose (lowerAt s.now) None (filter (S.replaces (itemRelations s.now) (up_to n) i) (up_to n)) }
 {
-    let mut best = Choice::Nobody;
-    let mut j: u8 = 0;
-    while j < n {
+    let mut best = None;
+    for j in 0..n {
         if !replaces(s, codes, n, sup, i, j) {
-            j += 1;
             continue;
         }
         best = better_identity(s, n, best, j);
-        j += 1;
     }
     best
 }
 
 // The lowest identity of what opposes item i.
-pub fn opposing(s: &[u8], codes: &[u8], n: u8, sd: &[bool; MAX_ITEMS], i: u8) -> Choice
+pub fn opposing(s: &[u8], codes: &[u8], n: u8, sd: &[bool; MAX_ITEMS], i: u8) -> Option<u8>
     requires { (i < n) × (n ≤ maxItems) × Ready s.now codes.now n × Cached false sd.now (S.isSuperseded (itemRelations s.now) (up_to n)) n }
-    ensures { result ≡ choose (lowerAt s.now) Choice.Nobody (filter (S.opposes (itemRelations s.now) (up_to n) i) (up_to n)) }
+    ensures { result ≡ choose (lowerAt s.now) None (filter (S.opposes (itemRelations s.now) (up_to n) i) (up_to n)) }
 {
-    let mut best = Choice::Nobody;
-    let mut j: u8 = 0;
-    while j < n {
+    let mut best = None;
+    for j in 0..n {
         if !opposes(s, codes, n, sd, i, j) {
-            j += 1;
             continue;
         }
         best = better_identity(s, n, best, j);
-        j += 1;
     }
     best
 }
@@ -334,16 +307,15 @@ fn covered(s: &[u8], codes: &[u8], n: u8, rf: &[bool; MAX_ITEMS], i: u8) -> bool
     requires { (i < n) × (n ≤ maxItems) × Ready s.now codes.now n × Cached false rf.now (S.is_refused (itemRelations s.now) (up_to n)) n }
     ensures { result ≡ S.isCovered (itemRelations s.now) (up_to n) i }
 {
-    let mut k: u8 = 0;
-    while k < n {
+    for k in 0..n {
         if covers_at(s, codes, n, rf, i, k) {
             return true;
         }
-        k += 1;
     }
     false
 }
 
+// Whether item i is dominated.
 pub fn dominated_at(s: &[u8], codes: &[u8], n: u8, rf: &[bool; MAX_ITEMS], i: u8) -> bool
     requires { (i < n) × (n ≤ maxItems) × Ready s.now codes.now n × Cached false rf.now (S.is_refused (itemRelations s.now) (up_to n)) n }
     ensures { result ≡ isDominated (itemRelations s.now) (up_to n) i }
@@ -370,42 +342,37 @@ pub fn stands_table(s: &[u8], codes: &[u8], n: u8, rf: &[bool; MAX_ITEMS]) -> [b
     ensures { Cached false result (isStanding (itemRelations s.now) (up_to n)) n }
 {
     let mut m = [false; MAX_ITEMS];
-    let mut i: u8 = 0;
-    while i < n {
+    for i in 0..n {
         m[i as usize] = stands_at(s, codes, n, rf, i);
-        i += 1;
     }
     m
 }
 
 // The first by rank of best, if there is one, and k.
-fn better_rank(s: &[u8], n: u8, best: Choice, k: u8) -> Choice
+fn better_rank(s: &[u8], n: u8, best: Option<u8>, k: u8) -> Option<u8>
     requires { (n * itemSize ≤ length s.now) × (k < n) × Below n best }
     ensures { result ≡ better (aheadAt s.now) best k }
 {
-    let Choice::Item(b) = best else {
-        return Choice::Item(k);
+    let Some(b) = best else {
+        return Some(k);
     };
     if items::ahead(s, k, b) {
-        return Choice::Item(k);
+        return Some(k);
     }
     best
 }
 
 // The first by rank of those that are left.
-pub fn first_left(s: &[u8], n: u8, left: &[bool; MAX_ITEMS]) -> Choice
+pub fn first_left(s: &[u8], n: u8, left: &[bool; MAX_ITEMS]) -> Option<u8>
     requires { (n ≤ maxItems) × (n * itemSize ≤ length s.now) }
-    ensures { result ≡ choose (aheadAt s.now) Choice.Nobody (filter (marked left.now) (up_to n)) }
+    ensures { result ≡ choose (aheadAt s.now) None (filter (marked left.now) (up_to n)) }
 {
-    let mut best = Choice::Nobody;
-    let mut j: u8 = 0;
-    while j < n {
+    let mut best = None;
+    for j in 0..n {
         if !left[j as usize] {
-            j += 1;
             continue;
         }
         best = better_rank(s, n, best, j);
-        j += 1;
     }
     best
 }

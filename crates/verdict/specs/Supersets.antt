@@ -1,5 +1,5 @@
--- What comparing a superset with the smaller fix that it would replace finds (document 01, 'How to write each place' and 'Rust forms and their
--- replacements', as `contest::superset_verdict`): the enum keeps its chi-square, a number or none (document 02, A.7), in the disagreeing case, the added tags stand beside it.
+-- What comparing a superset with the smaller fix that it would replace finds (the Rust's
+-- `contest::superset_verdict`): the enum keeps its chi-square, a number or none, in the disagreeing case; the added tags stand beside it.
 use Rattle.std.specs.Prelude.{cond, ◌&&◌, List, [], ◌∷◌, ◌++◌, ℕ, ◌-◌, length, replicate}
 use Rattle.record.specs.Layout.{maxTags}
 use Rattle.record.specs.Formed.{wellFormed}
@@ -19,8 +19,8 @@ tagsOf l = record { list = l ++ replicate (maxTags - length l) 0; count = length
 abbrev pub plainly : SupersetVerdict → Comparison
 plainly v = record { verdict = v; added = tagsOf [] }
 
--- "When an answer is an enum, a definition gives this paper's number and values for each of its cases": a malformed record is 3, as where one is reported;
--- the other two cases are answers, and a contested one has what was measured.
+-- The number and the values of each case: a malformed record is 3, as where one is reported; the other two cases are answers, and a
+-- contested one has what was measured.
 abbrev pub number_of : SupersetVerdict → ℕ
 number_of Malformed = 3
 number_of Agrees = 0

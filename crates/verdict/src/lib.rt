@@ -1,15 +1,15 @@
 // What comparing a superset with the smaller fix that it would replace finds.
 #![tactic(auto)]
 
-ghost use Rattle.std.specs.Prelude.{◌≡◌, true, ◌<◌, ◌≤◌, length};
-ghost use Rattle.ranges.specs.Range.{any, Collected};
-ghost use Rattle.record.specs.Layout.{recordSize, maxTags};
-ghost use Rattle.record.specs.Fields.{tag_at, tagCount};
-ghost use Rattle.record.specs.Formed.{wellFormed};
-ghost use Rattle.verdict.specs.Supersets.{verdictOf, comparisonOf, plainly};
-ghost use Rattle.verdict.specs.Added.{hasTag, isAdded};
+ghost use Rattle.std.specs.Prelude.{◌≡◌};
+ghost use Rattle.ranges.specs.Range.{any};
+ghost use Rattle.record.specs.Fields.{tagCount};
+ghost use Rattle.record.specs.Added.{addedTags};
+ghost use Rattle.verdict.specs.Supersets.{tagsOf, verdictOf, comparisonOf, plainly};
+ghost use Rattle.verdict.specs.Added.{hasTag};
 
 use arithmetic::standing::ChiSquare;
+use record::Record;
 
 // Whether the larger fix agrees with the smaller. A record that is malformed has no verdict.
 #[derive(Clone, Copy)]
@@ -34,40 +34,30 @@ pub struct Comparison {
 }
 
 // Whether t is one of a's tags.
-fn has_tag(a: &[u8], t: u64) -> bool
-    requires { (length a.now ≡ recordSize) × (tagCount a.now ≤ maxTags) }
-    ensures { result ≡ any (hasTag a.now t) 0 (tagCount a.now) }
+fn has_tag(a: Record, t: u64) -> bool
+    ensures { result ≡ any (hasTag a.entry.bytes.now t) 0 (tagCount a.entry.bytes.now) }
 {
-    let n = record::fields::tag_count(a);
-    let mut i: u8 = 0;
-    while i < n {
-        if t == record::fields::tag(a, i as usize) {
+    for i in 0..a.tag_count() {
+        if t == a.tag(i) {
             return true;
         }
-        i += 1;
     }
     false
 }
 
 // The tags that b has and a has not.
-fn added(a: &[u8], b: &[u8]) -> Tags
-    requires a_len { (length a.now ≡ recordSize) × (tagCount a.now ≤ maxTags) }
-    requires b_len { (length b.now ≡ recordSize) × (tagCount b.now ≤ maxTags) }
-    ensures { Collected (isAdded a.now b.now) (tag_at b.now) maxTags 0 result.list result.count (tagCount b.now) }
+fn added(a: Record, b: Record) -> Tags
+    ensures { result ≡ tagsOf (addedTags a.entry.bytes.now b.entry.bytes.now) }
 {
-    let n = record::fields::tag_count(b);
     let mut list = [0u64; 16];
     let mut count: u8 = 0;
-    let mut i: u8 = 0;
-    while i < n {
-        let t = record::fields::tag(b, i as usize);
+    for i in 0..b.tag_count() {
+        let t = b.tag(i);
         if has_tag(a, t) {
-            i += 1;
             continue;
         }
         list[count as usize] = t;
         count += 1;
-        i += 1;
     }
     Tags { list, count }
 }
@@ -81,15 +71,14 @@ fn plain(verdict: SupersetVerdict) -> Comparison
     Comparison { verdict, added }
 }
 
-// Whether the larger fix agrees with the smaller, both of them records.
-fn compared(smaller: &[u8], larger: &[u8]) -> Comparison
-    requires smaller_value { wellFormed smaller.now ≡ true }
-    requires larger_value { wellFormed larger.now ≡ true }
-    ensures { result ≡ comparisonOf smaller.now larger.now }
+#[tactic(auto, unfolding(crate::specs::Supersets::comparisonOf))]
+// Whether the larger fix agrees with the smaller.
+fn compared(smaller: Record, larger: Record) -> Comparison
+    ensures { result ≡ comparisonOf smaller.entry.bytes.now larger.entry.bytes.now }
 {
     let a = arithmetic::agreement(
-        items::claims::claimed(smaller),
-        items::claims::claimed(larger),
+        items::claimed::claimed(smaller),
+        items::claimed::claimed(larger),
     );
     if arithmetic::agrees(a) {
         return plain(SupersetVerdict::Agrees);
@@ -102,14 +91,16 @@ fn compared(smaller: &[u8], larger: &[u8]) -> Comparison
     }
 }
 
+#[tactic(auto, unfolding(crate::specs::Supersets::verdictOf))]
+// Whether the larger of two fixes, in the bytes of their records, agrees with the smaller.
 pub fn superset_verdict(smaller: &[u8], larger: &[u8]) -> Comparison
     ensures { result ≡ verdictOf smaller.now larger.now }
 {
-    if !record::formed::well_formed(smaller) {
+    let Some(smaller) = Record::parse(smaller) else {
         return plain(SupersetVerdict::Malformed);
-    }
-    if !record::formed::well_formed(larger) {
+    };
+    let Some(larger) = Record::parse(larger) else {
         return plain(SupersetVerdict::Malformed);
-    }
+    };
     compared(smaller, larger)
 }

@@ -1,5 +1,3 @@
-use Prim.Native.Nat.{◌-◌}
-use native.Mathlib.Omega.{arith}
 use Rattle.ranges.proofs.Searches.{searches}
 use Rattle.decision.proofs.any_bad.Goals as goal
 
@@ -7,7 +5,7 @@ pub returns-then-bad_at : goal.returns-then-bad_at
 returns-then-bad_at c = search searches
 
 pub loop-i-preserved : goal.loop-i-preserved
-loop-i-preserved c = (omega arith, search searches)
+loop-i-preserved c = search searches
 
 pub returns : goal.returns
 returns c = search searches

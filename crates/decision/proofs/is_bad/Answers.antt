@@ -1,16 +1,32 @@
-use mathlib.Core.Path.{refl}
+use mathlib.Core.Path.{◌≡◌, refl, ◌∙◌}
+use mathlib.Core.Bool.{true}
+use mathlib.Core.List.{List}
+use Prim.Native.Nat.{ℕ, ◌*◌, ◌/◌, ◌%◌, ◌<◌, ◌≤◌}
+use lib.ListN.{length}
 use borrow.Author.Tests.{eq-eqb, ne_eqb, lt-ltb, le-ltb}
-use Rattle.decision.specs.Answer.{bad}
+use Rattle.ranges.specs.Lists.{any_of, up_to}
+use Rattle.items.specs.Layout.{maxItems, itemSize}
+use Rattle.decision.specs.Answer.{badAt, bad}
 use Rattle.decision.proofs.is_bad.Goals as goal
 
+module _ (s : List ℕ) where
+  too_many : maxItems * itemSize < length s → true ≡ bad s
+  unfolding bad
+  too_many h = rw (lt-ltb _ _ h) refl
+
+  not_whole : length s ≤ maxItems * itemSize → (length s % itemSize ≡ 0 → ⊥) → true ≡ bad s
+  unfolding bad
+  not_whole h e = rw (le-ltb _ _ h, ne_eqb _ _ e) refl
+
+  each_tested : length s ≤ maxItems * itemSize → length s % itemSize ≡ 0 → any_of (badAt s) (up_to (length s / itemSize)) ≡ bad s
+  unfolding bad
+  each_tested h e = rw (le-ltb _ _ h, eq-eqb _ _ e) refl
+
 pub returns-then-s : goal.returns-then-s
-unfolding bad
-returns-then-s c = rw (lt-ltb _ _ c.if-s.true) refl
+returns-then-s c = too_many c.args.s.now c.if-s.true
 
 pub returns-then-s-ne0 : goal.returns-then-s-ne0
-unfolding bad
-returns-then-s-ne0 c = rw (le-ltb _ _ c.if-s.false, ne_eqb _ _ c.if-s-ne0.true) refl
+returns-then-s-ne0 c = not_whole c.args.s.now c.if-s.false c.if-s-ne0.true
 
 pub returns : goal.returns
-unfolding bad
-returns c = rw (le-ltb _ _ c.if-s.false, eq-eqb _ _ c.if-s-ne0.false) c.any_bad.ensures
+returns c = c.any_bad.ensures ∙ each_tested c.args.s.now c.if-s.false c.if-s-ne0.false

@@ -8,11 +8,11 @@ returns-in_default c = better-none _ _ _ c.in_default.is
 pub lower-requires : goal.lower-requires
 lower-requires c =
     let p = c.requires in
-    let l = below_at _ _ _ p.2 c.in-Item.is in
+    let l = below_at _ _ _ p.2 c.in-Some.is in
     (omega arith, omega arith)
 
 pub returns-then-lower : goal.returns-then-lower
-returns-then-lower c = better-new _ _ _ _ _ c.in-Item.is c.lower.ensures c.if-lower.true
+returns-then-lower c = better-new _ _ _ _ _ c.in-Some.is c.lower.ensures c.if-lower.true
 
 pub returns : goal.returns
-returns c = better-old _ _ _ _ _ c.in-Item.is c.lower.ensures c.if-lower.false
+returns c = better-old _ _ _ _ _ c.in-Some.is c.lower.ensures c.if-lower.false

@@ -1,5 +1,3 @@
-use Prim.Native.Nat.{◌-◌}
-use native.Mathlib.Omega.{arith}
 use Rattle.ranges.proofs.Searches.{searches}
 use Rattle.rule.specs.Standing.{isCovered}
 use Rattle.rule.proofs.covered.Goals as goal
@@ -9,7 +7,7 @@ unfolding isCovered
 returns-then-covers_at c = search searches
 
 pub loop-k-preserved : goal.loop-k-preserved
-loop-k-preserved c = (omega arith, search searches)
+loop-k-preserved c = search searches
 
 pub returns : goal.returns
 unfolding isCovered

@@ -1,4 +1,4 @@
-use Prim.Native.Nat.{◌-◌, ◌≤◌}
+use Prim.Native.Nat.{◌-◌}
 use mathlib.Core.Path.{◌≡◌}
 use Rattle.ranges.specs.Lists.{any_of, countFrom, up_to}
 use Rattle.rule.specs.Related.{itemRelations}
@@ -6,7 +6,4 @@ use Rattle.rule.specs.Rule.{covers}
 use Rattle.rule.proofs.covered.Given as goal
 
 abbrev pub invariant-loop-k : goal.invariant-loop-k
-invariant-loop-k l = (l.k ≤ l.n) × (any_of (covers (itemRelations l.s) (up_to l.n) l.i) (up_to l.n) ≡ any_of (covers (itemRelations l.s) (up_to l.n) l.i) (countFrom l.k (l.n - l.k)))
-
-abbrev pub decreases-loop-k : goal.decreases-loop-k
-decreases-loop-k l = l.n - l.k
+invariant-loop-k l = any_of (covers (itemRelations l.s) (up_to l.n) l.i) (up_to l.n) ≡ any_of (covers (itemRelations l.s) (up_to l.n) l.i) (countFrom l.k (l.n - l.k))

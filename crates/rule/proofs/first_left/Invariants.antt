@@ -1,14 +1,11 @@
-use Prim.Native.Nat.{◌-◌, ◌≤◌}
+use Prim.Native.Nat.{◌-◌}
 use mathlib.Core.Path.{◌≡◌}
 use Rattle.ranges.specs.Lists.{filter, countFrom, up_to}
 use Rattle.items.specs.Items.{aheadAt}
 use Rattle.ranges.specs.Tables.{marked}
-use Rattle.rule.specs.declared.Choice.TheVariants.{Nobody}
+use Rattle.std.specs.Prelude.{None}
 use Rattle.rule.specs.Choosing.{choose, Below}
 use Rattle.rule.proofs.first_left.Given as goal
 
 abbrev pub invariant-loop-j : goal.invariant-loop-j
-invariant-loop-j l = (l.j ≤ l.n) × Below l.n l.best × (choose (aheadAt l.s) Nobody (filter (marked l.left) (up_to l.n)) ≡ choose (aheadAt l.s) l.best (filter (marked l.left) (countFrom l.j (l.n - l.j))))
-
-abbrev pub decreases-loop-j : goal.decreases-loop-j
-decreases-loop-j l = l.n - l.j
+invariant-loop-j l = Below l.n l.best × (choose (aheadAt l.s) None (filter (marked l.left) (up_to l.n)) ≡ choose (aheadAt l.s) l.best (filter (marked l.left) (countFrom l.j (l.n - l.j))))

@@ -1,11 +1,8 @@
-use Prim.Native.Nat.{◌-◌, ◌≤◌}
+use Prim.Native.Nat.{◌-◌}
 use mathlib.Core.Path.{◌≡◌}
 use Rattle.ranges.specs.Lists.{any_of, countFrom, up_to}
 use Rattle.items.specs.Items.{disagreesAt}
 use Rattle.rule.proofs.has_disagreeing.Given as goal
 
 abbrev pub invariant-loop-j : goal.invariant-loop-j
-invariant-loop-j l = (l.j ≤ l.n) × (any_of (disagreesAt l.s l.i) (up_to l.n) ≡ any_of (disagreesAt l.s l.i) (countFrom l.j (l.n - l.j)))
-
-abbrev pub decreases-loop-j : goal.decreases-loop-j
-decreases-loop-j l = l.n - l.j
+invariant-loop-j l = any_of (disagreesAt l.s l.i) (up_to l.n) ≡ any_of (disagreesAt l.s l.i) (countFrom l.j (l.n - l.j))

@@ -1,5 +1,3 @@
-use Prim.Native.Nat.{◌-◌}
-use native.Mathlib.Omega.{arith}
 use Rattle.ranges.proofs.Searches.{searches}
 use Rattle.rule.specs.Standing.{isSuperseded}
 use Rattle.rule.proofs.is_superseded.Goals as goal
@@ -9,7 +7,7 @@ unfolding isSuperseded
 returns-then-replaces c = search searches
 
 pub loop-j-preserved : goal.loop-j-preserved
-loop-j-preserved c = (omega arith, search searches)
+loop-j-preserved c = search searches
 
 pub returns : goal.returns
 unfolding isSuperseded

@@ -1,5 +1,3 @@
-use Prim.Native.Nat.{◌-◌}
-use native.Mathlib.Omega.{arith}
 use Rattle.ranges.proofs.Searches.{searches}
 use Rattle.rule.proofs.opposed.Goals as goal
 
@@ -7,7 +5,7 @@ pub returns-then-opposes : goal.returns-then-opposes
 returns-then-opposes c = search searches
 
 pub loop-j-preserved : goal.loop-j-preserved
-loop-j-preserved c = (omega arith, search searches)
+loop-j-preserved c = search searches
 
 pub returns : goal.returns
 returns c = search searches

@@ -1,4 +1,4 @@
-use Prim.Native.Nat.{◌-◌, ◌≤◌}
+use Prim.Native.Nat.{◌-◌}
 use mathlib.Core.Path.{◌≡◌}
 use Rattle.ranges.specs.Lists.{any_of, countFrom, up_to}
 use Rattle.rule.specs.Standing.{opposes}
@@ -6,7 +6,4 @@ use Rattle.rule.specs.Related.{itemRelations}
 use Rattle.rule.proofs.opposed.Given as goal
 
 abbrev pub invariant-loop-j : goal.invariant-loop-j
-invariant-loop-j l = (l.j ≤ l.n) × (any_of (opposes (itemRelations l.s) (up_to l.n) l.i) (up_to l.n) ≡ any_of (opposes (itemRelations l.s) (up_to l.n) l.i) (countFrom l.j (l.n - l.j)))
-
-abbrev pub decreases-loop-j : goal.decreases-loop-j
-decreases-loop-j l = l.n - l.j
+invariant-loop-j l = any_of (opposes (itemRelations l.s) (up_to l.n) l.i) (up_to l.n) ≡ any_of (opposes (itemRelations l.s) (up_to l.n) l.i) (countFrom l.j (l.n - l.j))

@@ -1,4 +1,3 @@
-use Prim.Native.Nat.{◌-◌}
 use native.Mathlib.Omega.{arith}
 use Rattle.ranges.proofs.Tables.{tables}
 use Rattle.rule.proofs.refused_table.Goals as goal

@@ -1,5 +1,3 @@
-use Prim.Native.Nat.{◌-◌}
-use native.Mathlib.Omega.{arith}
 use Rattle.ranges.proofs.Searches.{searches}
 use Rattle.rule.proofs.resisted.Goals as goal
 
@@ -7,7 +5,7 @@ pub returns-then-resists_at : goal.returns-then-resists_at
 returns-then-resists_at c = search searches
 
 pub loop-j-preserved : goal.loop-j-preserved
-loop-j-preserved c = (omega arith, search searches)
+loop-j-preserved c = search searches
 
 pub returns : goal.returns
 returns c = search searches

@@ -1,4 +1,4 @@
-use Prim.Native.Nat.{◌-◌, ◌≤◌}
+use Prim.Native.Nat.{◌-◌}
 use mathlib.Core.Path.{◌≡◌}
 use Rattle.ranges.specs.Lists.{any_of, countFrom, up_to}
 use Rattle.rule.specs.Related.{itemRelations}
@@ -6,7 +6,4 @@ use Rattle.rule.specs.Rule.{resists}
 use Rattle.rule.proofs.resisted.Given as goal
 
 abbrev pub invariant-loop-j : goal.invariant-loop-j
-invariant-loop-j l = (l.j ≤ l.n) × (any_of (resists (itemRelations l.s) l.i) (up_to l.n) ≡ any_of (resists (itemRelations l.s) l.i) (countFrom l.j (l.n - l.j)))
-
-abbrev pub decreases-loop-j : goal.decreases-loop-j
-decreases-loop-j l = l.n - l.j
+invariant-loop-j l = any_of (resists (itemRelations l.s) l.i) (up_to l.n) ≡ any_of (resists (itemRelations l.s) l.i) (countFrom l.j (l.n - l.j))

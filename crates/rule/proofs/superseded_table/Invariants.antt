@@ -1,4 +1,3 @@
-use Prim.Native.Nat.{◌-◌, ◌≤◌}
 use mathlib.Core.Path.{◌≡◌}
 use mathlib.Core.Bool.{false}
 use lib.ListN.{length}
@@ -10,7 +9,4 @@ use Rattle.items.specs.Layout.{maxItems}
 use Rattle.rule.proofs.superseded_table.Given as goal
 
 abbrev pub invariant-loop-i : goal.invariant-loop-i
-invariant-loop-i l = (l.i ≤ l.n) × (length l.m ≡ maxItems) × Cached false l.m (isSuperseded (itemRelations l.s) (up_to l.n)) l.i
-
-abbrev pub decreases-loop-i : goal.decreases-loop-i
-decreases-loop-i l = l.n - l.i
+invariant-loop-i l = (length l.m ≡ maxItems) × Cached false l.m (isSuperseded (itemRelations l.s) (up_to l.n)) l.i

@@ -1,16 +1,26 @@
-use Prim.Native.Nat.{◌-◌}
-use mathlib.Core.Path.{refl}
+use mathlib.Core.Path.{◌≡◌, refl}
 use native.Mathlib.Omega.{arith}
 use lib.ListN.{length-set}
 use Rattle.ranges.proofs.Range.{collected-none, collected-hit, collected-miss}
+use Rattle.record.specs.Fields.{tagCount}
 use Rattle.record.specs.Layout.{maxTags}
+use Rattle.verdict.proofs.Adding.{tags-of}
 use Rattle.verdict.proofs.added.Goals as goal
 
 pub loop-i-init : goal.loop-i-init
-loop-i-init c = (omega arith, c.tag_count-n.ensures, refl, collected-none _ _ maxTags _)
+loop-i-init c = (refl, collected-none _ _ maxTags _)
 
 pub loop-i-preserved-then-has_tag : goal.loop-i-preserved-then-has_tag
-loop-i-preserved-then-has_tag c = let l = c.loop-i.invariant in (omega arith, l.1, l.2, collected-miss _ _ _ _ _ _ _ (rw (← c.tag-t.ensures, ← c.has_tag.ensures, c.if-has_tag.true) refl) l.3)
+loop-i-preserved-then-has_tag c = let l = c.loop-i.invariant in (l.0, collected-miss _ _ _ _ _ _ _ (rw (← c.tag-t.ensures, ← c.has_tag.ensures, c.if-has_tag.true) refl) l.1)
 
 pub loop-i-preserved : goal.loop-i-preserved
-loop-i-preserved c = let l = c.loop-i.invariant in (omega arith, l.1, simp length-set l.2, collected-hit _ _ _ _ _ _ _ _ (omega arith) (rw (← c.tag-t.ensures, ← c.has_tag.ensures, c.if-has_tag.false) refl) c.tag-t.ensures l.3)
+loop-i-preserved c =
+    let l = c.loop-i.invariant in
+    let n = c.tag_count-i-end.ensures in
+    (simp length-set l.0, collected-hit _ _ _ _ _ _ _ _ (omega (arith, n.bounds.1)) (rw (← c.tag-t.ensures, ← c.has_tag.ensures, c.if-has_tag.false) refl) c.tag-t.ensures l.1)
+
+pub returns : goal.returns
+returns c =
+    let n = c.tag_count-i-end.ensures.value in
+    let all : c.loop-i.i ≡ tagCount c.args.b.bytes.now = omega arith in
+    tags-of _ _ (record { list = c.loop-i.list; count = c.loop-i.count }) (rw (← all) c.loop-i.invariant.1)

@@ -5,16 +5,16 @@ use Rattle.rule.proofs.Choosing.{chose-among}
 use Rattle.decision.proofs.Findings.{none-opposes, one-opposes}
 use Rattle.decision.proofs.parts.contested.Goals as goal
 
-pub returns-in_default : goal.returns-in_default
-returns-in_default c =
-    none-opposes (itemRelations c.args.s.now) (up_to c.args.n) c.args.i _ (sym c.opposing-by.ensures ∙ c.in_default.is)
+pub returns-in_err-k : goal.returns-in_err-k
+returns-in_err-k c =
+    c.from_residual.ensures ∙ none-opposes (itemRelations c.args.s.now) (up_to c.args.n) c.args.i _ (sym c.opposing.ensures ∙ c.in_err-k.was)
 
 pub chi_square-chi2-requires : goal.chi_square-chi2-requires
 chi_square-chi2-requires c =
     let p = c.requires in
-    let l = chose-among _ _ _ _ (sym c.opposing-by.ensures ∙ c.in-Item.is) in
+    let l = chose-among _ _ _ _ (sym c.opposing.ensures ∙ c.in_ok-k.was) in
     (p.0, l.0, p.4)
 
 pub returns : goal.returns
 returns c =
-    one-opposes (itemRelations c.args.s.now) (up_to c.args.n) c.args.i _ _ _ (sym c.opposing-by.ensures ∙ c.in-Item.is) c.chi_square-chi2.ensures
+    one-opposes (itemRelations c.args.s.now) (up_to c.args.n) c.args.i _ _ _ (sym c.opposing.ensures ∙ c.in_ok-k.was) c.chi_square-chi2.ensures

@@ -1,4 +1,3 @@
-use Prim.Native.Nat.{◌-◌}
 use mathlib.Core.Path.{sym, ◌∙◌}
 use native.Mathlib.Omega.{arith}
 use borrow.Author.Rules.{rules}
@@ -20,13 +19,13 @@ returns-in_default c =
 
 pub bounds-left-b : goal.bounds-left-b
 bounds-left-b c =
-    let l = (chose-among _ _ _ _ (sym c.first_left-first.ensures ∙ c.in-Item.is)).0 in
+    let l = (chose-among _ _ _ _ (sym c.first_left-first.ensures ∙ c.in-Some.is)).0 in
     omega (arith, c.requires.0)
 
 pub loop-count-preserved : goal.loop-count-preserved
 loop-count-preserved c =
     let strict : Strict (aheadAt c.args.s.now) (up_to c.args.n) = by_rank c.args.s.now c.args.n c.requires.2 in
-    ranking-more _ _ _ c.requires.0 strict _ _ _ c.loop-count.invariant _ c.loop-count-test.true (sym c.first_left-first.ensures ∙ c.in-Item.is)
+    ranking-more _ _ _ c.requires.0 strict _ _ _ c.loop-count.invariant _ c.loop-count-test.true (sym c.first_left-first.ensures ∙ c.in-Some.is)
 
 pub returns : goal.returns
 returns c =

@@ -1,4 +1,3 @@
-use Prim.Native.Nat.{◌-◌}
 use mathlib.Core.Path.{refl, sym, ap, ◌∙◌}
 use native.Mathlib.Omega.{arith}
 use lib.ListN.{length-set}
@@ -13,20 +12,19 @@ use Rattle.decision.proofs.settled.dominated.Goals as goal
 
 pub loop-i-init : goal.loop-i-init
 unfolding countFrom filter
-loop-i-init c = (omega arith, refl, omega arith, holds-none maxItems 0)
+loop-i-init c = (refl, omega arith, holds-none maxItems 0)
 
 pub loop-i-preserved-then-not-dominated_at : goal.loop-i-preserved-then-not-dominated_at
 loop-i-preserved-then-not-dominated_at c =
     let v = c.loop-i.invariant in
-    (omega arith, v.1, omega arith, listed-miss _ _ _ _ _ v.3 (sym c.dominated_at.ensures ∙ c.if-not-dominated_at.true))
+    (v.0, omega arith, listed-miss _ _ _ _ _ v.2 (sym c.dominated_at.ensures ∙ c.if-not-dominated_at.true))
 
 pub loop-i-preserved : goal.loop-i-preserved
 loop-i-preserved c =
     let v = c.loop-i.invariant in (
+      simp length-set v.0,
       omega arith,
-      simp length-set v.1,
-      omega arith,
-      listed-hit _ _ _ _ _ v.3 (omega arith) (sym c.dominated_at.ensures ∙ c.if-not-dominated_at.false),
+      listed-hit _ _ _ _ _ v.2 (omega arith) (sym c.dominated_at.ensures ∙ c.if-not-dominated_at.false),
     )
 
 pub returns : goal.returns
@@ -34,5 +32,5 @@ unfolding S.decide
 returns c =
     let v = c.loop-i.invariant in
     let p = c.requires in
-    held-indices _ _ (listed-done _ _ _ _ _ v.3 _ v.0 c.loop-i-test.false)
+    held-indices _ _ (listed-done _ _ _ _ _ v.2 _ (omega arith) c.loop-i-test.false)
     ∙ ap (λ o. indices o.dominated) (sym (outcome-is _ _ p.whole.long))

@@ -1,4 +1,4 @@
-use Prim.Native.Nat.{◌-◌, ◌≤◌}
+use Prim.Native.Nat.{◌≤◌}
 use mathlib.Core.Path.{◌≡◌}
 use lib.ListN.{length}
 use Rattle.ranges.specs.Lists.{filter, up_to}
@@ -9,7 +9,4 @@ use Rattle.rule.specs.Rule as R
 use Rattle.decision.proofs.settled.dominated.Given as goal
 
 abbrev pub invariant-loop-i : goal.invariant-loop-i
-invariant-loop-i l = (l.i ≤ l.n) × (length l.list ≡ maxItems) × (l.count ≤ l.i) × Holds maxItems 0 l.list l.count (filter (R.dominated (itemRelations l.s) (up_to l.n)) (up_to l.i))
-
-abbrev pub decreases-loop-i : goal.decreases-loop-i
-decreases-loop-i l = l.n - l.i
+invariant-loop-i l = (length l.list ≡ maxItems) × (l.count ≤ l.i) × Holds maxItems 0 l.list l.count (filter (R.dominated (itemRelations l.s) (up_to l.n)) (up_to l.i))

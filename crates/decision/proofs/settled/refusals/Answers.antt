@@ -1,10 +1,9 @@
-use Prim.Native.Nat.{◌-◌}
 use mathlib.Core.Path.{refl}
 use native.Mathlib.Omega.{arith}
 use lib.ListN.{length-set}
 use Rattle.ranges.proofs.Searches.{holds-none, holds_more}
 use Rattle.items.specs.Layout.{maxItems}
-use Rattle.items.specs.Pairs.{Prepared}
+use Rattle.items.specs.Pairs.{AllPrepared}
 use Rattle.decision.specs.Answer.{noRefusal}
 use Rattle.decision.specs.Working.{Settled}
 use Rattle.decision.proofs.Arrays.{held-refusals}
@@ -12,22 +11,22 @@ use Rattle.decision.proofs.Findings.{none-refused, found_none, found-one, all-re
 use Rattle.decision.proofs.settled.refusals.Goals as goal
 
 pub loop-i-init : goal.loop-i-init
-loop-i-init c = (omega arith, refl, omega arith, rw none-refused (holds-none maxItems noRefusal))
+loop-i-init c = (refl, omega arith, rw none-refused (holds-none maxItems noRefusal))
 
 pub loop-i-preserved-in_default : goal.loop-i-preserved-in_default
 loop-i-preserved-in_default c =
     let v = c.loop-i.invariant in
-    (omega arith, v.1, omega arith, rw (found_none _ _ _ _ c.refusal_of-found.ensures c.in_default.is) v.3)
+    (v.0, omega arith, rw (found_none _ _ _ _ c.refusal_of-found.ensures c.in_default.is) v.2)
 
 pub loop-i-preserved : goal.loop-i-preserved
 loop-i-preserved c =
-    let settled : Prepared c.args.s.now c.args.table.now c.args.n × Settled c.args.s.now c.args.n c.args.codes.now c.args.m = c.requires in
+    let settled : AllPrepared c.args.s.now c.args.table.now c.args.n × Settled c.args.s.now c.args.n c.args.codes.now c.args.m = c.requires in
     let v = c.loop-i.invariant in
     let h = settled.1.whole.few in
-    (omega arith, simp length-set v.1, omega arith, rw (found-one _ _ _ _ c.refusal_of-found.ensures _ c.in-Refused.is) (holds_more maxItems noRefusal _ _ _ _ (omega arith) v.3))
+    (simp length-set v.0, omega arith, rw (found-one _ _ _ _ c.refusal_of-found.ensures _ c.in-Some.is) (holds_more maxItems noRefusal _ _ _ _ (omega arith) v.2))
 
 pub returns : goal.returns
 returns c =
-    let settled : Prepared c.args.s.now c.args.table.now c.args.n × Settled c.args.s.now c.args.n c.args.codes.now c.args.m = c.requires in
+    let settled : AllPrepared c.args.s.now c.args.table.now c.args.n × Settled c.args.s.now c.args.n c.args.codes.now c.args.m = c.requires in
     let v = c.loop-i.invariant in
-    held-refusals _ _ (rw (all-refused _ _ _ settled.1.whole.long v.0 c.loop-i-test.false) at v.3)
+    held-refusals _ _ (rw (all-refused _ _ _ settled.1.whole.long (omega arith) c.loop-i-test.false) at v.2)

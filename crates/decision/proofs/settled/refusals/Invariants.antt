@@ -1,4 +1,4 @@
-use Prim.Native.Nat.{◌-◌, ◌≤◌}
+use Prim.Native.Nat.{◌≤◌}
 use mathlib.Core.Path.{◌≡◌}
 use lib.ListN.{length}
 use Rattle.ranges.specs.Range.{Holds}
@@ -9,7 +9,4 @@ use Rattle.decision.proofs.Findings.{refusedTo}
 use Rattle.decision.proofs.settled.refusals.Given as goal
 
 abbrev pub invariant-loop-i : goal.invariant-loop-i
-invariant-loop-i l = (l.i ≤ l.n) × (length l.list ≡ maxItems) × (l.count ≤ l.i) × Holds maxItems noRefusal l.list l.count (refusedTo (itemRelations l.s) l.n l.i)
-
-abbrev pub decreases-loop-i : goal.decreases-loop-i
-decreases-loop-i l = l.n - l.i
+invariant-loop-i l = (length l.list ≡ maxItems) × (l.count ≤ l.i) × Holds maxItems noRefusal l.list l.count (refusedTo (itemRelations l.s) l.n l.i)

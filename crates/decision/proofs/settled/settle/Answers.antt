@@ -2,6 +2,9 @@ use native.Mathlib.Omega.{arith}
 use Rattle.decision.proofs.Passed.{good_of, whole-items}
 use Rattle.decision.proofs.settled.settle.Goals as goal
 
+pub prepare_all-requires : goal.prepare_all-requires
+prepare_all-requires c = let p = c.requires in (p.2, whole-items _ _ p.1 p.0)
+
 pub code_all-requires : goal.code_all-requires
 code_all-requires c =
     let p = c.requires in
