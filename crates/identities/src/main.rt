@@ -5,119 +5,72 @@
 // hash and identity. make_stdout.py works out the same with another BLAKE2s.
 #![tactic(auto)]
 
-ghost use Rattle.std.specs.Prelude.{◌≡◌, true, ◌*◌, ◌<◌, ◌≤◌, length};
-ghost use Rattle.record.specs.Formed.{wellFormed};
-ghost use Rattle.models.specs.Summary.{summarySize};
-
 use models::layout::SUMMARY_SIZE;
 use models::states::ModelState;
+use models::summaries::Summaries;
+use record::Record;
 use record::layout::RECORD_SIZE;
 use std::io;
 
-fn word(rt: &impl Print, text: &[u8]) -> io::Result<()> {
-    rt.write_all(text)
-}
-
-fn wide(x: u8) -> u64 {
-    x as u64
-}
-
-fn show(rt: &impl Print, n: u64) -> io::Result<()> {
-    print!(rt; " {n}")
-}
-
-// 6 for a model without a summary, 7 for one that is disputed, as a track refuses them; 0 for one that is agreed.
-fn number(s: ModelState) -> u64 {
-    match s {
-        ModelState::Missing => 6,
-        ModelState::Agreed(_) => 0,
-        ModelState::Disputed => 7,
+// A model's state: 6 without a summary and 7 where it is disputed, as a track refuses them; 0 where it is agreed, with the place
+// of its first summary.
+fn show_state(rt: &impl Print, mut all: Summaries, model: u8) -> io::Result<()> {
+    match models::states::state(all, model) {
+        ModelState::Missing => print!(rt; " 6"),
+        ModelState::Disputed => print!(rt; " 7"),
+        ModelState::Agreed(_) => {
+            let first = all.position(|s| s.model() == model).unwrap_or(0);
+            print!(rt; " 0@{first}")
+        }
     }
 }
 
-fn show_state(rt: &impl Print, s: ModelState) -> io::Result<()> {
-    show(rt, number(s))?;
-    if let ModelState::Agreed(i) = s {
-        print!(rt; "@{i}")?;
-    }
-    Ok(())
-}
-
-fn show_states(rt: &impl Print, table: &[u8], count: usize) -> io::Result<()>
-    requires { count * summarySize ≤ length table.now }
-{
+fn show_states(rt: &impl Print, all: Summaries) -> io::Result<()> {
     for model in 0..5 {
-        show_state(rt, models::states::state(table, count, model))?;
+        show_state(rt, all, model)?;
     }
     Ok(())
 }
 
-fn show_flag(rt: &impl Print, b: bool) -> io::Result<()> {
-    if b {
-        word(rt, b" yes")
-    } else {
-        word(rt, b" no")
-    }
-}
-
-fn show_hash(rt: &impl Print, h: &[u8]) -> io::Result<()> {
-    word(rt, b" ")?;
-    for x in h {
+fn show_hash(rt: &impl Print, hash: &[u8]) -> io::Result<()> {
+    print!(rt; " ")?;
+    for x in hash {
         print!(rt; "{x:02x}")?;
     }
     Ok(())
 }
 
 // What a record is known by.
-fn show_hashes(rt: &impl Print, table: &[u8], count: usize, r: &[u8]) -> io::Result<()>
-    requires summary_size_in_bounds { count * summarySize ≤ length table.now }
-    requires r_value { wellFormed r.now ≡ true }
-{
-    let inputs = models::citations::cited_inputs(table, count, r);
+fn show_hashes(rt: &impl Print, all: Summaries, r: Record) -> io::Result<()> {
+    let inputs = models::citations::cited_inputs(all, r);
     let set = models::identities::set_hash(r);
     let identity = models::identities::identity(&set, &inputs);
-    show_hash(rt, &inputs)?;
-    show_hash(rt, &set)?;
-    show_hash(rt, &identity)
+    show_hash(rt, &inputs.0)?;
+    show_hash(rt, &set.0)?;
+    show_hash(rt, &identity.0)
+}
+
+fn yes_or_no(b: bool) -> &'static str {
+    if b { "yes" } else { "no" }
 }
 
 // What is known of a record among summaries.
-fn show_record(rt: &impl Print, table: &[u8], count: usize, r: &[u8]) -> io::Result<()>
-    requires summary_size_in_bounds { count * summarySize ≤ length table.now }
-    requires r_value { wellFormed r.now ≡ true }
-{
-    word(rt, b"states")?;
-    show_states(rt, table, count)?;
-    word(rt, b" counts")?;
-    show_flag(rt, models::citations::counts(table, count, r))?;
-    word(rt, b" missing")?;
-    show_flag(rt, models::citations::cites_missing(table, count, r))?;
-    show_hashes(rt, table, count, r)?;
-    word(rt, b"\n")
+fn show_record(rt: &impl Print, all: Summaries, r: Record) -> io::Result<()> {
+    print!(rt; "states")?;
+    show_states(rt, all)?;
+    let counts = yes_or_no(models::citations::counts(all, r));
+    let missing = yes_or_no(models::citations::cites_missing(all, r));
+    print!(rt; " counts {counts} missing {missing}")?;
+    show_hashes(rt, all, r)?;
+    println!(rt;)
 }
 
 // A line for a case.
-fn run(rt: &impl Print, table: &[u8], count: usize, r: &[u8]) -> io::Result<()>
-    requires { count * summarySize ≤ length table.now }
-{
-    if record::formed::well_formed(r) {
-        show_record(rt, table, count, r)
-    } else {
-        word(rt, b"malformed\n")
+fn run(rt: &impl Print, all: Summaries, bytes: &[u8]) -> io::Result<()> {
+    match Record::parse(bytes) {
+        Some(r) => show_record(rt, all, r),
+        None => println!(rt; "malformed"),
     }
-}
-
-fn size(x: u8) -> usize
-    ensures { result < 256 }
-{
-    x as usize
-}
-
-// Two bytes as a number.
-fn count_of(head: [u8; 2]) -> usize
-    ensures { result < 65536 }
-{
-    size(head[0]) + size(head[1]) * 256
 }
 
 // Reads a case and runs it; false at the end of the input.
@@ -127,7 +80,7 @@ fn step(rt: &(impl Input + Print), buffer: &mut [u8]) -> io::Result<bool> {
     if got < 2 {
         return Ok(false);
     }
-    let count = count_of(head);
+    let count = u16::from_le_bytes(head) as usize;
     let n = RECORD_SIZE + count * SUMMARY_SIZE;
     if buffer.len() < n {
         return Ok(false);
@@ -136,7 +89,11 @@ fn step(rt: &(impl Input + Print), buffer: &mut [u8]) -> io::Result<bool> {
     if read < n {
         return Ok(false);
     }
-    run(rt, &buffer[RECORD_SIZE..n], count, &buffer[0..RECORD_SIZE])?;
+    let all = Summaries {
+        table: &buffer[RECORD_SIZE..n],
+        count,
+    };
+    run(rt, all, &buffer[0..RECORD_SIZE])?;
     Ok(true)
 }
 

@@ -1,5 +1,4 @@
-pub mod Walks
-pub mod Joins
+pub mod Listed
 pub mod Agreeing
 pub mod Citing
 pub mod Held

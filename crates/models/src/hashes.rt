@@ -1,14 +1,37 @@
-// Bytes to be hashed, joined piece by piece in a buffer.
-ghost use Rattle.std.specs.Prelude.{◌≡◌, ◌++◌, ◌+◌, ◌≤◌, length, take};
+// Hashes, each of a type of its own, and the bytes that they are worked out from.
+ghost use Rattle.std.specs.Prelude.{◌≡◌, ◌++◌, ◌+◌, ◌≤◌, length};
+ghost use Rattle.octets.specs.Order.{isBefore};
+ghost use Rattle.arrayvec.specs.ArrayVec.{array_vec_len};
+
+use arrayvec::ArrayVec;
 
 // A hash's bytes.
 pub const HASH_SIZE: usize = 32;
 
-// Puts a piece after the first `at` bytes, and answers where it ends.
-pub fn join(b: &mut [u8], at: usize, piece: &[u8]) -> usize
-    requires { at + length piece.now ≤ length b.old }
-    ensures value { result ≡ at + length piece.now }
-    ensures b_after { take result b.new ≡ take at b.old ++ piece.now }
+// The inputs of the models that a record cites.
+#[derive(Clone, Copy, PartialEq, Eq)]
+pub struct Inputs(pub [u8; HASH_SIZE]);
+
+// What a record was worked out from.
+#[derive(Clone, Copy, PartialEq, Eq)]
+pub struct SetHash(pub [u8; HASH_SIZE]);
+
+// What a record is known by.
+#[derive(Clone, Copy, PartialEq, Eq)]
+pub struct Identity(pub [u8; HASH_SIZE]);
+
+// Whether an identity comes before another, in the order of their bytes.
+pub fn precedes(a: &Identity, b: &Identity) -> bool
+    ensures { result ≡ isBefore a.now.0 b.now.0 }
 {
-    at + octets::runs::copy(piece, &mut b[at..])
+    octets::order::precedes(&a.0, &b.0)
+}
+
+// Puts a piece after what is there.
+pub fn join<const N: usize>(b: &mut ArrayVec<u8, N>, piece: &[u8])
+    requires { array_vec_len b.old + length piece.now ≤ N }
+    ensures items { b.new.items ≡ b.old.items ++ piece.now }
+    ensures len { array_vec_len b.new ≡ array_vec_len b.old + length piece.now }
+{
+    let _ = b.try_extend_from_slice(piece);
 }

@@ -1,0 +1,68 @@
+// A table of summaries in lent bytes, which are gone through in their order.
+ghost use Rattle.std.specs.Prelude.{◌≡◌, ◌*◌, ◌≤◌, length};
+ghost use Rattle.std.specs.Iterator.{YieldsFirstBy, item_count};
+ghost use Rattle.places.specs.Places.{places};
+ghost use Rattle.models.specs.Summary.{summarySize, inputsSize, modelOf, spec_of, summaryInputs};
+
+use crate::layout;
+
+// One summary.
+#[derive(Clone, Copy)]
+pub struct Summary<'a> {
+    pub bytes: &'a [u8],
+    ghost size: { length bytes.now ≡ summarySize },
+}
+
+impl<'a> Summary<'a> {
+    // The model that it is of.
+    pub fn model(self) -> u8
+        ensures { result ≡ modelOf self.entry.bytes.now }
+    {
+        self.bytes[layout::MODEL_AT]
+    }
+
+    // The spec that it states.
+    pub fn spec(self) -> u16
+        ensures { result ≡ spec_of self.entry.bytes.now }
+    {
+        octets::words::u16_at(self.bytes, layout::SPEC_AT)
+    }
+
+    // The hash of the model's inputs that it states.
+    pub fn inputs(self) -> &'a [u8]
+        ensures value { result.now ≡ summaryInputs self.entry.bytes.now }
+        ensures size { length result.now ≡ inputsSize }
+    {
+        let bytes = self.bytes;
+        &bytes[layout::INPUTS_AT..layout::SUMMARY_SIZE]
+    }
+}
+
+// The first `count` summaries of a table. As an iterator it gives one after another.
+#[derive(Clone, Copy)]
+pub struct Summaries<'a> {
+    pub table: &'a [u8],
+    pub count: usize,
+    ghost within: { count * summarySize ≤ length table.now },
+}
+
+impl<'a> Iterator for Summaries<'a> {
+    type Item = Summary<'a>;
+
+    ghost next_gives = { YieldsFirstBy (λ p. p.bytes.now) (λ s. places summarySize s.count s.table.now) };
+
+    ghost remaining = { item_count (λ s. places summarySize s.count s.table.now) };
+
+    fn next(&mut self) -> Option<Summary<'a>> {
+        if self.count == 0 {
+            return None;
+        }
+        let table = self.table;
+        let bytes = &table[..layout::SUMMARY_SIZE];
+        *self = Summaries {
+            table: &table[layout::SUMMARY_SIZE..],
+            count: self.count - 1,
+        };
+        Some(Summary { bytes })
+    }
+}
