@@ -44,9 +44,6 @@ module _ {x : Strike} {n : ℕ} {t₀ t : List ℕ} {i j : ℕ} (l : Left x n t�
   pub left-lower : j * x.width ≤ i * x.width
   left-lower = mul-le-mul_right x.width l.moved.few
 
-  pub left-ends : j * x.width ≤ length t
-  left-ends = let r : i * x.width ≤ n * x.width = mul-le-mul_right x.width l.seen in omega (arith, left-lower, l.moved.size, l.fits)
-
   -- the rest cleared
   pub left-cleared : n ≤ i → (t' : List ℕ) → t' ≡ take (j * x.width) t ++ replicate (length t - j * x.width) 0 → Struck x.width (keptBy x (places x.width n t₀)) t₀ j t'
   left-cleared h t' q =

@@ -21,10 +21,6 @@ pub passed_none : {test : List ℕ → Bool} {w n : ℕ} {t : List ℕ} → Pass
 passed_none {w = w} = record { few = omega arith; begins = sym (zero-mul w); rest = rw sub-zero refl }
 
 module _ {test : List ℕ → Bool} {w n : ℕ} {t : List ℕ} {i at : ℕ} (p : Passed test w n t i at) where
-  -- the next lies within the table
-  pub passed-room : i < n → at + w ≤ n * w
-  passed-room h = let b = p.begins in omega (arith, room i n w h)
-
   -- all have passed
   pub passed-all : n ≤ i → true ≡ allPlaces test (places w n t)
   passed-all h = sym (p.rest ∙ all_end test w n i at t h)

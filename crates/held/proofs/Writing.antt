@@ -4,8 +4,8 @@ use mathlib.Core.Path.{◌≡◌, ap, ap₂, ◌∙◌}
 use mathlib.Core.List.{List, ◌++◌}
 use native.Mathlib.Omega.{arith}
 use lib.ListN.{length, drop}
-use Rattle.text.specs.Buffer.{Put}
-use Rattle.text.proofs.Writing.{put_whole}
+use Rattle.octets.specs.Put.{Put}
+use Rattle.octets.proofs.Puts.{put_whole}
 use Rattle.held.specs.After.{after, writeText}
 
 pub put_written : (l l' t : List ℕ) (r : ℕ) → Put l 0 t r l' → length t ≤ length l → after r l' ≡ writeText t l

@@ -1,5 +1,5 @@
--- The limits of engines and summaries, and the sizes of a table of summaries and of a record with its signers (document 01, 'The register (30,920 bytes)'; the
--- track has the same).
+-- The limits of engines and summaries, and the sizes of a table of summaries and of a record with its signers (docs/REFERENCE.md, 'Register' among the
+-- layouts; the track has the same).
 use Rattle.std.specs.Prelude.{ℕ, ◌+◌, ◌*◌}
 use Rattle.record.specs.Layout.{recordSize}
 use Rattle.models.specs.Summary.{summarySize}

@@ -1,4 +1,4 @@
--- A record with its signers: which a memory may hold, and what becomes of the signers (document 01, 'The register').
+-- A record with its signers: which a memory may hold, and what becomes of the signers (docs/REFERENCE.md, 'Register and board').
 use Rattle.std.specs.Prelude.{ℕ, Bool, not, ◌&&◌, List, eqb, take, drop}
 use Rattle.std.specs.Int.Bits.{bit_and}
 use Rattle.octets.specs.Masks.{withBit, withoutBit}

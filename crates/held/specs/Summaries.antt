@@ -1,4 +1,4 @@
--- Which summaries a memory may hold, and which stay when an engine is convicted (document 01, 'The register').
+-- Which summaries a memory may hold, and which stay when an engine is convicted (docs/REFERENCE.md, 'Register' among the layouts).
 use Rattle.std.specs.Prelude.{ℕ, Bool, not, ◌&&◌, List, [], leb, eqb}
 use Rattle.octets.specs.Masks.{bit}
 use Rattle.record.specs.Layout.{maxModel}

@@ -5,6 +5,7 @@
 // A caller keeps the counts, and shows that the places lie within the slice.
 #![tactic(auto)]
 
+pub mod engines;
 pub mod formed;
 pub mod layout;
 pub mod strikes;

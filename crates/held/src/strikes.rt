@@ -5,6 +5,7 @@ ghost use Rattle.models.specs.Summary.{summarySize};
 ghost use Rattle.held.specs.Summaries.{isOfAnother, noValue};
 ghost use Rattle.held.specs.Strikes.{Struck};
 
+use crate::engines::Engine;
 use models::layout::SUMMARY_SIZE;
 
 // Clears what follows the first n places of w bytes each.
@@ -17,20 +18,17 @@ pub fn clear_rest(t: &mut [u8], n: usize, w: usize)
 }
 
 // Takes an engine's summaries out of the first n of a table, and returns how many are left.
-pub fn strike_summaries(t: &mut [u8], n: usize, engine: u8) -> usize
+pub fn strike_summaries(t: &mut [u8], n: usize, engine: Engine) -> usize
     requires { n * summarySize ≤ length t.old }
-    ensures { Struck summarySize (keepPlaces summarySize (isOfAnother engine) noValue (places summarySize n t.old)) t.old result t.new }
+    ensures { Struck summarySize (keepPlaces summarySize (isOfAnother engine.number) noValue (places summarySize n t.old)) t.old result t.new }
 {
-    let mut i = 0;
     let mut j = 0;
-    while i < n {
+    for i in 0..n {
         let at = i * SUMMARY_SIZE;
-        if t[at] == engine {
-            i += 1;
+        if t[at] == engine.number {
             continue;
         }
         octets::runs::copy_down(t, at, j * SUMMARY_SIZE, SUMMARY_SIZE);
-        i += 1;
         j += 1;
     }
     clear_rest(t, j, SUMMARY_SIZE);

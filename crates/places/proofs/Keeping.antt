@@ -1,19 +1,19 @@
 -- Laws of keptPlaces, for every key width: what is held and what follows each key afterwards, and the loop that moves the places that stay down over
 -- those that go.
-use Prim.Native.Nat.{ℕ, zero, suc, ◌+◌, ◌*◌, ◌-◌, ◌≤◌, ◌<◌}
+use Prim.Native.Nat.{ℕ, ◌+◌, ◌*◌, ◌-◌, ◌≤◌, ◌<◌}
 use mathlib.Core.Path.{◌≡◌, refl, sym, ap, ap₂, ◌∙◌}
-use mathlib.Core.Bool.{Bool, true, false, cond, not, ◌&&◌, ◌||◌, true≢false, false≢true}
+use mathlib.Core.Bool.{Bool, true, false, cond, ◌&&◌}
 use mathlib.Core.List.{List, [], ◌∷◌, ◌++◌, append-nil, append_assoc}
 use native.Mathlib.Omega.{arith}
-use native.Mathlib.Nat.{suc-mul, mul-le-mul_right, add-mul}
+use native.Mathlib.Nat.{mul-le-mul_right, add-mul}
 use native.Mathlib.Numerals.{add-one}
-use lib.ListN.{length, get_or, take, drop, replicate, take-append-drop, length-append, length-take, length-drop, length-replicate}
-use lib.Seq.{take_at, drop_at, take_all, take-suc, take-add, drop-drop, length-take-le, take-append-le}
-use Rattle.octets.specs.Order.{isBefore, same}
+use lib.ListN.{length, get_or, take, drop, replicate, take-append-drop, length-append, length-drop}
+use lib.Seq.{take_at, drop_at, take_all, take-suc, drop-drop, length-take-le}
+use Rattle.octets.specs.Order.{same}
 use Rattle.ranges.proofs.Bools.{by, and_left, and_right, and_both}
-use Rattle.octets.proofs.Comparison.{before-irrefl, same_refl, same-eq}
-use Rattle.places.specs.Places.{places, flat, table_of, ascendingFrom, ascending, holds, lookup, keepPlaces, allPlaces}
-use Rattle.places.proofs.Tables.{wide, flat_append, flat-length, length-places}
+use Rattle.octets.proofs.Comparison.{before-irrefl, same-eq}
+use Rattle.places.specs.Places.{flat, table_of, ascendingFrom, ascending, holds, lookup, keepPlaces, allPlaces}
+use Rattle.places.proofs.Tables.{wide, flat_append}
 use Rattle.places.proofs.Keys.{holds-none, holds-here, holds_later, lookup-here, lookup-later, from-head, from_tail, from_cons, from-weaken, ascending-from, from-ascending, none_below, absent}
 
 module _ (k : ℕ) (test : List ℕ → Bool) (f : List ℕ → List ℕ) where

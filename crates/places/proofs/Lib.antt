@@ -3,5 +3,5 @@ pub mod Tables
 pub mod Keys
 pub mod Putting
 pub mod Keeping
-pub mod Trying
-pub mod Ways
+pub mod Searches
+pub mod Puts

@@ -1,19 +1,21 @@
 -- Laws of putPlace, for every key width: where the place goes, what is held and what follows each key afterwards.
-use Prim.Native.Nat.{ℕ, zero, suc, ◌+◌, ◌≤◌, ◌<◌}
-use mathlib.Core.Path.{◌≡◌, refl, sym, ap, ap₂, ◌∙◌}
-use mathlib.Core.Bool.{Bool, true, false, cond, not, ◌&&◌, ◌||◌, true≢false, false≢true}
-use mathlib.Core.Logic.{◌⊎◌, inl, inr, ⊎_elim}
+use Prim.Native.Nat.{ℕ, suc, ◌+◌, ◌≤◌, ◌<◌}
+use mathlib.Core.Path.{◌≡◌, refl, sym, ap, ◌∙◌}
+use mathlib.Core.Bool.{Bool, true, false, ◌||◌, false≢true}
+use mathlib.Core.Logic.{⊎_elim}
 use mathlib.Core.List.{List, [], ◌∷◌, ◌++◌}
 use native.Mathlib.Omega.{arith}
-use lib.ListN.{length, get_or, take, drop, set, take-append-drop, length-append}
+use lib.Dec.{ltb}
+use lib.ListN.{length, get_or, take, drop, set, take-append-drop, length-append, length-take, length-drop}
+use borrow.Author.Tests.{ltb-true}
 use lib.Seq.{take_at, drop_at, length-take-le}
 use Rattle.octets.specs.Order.{isBefore, same}
 use Rattle.ranges.proofs.Bools.{by, and_left, and_right, and_both}
-use Rattle.octets.proofs.Comparison.{before-irrefl, before-asym, before-trans, tri, same_refl, less-same, more_same, same-eq}
+use Rattle.octets.proofs.Comparison.{before-irrefl, before-asym, tri, same_refl, less-same, more_same, same-eq}
 use Rattle.places.specs.Places.{ascendingFrom, ascending, holds, lookup, putPlace, allPlaces}
 use Rattle.places.specs.Positions.{rank, withPlace}
 use Rattle.places.proofs.Tables.{wide}
-use Rattle.places.proofs.Keys.{holds-none, holds-here, holds_later, lookup-here, lookup-later, rank-more, rank-here, from-head, from_tail, from_cons, ascending-from, from-ascending, none_below, absent, comes-after}
+use Rattle.places.proofs.Keys.{has_key, rank-le, holds-at-rank, holds-none, holds-here, holds_later, lookup-here, lookup-later, rank-more, rank-here, from-head, from_tail, from_cons, ascending-from, from-ascending, none_below, absent, comes-after}
 
 module _ (k : ℕ) (f : List ℕ → List ℕ) (key p : List ℕ) (ps : List (List ℕ)) where
   put-past : isBefore (take k p) key ≡ true → putPlace k f key (p ∷ ps) ≡ p ∷ putPlace k f key ps
@@ -217,3 +219,19 @@ put_all k f key test (p ∷ ps) g h a =
 
     all_tail : (test : List ℕ → Bool) (p : List ℕ) (ps : List (List ℕ)) → allPlaces test (p ∷ ps) ≡ true → allPlaces test ps ≡ true
     all_tail test p ps a = and_right (test p) (allPlaces test ps) (unfold allPlaces in a)
+
+-- ---- where a key stands, and how many places there are
+
+-- a key that is held stands at its position
+pub held_at : (k : ℕ) (key : List ℕ) (ps : List (List ℕ)) → ascending k ps ≡ true → holds k key ps ≡ true → (rank k key ps < length ps) × (take k (get_or ps (rank k key ps) []) ≡ key)
+held_at k key ps a h =
+    let e : has_key k key ps (rank k key ps) ≡ true = sym (holds-at-rank k key ps a) ∙ h in (
+      ltb-true (rank k key ps) (length ps) (and_left (ltb (rank k key ps) (length ps)) (same (take k (get_or ps (rank k key ps) [])) key) e),
+      same-eq (take k (get_or ps (rank k key ps) [])) key (and_right (ltb (rank k key ps) (length ps)) (same (take k (get_or ps (rank k key ps) [])) key) e),
+    )
+
+-- a key that is not makes one place more
+pub new-length : (k : ℕ) (f : List ℕ → List ℕ) (key : List ℕ) (ps : List (List ℕ)) → holds k key ps ≡ false → length (putPlace k f key ps) ≡ length ps + 1
+new-length k f key ps h =
+    let r = rank-le k key ps in
+    ap length (put-new k f key ps h) ∙ simp (length-append, length-take, length-drop) (omega arith)

@@ -2,7 +2,7 @@
 -- bytes do to the places.
 use Prim.Native.Nat.{ℕ, zero, suc, ◌+◌, ◌*◌, ◌-◌, ◌≤◌, ◌<◌}
 use mathlib.Core.Path.{◌≡◌, refl, sym, ap, ap₂, ◌∙◌}
-use mathlib.Core.Bool.{Bool, true}
+use mathlib.Core.Bool.{true}
 use mathlib.Core.List.{List, [], ◌∷◌, ◌++◌, append_assoc}
 use native.Mathlib.Omega.{arith}
 use native.Mathlib.Nat.{suc-mul, zero-mul, mul-le-mul_right, add-mul, mul_comm, mul-sub, not-suc-le-zero, le_of_suc-le-suc}
@@ -12,7 +12,7 @@ use lib.Seq.{take_at, drop_at, take-add, take-append-add, length-take-le, split_
 use Rattle.places.specs.Places.{places, flat, table_of, isTable, ascending}
 use Rattle.places.specs.Positions.{insertAt, withPlace}
 use Rattle.octets.specs.Runs.{allZero}
-use Rattle.ranges.proofs.Bools.{and_left, and_right, and_both}
+use Rattle.ranges.proofs.Bools.{and_right, and_both}
 use Rattle.octets.proofs.Zeros.{zero-run, run-zero}
 
 abbrev pub wide : ℕ → List (List ℕ) → Type 0

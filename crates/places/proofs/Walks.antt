@@ -9,17 +9,12 @@ use native.Mathlib.Numerals.{add-one}
 use lib.ListN.{get_or, take, drop}
 use lib.Seq.{drop-drop, take-take}
 use Rattle.places.specs.Places.{places, allPlaces}
-use Rattle.places.specs.Positions.{key_at}
 
 -- ---- where a place ends
 
 -- within the table
 pub room : (i n w : ℕ) → i < n → i * w + w ≤ n * w
 room i n w h = le_trans (le_of_eq (sym (suc-mul i w))) (mul-le-mul_right w h)
-
--- and its key with it
-pub key-room : (i n w k l : ℕ) → i < n → n * w ≤ l → k ≤ w → i * w + k ≤ l
-key-room i n w k l h g m = omega (arith, room i n w h)
 
 -- where the next begins
 pub step-at : (i w at : ℕ) → at ≡ i * w → at + w ≡ (i + 1) * w
@@ -28,7 +23,7 @@ step-at i w at e = ap (λ (x : ℕ). x + w) e ∙ sym (suc-mul i w) ∙ ap (λ (
 pub next-room : (i w l : ℕ) → i * w + w ≤ l → (i + 1) * w ≤ l
 next-room i w l h = le_trans (le_of_eq (ap (λ (x : ℕ). x * w) (add-one i) ∙ suc-mul i w)) h
 
--- ---- what stands at a place, and from a place on
+-- ---- what stands at a place
 
 pub place_of : (w n i : ℕ) (t : List ℕ) → i < n → get_or (places w n t) i [] ≡ take w (drop (i * w) t)
 unfolding places
@@ -37,18 +32,6 @@ place_of w (suc n) zero t h = ap (λ (k : ℕ). take w (drop k t)) (sym (zero-mu
 place_of w (suc n) (suc i) t h =
     let e : w + i * w ≡ suc i * w = omega (arith, suc-mul i w) in
     place_of w n i (drop w t) (le_of_suc-le-suc h) ∙ ap (take w) (drop-drop (i * w) w t ∙ ap (λ (k : ℕ). drop k t) e)
-
-pub key_of : (k w n i : ℕ) (t : List ℕ) → i < n → k ≤ w → take k (get_or (places w n t) i []) ≡ key_at k w i t
-key_of k w n i t h m = ap (take k) (place_of w n i t h) ∙ take-take k w (drop (i * w) t) m
-
-pub places-from : (w n i : ℕ) (t : List ℕ) → drop i (places w n t) ≡ places w (n - i) (drop (i * w) t)
-unfolding places
-places-from w n zero t = let e : n - 0 ≡ n = omega arith in rw (e, zero-mul w) refl
-places-from w zero (suc i) t = let e : 0 - suc i ≡ 0 = omega arith in rw e refl
-places-from w (suc n) (suc i) t =
-    let e : w + i * w ≡ suc i * w = omega (arith, suc-mul i w) in
-    let f : n - i ≡ suc n - suc i = omega arith in
-    places-from w n i (drop w t) ∙ rw (drop-drop (i * w) w t, e, f) refl
 
 -- a part of a place is a part of the table
 pub part_in : (k j w : ℕ) (l : List ℕ) → j + k ≤ w → take k (drop j (take w l)) ≡ take k (drop j l)

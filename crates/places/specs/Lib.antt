@@ -1,4 +1,4 @@
--- A counted table in bytes (Places); where a key stands in it (Positions), and what putting a place in by its key answers and leaves (Put).
+-- A counted table in bytes (Places), and what a search in it answers (Tables); where a key stands in it, and what putting a place in does to its bytes (Positions).
 pub mod Places
 pub mod Positions
-pub mod Put
+pub mod Tables

@@ -1,6 +1,6 @@
--- A counted table in bytes (document 01, 'The register': "Used places come first, strictly ascending in byte order (of the record alone for records);
--- the rest is zero"). A place has w bytes, of which the first k are its key. w, k and the count are arguments: one layer serves every table.
-use Rattle.std.specs.Prelude.{ℕ, zero, suc, ◌+◌, ◌*◌, ◌-◌, Bool, true, false, cond, ◌&&◌, ◌||◌, List, [], ◌∷◌, ◌++◌, length, take, drop, replicate}
+-- A counted table in bytes: the used places come first and ascend strictly in the byte order of their keys (a record's place by the record alone), and
+-- the rest is zero. A place has w bytes, of which the first k are its key. w, k and the count are arguments: one layer serves every table.
+use Rattle.std.specs.Prelude.{ℕ, zero, suc, ◌*◌, ◌-◌, Bool, true, false, cond, ◌&&◌, ◌||◌, List, [], ◌∷◌, ◌++◌, length, take, drop, replicate}
 use Rattle.octets.specs.Order.{isBefore, same}
 use Rattle.octets.specs.Runs.{allZero}
 

@@ -1,10 +1,6 @@
 -- No claim rests on these definitions: they say where a key stands in a table, and what putting a place in does to its bytes.
-use Rattle.std.specs.Prelude.{ℕ, suc, ◌*◌, ◌-◌, cond, List, [], ◌∷◌, ◌++◌, length, take, drop}
+use Rattle.std.specs.Prelude.{ℕ, suc, ◌-◌, cond, List, [], ◌∷◌, ◌++◌, length, take, drop}
 use Rattle.octets.specs.Order.{isBefore}
-
--- the key of place i
-abbrev pub key_at : ℕ → ℕ → ℕ → List ℕ → List ℕ
-key_at k w i t = take k (drop (i * w) t)
 
 -- how many places, from the first, come before a key
 unfoldable pub rank : ℕ → List ℕ → List (List ℕ) → ℕ

@@ -1,6 +1,9 @@
 pub mod Frames
 pub mod Opened
+pub mod Parts
+pub mod Views
 pub mod Signing
+pub mod Holding
 pub mod Answers
 pub mod Striking
 pub mod Struck
@@ -12,4 +15,3 @@ pub mod Room
 pub mod Kept
 pub mod Further
 pub mod Remaining
-pub mod Numbered

@@ -194,9 +194,6 @@ module _ (s t : Register) (v : Valid s) (u : Valid t) where
 -- ---- a conviction
 
 module _ (s : Register) (v : Valid s) (e : ℕ) (a : e ≤ maxEngine) where
-  abbrev struck-records : List (List ℕ)
-  struck-records = keepPlaces recordSize (hasAnotherSigner e) (dropSigner e) s.records
-
   pub struck-signers : (r : List ℕ) → signersOf r (strikeEngine e s) ≡ withoutBit (signersOf r s) e
   struck-signers r =
       ap word (lookup-kept recordSize (hasAnotherSigner e) (dropSigner e) placeSize key_of (signers-wide e) r s.records v.records-wide v.records-ascend)

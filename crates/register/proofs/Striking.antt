@@ -5,7 +5,7 @@ use mathlib.Core.Bool.{true, false, not}
 use mathlib.Core.List.{List, ◌++◌}
 use lib.ListN.{length, take, drop}
 use lib.Seq.{take-take}
-use borrow.Author.Tests.{eq-eqb, ne_eqb}
+use lib.Dec.{eqb}
 use Rattle.octets.specs.Masks.{withoutBit}
 use Rattle.octets.specs.Words.{word_bytes, word_at}
 use Rattle.record.specs.Layout.{recordSize}
@@ -27,11 +27,11 @@ module _ (e : ℕ) (t : List ℕ) (at : ℕ) (within : at + placeSize ≤ length
   are : v ≡ withoutBit (signersIn p) e
   are = v-is ∙ ap (λ (y : ℕ). withoutBit y e) (x-is ∙ signers-there t at within)
 
-  pub unsigned : v ≡ 0 → hasAnotherSigner e p ≡ false
-  unsigned z = ap not (eq-eqb (withoutBit (signersIn p) e) 0 (sym are ∙ z))
+  pub unsigned : eqb v 0 ≡ true → hasAnotherSigner e p ≡ false
+  unsigned z = ap not (ap (λ (y : ℕ). eqb y 0) (sym are) ∙ z)
 
-  pub still-signed : (v ≡ 0 → ⊥) → hasAnotherSigner e p ≡ true
-  still-signed z = ap not (ne_eqb (withoutBit (signersIn p) e) 0 (λ y. z (are ∙ y)))
+  pub still-signed : eqb v 0 ≡ false → hasAnotherSigner e p ≡ true
+  still-signed z = ap not (ap (λ (y : ℕ). eqb y 0) (sym are) ∙ z)
 
   -- kept below, it is changed
   pub changed-there : (t' : List ℕ) (to : ℕ) → t' ≡ kept_at at to v t → t' ≡ take to t ++ ((take recordSize p ++ dropSigner e (drop recordSize p)) ++ drop (to + placeSize) t)

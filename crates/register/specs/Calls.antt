@@ -1,4 +1,4 @@
--- Lists of calls from a fresh register, what remains of them, and when a call is refused as full (document 01, 'The register'). The claims about whole
+-- Lists of calls from a fresh register, what remains of them, and when a call is refused as full (docs/REFERENCE.md, 'Any order of calls'). The claims about whole
 -- lists are stated with these and with the definitions that the contracts cite.
 use Rattle.std.specs.Prelude.{ℕ, Bool, true, false, cond, not, ◌&&◌, ◌||◌, List, [], ◌∷◌, leb, eqb, length}
 use Rattle.octets.specs.Order.{same}
@@ -57,7 +57,7 @@ unfoldable pub keep : (ℕ → Bool) → List Call → List Call
 keep struck [] = []
 keep struck (c ∷ cs) = cond (isSound c && not (struck (callEngine c))) (c ∷ keep struck cs) (keep struck cs)
 
--- "what remains once malformed calls and calls of engines convicted anywhere in the list are struck"
+-- what remains of a list once malformed calls and calls of engines that are convicted anywhere in it are struck
 abbrev pub remaining : List Call → List Call
 remaining cs = keep (convicts cs) cs
 

@@ -1,4 +1,4 @@
--- What is claimed of whole lists of report, summary and conviction calls from a fresh register (document 01, 'The register'). A reader who believes this
+-- What is claimed of whole lists of report, summary and conviction calls from a fresh register (docs/REFERENCE.md, 'Any order of calls'). A reader who believes this
 -- file, and the definitions it names, needs none of the proofs; those are in proofs/Whole and proofs/Room.
 use Rattle.std.specs.Prelude.{ℕ, ◌≡◌, true, List, reverse, drop}
 use Rattle.octets.specs.Masks.{bit}

@@ -1,4 +1,4 @@
--- The layout of a register (document 01, 'The register (30,920 bytes)'): its limit of records, and where each part begins, each from the one before it.
+-- The layout of a register (docs/REFERENCE.md, 'Register' among the layouts, 30,920 bytes): its limit of records, and where each part begins, each from the one before it.
 use Rattle.std.specs.Prelude.{ℕ, ◌+◌, ◌*◌}
 use Rattle.held.specs.Limits.{summariesSize, placeSize}
 

@@ -1,4 +1,4 @@
--- A register in memory (document 01, 'The register (30,920 bytes)'): which bytes are one, the register that bytes are, its bytes, and an operation on bytes.
+-- A register in memory (docs/REFERENCE.md, 'Register' among the layouts): which bytes are one, the register that bytes are, its bytes, and an operation on bytes.
 use Rattle.std.specs.Prelude.{ℕ, Bool, cond, ◌&&◌, List, ◌++◌, leb, eqb, length, take, drop, replicate}
 use Rattle.octets.specs.Words.{word_at, word_bytes}
 use Rattle.places.specs.Places.{places, table_of, isTable, allPlaces}
@@ -58,16 +58,16 @@ encode s =
     ++ (word_bytes 2 (length s.records)
     ++ (table_of summarySize maxSummaries s.summaries ++ table_of placeSize L.maxRecords s.records)))
 
--- "Fresh is all zero."
+-- A fresh register is all zero.
 abbrev pub fresh : List ℕ
 fresh = replicate L.registerSize 0
 
 -- ---- an operation on bytes
 
--- "A refusal returns its number and changes no lent byte."
+-- A refusal answers its number and changes no lent byte.
 abbrev pub commit : List ℕ → After Register → After (List ℕ)
 commit m a = cond (eqb a.answer 0) (after 0 (encode a.left)) (after a.answer m)
 
--- "1: memory not a well-formed register."
+-- 1: the bytes are not a well-formed register.
 unfoldable pub on_memory : (Register → After Register) → List ℕ → After (List ℕ)
 on_memory f m = cond (wellFormed m) (commit m (f (decode m))) (after 1 m)

@@ -1,4 +1,4 @@
--- What a register holds, and what its operations do to it (document 01, 'Answers and refusals, operation by operation' and 'The register').
+-- What a register holds, and what its operations do to it (docs/REFERENCE.md, 'Operations' and 'Register and board').
 use Rattle.std.specs.Prelude.{ℕ, cond, not, ◌&&◌, ◌||◌, List, ltb, leb, eqb, length}
 use Rattle.octets.specs.Masks.{bit, withBit}
 use Rattle.places.specs.Places.{holds, putPlace, keepPlaces}
@@ -17,33 +17,33 @@ pub record Register : Type 0 where
   pub summaries : List (List ℕ)
   pub records : List (List ℕ)
 
--- a record that is one, of an engine that may report: "5: record not yet held and 96 are held. Else 0." "A repeated record only gains a signer."
+-- a record that is one, of an engine that may report: 5 where it is not yet held and 96 are, else 0. A repeated record only gains a signer.
 abbrev pub signRecord : ℕ → List ℕ → Register → After Register
 signRecord e r s =
     cond (not (holds recordSize r s.records) && leb maxRecords (length s.records)) (after 5 s)
     (after 0 (record { convicted = s.convicted; summaries = s.summaries; records = putPlace recordSize (addSigner e) r s.records }))
 
--- "2: engine over 31. 3: record malformed. 4: engine convicted."
+-- 2: the engine is over 31. 3: the record is malformed. 4: the engine is convicted.
 abbrev pub takeReport : ℕ → List ℕ → Register → After Register
 takeReport e r s =
     cond (ltb maxEngine e) (after 2 s)
     (cond (not (wellFormed r)) (after 3 s)
     (cond (bit s.convicted e) (after 4 s) (signRecord e r s)))
 
--- a summary of an engine that may give one: "5: this summary not yet held and 256 are. Else 0."
+-- a summary of an engine that may give one: 5 where it is not yet held and 256 are, else 0.
 abbrev pub holdSummary : List ℕ → Register → After Register
 holdSummary p s =
     cond (not (holds summarySize p s.summaries) && leb maxSummaries (length s.summaries)) (after 5 s)
     (after 0 (record { convicted = s.convicted; summaries = putPlace summarySize noValue p s.summaries; records = s.records }))
 
--- "2; 9: model over 63, or inputs not of 32 bytes; 4"
+-- 2: the engine is over 31. 9: the model is over 63, or the inputs are not 32 bytes. 4: the engine is convicted.
 abbrev pub takeSummary : ℕ → ℕ → ℕ → List ℕ → Register → After Register
 takeSummary e model spec inputs s =
     cond (ltb maxEngine e) (after 2 s)
     (cond (ltb maxModel model || not (eqb (length inputs) inputsSize)) (after 9 s)
     (cond (bit s.convicted e) (after 4 s) (holdSummary (summaryOf e model spec inputs) s)))
 
--- "A conviction removes the engine's summaries, its signer bit, and records left without signers."
+-- A conviction takes out the engine's summaries and its signer bit, and the records that are left without signers.
 abbrev pub strikeEngine : ℕ → Register → Register
 strikeEngine e s =
     record {
@@ -52,6 +52,6 @@ strikeEngine e s =
       records = keepPlaces recordSize (hasAnotherSigner e) (dropSigner e) s.records;
     }
 
--- "2. Else 0, also when repeated."
+-- 2: the engine is over 31. Else 0, also when repeated.
 abbrev pub takeConviction : ℕ → Register → After Register
 takeConviction e s = cond (ltb maxEngine e) (after 2 s) (after 0 (strikeEngine e s))

@@ -1,5 +1,5 @@
--- The records and summaries of a list of calls, in the order in which a register has them (document 01, 'The register': "The board over what remains takes
--- the remaining records and summaries, with the engines of a record's remaining reports as its signers").
+-- The records and summaries of a list of calls, in the order in which a register has them (docs/REFERENCE.md, 'Any order of calls'): the
+-- remaining summaries, and the remaining records with the engines of their remaining reports as signers.
 use Rattle.std.specs.Prelude.{ℕ, List, [], ◌∷◌}
 use Rattle.places.specs.Places.{putPlace}
 use Rattle.record.specs.Layout.{recordSize}

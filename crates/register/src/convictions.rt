@@ -1,101 +1,95 @@
 // A conviction in a register.
-ghost use Rattle.std.specs.Prelude.{◌≡◌, true, ◌+◌, ◌*◌, ◌<◌, ◌≤◌, length};
+ghost use Rattle.std.specs.Prelude.{◌≡◌, true, ◌+◌, ◌*◌, ◌≤◌, length};
 ghost use Rattle.places.specs.Places.{places, keepPlaces};
 ghost use Rattle.record.specs.Layout.{recordSize};
-ghost use Rattle.octets.specs.Writes.{putWord};
 ghost use Rattle.held.specs.After.{after};
 ghost use Rattle.held.specs.Limits.{placeSize};
 ghost use Rattle.held.specs.Signed.{dropSigner, hasAnotherSigner};
 ghost use Rattle.held.specs.Strikes.{Struck};
-ghost use Rattle.register.specs.Layout.{convictedAt, summaryCountAt, recordCountAt, summariesAt as layoutEnd};
+ghost use Rattle.register.specs.Refusals.{numberOf};
 ghost use Rattle.register.specs.Register.{strikeEngine, takeConviction};
-ghost use Rattle.register.specs.Memory.{wellFormed, decode, encode, on_memory};
+ghost use Rattle.register.specs.Memory.{wellFormed, decode, on_memory};
 ghost use Rattle.register.specs.Strikes.{kept_at};
 
-use crate::{formed, layout};
-use held::layout::{MAX_ENGINE, PLACE_SIZE};
+use crate::Register;
+use crate::formed::well_formed;
+use crate::layout::SUMMARY_COUNT_AT;
+use crate::refusals::{Refusal, number};
+use held::engines::{Engine, Signers};
+use held::layout::{PLACE_SIZE, SUMMARIES_SIZE};
+use held::strikes::{clear_rest, strike_summaries};
+use octets::runs::copy_down;
+use octets::words::{put_u16, put_u32, u16_at, u32_at};
 use record::layout::RECORD_SIZE;
 
 // Copies the record at one byte down to another, with these signers.
-fn keep_place(t: &mut [u8], from: usize, to: usize, signers: u32)
+fn keep_place(t: &mut [u8], from: usize, to: usize, signers: Signers)
     requires to_le_from { to ≤ from }
     requires place_size_in_bounds { from + placeSize ≤ length t.old }
-    ensures { t.new ≡ kept_at from to signers t.old }
+    ensures { t.new ≡ kept_at from to signers.0 t.old }
 {
-    octets::runs::copy_down(t, from, to, PLACE_SIZE);
-    octets::words::put_u32(t, to + RECORD_SIZE, signers);
+    copy_down(t, from, to, PLACE_SIZE);
+    put_u32(t, to + RECORD_SIZE, signers.0);
 }
 
 // Takes an engine's signature off the first n records of a table, and those left without one out, and
 // returns how many are left.
-fn strike_records(t: &mut [u8], n: usize, engine: u32) -> usize
-    requires place_size_in_bounds { n * placeSize ≤ length t.old }
-    requires engine_bound { engine < 32 }
-    ensures { Struck placeSize (keepPlaces recordSize (hasAnotherSigner engine) (dropSigner engine) (places placeSize n t.old)) t.old result t.new }
+fn strike_records(t: &mut [u8], n: usize, engine: Engine) -> usize
+    requires { n * placeSize ≤ length t.old }
+    ensures { Struck placeSize (keepPlaces recordSize (hasAnotherSigner engine.number) (dropSigner engine.number) (places placeSize n t.old)) t.old result t.new }
 {
-    let mut i = 0;
     let mut j = 0;
-    while i < n {
+    for i in 0..n {
         let at = i * PLACE_SIZE;
-        let signers = octets::masks::without_u32(
-            octets::words::u32_at(t, at + RECORD_SIZE),
-            engine,
-        );
-        if signers == 0 {
-            i += 1;
+        let signers = Signers(u32_at(t, at + RECORD_SIZE)).without(engine);
+        if signers.is_empty() {
             continue;
         }
         keep_place(t, at, j * PLACE_SIZE, signers);
-        i += 1;
         j += 1;
     }
-    held::strikes::clear_rest(t, j, PLACE_SIZE);
+    clear_rest(t, j, PLACE_SIZE);
     j
 }
 
-// Writes the convicted engines and both counts.
-fn put_header(memory: &mut [u8], convicted: u32, summaries: u16, records: u16)
-    requires { layoutEnd ≤ length memory.old }
-    ensures { memory.new ≡ putWord 2 recordCountAt records (putWord 2 summaryCountAt summaries (putWord 4 convictedAt convicted memory.old)) }
+// Strikes an engine from a register.
+fn strike(memory: &mut [u8], engine: Engine)
+    requires { wellFormed memory.old ≡ true }
+    ensures struck { decode memory.new ≡ strikeEngine engine.number (decode memory.old) }
+    ensures formed { wellFormed memory.new ≡ true }
 {
-    octets::words::put_u32(memory, layout::CONVICTED_AT, convicted);
-    octets::words::put_u16(memory, layout::SUMMARY_COUNT_AT, summaries);
-    octets::words::put_u16(memory, layout::RECORD_COUNT_AT, records);
+    let (convicted, rest) = memory.split_at_mut(SUMMARY_COUNT_AT);
+    let (summary_count, rest) = rest.split_at_mut(2);
+    let (record_count, tables) = rest.split_at_mut(2);
+    let (summaries, records) = tables.split_at_mut(SUMMARIES_SIZE);
+    let first = strike_summaries(summaries, u16_at(summary_count, 0) as usize, engine);
+    let second = strike_records(records, u16_at(record_count, 0) as usize, engine);
+    let struck = Signers(u32_at(convicted, 0)).with(engine);
+    put_u32(convicted, 0, struck.0);
+    put_u16(summary_count, 0, first as u16);
+    put_u16(record_count, 0, second as u16);
 }
 
-// Strikes an engine from a register.
-fn strike(memory: &mut [u8], engine: u32)
-    requires memory_value { wellFormed memory.old ≡ true }
-    requires engine_bound { engine < 32 }
-    ensures { memory.new ≡ encode (strikeEngine engine (decode memory.old)) }
-{
-    let convicted = octets::words::u32_at(memory, layout::CONVICTED_AT);
-    let n = octets::words::u16_at(memory, layout::SUMMARY_COUNT_AT) as usize;
-    let k = octets::words::u16_at(memory, layout::RECORD_COUNT_AT) as usize;
-    let summaries = held::strikes::strike_summaries(
-        &mut memory[layout::SUMMARIES_AT..layout::RECORDS_AT],
-        n,
-        engine as u8,
-    );
-    let records = strike_records(&mut memory[layout::RECORDS_AT..], k, engine);
-    put_header(
-        memory,
-        octets::masks::with_u32(convicted, engine),
-        summaries as u16,
-        records as u16,
-    );
+impl<'a> Register<'a> {
+    // Convicts an engine.
+    pub fn conviction(&mut self, engine: u32) -> Result<(), Refusal>
+        ensures same_reference { self.new.memory.ghost_name ≡ self.old.memory.ghost_name }
+        ensures convicted { after (numberOf result) (decode self.new.memory.now) ≡ takeConviction engine (decode self.old.memory.now) }
+    {
+        let Some(engine) = Engine::new(engine) else {
+            return Err(Refusal::NoEngine);
+        };
+        strike(self.memory, engine);
+        Ok(())
+    }
 }
 
 // Convicts an engine.
 pub fn conviction(memory: &mut [u8], engine: u32) -> u32
     ensures { after result memory.new ≡ on_memory (takeConviction engine) memory.old }
 {
-    if !formed::well_formed(memory) {
+    if !well_formed(memory) {
         return 1;
     }
-    if MAX_ENGINE < engine {
-        return 2;
-    }
-    strike(memory, engine);
-    0
+    number(Register::of(memory).conviction(engine))
 }

@@ -7,21 +7,23 @@ ghost use Rattle.held.specs.Signed.{placeFormed};
 ghost use Rattle.register.specs.Memory.{wellFormed};
 
 use crate::layout;
+use held::engines::Signers;
 use held::layout::{MAX_SUMMARIES, PLACE_SIZE};
 use models::layout::SUMMARY_SIZE;
+use models::summaries::Summaries;
+use places::table::is_table;
 use record::layout::RECORD_SIZE;
 
 // Whether t holds a table of n records with signers, none of them convicted.
-fn place_table_formed(t: &[u8], n: usize, convicted: u32) -> bool
+fn place_table_formed(t: &[u8], n: usize, convicted: Signers) -> bool
     requires { n * placeSize ≤ length t.now }
-    ensures { result ≡ (isTable recordSize placeSize n t.now && allPlaces (placeFormed convicted) (places placeSize n t.now)) }
+    ensures { result ≡ (isTable recordSize placeSize n t.now && allPlaces (placeFormed convicted.0) (places placeSize n t.now)) }
 {
-    if !places::is_table(t, n, PLACE_SIZE, RECORD_SIZE) {
-        return false;
-    }
-    held::formed::places_formed(t, n, PLACE_SIZE, convicted)
+    is_table::<PLACE_SIZE, RECORD_SIZE>(t, n)
+        && held::formed::places_formed(t, n, PLACE_SIZE, convicted)
 }
 
+#[tactic(auto, unfolding(crate::specs::Memory::wellFormed))]
 // Whether the bytes are a register.
 pub fn well_formed(m: &[u8]) -> bool
     ensures { result ≡ wellFormed m.now }
@@ -29,7 +31,7 @@ pub fn well_formed(m: &[u8]) -> bool
     if m.len() != layout::REGISTER_SIZE {
         return false;
     }
-    let convicted = octets::words::u32_at(m, layout::CONVICTED_AT);
+    let convicted = Signers(octets::words::u32_at(m, layout::CONVICTED_AT));
     let n = octets::words::u16_at(m, layout::SUMMARY_COUNT_AT) as usize;
     if MAX_SUMMARIES < n {
         return false;
@@ -38,8 +40,11 @@ pub fn well_formed(m: &[u8]) -> bool
     if layout::MAX_RECORDS < k {
         return false;
     }
-    let summaries = &m[layout::SUMMARIES_AT..layout::RECORDS_AT];
-    if !held::formed::summary_table_formed(summaries, n, SUMMARY_SIZE, convicted) {
+    let summaries = Summaries {
+        table: &m[layout::SUMMARIES_AT..layout::RECORDS_AT],
+        count: n,
+    };
+    if !held::formed::summary_table_formed::<SUMMARY_SIZE>(summaries, convicted) {
         return false;
     }
     place_table_formed(&m[layout::RECORDS_AT..], k, convicted)

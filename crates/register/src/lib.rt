@@ -1,12 +1,48 @@
 // The register of one aircraft: every report and summary that was made, and the engines convicted, in
 // 30,920 lent bytes. What it holds does not depend on the order in which calls came.
 //
-// report, summary and conviction take any numbers and any slices, and answer with document 01's
-// numbers: 0, or a refusal, which changes no byte.
+// A `Register` is bytes that are one; its operations take any numbers and any slices, and say why they take a call or not.
+// report, summary and conviction do the same to any bytes, and answer 0 or a refusal's number (docs/REFERENCE.md, 'Operations'); a
+// refusal changes no byte.
 #![tactic(auto)]
 
+ghost use Rattle.std.specs.Prelude.{◌≡◌, true};
+ghost use Rattle.octets.specs.Masks.{bit};
+ghost use Rattle.register.specs.Memory.{wellFormed, decode};
+
+use held::engines::{Engine, Signers};
+use octets::words::u32_at;
+
+pub mod claims;
 pub mod convictions;
 pub mod formed;
 pub mod layout;
+pub mod refusals;
 pub mod reports;
 pub mod summaries;
+
+// A register in lent bytes.
+#[derive(Drop)]
+pub struct Register<'a> {
+    pub memory: &'a mut [u8],
+    pub ghost formed: { wellFormed memory.now ≡ true },
+}
+
+impl<'a> Register<'a> {
+    // The register that these bytes are known to be.
+    pub fn of(memory: &'a mut [u8]) -> Self
+        requires { wellFormed memory.old ≡ true }
+        ensures same_reference { result.memory.ghost_name ≡ memory.entry.ghost_name }
+        ensures bytes { result.memory.now ≡ memory.old }
+    {
+        Register { memory }
+    }
+
+    #[tactic(auto, unfolding(crate::specs::Memory::decode))]
+    // Whether an engine is convicted.
+    pub fn is_convicted(&self, engine: Engine) -> bool
+        ensures { result ≡ bit (decode self.now.memory.now).convicted engine.number }
+    {
+        Signers(u32_at(self.memory, layout::CONVICTED_AT)).contains(engine)
+    }
+}

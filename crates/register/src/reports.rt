@@ -1,73 +1,102 @@
 // A report into a register.
-ghost use Rattle.std.specs.Prelude.{◌≡◌, true, [], ◌++◌, ◌+◌, ◌*◌, ◌<◌, length};
-ghost use Rattle.octets.specs.Masks.{withBit};
-ghost use Rattle.octets.specs.Words.{word_at};
-ghost use Rattle.octets.specs.Writes.{putWord};
-ghost use Rattle.record.specs.Formed as R;
-ghost use Rattle.record.specs.Layout.{recordSize};
+ghost use Rattle.std.specs.Prelude.{◌≡◌, ◌<◌, ◌++◌, true, false, length, IfOk};
+ghost use Rattle.octets.specs.Masks.{bit, withBit};
+ghost use Rattle.octets.specs.Words.{word_bytes};
 ghost use Rattle.held.specs.After.{after};
-ghost use Rattle.held.specs.Limits.{placeSize};
-ghost use Rattle.held.specs.Signed.{addSigner};
-ghost use Rattle.register.specs.Layout.{maxRecords, recordsAt, registerSize};
+ghost use Rattle.register.specs.Refusals.{numberOf};
+ghost use Rattle.register.specs.Signers.{signersFound};
 ghost use Rattle.register.specs.Register.{signRecord, takeReport};
-ghost use Rattle.register.specs.Memory.{wellFormed, decode, commit, on_memory};
+ghost use Rattle.register.specs.Memory.{wellFormed, decode, on_memory};
 
-use crate::{formed, layout};
-use held::layout::{MAX_ENGINE, PLACE_SIZE};
-use places::Put;
+use crate::Register;
+use crate::formed::well_formed;
+use crate::layout::{MAX_RECORDS, SUMMARY_COUNT_AT};
+use crate::refusals::{Refusal, number};
+use held::engines::{Engine, Signers};
+use held::layout::{PLACE_SIZE, SUMMARIES_SIZE};
+use octets::runs::copy;
+use octets::words::{put_u16, put_u32, u16_at, u32_at};
+use places::table::Table;
+use record::Record;
 use record::layout::RECORD_SIZE;
 
-// The place of a record with its first signer.
-fn new_place(r: &[u8], engine: u32) -> [u8; PLACE_SIZE]
-    requires r_len { length r.now ≡ recordSize }
-    requires engine_bound { engine < 32 }
-    ensures { result ≡ r.now ++ addSigner engine [] }
+// The records held, each with its signers.
+type Records<'a> = Table<'a, PLACE_SIZE, RECORD_SIZE, MAX_RECORDS>;
+
+// The bytes of a record and its signers.
+fn signed(r: Record, signers: Signers) -> [u8; PLACE_SIZE]
+    ensures { result ≡ r.entry.bytes.now ++ word_bytes 4 signers.0 }
 {
-    let mut p = [0u8; PLACE_SIZE];
-    octets::runs::copy(r, &mut p);
-    octets::words::put_u32(&mut p, RECORD_SIZE, octets::masks::with_u32(0, engine));
-    p
+    let mut place = [0u8; PLACE_SIZE];
+    copy(r.bytes, &mut place);
+    put_u32(&mut place, RECORD_SIZE, signers.0);
+    place
 }
 
-// Sets an engine's bit among the signers of record i.
-fn add_signer(memory: &mut [u8], i: usize, engine: u32)
-    requires memory_len { length memory.old ≡ registerSize }
-    requires i_lt_max_records { i < maxRecords }
-    requires engine_bound { engine < 32 }
-    ensures { memory.new ≡ putWord 4 (recordsAt + i * placeSize + recordSize) (withBit (word_at 4 (recordsAt + i * placeSize + recordSize) memory.old) engine) memory.old }
+// The signers of a record where it was found: none where it was not.
+fn signers_of(records: &[[u8; PLACE_SIZE]], found: Result<usize, usize>) -> Signers
+    requires { IfOk found (λ i. i < length records.now) }
+    ensures { result.0 ≡ signersFound records.now found }
 {
-    let at = layout::RECORDS_AT + i * PLACE_SIZE + RECORD_SIZE;
-    let signers = octets::words::u32_at(memory, at);
-    octets::words::put_u32(memory, at, octets::masks::with_u32(signers, engine));
+    match found {
+        Ok(i) => {
+            let place = &records[i];
+            Signers(u32_at(place, RECORD_SIZE))
+        }
+        Err(_) => Signers(0),
+    }
+}
+
+// The signers of a record where it was found, and one more.
+fn signers_with(
+    records: &[[u8; PLACE_SIZE]],
+    found: Result<usize, usize>,
+    engine: Engine,
+) -> Signers
+    requires { IfOk found (λ i. i < length records.now) }
+    ensures { result.0 ≡ withBit (signersFound records.now found) engine.number }
+{
+    signers_of(records, found).with(engine)
 }
 
 // Puts a record in, or its signer.
-fn sign(memory: &mut [u8], engine: u32, r: &[u8]) -> u32
-    requires memory_value { wellFormed memory.old ≡ true }
-    requires engine_bound { engine < 32 }
-    requires r_value { R.wellFormed r.now ≡ true }
-    ensures { after result memory.new ≡ commit memory.old (signRecord engine r.now (decode memory.old)) }
+fn sign(memory: &mut [u8], engine: Engine, r: Record) -> Result<(), Refusal>
+    requires register { wellFormed memory.old ≡ true }
+    requires free { bit (decode memory.old).convicted engine.number ≡ false }
+    ensures signed { after (numberOf result) (decode memory.new) ≡ signRecord engine.number r.entry.bytes.now (decode memory.old) }
+    ensures formed { wellFormed memory.new ≡ true }
 {
-    let n = octets::words::u16_at(memory, layout::RECORD_COUNT_AT);
-    let p = new_place(r, engine);
-    let tried = places::put_by_key(
-        &mut memory[layout::RECORDS_AT..],
-        n as usize,
-        layout::MAX_RECORDS,
-        PLACE_SIZE,
-        RECORD_SIZE,
-        &p,
-    );
-    match tried {
-        Put::Held(i) => {
-            add_signer(memory, i, engine);
-            0
+    let (convicted, rest) = memory.split_at_mut(SUMMARY_COUNT_AT);
+    let (summary_count, rest) = rest.split_at_mut(2);
+    let (record_count, tables) = rest.split_at_mut(2);
+    let (summaries, places) = tables.split_at_mut(SUMMARIES_SIZE);
+    let mut records = Records::of(places, u16_at(record_count, 0) as usize);
+    let found = records.search(r.bytes);
+    if records.is_full(found) {
+        return Err(Refusal::Full);
+    }
+    let signers = signers_with(records.places(), found, engine);
+    records.put(found, &signed(r, signers));
+    put_u16(record_count, 0, records.count() as u16);
+    Ok(())
+}
+
+impl<'a> Register<'a> {
+    // Reports a record for an engine.
+    pub fn report(&mut self, engine: u32, r: &[u8]) -> Result<(), Refusal>
+        ensures same_reference { self.new.memory.ghost_name ≡ self.old.memory.ghost_name }
+        ensures reported { after (numberOf result) (decode self.new.memory.now) ≡ takeReport engine r.now (decode self.old.memory.now) }
+    {
+        let Some(engine) = Engine::new(engine) else {
+            return Err(Refusal::NoEngine);
+        };
+        let Some(r) = Record::parse(r) else {
+            return Err(Refusal::NoRecord);
+        };
+        if self.is_convicted(engine) {
+            return Err(Refusal::Convicted);
         }
-        Put::Full => 5,
-        Put::New => {
-            octets::words::put_u16(memory, layout::RECORD_COUNT_AT, n + 1);
-            0
-        }
+        sign(self.memory, engine, r)
     }
 }
 
@@ -75,17 +104,8 @@ fn sign(memory: &mut [u8], engine: u32, r: &[u8]) -> u32
 pub fn report(memory: &mut [u8], engine: u32, r: &[u8]) -> u32
     ensures { after result memory.new ≡ on_memory (takeReport engine r.now) memory.old }
 {
-    if !formed::well_formed(memory) {
+    if !well_formed(memory) {
         return 1;
     }
-    if MAX_ENGINE < engine {
-        return 2;
-    }
-    if !record::formed::well_formed(r) {
-        return 3;
-    }
-    if octets::masks::has_u32(octets::words::u32_at(memory, layout::CONVICTED_AT), engine) {
-        return 4;
-    }
-    sign(memory, engine, r)
+    number(Register::of(memory).report(engine, r))
 }

@@ -1,37 +1,72 @@
 // A summary into a register.
-ghost use Rattle.std.specs.Prelude.{◌≡◌, true, ◌<◌, length};
-ghost use Rattle.models.specs.Summary.{summarySize};
+ghost use Rattle.std.specs.Prelude.{◌≡◌, true};
 ghost use Rattle.held.specs.After.{after};
+ghost use Rattle.held.specs.Summaries.{summaryFormed};
+ghost use Rattle.register.specs.Refusals.{numberOf};
 ghost use Rattle.register.specs.Register.{holdSummary, takeSummary};
-ghost use Rattle.register.specs.Memory.{wellFormed, decode, commit, on_memory};
+ghost use Rattle.register.specs.Memory.{wellFormed, decode, on_memory};
 
-use crate::{formed, layout};
-use held::layout::{MAX_ENGINE, MAX_SUMMARIES};
-use models::layout::SUMMARY_SIZE;
-use places::Put;
+use crate::Register;
+use crate::formed::well_formed;
+use crate::layout::SUMMARY_COUNT_AT;
+use crate::refusals::{Refusal, number};
+use held::engines::Engine;
+use held::layout::{MAX_SUMMARIES, SUMMARIES_SIZE};
+use held::summaries::new_summary;
+use models::layout::{INPUTS_SIZE, SUMMARY_SIZE};
+use octets::words::{put_u16, u16_at};
+use places::table::Table;
+use record::layout::MAX_MODEL;
+
+// The summaries held.
+type Summaries<'a> = Table<'a, SUMMARY_SIZE, SUMMARY_SIZE, MAX_SUMMARIES>;
 
 // Puts a summary in, unless it is held.
-fn hold(memory: &mut [u8], p: &[u8]) -> u32
-    requires memory_value { wellFormed memory.old ≡ true }
-    requires p_len { length p.now ≡ summarySize }
-    ensures { after result memory.new ≡ commit memory.old (holdSummary p.now (decode memory.old)) }
+fn hold(memory: &mut [u8], summary: &[u8; SUMMARY_SIZE]) -> Result<(), Refusal>
+    requires register { wellFormed memory.old ≡ true }
+    requires summary { summaryFormed (decode memory.old).convicted summary.now ≡ true }
+    ensures held { after (numberOf result) (decode memory.new) ≡ holdSummary summary.now (decode memory.old) }
+    ensures formed { wellFormed memory.new ≡ true }
 {
-    let n = octets::words::u16_at(memory, layout::SUMMARY_COUNT_AT);
-    let tried = places::put_by_key(
-        &mut memory[layout::SUMMARIES_AT..layout::RECORDS_AT],
-        n as usize,
-        MAX_SUMMARIES,
-        SUMMARY_SIZE,
-        SUMMARY_SIZE,
-        p,
-    );
-    match tried {
-        Put::Held(_) => 0,
-        Put::Full => 5,
-        Put::New => {
-            octets::words::put_u16(memory, layout::SUMMARY_COUNT_AT, n + 1);
-            0
+    let (convicted, rest) = memory.split_at_mut(SUMMARY_COUNT_AT);
+    let (summary_count, rest) = rest.split_at_mut(2);
+    let (record_count, tables) = rest.split_at_mut(2);
+    let (places, records) = tables.split_at_mut(SUMMARIES_SIZE);
+    let mut summaries = Summaries::of(places, u16_at(summary_count, 0) as usize);
+    let found = summaries.search(summary);
+    if summaries.is_full(found) {
+        return Err(Refusal::Full);
+    }
+    summaries.put(found, summary);
+    put_u16(summary_count, 0, summaries.count() as u16);
+    Ok(())
+}
+
+impl<'a> Register<'a> {
+    // Takes a summary of a model from an engine.
+    pub fn summary(
+        &mut self,
+        engine: u32,
+        model: u32,
+        spec: u16,
+        inputs: &[u8],
+    ) -> Result<(), Refusal>
+        ensures same_reference { self.new.memory.ghost_name ≡ self.old.memory.ghost_name }
+        ensures summarized { after (numberOf result) (decode self.new.memory.now) ≡ takeSummary engine model spec inputs.now (decode self.old.memory.now) }
+    {
+        let Some(engine) = Engine::new(engine) else {
+            return Err(Refusal::NoEngine);
+        };
+        if (MAX_MODEL as u32) < model {
+            return Err(Refusal::NoSummary);
         }
+        let Ok(inputs) = <&[u8; INPUTS_SIZE]>::try_from(inputs) else {
+            return Err(Refusal::NoSummary);
+        };
+        if self.is_convicted(engine) {
+            return Err(Refusal::Convicted);
+        }
+        hold(self.memory, &new_summary(engine, model as u8, spec, inputs))
     }
 }
 
@@ -39,21 +74,8 @@ fn hold(memory: &mut [u8], p: &[u8]) -> u32
 pub fn summary(memory: &mut [u8], engine: u32, model: u32, spec: u16, inputs: &[u8]) -> u32
     ensures { after result memory.new ≡ on_memory (takeSummary engine model spec inputs.now) memory.old }
 {
-    if !formed::well_formed(memory) {
+    if !well_formed(memory) {
         return 1;
     }
-    if MAX_ENGINE < engine {
-        return 2;
-    }
-    if (record::layout::MAX_MODEL as u32) < model {
-        return 9;
-    }
-    if inputs.len() != models::layout::INPUTS_SIZE {
-        return 9;
-    }
-    if octets::masks::has_u32(octets::words::u32_at(memory, layout::CONVICTED_AT), engine) {
-        return 4;
-    }
-    let p = held::summaries::new_summary(engine as u8, model as u8, spec, inputs);
-    hold(memory, &p)
+    number(Register::of(memory).summary(engine, model, spec, inputs))
 }

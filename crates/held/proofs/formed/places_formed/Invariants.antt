@@ -1,10 +1,7 @@
-use Prim.Native.Nat.{◌-◌}
+use Prim.Native.Nat.{◌*◌}
 use Rattle.held.specs.Signed.{beginFormed}
 use Rattle.held.proofs.Testing.{Passed}
 use Rattle.held.proofs.formed.places_formed.Given as goal
 
 abbrev pub invariant-loop-i : goal.invariant-loop-i
-invariant-loop-i l = Passed (beginFormed l.convicted) l.w l.n l.t l.i l.at
-
-abbrev pub decreases-loop-i : goal.decreases-loop-i
-decreases-loop-i l = l.n - l.i
+invariant-loop-i l = Passed (beginFormed l.convicted.0) l.w l.n l.t l.i (l.i * l.w)

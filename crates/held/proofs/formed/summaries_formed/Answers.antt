@@ -1,14 +1,13 @@
-use Prim.Native.Nat.{◌-◌}
-use Rattle.held.proofs.Testing.{passed-not, passed-next, passed-all}
-use mathlib.Core.Path.{ap}
-use mathlib.Core.Bool.{not}
+use Rattle.std.proofs.Common.{refl, ◌∙◌, rules, tests}
+use Rattle.std.proofs.lemmas.Iterator.Search.{all_from_yields_List}
+use Rattle.std.proofs.lemmas.Iterator.Consumers.{YieldsList-from_first}
+use Rattle.models.specs.Answers.{listed}
+use Rattle.models.proofs.Agreeing.{as-places}
+use Rattle.held.specs.Summaries.{summaryFormed}
 use Rattle.held.proofs.formed.summaries_formed.Goals as goal
 
-pub returns-then-not-summary_formed : goal.returns-then-not-summary_formed
-returns-then-not-summary_formed c = passed-not c.loop-i.invariant c.loop-i-test.true _ c.summary_formed.ensures (ap not c.if-not-summary_formed.true)
-
-pub loop-i-preserved : goal.loop-i-preserved
-loop-i-preserved c = passed-next c.loop-i.invariant c.loop-i-test.true _ c.summary_formed.ensures (ap not c.if-not-summary_formed.false)
-
 pub returns : goal.returns
-returns c = passed-all c.loop-i.invariant c.loop-i-test.false
+returns c =
+    let all = listed c.args.all in
+    let test = summaryFormed c.args.convicted.0 in
+    all_from_yields_List test c.all.new.self _ c.all.result c.all.ensures.ran (YieldsList-from_first (λ p. p.bytes.now) listed all refl) (λ x b q k. search (rules, tests)) ∙ as-places test all

@@ -1,10 +1,6 @@
-use Prim.Native.Nat.{◌-◌}
 use Rattle.held.proofs.Striking.{Left}
 use Rattle.held.proofs.Summarized.{summariesWithout}
 use Rattle.held.proofs.strikes.strike_summaries.Given as goal
 
 abbrev pub invariant-loop-i : goal.invariant-loop-i
-invariant-loop-i l = Left (summariesWithout l.engine) l.n l.initial.t l.t l.i l.j
-
-abbrev pub decreases-loop-i : goal.decreases-loop-i
-decreases-loop-i l = l.n - l.i
+invariant-loop-i l = Left (summariesWithout l.engine.number) l.n l.initial.t l.t l.i l.j

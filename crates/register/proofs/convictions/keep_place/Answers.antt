@@ -32,4 +32,4 @@ kept t from to v h l =
 pub returns : goal.returns
 returns c =
     let a = c.args in
-    rw (c.put_u32.ensures, c.copy_down.ensures) (kept a.t.now a.from a.to a.signers c.requires.to_le_from c.requires.place_size_in_bounds)
+    rw (c.put_u32.ensures, c.copy_down.ensures) (kept a.t.now a.from a.to a.signers.0 c.requires.to_le_from c.requires.place_size_in_bounds)

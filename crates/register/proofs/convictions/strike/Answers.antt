@@ -1,111 +1,73 @@
--- Both tables are struck in turn, and the header is put anew: the register without the engine.
-use Prim.Native.Nat.{ℕ, ◌-◌, ◌≤◌}
-use mathlib.Core.Path.{◌≡◌, refl, ap, ◌∙◌}
-use mathlib.Core.List.{List, ◌++◌}
-use native.Mathlib.Omega.{arith}
-use lib.ListN.{length, take, drop}
-use borrow.Rule.Slice.PartMut.{same_len_mid}
-use Rattle.octets.specs.Masks.{withBit}
-use Rattle.octets.specs.Writes.{putWord}
+use Rattle.std.proofs.Common.{arith, ap, ◌∙◌, ℕ}
 use Rattle.octets.specs.Bytes.{Bytes}
+use Rattle.octets.specs.Masks.{withBit}
+use Rattle.octets.specs.Words.{word_bytes}
 use Rattle.octets.proofs.Numbers.{all-bytes}
-use Rattle.held.specs.Limits.{maxSummaries, summariesSize}
-use Rattle.register.specs.Layout.{maxRecords, convictedAt, summaryCountAt, recordCountAt, summariesAt, recordsAt, recordsSize, registerSize}
-use Rattle.register.specs.Register.{strikeEngine}
-use Rattle.register.specs.Memory.{convictedIn, summaryCount, recordCount, decode, encode}
-use Rattle.register.proofs.Opened.{Opened, opened, summary-bytes-length, record-bytes-length}
-use Rattle.register.proofs.Struck.{summaries-left, lent-records, records-left, third}
+use Rattle.places.specs.Places.{places}
+use Rattle.places.proofs.Tables.{length-places}
+use Rattle.places.proofs.Keeping.{kept-length}
+use Rattle.models.specs.Summary.{summarySize}
+use Rattle.record.specs.Layout.{recordSize}
+use Rattle.held.specs.Limits.{placeSize}
+use Rattle.held.specs.Summaries.{isOfAnother, noValue}
+use Rattle.held.specs.Signed.{hasAnotherSigner, dropSigner}
+use Rattle.places.proofs.Puts.{used}
+use Rattle.register.proofs.Opened.{opened}
+use Rattle.register.proofs.Parts.{split, convicted-read, summary-count-read, record-count-read, summaries-are, records-are, number-put, summaries-sorted, records-sorted}
+use Rattle.register.proofs.Struck.{struck, struck-formed}
 use Rattle.register.proofs.convictions.strike.Goals as goal
 
-pub u32_at-convicted-requires : goal.u32_at-convicted-requires
-u32_at-convicted-requires c = omega (arith, (opened c.args.memory.now c.requires.memory_value).size)
+pub split_at_mut-convicted-requires : goal.split_at_mut-convicted-requires
+split_at_mut-convicted-requires c = omega (arith, (opened c.args.memory.now c.requires).size)
 
-pub u16_at-n-requires : goal.u16_at-n-requires
-u16_at-n-requires c = omega (arith, (opened c.args.memory.now c.requires.memory_value).size)
+pub split_at_mut-summary_count-requires : goal.split_at_mut-summary_count-requires
+split_at_mut-summary_count-requires c = omega (arith, (opened c.args.memory.now c.requires).size, c.split_at_mut-convicted.ensures.back_len)
 
-pub u16_at-k-requires : goal.u16_at-k-requires
-u16_at-k-requires c = omega (arith, (opened c.args.memory.now c.requires.memory_value).size)
+pub split_at_mut-record_count-requires : goal.split_at_mut-record_count-requires
+split_at_mut-record_count-requires c = omega (arith, (opened c.args.memory.now c.requires).size, c.split_at_mut-convicted.ensures.back_len, c.split_at_mut-summary_count.ensures.back_len)
 
-pub slice_bounds-strike_summaries-end : goal.slice_bounds-strike_summaries-end
-slice_bounds-strike_summaries-end c =
-    let m : List ℕ = c.args.memory.now in
-    let o : Opened m = opened m c.requires.memory_value in
-    omega (arith, o.size)
+pub split_at_mut-summaries-requires : goal.split_at_mut-summaries-requires
+split_at_mut-summaries-requires c = omega (arith, (opened c.args.memory.now c.requires).size, c.split_at_mut-convicted.ensures.back_len, c.split_at_mut-summary_count.ensures.back_len, c.split_at_mut-record_count.ensures.back_len)
 
-pub strike_summaries-summaries-requires : goal.strike_summaries-summaries-requires
-strike_summaries-summaries-requires c =
-    let m : List ℕ = c.args.memory.now in
-    let o : Opened m = opened m c.requires.memory_value in
-    let n : ℕ = c.u16_at-n.result in
-    let n-is : n ≡ summaryCount m = c.u16_at-n.ensures in
-    rw (summary-bytes-length m o) (omega (arith, o.few-summaries, n-is))
+pub strike_summaries-first-requires : goal.strike_summaries-first-requires
+strike_summaries-first-requires c =
+    let m = c.args.memory.now in
+    let o = opened m c.requires in
+    let z = split m _ _ _ _ _ _ _ _ c.split_at_mut-convicted.ensures.front c.split_at_mut-convicted.ensures.back c.split_at_mut-summary_count.ensures.front c.split_at_mut-summary_count.ensures.back c.split_at_mut-record_count.ensures.front c.split_at_mut-record_count.ensures.back c.split_at_mut-summaries.ensures.front c.split_at_mut-summaries.ensures.back in
+    let t = summaries-sorted m o c.u16_at.result c.split_at_mut-summaries.result.0.now (c.u16_at.ensures ∙ summary-count-read m _ _ _ _ _ _ _ _ z) (summaries-are m _ _ _ _ _ _ _ _ z) in
+    used _ _ _ _ _ t
 
-pub strike_records-records-requires-clause-place_size_in_bounds : goal.strike_records-records-requires-clause-place_size_in_bounds
-strike_records-records-requires-clause-place_size_in_bounds c =
-    let m : List ℕ = c.args.memory.now in
-    let e : ℕ = c.args.engine in
-    let o : Opened m = opened m c.requires.memory_value in
-    let b : Bytes m = all-bytes m (λ i. (c.slice_known-1.given i).fits) in
-    let n : ℕ = c.u16_at-n.result in
-    let n-is : n ≡ summaryCount m = c.u16_at-n.ensures in
-    let k : ℕ = c.u16_at-k.result in
-    let k-is : k ≡ recordCount m = c.u16_at-k.ensures in
-    let m₁ : List ℕ = take summariesAt m ++ (c.strike_summaries-summaries.new.t ++ drop summariesSize (drop summariesAt m)) in
-    let records-lent : length (take (length m₁ - recordsAt) (drop recordsAt m₁)) ≡ recordsSize = ap length (lent-records m o b e n n-is c.strike_summaries-summaries.result c.strike_summaries-summaries.new.t c.strike_summaries-summaries.ensures m₁ refl) ∙ record-bytes-length m o in
-    rw records-lent (omega (arith, o.few-records, k-is))
+pub strike_records-second-requires : goal.strike_records-second-requires
+strike_records-second-requires c =
+    let m = c.args.memory.now in
+    let o = opened m c.requires in
+    let z = split m _ _ _ _ _ _ _ _ c.split_at_mut-convicted.ensures.front c.split_at_mut-convicted.ensures.back c.split_at_mut-summary_count.ensures.front c.split_at_mut-summary_count.ensures.back c.split_at_mut-record_count.ensures.front c.split_at_mut-record_count.ensures.back c.split_at_mut-summaries.ensures.front c.split_at_mut-summaries.ensures.back in
+    let t = records-sorted m o c.u16_at-2.result c.split_at_mut-summaries.result.1.now (c.u16_at-2.ensures ∙ record-count-read m _ _ _ _ _ _ _ _ z) (records-are m _ _ _ _ _ _ _ _ z) in
+    used _ _ _ _ _ t
 
-pub overflow_cast-summaries : goal.overflow_cast-summaries
-overflow_cast-summaries c =
-    let m : List ℕ = c.args.memory.now in
-    let e : ℕ = c.args.engine in
-    let o : Opened m = opened m c.requires.memory_value in
-    let b : Bytes m = all-bytes m (λ i. (c.slice_known-1.given i).fits) in
-    let n : ℕ = c.u16_at-n.result in
-    let n-is : n ≡ summaryCount m = c.u16_at-n.ensures in
-    let m₁ : List ℕ = take summariesAt m ++ (c.strike_summaries-summaries.new.t ++ drop summariesSize (drop summariesAt m)) in
-    let few-summaries : c.strike_summaries-summaries.result ≤ maxSummaries = summaries-left m o b e n n-is c.strike_summaries-summaries.result c.strike_summaries-summaries.new.t c.strike_summaries-summaries.ensures m₁ refl in
-    omega (arith, few-summaries)
+pub overflow_cast-first : goal.overflow_cast-first
+overflow_cast-first c =
+    let m = c.args.memory.now in
+    let o = opened m c.requires in
+    let z = split m _ _ _ _ _ _ _ _ c.split_at_mut-convicted.ensures.front c.split_at_mut-convicted.ensures.back c.split_at_mut-summary_count.ensures.front c.split_at_mut-summary_count.ensures.back c.split_at_mut-record_count.ensures.front c.split_at_mut-record_count.ensures.back c.split_at_mut-summaries.ensures.front c.split_at_mut-summaries.ensures.back in
+    let t = summaries-sorted m o c.u16_at.result c.split_at_mut-summaries.result.0.now (c.u16_at.ensures ∙ summary-count-read m _ _ _ _ _ _ _ _ z) (summaries-are m _ _ _ _ _ _ _ _ z) in
+    omega (arith, t.few, c.strike_summaries-first.ensures.count, kept-length summarySize (isOfAnother c.args.engine.number) noValue (places summarySize c.u16_at.result c.split_at_mut-summaries.result.0.now), length-places summarySize c.u16_at.result c.split_at_mut-summaries.result.0.now)
 
-pub overflow_cast-records : goal.overflow_cast-records
-overflow_cast-records c =
-    let m : List ℕ = c.args.memory.now in
-    let e : ℕ = c.args.engine in
-    let o : Opened m = opened m c.requires.memory_value in
-    let b : Bytes m = all-bytes m (λ i. (c.slice_known-1.given i).fits) in
-    let n : ℕ = c.u16_at-n.result in
-    let n-is : n ≡ summaryCount m = c.u16_at-n.ensures in
-    let k : ℕ = c.u16_at-k.result in
-    let k-is : k ≡ recordCount m = c.u16_at-k.ensures in
-    let m₁ : List ℕ = take summariesAt m ++ (c.strike_summaries-summaries.new.t ++ drop summariesSize (drop summariesAt m)) in
-    let m₂ : List ℕ = take recordsAt m₁ ++ (c.strike_records-records.new.t ++ drop (length m₁ - recordsAt) (drop recordsAt m₁)) in
-    let few-records : c.strike_records-records.result ≤ maxRecords = records-left m o b e n n-is c.strike_summaries-summaries.result c.strike_summaries-summaries.new.t c.strike_summaries-summaries.ensures m₁ refl k k-is
-    c.strike_records-records.result c.strike_records-records.new.t c.strike_records-records.ensures m₂ refl in
-    omega (arith, few-records)
-
-pub put_header-requires : goal.put_header-requires
-put_header-requires c =
-    let m : List ℕ = c.args.memory.now in
-    let o : Opened m = opened m c.requires.memory_value in
-    let m₁ : List ℕ = take summariesAt m ++ (c.strike_summaries-summaries.new.t ++ drop summariesSize (drop summariesAt m)) in
-    let size₁ : length m₁ ≡ registerSize = same_len_mid summariesAt summariesSize m c.strike_summaries-summaries.new.t c.strike_summaries-summaries.auto.t ∙ o.size in
-    let m₂ : List ℕ = take recordsAt m₁ ++ (c.strike_records-records.new.t ++ drop (length m₁ - recordsAt) (drop recordsAt m₁)) in
-    let size₂ : length m₂ ≡ registerSize = same_len_mid recordsAt (length m₁ - recordsAt) m₁ c.strike_records-records.new.t c.strike_records-records.auto.t ∙ size₁ in
-    omega (arith, size₂)
+pub overflow_cast-second : goal.overflow_cast-second
+overflow_cast-second c =
+    let m = c.args.memory.now in
+    let o = opened m c.requires in
+    let z = split m _ _ _ _ _ _ _ _ c.split_at_mut-convicted.ensures.front c.split_at_mut-convicted.ensures.back c.split_at_mut-summary_count.ensures.front c.split_at_mut-summary_count.ensures.back c.split_at_mut-record_count.ensures.front c.split_at_mut-record_count.ensures.back c.split_at_mut-summaries.ensures.front c.split_at_mut-summaries.ensures.back in
+    let t = records-sorted m o c.u16_at-2.result c.split_at_mut-summaries.result.1.now (c.u16_at-2.ensures ∙ record-count-read m _ _ _ _ _ _ _ _ z) (records-are m _ _ _ _ _ _ _ _ z) in
+    omega (arith, t.few, c.strike_records-second.ensures.count, kept-length recordSize (hasAnotherSigner c.args.engine.number) (dropSigner c.args.engine.number) (places placeSize c.u16_at-2.result c.split_at_mut-summaries.result.1.now), length-places placeSize c.u16_at-2.result c.split_at_mut-summaries.result.1.now)
 
 pub returns : goal.returns
 returns c =
-    let m : List ℕ = c.args.memory.now in
-    let e : ℕ = c.args.engine in
-    let o : Opened m = opened m c.requires.memory_value in
-    let b : Bytes m = all-bytes m (λ i. (c.slice_known-1.given i).fits) in
-    let n : ℕ = c.u16_at-n.result in
-    let n-is : n ≡ summaryCount m = c.u16_at-n.ensures in
-    let k : ℕ = c.u16_at-k.result in
-    let k-is : k ≡ recordCount m = c.u16_at-k.ensures in
-    let m₁ : List ℕ = take summariesAt m ++ (c.strike_summaries-summaries.new.t ++ drop summariesSize (drop summariesAt m)) in
-    let m₂ : List ℕ = take recordsAt m₁ ++ (c.strike_records-records.new.t ++ drop (length m₁ - recordsAt) (drop recordsAt m₁)) in
-    let struck-is : (y : ℕ) (x : List ℕ) → y ≡ withBit (convictedIn m) e
-    → x ≡ putWord 2 recordCountAt c.strike_records-records.result (putWord 2 summaryCountAt c.strike_summaries-summaries.result (putWord 4 convictedAt y m₂)) → x ≡ encode (strikeEngine e (decode m)) = third m o b e n n-is c.strike_summaries-summaries.result c.strike_summaries-summaries.new.t c.strike_summaries-summaries.ensures m₁ refl k k-is
-    c.strike_records-records.result c.strike_records-records.new.t c.strike_records-records.ensures m₂ refl in
-    struck-is c.with_u32.result c.put_header.new.memory
-    (c.with_u32.ensures ∙ ap (λ (x : ℕ). withBit x e) c.u32_at-convicted.ensures) c.put_header.ensures
+    let m = c.args.memory.now in
+    let o = opened m c.requires in
+    let y : Bytes m = all-bytes m (λ i. (c.slice_known-1.given i).fits) in
+    let z = split m _ _ _ _ _ _ _ _ c.split_at_mut-convicted.ensures.front c.split_at_mut-convicted.ensures.back c.split_at_mut-summary_count.ensures.front c.split_at_mut-summary_count.ensures.back c.split_at_mut-record_count.ensures.front c.split_at_mut-record_count.ensures.back c.split_at_mut-summaries.ensures.front c.split_at_mut-summaries.ensures.back in
+    let x = c.put_u32.ensures ∙ number-put 4 c.with-struck.result.0 _ _ z.convicted ∙ ap (word_bytes 4) (c.with-struck.ensures ∙ ap (λ (j : ℕ). withBit j c.args.engine.number) (c.u32_at.ensures ∙ convicted-read m _ _ _ _ _ _ _ _ z)) in
+    let n = c.put_u16.ensures ∙ number-put 2 c.strike_summaries-first.result _ _ z.summary-count in
+    let k = c.put_u16-2.ensures ∙ number-put 2 c.strike_records-second.result _ _ z.record-count in
+    record { struck = struck m o y c.args.engine.number (omega (arith, c.args.engine.small)) _ _ _ _ _ 0 c.strike_summaries-first.result c.strike_records-second.result c.u16_at.result c.u16_at-2.result _ _ x n k (c.u16_at.ensures ∙ summary-count-read m _ _ _ _ _ _ _ _ z) (summaries-are m _ _ _ _ _ _ _ _ z) (c.u16_at-2.ensures ∙ record-count-read m _ _ _ _ _ _ _ _ z) (records-are m _ _ _ _ _ _ _ _ z) c.strike_summaries-first.ensures c.strike_records-second.ensures; formed = struck-formed m o y c.args.engine.number (omega (arith, c.args.engine.small)) _ _ _ _ _ 0 c.strike_summaries-first.result c.strike_records-second.result c.u16_at.result c.u16_at-2.result _ _ x n k (c.u16_at.ensures ∙ summary-count-read m _ _ _ _ _ _ _ _ z) (summaries-are m _ _ _ _ _ _ _ _ z) (c.u16_at-2.ensures ∙ record-count-read m _ _ _ _ _ _ _ _ z) (records-are m _ _ _ _ _ _ _ _ z) c.strike_summaries-first.ensures c.strike_records-second.ensures }

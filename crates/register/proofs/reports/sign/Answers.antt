@@ -1,133 +1,101 @@
--- The records' table takes the record's place or not; a record that is held gains the signer, and the count follows one that is new.
-use Prim.Native.Nat.{ℕ, ◌-◌}
-use mathlib.Core.Path.{◌≡◌, ap, ap₂, ◌∙◌}
-use mathlib.Core.List.{List}
-use native.Mathlib.Omega.{arith}
-use lib.ListN.{length, take, drop}
-use borrow.Rule.Slice.PartMut.{same_len_mid}
-use Rattle.octets.proofs.Moves.{tail-lent}
+use Rattle.std.proofs.Common.{rules, arith, ◌≡◌, sym, ap, ap₂, ◌∙◌, List, ℕ, ◌++◌, take, length}
+use lib.Seq.{take_at}
 use Rattle.octets.specs.Bytes.{Bytes}
+use Rattle.octets.specs.Masks.{bit, withBit}
+use Rattle.octets.specs.Words.{word_bytes}
 use Rattle.octets.proofs.Numbers.{all-bytes}
-use Rattle.places.specs.Places.{places, ascending}
-use Rattle.record.proofs.Parts.{formed}
-use Rattle.record.specs.Layout.{recordSize}
+use Rattle.places.specs.Places.{places, table_of}
 use Rattle.held.specs.Limits.{placeSize}
-use Rattle.register.specs.Layout.{recordsAt, recordsSize}
-use Rattle.register.specs.Memory.{recordCount}
-use Rattle.register.proofs.Opened.{Opened, opened, record-bytes-length, records-ascend}
-use Rattle.register.proofs.Signing.{RecordWay, withRecords, record-way, record-new, record-full, record-again, held-within}
+use Rattle.record.specs.Layout.{recordSize}
+use Rattle.register.specs.Layout.{maxRecords}
+use Rattle.register.specs.Register.{signRecord}
+use Rattle.register.specs.Memory.{recordCount, recordTable, recordsIn, decode}
+use Rattle.register.proofs.Opened.{opened}
+use Rattle.register.proofs.Answers.{decoded-convicted}
+use Rattle.places.specs.Tables.{sought, full, putIn}
+use Rattle.places.proofs.Puts.{found-in-range, in-order}
+use Rattle.register.specs.Signers.{signersFound}
+use Rattle.register.proofs.Parts.{split, records-are, record-count-read, number-put, records-sorted}
+use Rattle.register.proofs.Signing.{signedPlace, left, done, signed-valid}
+use Rattle.register.proofs.Views.{decoded, still-formed, signing-leaves}
 use Rattle.register.proofs.reports.sign.Goals as goal
 
-pub u16_at-n-requires : goal.u16_at-n-requires
-u16_at-n-requires c =
-    let m : List ℕ = c.args.memory.now in
-    let o : Opened m = opened m c.requires.memory_value in
-    omega (arith, o.size)
+pub split_at_mut-convicted-requires : goal.split_at_mut-convicted-requires
+split_at_mut-convicted-requires c = omega (arith, (opened c.args.memory.now c.requires.register).size)
 
-pub new_place-p-requires-clause-r_len : goal.new_place-p-requires-clause-r_len
-new_place-p-requires-clause-r_len c = (formed c.args.r.now c.requires.r_value).size
+pub split_at_mut-summary_count-requires : goal.split_at_mut-summary_count-requires
+split_at_mut-summary_count-requires c = omega (arith, (opened c.args.memory.now c.requires.register).size, c.split_at_mut-convicted.ensures.back_len)
 
-pub slice_bounds-put_by_key-count : goal.slice_bounds-put_by_key-count
-slice_bounds-put_by_key-count c =
-    let m : List ℕ = c.args.memory.now in
-    let o : Opened m = opened m c.requires.memory_value in
-    omega (arith, o.size)
+pub split_at_mut-record_count-requires : goal.split_at_mut-record_count-requires
+split_at_mut-record_count-requires c = omega (arith, (opened c.args.memory.now c.requires.register).size, c.split_at_mut-convicted.ensures.back_len, c.split_at_mut-summary_count.ensures.back_len)
 
-pub slice_bounds-put_by_key-start : goal.slice_bounds-put_by_key-start
-slice_bounds-put_by_key-start c =
-    let m : List ℕ = c.args.memory.now in
-    let o : Opened m = opened m c.requires.memory_value in
-    omega (arith, o.size)
+pub split_at_mut-summaries-requires : goal.split_at_mut-summaries-requires
+split_at_mut-summaries-requires c = omega (arith, (opened c.args.memory.now c.requires.register).size, c.split_at_mut-convicted.ensures.back_len, c.split_at_mut-summary_count.ensures.back_len, c.split_at_mut-record_count.ensures.back_len)
 
--- the records, as they are lent
-lent-size : (m : List ℕ) → Opened m → length (take (length m - recordsAt) (drop recordsAt m)) ≡ recordsSize
-lent-size m o = ap length (tail-lent m recordsAt) ∙ record-bytes-length m o
+pub of-records-requires : goal.of-records-requires
+of-records-requires c =
+    let m = c.args.memory.now in
+    let z = split m _ _ _ _ _ _ _ _ c.split_at_mut-convicted.ensures.front c.split_at_mut-convicted.ensures.back c.split_at_mut-summary_count.ensures.front c.split_at_mut-summary_count.ensures.back c.split_at_mut-record_count.ensures.front c.split_at_mut-record_count.ensures.back c.split_at_mut-summaries.ensures.front c.split_at_mut-summaries.ensures.back in
+    (omega arith, records-sorted m (opened m c.requires.register) c.u16_at.result c.split_at_mut-summaries.result.1.now (c.u16_at.ensures ∙ record-count-read m _ _ _ _ _ _ _ _ z) (records-are m _ _ _ _ _ _ _ _ z))
 
-pub put_by_key-tried-requires-clause-w_in_bounds : goal.put_by_key-tried-requires-clause-w_in_bounds
-put_by_key-tried-requires-clause-w_in_bounds c =
-    let m : List ℕ = c.args.memory.now in
-    let o : Opened m = opened m c.requires.memory_value in
-    let n-is : c.u16_at-n.result ≡ recordCount m = c.u16_at-n.ensures in
-    rw (lent-size m o) (omega (arith, o.few-records, n-is))
+pub signers_with-signers-requires : goal.signers_with-signers-requires
+signers_with-signers-requires c =
+    let q = c.of-records.result in
+    rw c.places.ensures (found-in-range recordSize c.args.r.bytes.now (places placeSize q.count q.places.now) (in-order placeSize recordSize maxRecords q.count q.places.now q.sorted) c.search-found.result c.search-found.ensures)
 
-pub put_by_key-tried-requires-clause-t_value : goal.put_by_key-tried-requires-clause-t_value
-put_by_key-tried-requires-clause-t_value c =
-    let m : List ℕ = c.args.memory.now in
-    ap₂ (λ (x : ℕ) (y : List ℕ). ascending recordSize (places placeSize x y)) c.u16_at-n.ensures (tail-lent m recordsAt) ∙ records-ascend m (opened m c.requires.memory_value)
+pub put-requires : goal.put-requires
+put-requires c =
+    let l = c.args.r.size in
+    let k : take recordSize c.signed.result ≡ c.args.r.bytes.now = ap (take recordSize) c.signed.ensures ∙ take_at c.args.r.bytes.now (word_bytes 4 c.signers_with-signers.result.0) recordSize l in
+    (omega arith, (omega arith, (c.search-found.ensures ∙ ap (λ (y : List ℕ). sought recordSize y (places placeSize c.of-records.result.count c.of-records.result.places.now)) (sym k), sym c.is_full.ensures ∙ c.if-is_full.false)))
 
-pub put_by_key-tried-requires-clause-t_len : goal.put_by_key-tried-requires-clause-t_len
-put_by_key-tried-requires-clause-t_len c =
-    let m : List ℕ = c.args.memory.now in
-    lent-size m (opened m c.requires.memory_value)
+pub returns-then-is_full : goal.returns-then-is_full
+returns-then-is_full c =
+    let m = c.args.memory.now in
+    let e = c.args.engine.number in
+    let r = c.args.r.bytes.now in
+    let o = opened m c.requires.register in
+    let y : Bytes m = all-bytes m (λ i. (c.slice_known-1.given i).fits) in
+    let l = c.args.r.size in
+    let z = split m _ _ _ _ _ _ _ _ c.split_at_mut-convicted.ensures.front c.split_at_mut-convicted.ensures.back c.split_at_mut-summary_count.ensures.front c.split_at_mut-summary_count.ensures.back c.split_at_mut-record_count.ensures.front c.split_at_mut-record_count.ensures.back c.split_at_mut-summaries.ensures.front c.split_at_mut-summaries.ensures.back in
+    let places-are : c.of-records.result.places.now ≡ recordTable m = c.of-records.ensures.places ∙ records-are m _ _ _ _ _ _ _ _ z in
+    let n : c.of-records.result.count ≡ recordCount m = c.of-records.ensures.count ∙ c.u16_at.ensures ∙ record-count-read m _ _ _ _ _ _ _ _ z in
+    let held : places placeSize c.of-records.result.count c.of-records.result.places.now ≡ recordsIn m = ap₂ (places placeSize) n places-are in
+    let f = c.search-found.result in
+    let sought-is : f ≡ sought recordSize r (recordsIn m) = c.search-found.ensures ∙ ap (sought recordSize r) held in
+    let full-is = ap (λ (j : ℕ). full maxRecords j f) (sym n) ∙ sym c.is_full.ensures in
+    let leaves = signing-leaves e r (decode m) in
+    let valid = signed-valid m o e r l y (omega (arith, c.args.engine.small)) c.args.r.formed (sym (ap (λ (x : ℕ). bit x e) (decoded-convicted m)) ∙ c.requires.free) in
+    let same = λ (t : List ℕ). λ (q : t ≡ c.of-records.result.places.now). left m o e r l _ _ _ _ _ _ _ _ z f sought-is t (q ∙ c.of-records.ensures.places) (full-is ∙ c.if-is_full.true) in
+    record {
+      signed = decoded m c.requires.register (signRecord e r (decode m)) leaves valid 5 _ (same _ (search rules));
+      formed = still-formed m c.requires.register (signRecord e r (decode m)) leaves valid 5 _ (same _ (search rules));
+    }
 
-pub add_signer-requires-clause-memory_len : goal.add_signer-requires-clause-memory_len
-add_signer-requires-clause-memory_len c =
-    let m : List ℕ = c.args.memory.now in
-    same_len_mid recordsAt (length m - recordsAt) m c.put_by_key-tried.new.t c.put_by_key-tried.auto.t ∙ (opened m c.requires.memory_value).size
-
-pub add_signer-requires-clause-i_lt_max_records : goal.add_signer-requires-clause-i_lt_max_records
-add_signer-requires-clause-i_lt_max_records c =
-    let m : List ℕ = c.args.memory.now in
-    let e : ℕ = c.args.engine in
-    let r : List ℕ = c.args.r.now in
-    let o : Opened m = opened m c.requires.memory_value in
-    let r-size : length r ≡ recordSize = (formed r c.requires.r_value).size in
-    let b : Bytes m = all-bytes m (λ i. (c.slice_known-1.given i).fits) in
-    let t : List ℕ = c.put_by_key-tried.new.t in
-    let way : RecordWay m o b e r r-size c.put_by_key-tried.result t =
-    record-way m o b e r r-size c.u16_at-n.result c.new_place-p.result c.put_by_key-tried.result t c.u16_at-n.ensures c.new_place-p.ensures c.put_by_key-tried.ensures in
-    held-within m o b e r r-size t way c.in-Held.i c.in-Held.is
-
-pub overflow_add-n : goal.overflow_add-n
-overflow_add-n c =
-    let m : List ℕ = c.args.memory.now in
-    let o : Opened m = opened m c.requires.memory_value in
-    let n : ℕ = c.u16_at-n.result in
-    let n-is : n ≡ recordCount m = c.u16_at-n.ensures in
-    omega (arith, o.few-records, n-is)
-
-pub put_u16-requires : goal.put_u16-requires
-put_u16-requires c =
-    let m : List ℕ = c.args.memory.now in
-    let t : List ℕ = c.put_by_key-tried.new.t in
-    let size-kept : length (withRecords m t) ≡ length m = same_len_mid recordsAt (length m - recordsAt) m t c.put_by_key-tried.auto.t in
-    omega (arith, size-kept, (opened m c.requires.memory_value).size)
-
-pub returns-in-Held : goal.returns-in-Held
-returns-in-Held c =
-    let m : List ℕ = c.args.memory.now in
-    let e : ℕ = c.args.engine in
-    let r : List ℕ = c.args.r.now in
-    let o : Opened m = opened m c.requires.memory_value in
-    let r-size : length r ≡ recordSize = (formed r c.requires.r_value).size in
-    let b : Bytes m = all-bytes m (λ i. (c.slice_known-1.given i).fits) in
-    let t : List ℕ = c.put_by_key-tried.new.t in
-    let way : RecordWay m o b e r r-size c.put_by_key-tried.result t =
-    record-way m o b e r r-size c.u16_at-n.result c.new_place-p.result c.put_by_key-tried.result t c.u16_at-n.ensures c.new_place-p.ensures c.put_by_key-tried.ensures in
-    record-again m o b e r r-size t way c.in-Held.i c.in-Held.is c.add_signer.new.memory c.add_signer.ensures
-
-pub returns-in-Full : goal.returns-in-Full
-returns-in-Full c =
-    let m : List ℕ = c.args.memory.now in
-    let e : ℕ = c.args.engine in
-    let r : List ℕ = c.args.r.now in
-    let o : Opened m = opened m c.requires.memory_value in
-    let r-size : length r ≡ recordSize = (formed r c.requires.r_value).size in
-    let b : Bytes m = all-bytes m (λ i. (c.slice_known-1.given i).fits) in
-    let t : List ℕ = c.put_by_key-tried.new.t in
-    let way : RecordWay m o b e r r-size c.put_by_key-tried.result t =
-    record-way m o b e r r-size c.u16_at-n.result c.new_place-p.result c.put_by_key-tried.result t c.u16_at-n.ensures c.new_place-p.ensures c.put_by_key-tried.ensures in
-    record-full m o b e r r-size t way c.in-Full.is
-
-pub returns-in-New : goal.returns-in-New
-returns-in-New c =
-    let m : List ℕ = c.args.memory.now in
-    let e : ℕ = c.args.engine in
-    let r : List ℕ = c.args.r.now in
-    let o : Opened m = opened m c.requires.memory_value in
-    let r-size : length r ≡ recordSize = (formed r c.requires.r_value).size in
-    let b : Bytes m = all-bytes m (λ i. (c.slice_known-1.given i).fits) in
-    let t : List ℕ = c.put_by_key-tried.new.t in
-    let way : RecordWay m o b e r r-size c.put_by_key-tried.result t =
-    record-way m o b e r r-size c.u16_at-n.result c.new_place-p.result c.put_by_key-tried.result t c.u16_at-n.ensures c.new_place-p.ensures c.put_by_key-tried.ensures in
-    record-new m o b e r r-size t c.put_u16.new.s c.u16_at-n.result c.u16_at-n.ensures way c.in-New.is c.put_u16.ensures
+pub returns : goal.returns
+returns c =
+    let m = c.args.memory.now in
+    let e = c.args.engine.number in
+    let r = c.args.r.bytes.now in
+    let o = opened m c.requires.register in
+    let y : Bytes m = all-bytes m (λ i. (c.slice_known-1.given i).fits) in
+    let l = c.args.r.size in
+    let z = split m _ _ _ _ _ _ _ _ c.split_at_mut-convicted.ensures.front c.split_at_mut-convicted.ensures.back c.split_at_mut-summary_count.ensures.front c.split_at_mut-summary_count.ensures.back c.split_at_mut-record_count.ensures.front c.split_at_mut-record_count.ensures.back c.split_at_mut-summaries.ensures.front c.split_at_mut-summaries.ensures.back in
+    let places-are : c.of-records.result.places.now ≡ recordTable m = c.of-records.ensures.places ∙ records-are m _ _ _ _ _ _ _ _ z in
+    let n : c.of-records.result.count ≡ recordCount m = c.of-records.ensures.count ∙ c.u16_at.ensures ∙ record-count-read m _ _ _ _ _ _ _ _ z in
+    let held : places placeSize c.of-records.result.count c.of-records.result.places.now ≡ recordsIn m = ap₂ (places placeSize) n places-are in
+    let f = c.search-found.result in
+    let sought-is : f ≡ sought recordSize r (recordsIn m) = c.search-found.ensures ∙ ap (sought recordSize r) held in
+    let full-is = ap (λ (j : ℕ). full maxRecords j f) (sym n) ∙ sym c.is_full.ensures in
+    let leaves = signing-leaves e r (decode m) in
+    let valid = signed-valid m o e r l y (omega (arith, c.args.engine.small)) c.args.r.formed (sym (ap (λ (x : ℕ). bit x e) (decoded-convicted m)) ∙ c.requires.free) in
+    let place-is : c.signed.result ≡ signedPlace m o e r l f =
+    c.signed.ensures ∙ ap (λ (x : ℕ). r ++ word_bytes 4 x) (c.signers_with-signers.ensures ∙ ap (λ (ps : List (List ℕ)). withBit (signersFound ps f) e) (c.places.ensures ∙ held)) in
+    let put-is = ap₂ (putIn recordSize) place-is held in
+    let number-is = c.put_u16.ensures ∙ number-put 2 c.count.result _ _ z.record-count ∙ ap (word_bytes 2) (c.count.ensures ∙ c.put.ensures.count ∙ ap length put-is) in
+    let table-is = c.put.ensures.places ∙ ap (table_of placeSize maxRecords) put-is in
+    let new = λ (t : List ℕ). λ (q : t ≡ c.put.new.self.places.now). done m o e r l _ _ _ _ _ _ _ _ z f sought-is y _ t number-is (q ∙ table-is) (full-is ∙ c.if-is_full.false) in
+    record {
+      signed = decoded m c.requires.register (signRecord e r (decode m)) leaves valid 0 _ (new _ (search rules));
+      formed = still-formed m c.requires.register (signRecord e r (decode m)) leaves valid 0 _ (new _ (search rules));
+    }

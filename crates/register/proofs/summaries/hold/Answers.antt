@@ -1,78 +1,88 @@
--- The summaries' table takes the summary or not; the count follows.
-use Prim.Native.Nat.{ℕ}
-use mathlib.Core.Path.{◌≡◌, ap, ◌∙◌}
-use mathlib.Core.List.{List}
-use native.Mathlib.Omega.{arith}
+use Rattle.std.proofs.Common.{rules, arith, ◌≡◌, sym, ap, ap₂, ◌∙◌, List, ℕ, take, length}
+use lib.Seq.{take_all}
 use Rattle.octets.specs.Bytes.{Bytes}
+use Rattle.octets.specs.Words.{word_bytes}
 use Rattle.octets.proofs.Numbers.{all-bytes}
-use Rattle.places.specs.Places.{places, ascending}
+use Rattle.places.specs.Places.{places, table_of}
 use Rattle.models.specs.Summary.{summarySize}
-use Rattle.register.specs.Memory.{summaryTable, summaryCount}
-use Rattle.register.proofs.Opened.{Opened, opened, summary-bytes-length, summaries-ascend}
-use Rattle.register.proofs.Signing.{SummaryWay, summary-way, summary-held, summary-full, summary-new}
+use Rattle.held.specs.Limits.{maxSummaries}
+use Rattle.register.specs.Register.{holdSummary}
+use Rattle.register.specs.Memory.{summaryCount, summaryTable, summariesIn, decode}
+use Rattle.held.specs.Summaries.{summaryFormed}
+use Rattle.register.proofs.Opened.{opened}
+use Rattle.register.proofs.Answers.{decoded-convicted}
+use Rattle.places.specs.Tables.{sought, full, putIn}
+use Rattle.register.proofs.Parts.{split, summaries-are, summary-count-read, number-put, summaries-sorted}
+use Rattle.register.proofs.Holding.{left, done, held-valid}
+use Rattle.register.proofs.Views.{decoded, still-formed, holding-leaves}
 use Rattle.register.proofs.summaries.hold.Goals as goal
 
-pub u16_at-n-requires : goal.u16_at-n-requires
-u16_at-n-requires c = omega (arith, (opened c.args.memory.now c.requires.memory_value).size)
+pub split_at_mut-convicted-requires : goal.split_at_mut-convicted-requires
+split_at_mut-convicted-requires c = omega (arith, (opened c.args.memory.now c.requires.register).size)
 
-pub slice_bounds-put_by_key-end : goal.slice_bounds-put_by_key-end
-slice_bounds-put_by_key-end c =
-    let m : List ℕ = c.args.memory.now in
-    let o : Opened m = opened m c.requires.memory_value in
-    omega (arith, o.size)
+pub split_at_mut-summary_count-requires : goal.split_at_mut-summary_count-requires
+split_at_mut-summary_count-requires c = omega (arith, (opened c.args.memory.now c.requires.register).size, c.split_at_mut-convicted.ensures.back_len)
 
-pub put_by_key-tried-requires-clause-w_in_bounds : goal.put_by_key-tried-requires-clause-w_in_bounds
-put_by_key-tried-requires-clause-w_in_bounds c =
-    let m : List ℕ = c.args.memory.now in
-    let o : Opened m = opened m c.requires.memory_value in
-    let n-is : c.u16_at-n.result ≡ summaryCount m = c.u16_at-n.ensures in
-    rw (summary-bytes-length m o) (omega (arith, o.few-summaries, n-is))
+pub split_at_mut-record_count-requires : goal.split_at_mut-record_count-requires
+split_at_mut-record_count-requires c = omega (arith, (opened c.args.memory.now c.requires.register).size, c.split_at_mut-convicted.ensures.back_len, c.split_at_mut-summary_count.ensures.back_len)
 
-pub put_by_key-tried-requires-clause-t_value : goal.put_by_key-tried-requires-clause-t_value
-put_by_key-tried-requires-clause-t_value c =
-    let m : List ℕ = c.args.memory.now in
-    ap (λ (x : ℕ). ascending summarySize (places summarySize x (summaryTable m))) c.u16_at-n.ensures ∙ summaries-ascend m (opened m c.requires.memory_value)
+pub split_at_mut-places-requires : goal.split_at_mut-places-requires
+split_at_mut-places-requires c = omega (arith, (opened c.args.memory.now c.requires.register).size, c.split_at_mut-convicted.ensures.back_len, c.split_at_mut-summary_count.ensures.back_len, c.split_at_mut-record_count.ensures.back_len)
 
-pub overflow_add-n : goal.overflow_add-n
-overflow_add-n c =
-    let m : List ℕ = c.args.memory.now in
-    let n : ℕ = c.u16_at-n.result in
-    let o : Opened m = opened m c.requires.memory_value in
-    let n-is : n ≡ summaryCount m = c.u16_at-n.ensures in
-    omega (arith, o.few-summaries, n-is)
+pub of-summaries-requires : goal.of-summaries-requires
+of-summaries-requires c =
+    let m = c.args.memory.now in
+    let z = split m _ _ _ _ _ _ _ _ c.split_at_mut-convicted.ensures.front c.split_at_mut-convicted.ensures.back c.split_at_mut-summary_count.ensures.front c.split_at_mut-summary_count.ensures.back c.split_at_mut-record_count.ensures.front c.split_at_mut-record_count.ensures.back c.split_at_mut-places.ensures.front c.split_at_mut-places.ensures.back in
+    (omega arith, summaries-sorted m (opened m c.requires.register) c.u16_at.result c.split_at_mut-places.result.0.now (c.u16_at.ensures ∙ summary-count-read m _ _ _ _ _ _ _ _ z) (summaries-are m _ _ _ _ _ _ _ _ z))
 
-pub returns-in-Held : goal.returns-in-Held
-returns-in-Held c =
-    let m : List ℕ = c.args.memory.now in
-    let p : List ℕ = c.args.p.now in
-    let n : ℕ = c.u16_at-n.result in
-    let o : Opened m = opened m c.requires.memory_value in
-    let b : Bytes m = all-bytes m (λ i. (c.slice_known-1.given i).fits) in
-    let n-is : n ≡ summaryCount m = c.u16_at-n.ensures in
-    let t : List ℕ = c.put_by_key-tried.new.t in
-    let way : SummaryWay m o b p c.requires.p_len c.put_by_key-tried.result t = summary-way m o b p c.requires.p_len n c.put_by_key-tried.result t n-is c.put_by_key-tried.ensures in
-    summary-held m o b p c.requires.p_len t way _ c.in-Held.is
+pub put-requires : goal.put-requires
+put-requires c =
+    let k : take summarySize c.args.summary.now ≡ c.args.summary.now = take_all summarySize c.args.summary.now (omega (arith, c.told-summary)) in
+    (omega arith, (omega arith, (c.search-found.ensures ∙ ap (λ (y : List ℕ). sought summarySize y (places summarySize c.of-summaries.result.count c.of-summaries.result.places.now)) (sym k), sym c.is_full.ensures ∙ c.if-is_full.false)))
 
-pub returns-in-Full : goal.returns-in-Full
-returns-in-Full c =
-    let m : List ℕ = c.args.memory.now in
-    let p : List ℕ = c.args.p.now in
-    let n : ℕ = c.u16_at-n.result in
-    let o : Opened m = opened m c.requires.memory_value in
-    let b : Bytes m = all-bytes m (λ i. (c.slice_known-1.given i).fits) in
-    let n-is : n ≡ summaryCount m = c.u16_at-n.ensures in
-    let t : List ℕ = c.put_by_key-tried.new.t in
-    let way : SummaryWay m o b p c.requires.p_len c.put_by_key-tried.result t = summary-way m o b p c.requires.p_len n c.put_by_key-tried.result t n-is c.put_by_key-tried.ensures in
-    summary-full m o b p c.requires.p_len t way c.in-Full.is
+pub returns-then-is_full : goal.returns-then-is_full
+returns-then-is_full c =
+    let m = c.args.memory.now in
+    let r = c.args.summary.now in
+    let o = opened m c.requires.register in
+    let y : Bytes m = all-bytes m (λ i. (c.slice_known-1.given i).fits) in
+    let l = c.told-summary in
+    let z = split m _ _ _ _ _ _ _ _ c.split_at_mut-convicted.ensures.front c.split_at_mut-convicted.ensures.back c.split_at_mut-summary_count.ensures.front c.split_at_mut-summary_count.ensures.back c.split_at_mut-record_count.ensures.front c.split_at_mut-record_count.ensures.back c.split_at_mut-places.ensures.front c.split_at_mut-places.ensures.back in
+    let places-are : c.of-summaries.result.places.now ≡ summaryTable m = c.of-summaries.ensures.places ∙ summaries-are m _ _ _ _ _ _ _ _ z in
+    let n : c.of-summaries.result.count ≡ summaryCount m = c.of-summaries.ensures.count ∙ c.u16_at.ensures ∙ summary-count-read m _ _ _ _ _ _ _ _ z in
+    let held : places summarySize c.of-summaries.result.count c.of-summaries.result.places.now ≡ summariesIn m = ap₂ (places summarySize) n places-are in
+    let f = c.search-found.result in
+    let sought-is : f ≡ sought summarySize r (summariesIn m) = c.search-found.ensures ∙ ap (sought summarySize r) held in
+    let full-is = ap (λ (j : ℕ). full maxSummaries j f) (sym n) ∙ sym c.is_full.ensures in
+    let leaves = holding-leaves r (decode m) in
+    let valid = held-valid m o r l y (ap (λ (x : ℕ). summaryFormed x r) (sym (decoded-convicted m)) ∙ c.requires.summary) in
+    let same = λ (t : List ℕ). λ (q : t ≡ c.of-summaries.result.places.now). left m o r l _ _ _ _ _ _ _ _ z f sought-is t (q ∙ c.of-summaries.ensures.places) (full-is ∙ c.if-is_full.true) in
+    record {
+      held = decoded m c.requires.register (holdSummary r (decode m)) leaves valid 5 _ (same _ (search rules));
+      formed = still-formed m c.requires.register (holdSummary r (decode m)) leaves valid 5 _ (same _ (search rules));
+    }
 
-pub returns-in-New : goal.returns-in-New
-returns-in-New c =
-    let m : List ℕ = c.args.memory.now in
-    let p : List ℕ = c.args.p.now in
-    let n : ℕ = c.u16_at-n.result in
-    let o : Opened m = opened m c.requires.memory_value in
-    let b : Bytes m = all-bytes m (λ i. (c.slice_known-1.given i).fits) in
-    let n-is : n ≡ summaryCount m = c.u16_at-n.ensures in
-    let t : List ℕ = c.put_by_key-tried.new.t in
-    let way : SummaryWay m o b p c.requires.p_len c.put_by_key-tried.result t = summary-way m o b p c.requires.p_len n c.put_by_key-tried.result t n-is c.put_by_key-tried.ensures in
-    summary-new m o b p c.requires.p_len t c.put_u16.new.s n n-is way c.in-New.is c.put_u16.ensures
+pub returns : goal.returns
+returns c =
+    let m = c.args.memory.now in
+    let r = c.args.summary.now in
+    let o = opened m c.requires.register in
+    let y : Bytes m = all-bytes m (λ i. (c.slice_known-1.given i).fits) in
+    let l = c.told-summary in
+    let z = split m _ _ _ _ _ _ _ _ c.split_at_mut-convicted.ensures.front c.split_at_mut-convicted.ensures.back c.split_at_mut-summary_count.ensures.front c.split_at_mut-summary_count.ensures.back c.split_at_mut-record_count.ensures.front c.split_at_mut-record_count.ensures.back c.split_at_mut-places.ensures.front c.split_at_mut-places.ensures.back in
+    let places-are : c.of-summaries.result.places.now ≡ summaryTable m = c.of-summaries.ensures.places ∙ summaries-are m _ _ _ _ _ _ _ _ z in
+    let n : c.of-summaries.result.count ≡ summaryCount m = c.of-summaries.ensures.count ∙ c.u16_at.ensures ∙ summary-count-read m _ _ _ _ _ _ _ _ z in
+    let held : places summarySize c.of-summaries.result.count c.of-summaries.result.places.now ≡ summariesIn m = ap₂ (places summarySize) n places-are in
+    let f = c.search-found.result in
+    let sought-is : f ≡ sought summarySize r (summariesIn m) = c.search-found.ensures ∙ ap (sought summarySize r) held in
+    let full-is = ap (λ (j : ℕ). full maxSummaries j f) (sym n) ∙ sym c.is_full.ensures in
+    let leaves = holding-leaves r (decode m) in
+    let valid = held-valid m o r l y (ap (λ (x : ℕ). summaryFormed x r) (sym (decoded-convicted m)) ∙ c.requires.summary) in
+    let put-is = ap (putIn summarySize r) held in
+    let number-is = c.put_u16.ensures ∙ number-put 2 c.count.result _ _ z.summary-count ∙ ap (word_bytes 2) (c.count.ensures ∙ c.put.ensures.count ∙ ap length put-is) in
+    let table-is = c.put.ensures.places ∙ ap (table_of summarySize maxSummaries) put-is in
+    let new = λ (t : List ℕ). λ (q : t ≡ c.put.new.self.places.now). done m o r l _ _ _ _ _ _ _ _ z f sought-is y _ t number-is (q ∙ table-is) (full-is ∙ c.if-is_full.false) in
+    record {
+      held = decoded m c.requires.register (holdSummary r (decode m)) leaves valid 0 _ (new _ (search rules));
+      formed = still-formed m c.requires.register (holdSummary r (decode m)) leaves valid 0 _ (new _ (search rules));
+    }

@@ -1,109 +1,18 @@
--- Each refusal is the definition's, and past all of them the summary is held.
-use Prim.Native.Nat.{ℕ, ◌≤◌}
-use mathlib.Core.Path.{◌≡◌, refl, sym, ap, ◌∙◌}
-use mathlib.Core.Bool.{true, false}
-use mathlib.Core.List.{List}
-use native.Mathlib.Omega.{arith}
-use lib.Dec.{eqb}
-use lib.ListN.{length, length-append}
-use Rattle.octets.specs.Masks.{bit}
-use Rattle.octets.specs.Words.{word_bytes}
-use Rattle.octets.proofs.Numbers.{length-word-bytes}
-use Rattle.models.specs.Summary.{summaryOf, summarySize, inputsSize}
-use Rattle.record.specs.Layout.{maxModel}
-use Rattle.held.specs.After.{After, after}
-use Rattle.held.specs.Limits.{maxEngine}
-use Rattle.register.specs.Register.{Register, takeSummary, holdSummary}
-use Rattle.register.specs.Memory.{wellFormed, decode, commit, on_memory}
-use Rattle.register.proofs.Opened.{opened}
-use Rattle.register.proofs.Answers.{no_register, on-register, refused, summary-2, summary-9-model, summary-9-inputs, summary-4, summary-rest, decoded-convicted}
+use Rattle.std.proofs.Common.{rules, ◌∙◌, ℕ, List, ap, sym}
+use Rattle.octets.proofs.Numbers.{all-bytes}
+use Rattle.held.specs.After.{after}
+use Rattle.register.specs.Register.{takeSummary}
+use Rattle.register.specs.Memory.{decode}
+use Rattle.register.proofs.Views.{none, encoded, summary-leaves}
 use Rattle.register.proofs.summaries.summary.Goals as goal
 
-wide-summary : (e model spec : ℕ) (inputs : List ℕ) → length inputs ≡ inputsSize → length (summaryOf e model spec inputs) ≡ summarySize
-wide-summary e model spec inputs l = let z : length (word_bytes 2 spec) ≡ 2 = length-word-bytes 2 spec in rw length-append (omega arith)
-
 pub returns-then-not-well_formed : goal.returns-then-not-well_formed
-returns-then-not-well_formed c =
-    let m : List ℕ = c.args.memory.now in
-    let e : ℕ = c.args.engine in
-    let model : ℕ = c.args.model in
-    let spec : ℕ = c.args.spec in
-    let inputs : List ℕ = c.args.inputs.now in
-    let summarizing : Register → After Register = takeSummary e model spec inputs in
-    no_register summarizing m (sym c.well_formed-2.ensures ∙ c.if-not-well_formed.true)
-
-pub returns-then-engine-gt-MAX_ENGINE : goal.returns-then-engine-gt-MAX_ENGINE
-returns-then-engine-gt-MAX_ENGINE c =
-    let m : List ℕ = c.args.memory.now in
-    let e : ℕ = c.args.engine in
-    let model : ℕ = c.args.model in
-    let spec : ℕ = c.args.spec in
-    let inputs : List ℕ = c.args.inputs.now in
-    let summarizing : Register → After Register = takeSummary e model spec inputs in
-    let is-register : wellFormed m ≡ true = sym c.well_formed-2.ensures ∙ c.if-not-well_formed.false in
-    let refusal : (n : ℕ) → eqb n 0 ≡ false → summarizing (decode m) ≡ after n (decode m) → after n m ≡ on_memory summarizing m = refused summarizing m is-register in
-    refusal 2 refl (summary-2 e model spec inputs (decode m) c.if-engine-gt-MAX_ENGINE.true)
-
-pub returns-then-model : goal.returns-then-model
-returns-then-model c =
-    let m : List ℕ = c.args.memory.now in
-    let e : ℕ = c.args.engine in
-    let model : ℕ = c.args.model in
-    let spec : ℕ = c.args.spec in
-    let inputs : List ℕ = c.args.inputs.now in
-    let summarizing : Register → After Register = takeSummary e model spec inputs in
-    let is-register : wellFormed m ≡ true = sym c.well_formed-2.ensures ∙ c.if-not-well_formed.false in
-    let refusal : (n : ℕ) → eqb n 0 ≡ false → summarizing (decode m) ≡ after n (decode m) → after n m ≡ on_memory summarizing m = refused summarizing m is-register in
-    refusal 9 refl (summary-9-model e model spec inputs (decode m) c.if-engine-gt-MAX_ENGINE.false c.if-model.true)
-
-pub returns-then-inputs-ne-INPUTS_SIZE : goal.returns-then-inputs-ne-INPUTS_SIZE
-returns-then-inputs-ne-INPUTS_SIZE c =
-    let m : List ℕ = c.args.memory.now in
-    let e : ℕ = c.args.engine in
-    let model : ℕ = c.args.model in
-    let spec : ℕ = c.args.spec in
-    let inputs : List ℕ = c.args.inputs.now in
-    let summarizing : Register → After Register = takeSummary e model spec inputs in
-    let is-register : wellFormed m ≡ true = sym c.well_formed-2.ensures ∙ c.if-not-well_formed.false in
-    let refusal : (n : ℕ) → eqb n 0 ≡ false → summarizing (decode m) ≡ after n (decode m) → after n m ≡ on_memory summarizing m = refused summarizing m is-register in
-    refusal 9 refl (summary-9-inputs e model spec inputs (decode m) c.if-engine-gt-MAX_ENGINE.false c.if-model.false c.if-inputs-ne-INPUTS_SIZE.true)
-
-pub u32_at-requires : goal.u32_at-requires
-u32_at-requires c =
-    let m : List ℕ = c.args.memory.now in
-    let is-register : wellFormed m ≡ true = sym c.well_formed-2.ensures ∙ c.if-not-well_formed.false in
-    omega (arith, (opened m is-register).size)
-
-pub returns-then-has_u32 : goal.returns-then-has_u32
-returns-then-has_u32 c =
-    let m : List ℕ = c.args.memory.now in
-    let e : ℕ = c.args.engine in
-    let model : ℕ = c.args.model in
-    let spec : ℕ = c.args.spec in
-    let inputs : List ℕ = c.args.inputs.now in
-    let summarizing : Register → After Register = takeSummary e model spec inputs in
-    let is-register : wellFormed m ≡ true = sym c.well_formed-2.ensures ∙ c.if-not-well_formed.false in
-    let refusal : (n : ℕ) → eqb n 0 ≡ false → summarizing (decode m) ≡ after n (decode m) → after n m ≡ on_memory summarizing m = refused summarizing m is-register in
-    let an-engine : e ≤ maxEngine = c.if-engine-gt-MAX_ENGINE.false in
-    let a-model : model ≤ maxModel = c.if-model.false in
-    let whole-inputs : length inputs ≡ inputsSize = c.if-inputs-ne-INPUTS_SIZE.false in
-    let convicted-is : bit (decode m).convicted e ≡ c.has_u32.result = ap (λ (x : ℕ). bit x e) (decoded-convicted m ∙ sym c.u32_at.ensures) ∙ sym c.has_u32.ensures in
-    refusal 4 refl (summary-4 e model spec inputs (decode m) an-engine a-model whole-inputs (convicted-is ∙ c.if-has_u32.true))
+returns-then-not-well_formed c = none (takeSummary c.args.engine c.args.model c.args.spec c.args.inputs.now) c.args.memory.now (sym c.well_formed-2.ensures ∙ c.if-not-well_formed.true)
 
 pub returns : goal.returns
 returns c =
-    let m : List ℕ = c.args.memory.now in
-    let e : ℕ = c.args.engine in
-    let model : ℕ = c.args.model in
-    let spec : ℕ = c.args.spec in
-    let inputs : List ℕ = c.args.inputs.now in
-    let summarizing : Register → After Register = takeSummary e model spec inputs in
-    let is-register : wellFormed m ≡ true = sym c.well_formed-2.ensures ∙ c.if-not-well_formed.false in
-    let an-engine : e ≤ maxEngine = c.if-engine-gt-MAX_ENGINE.false in
-    let a-model : model ≤ maxModel = c.if-model.false in
-    let whole-inputs : length inputs ≡ inputsSize = c.if-inputs-ne-INPUTS_SIZE.false in
-    let convicted-is : bit (decode m).convicted e ≡ c.has_u32.result = ap (λ (x : ℕ). bit x e) (decoded-convicted m ∙ sym c.u32_at.ensures) ∙ sym c.has_u32.ensures in
-    on-register summarizing m is-register _
-    (c.hold.ensures
-    ∙ ap (λ (p : List ℕ). commit m (holdSummary p (decode m))) c.new_summary-p.ensures
-    ∙ ap (commit m) (sym (summary-rest e model spec inputs (decode m) an-engine a-model whole-inputs (convicted-is ∙ c.if-has_u32.false))))
+    let m = c.args.memory.now in
+    let f = takeSummary c.args.engine c.args.model c.args.spec c.args.inputs.now in
+    encoded f m (sym c.well_formed-2.ensures ∙ c.if-not-well_formed.false) (all-bytes m (λ i. (c.slice_known-1.given i).fits)) (summary-leaves c.args.engine c.args.model c.args.spec c.args.inputs.now (decode m))
+    c.number.result _ c.summary.new.self.memory.now (search rules) c.summary.new.self.formed (all-bytes _ (λ i. (c.type_inv.memory i).fits))
+    (ap (λ (n : ℕ). after n (decode c.summary.new.self.memory.now)) c.number.ensures ∙ c.summary.ensures.summarized ∙ ap (λ (x : List ℕ). f (decode x)) c.of.ensures.bytes)

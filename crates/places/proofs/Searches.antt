@@ -1,0 +1,84 @@
+-- What std's clauses on slices of arrays say of the places of a table.
+use Rattle.std.proofs.Common.{◌≡◌, ℕ, zero, suc, ◌+◌, ◌-◌, ◌≤◌, ◌<◌, Bool, true, false, List, [], ◌∷◌, length, take, drop, get_or, refl, sym, ap, ◌∙◌, arith}
+use Rattle.std.specs.Prelude.{Ok, Err, ltb}
+use mathlib.Core.Bool.{true≢false}
+use native.Mathlib.Nat.{le_antisymm}
+use native.Mathlib.Numerals.{add-one}
+use borrow.Author.Tests.{ltb-true, ltb-false, lt-ltb}
+use Rattle.std.specs.List.{IsAllAdjacentAnswer}
+use Rattle.std.specs.List.Sorted.{IsPartitionPoint, IsPartitionedBy}
+use Rattle.std.specs.Simd.{first_chunks}
+use Rattle.std.proofs.lemmas.List.{get_or_default}
+use Rattle.ranges.proofs.Bools.{by}
+use Rattle.octets.specs.Order.{isBefore, same}
+use Rattle.octets.proofs.Comparison.{before-trans}
+use Rattle.places.specs.Places.{places, ascending, ascendingFrom}
+use Rattle.places.specs.Positions.{rank}
+use Rattle.places.proofs.Keys.{rank-le, rank-above, rank_below, keys-ascend, holds-at-rank, ascending-from, from_cons}
+use Rattle.places.specs.Tables.{sought}
+
+-- the first n of m chunks are n places
+pub first-places : (w n m : ℕ) (t : List ℕ) → n ≤ m → take n (first_chunks w m t) ≡ places w n t
+unfolding places
+first-places w zero m t h = refl
+first-places w (suc n) zero t h = absurd (omega arith)
+first-places w (suc n) (suc m) t h = ap (λ (ps : List (List ℕ)). take w t ∷ ps) (first-places w n m (drop w t) (omega arith))
+
+-- ---- neighbours
+
+abbrev pub keysAscend : ℕ → List ℕ → List ℕ → Bool
+keysAscend k x y = isBefore (take k x) (take k y)
+
+ascends_from : (k : ℕ) (p : List ℕ) (ps : List (List ℕ)) → ((i : ℕ) (d : List ℕ) → i + 1 < suc (length ps) → true ≡ keysAscend k (get_or (p ∷ ps) i d) (get_or ps i d)) → ascendingFrom k (take k p) ps ≡ true
+ascends_from k p [] h = unfold ascendingFrom in refl
+ascends_from k p (q ∷ ps) h = from_cons k (take k p) q ps (sym (h 0 [] (omega arith))) (ascends_from k q ps (λ i d l. h (suc i) d (omega arith)))
+
+-- places whose neighbours ascend ascend
+pub ascends : (k : ℕ) (ps : List (List ℕ)) (r : Bool) → IsAllAdjacentAnswer (λ x y b. b ≡ keysAscend k x y) ps r → r ≡ ascending k ps
+ascends k [] true h = unfold ascending in refl
+ascends k (p ∷ ps) true h = sym (ascending-from k p ps ∙ ascends_from k p ps (λ i d l. neighbours i d l))
+  where
+    neighbours : (i : ℕ) (d : List ℕ) → i + 1 < suc (length ps) → true ≡ keysAscend k (get_or (p ∷ ps) i d) (get_or ps i d)
+    neighbours i d l = let e = h i d l in rw (add-one i) at e
+ascends k ps false h =
+    by (ascending k ps)
+    (λ a. absurd (true≢false (sym (keys-ascend k ps h.0 (h.0 + 1) a (omega arith) h.1) ∙ sym (h.2 []))))
+    (λ a. sym a)
+
+-- ---- a key
+
+module _ (k : ℕ) (key : List ℕ) (ps : List (List ℕ)) (a : ascending k ps ≡ true) where
+  abbrev pub before : List ℕ → Bool
+  before y = isBefore (take k y) key
+
+  -- those before a key come first
+  pub parted : IsPartitionedBy before ps
+  parted i j d h l b =
+      by (ltb i j)
+      (λ u. let v = ltb-true i j u in
+      rw (get_or_default ps i d [] (omega arith)) (before-trans (take k (get_or ps i [])) (take k (get_or ps j [])) key (keys-ascend k ps i j a v l) (rw (get_or_default ps j d [] l) at b)))
+      (λ u. let v = ltb-false i j u in let e : i ≡ j = omega arith in rw e b)
+
+  -- and they end at its position
+  pub position : (i : ℕ) → i ≤ length ps → IsPartitionPoint (λ y. before y ≡ true) (λ y. before y ≡ false) ps i → rank k key ps ≡ i
+  position i l h = le_antisymm above below
+    where
+      above : rank k key ps ≤ i
+      above = by (ltb i (length ps)) (λ u. rank_below k key ps i (h.1 i [] (omega arith) (ltb-true i (length ps) u))) (λ u. let v = ltb-false i (length ps) u in omega (arith, rank-le k key ps))
+
+      below : i ≤ rank k key ps
+      below = by (ltb 0 i) (λ u. let v = ltb-true 0 i u in let w : i - 1 < rank k key ps = rank-above k key ps (i - 1) a (omega arith) (h.0 (i - 1) [] (omega arith) (omega arith)) in omega arith) (λ u. let v = ltb-false 0 i u in omega arith)
+
+  module _ (i : ℕ) (e : rank k key ps ≡ i) where
+    pub found : i < length ps → same (take k (get_or ps i [])) key ≡ true → Ok i ≡ sought k key ps
+    found l h = rw (holds-at-rank k key ps a, e, lt-ltb i (length ps) l, h) refl
+
+    pub not-found : (i < length ps → same (take k (get_or ps i [])) key ≡ false) → Err i ≡ sought k key ps
+    not-found h =
+        by (ltb i (length ps))
+        (λ u. rw (holds-at-rank k key ps a, e, u, h (ltb-true i (length ps) u)) refl)
+        (λ u. rw (holds-at-rank k key ps a, e, u) refl)
+
+    -- the place as it is read
+    pub compared : (p x : List ℕ) (b : Bool) → i < length ps → p ≡ get_or ps i p → x ≡ take k p → b ≡ same x key → same (take k (get_or ps i [])) key ≡ b
+    compared p x b l q f s = ap (λ (y : List ℕ). same y key) (ap (take k) (get_or_default ps i [] p l ∙ sym q) ∙ sym f) ∙ sym s
