@@ -1,169 +1,156 @@
--- What putting a record into a table of fixes by its identity leaves: the table of the fixes with it.
-use Prim.Native.Nat.{ℕ, ◌+◌, ◌*◌, ◌-◌, ◌≤◌, ◌<◌}
-use mathlib.Core.Path.{◌≡◌, refl, sym, ap, ap₂, ◌∙◌}
-use mathlib.Core.Bool.{Bool, true, false, cond, false≢true}
-use mathlib.Core.List.{List, [], ◌++◌}
+-- What a search by identity finds among fixes that ascend, and what entering a further fix comes to at what it finds.
+use Prim.Native.Nat.{ℕ, zero, suc, ◌≤◌, ◌<◌}
+use mathlib.Core.Path.{◌≡◌, refl, sym, ap, ◌∙◌}
+use mathlib.Core.Bool.{true, false}
+use mathlib.Core.List.{List, [], ◌∷◌}
 use native.Mathlib.Omega.{arith}
-use lib.Bits.{bit_or}
-use lib.Dec.{ltb, leb}
-use lib.ListN.{length, get_or, take, drop, set, length-append, length-take, length-drop}
-use lib.Seq.{length-take-le, take-take, take_all, drop-drop, take-length}
-use borrow.Author.Tests.{ltb-true, lt-leb}
-use Rattle.octets.specs.Order.{same}
-use Rattle.octets.specs.Lesser.{lesserOf}
-use Rattle.octets.specs.Words.{word, word_bytes, word_at}
-use Rattle.ranges.proofs.Bools.{and_left, and_right}
-use Rattle.octets.proofs.Comparison.{same-eq}
-use Rattle.octets.proofs.Moves.{tail-back, tail-lent}
-use Rattle.places.specs.Places.{places, table_of, holds}
-use Rattle.places.specs.Positions.{rank}
-use Rattle.places.specs.Put.{PutResult, putResult, tryPut}
-use Rattle.places.specs.declared.Put.{Put}
-use Rattle.places.specs.declared.Put.TheVariants.{Held, Full, New}
-use Rattle.places.proofs.Walks.{place_of, part_of}
-use Rattle.places.proofs.Tables.{length-places, wide_at, replace-table}
-use Rattle.places.proofs.Keys.{has_key, rank-le, holds-at-rank}
-use Rattle.places.proofs.Putting.{put-new, put-held, put-length-held}
-use Rattle.places.proofs.Ways.{Way, held, none, new, way, held-not-full, held-not-new, full-not-new}
-use Rattle.places.proofs.Trying.{tried-table}
-use Rattle.record.specs.Layout.{recordSize}
-use Rattle.record.specs.Formed.{wellFormed}
-use Rattle.models.specs.Models.{counts}
-use Rattle.models.specs.Identity.{citedInputs, setHash, identityFrom, identityOf}
-use Rattle.items.specs.Layout.{hashSize}
-use Rattle.fixes.specs.Layout.{maxFixes, fixSize, fixRecordAt, fixSignersAt, fixRecord, fixSigners}
-use Rattle.fixes.specs.Representatives.{slotValue, joinRecord, enterRecord, takeSlot}
-use Rattle.fixes.specs.Gathered.{jointAt, Gathered}
-use Rattle.fixes.proofs.Gathering.{Ordered, key-length, joined-none, joined-some, new-length, again-length}
-use Rattle.fixes.proofs.Soundness.{gathered-is, gathered-ordered}
+use lib.Dec.{ltb}
+use lib.ListN.{length, get_or, set, drop, length-set}
+use lib.Seq.{take_all}
+use Rattle.std.proofs.lemmas.List.{take-append-le}
+use borrow.Author.Tests.{ltb-true, ltb-false}
+use Rattle.std.specs.List.{insert, refill, AllWithin, HoldsAt}
+use Rattle.std.specs.List.Sorted.{IsNonDecreasingBy}
+use Rattle.std.specs.Ordering.{ordering_index}
+use Rattle.std.specs.declared.cmp.Ordering.TheVariants.{Less, Equal, Greater}
+use Rattle.octets.specs.Order.{isBefore}
+use Rattle.octets.proofs.Comparison.{before-trans, before_same}
+use Rattle.ranges.proofs.Bools.{by, and_left, and_right}
+use Rattle.shown.specs.Fix.{Fix}
+use Rattle.shown.specs.Shown.{lower}
+use Rattle.fixes.specs.Fixes.{unite, enter}
+use Rattle.fixes.specs.Order.{order, ascendsFrom, ascends}
 
--- ---- a record that is put in
+-- ---- entering keeps the order
 
-module _ (ss : List (List ℕ)) (r : List ℕ) (s n : ℕ) (t : List ℕ) where
-  abbrev pub fixesIn : List (List ℕ)
-  fixesIn = places fixSize n t
+unite-identity : (g f : Fix) → g.identity ≡ f.identity → (unite g f).identity ≡ g.identity
+unite-identity g f e = by (isBefore f.recordBytes g.recordBytes) (λ h. rw h (sym e)) (λ h. rw h refl)
 
-  -- the record's fixes in the table, and where they went; there is room
-  abbrev pub Entered : Put → List ℕ → Type 0
-  Entered a t' = Way (holds hashSize (identityOf ss r) fixesIn) false (rank hashSize (identityOf ss r) fixesIn) t (table_of fixSize maxFixes (enterRecord ss r s fixesIn)) a t'
+same-identity : (f g : Fix) → lower g f ≡ false → lower f g ≡ false → g.identity ≡ f.identity
+same-identity f g a b = before_same g.identity f.identity a b
 
--- the place that was made for it
-pub made : (ss : List (List ℕ)) (r : List ℕ) (s : ℕ) (set inputs id f : List ℕ) → set ≡ setHash r → inputs ≡ citedInputs ss r → id ≡ identityFrom set inputs
-    → f ≡ id ++ (r ++ (inputs ++ word_bytes 4 s)) → f ≡ identityOf ss r ++ joinRecord ss r s []
-made ss r s set inputs id f a b c e =
-    e ∙ ap₂ (λ (x y : List ℕ). x ++ (r ++ (y ++ word_bytes 4 s))) (c ∙ ap₂ identityFrom a b) b ∙ ap (λ (v : List ℕ). identityOf ss r ++ v) (sym (joined-none ss r s))
+enter-from : (f : Fix) (key : List ℕ) (gs : List Fix) → isBefore key f.identity ≡ true → ascendsFrom key gs ≡ true → ascendsFrom key (enter f gs) ≡ true
+unfolding ascendsFrom enter
+enter-from f key [] h a = rw h refl
+enter-from f key (g ∷ gs) h a =
+    let k : isBefore key g.identity ≡ true = and_left (isBefore key g.identity) (ascendsFrom g.identity gs) a in
+    let r : ascendsFrom g.identity gs ≡ true = and_right (isBefore key g.identity) (ascendsFrom g.identity gs) a in
+    by (lower g f)
+    (λ u. rw (u, k) (enter-from f g.identity gs u r))
+    (λ u. by (lower f g)
+    (λ v. rw (u, v, h, v) r)
+    (λ v. rw (u, v, unite-identity g f (same-identity f g u v), k) r))
 
-module _ (ss : List (List ℕ)) (r : List ℕ) (s n : ℕ) (t : List ℕ) (g : Gathered n t) (h : wellFormed r ≡ true) where
-  abbrev fs : List (List ℕ)
-  fs = places fixSize n t
+pub enter-ascends : (f : Fix) (gs : List Fix) → ascends gs ≡ true → ascends (enter f gs) ≡ true
+unfolding ascends ascendsFrom enter
+enter-ascends f [] a = refl
+enter-ascends f (g ∷ gs) a =
+    by (lower g f)
+    (λ u. rw u (enter-from f g.identity gs u a))
+    (λ u. by (lower f g)
+    (λ v. rw (u, v, v) a)
+    (λ v. rw (u, v, unite-identity g f (same-identity f g u v)) a))
 
-  abbrev key : List ℕ
-  key = identityOf ss r
+-- ---- an earlier fix is the lower
 
-  abbrev put : List (List ℕ)
-  put = enterRecord ss r s fs
+from-key : (key : List ℕ) (gs : List Fix) → ascendsFrom key gs ≡ true → (j : ℕ) (d : Fix) → j < length gs → isBefore key (get_or gs j d).identity ≡ true
+unfolding ascendsFrom
+from-key key [] a j d h = absurd (omega arith)
+from-key key (g ∷ gs) a zero d h = and_left (isBefore key g.identity) (ascendsFrom g.identity gs) a
+from-key key (g ∷ gs) a (suc j) d h =
+    before-trans key g.identity (get_or gs j d).identity (and_left (isBefore key g.identity) (ascendsFrom g.identity gs) a)
+    (from-key g.identity gs (and_right (isBefore key g.identity) (ascendsFrom g.identity gs) a) j d (omega arith))
 
-  ordered : Ordered fs
-  ordered = gathered-ordered n t g
+pub rest-ascends : (key : List ℕ) (gs : List Fix) → ascendsFrom key gs ≡ true → ascends gs ≡ true
+unfolding ascendsFrom ascends
+rest-ascends key [] a = refl
+rest-ascends key (g ∷ gs) a = and_right (isBefore key g.identity) (ascendsFrom g.identity gs) a
 
-  count : length fs ≡ n
-  count = length-places fixSize n t
+pub earlier-lower : (gs : List Fix) → ascends gs ≡ true → (i j : ℕ) (d : Fix) → i < j → j < length gs → lower (get_or gs i d) (get_or gs j d) ≡ true
+unfolding ascends
+earlier-lower [] a i j d h l = absurd (omega arith)
+earlier-lower (g ∷ gs) a i zero d h l = absurd (omega arith)
+earlier-lower (g ∷ gs) a zero (suc j) d h l = from-key g.identity gs a j d (omega arith)
+earlier-lower (g ∷ gs) a (suc i) (suc j) d h l = earlier-lower gs (rest-ascends g.identity gs a) i j d (omega arith) (omega arith)
 
-  pub made-length : length (key ++ joinRecord ss r s []) ≡ fixSize
-  made-length = rw (length-append key (joinRecord ss r s []), key-length ss r) (new-length ss r s h)
+-- ---- how the fixes stand to one fix
 
-  pub entered : n < maxFixes → (f : List ℕ) (a : Put) (t' : List ℕ) → f ≡ key ++ joinRecord ss r s [] → putResult a t' ≡ tryPut n maxFixes fixSize hashSize f t → Entered ss r s n t a t'
-  entered room f a t' e q =
-      let full : leb maxFixes (length fs) ≡ false = lt-leb maxFixes (length fs) (rw count room) in
-      let is : t ≡ table_of fixSize maxFixes fs = gathered-is n t g in
-      let m : tryPut n maxFixes fixSize hashSize (key ++ joinRecord ss r s []) t ≡ tryPut (length fs) maxFixes fixSize hashSize (key ++ joinRecord ss r s []) (table_of fixSize maxFixes fs) =
-      ap₂ (λ (i : ℕ) (u : List ℕ). tryPut i maxFixes fixSize hashSize (key ++ joinRecord ss r s []) u) (sym count) is in
-      let w : tryPut n maxFixes fixSize hashSize (key ++ joinRecord ss r s []) t ≡ cond (holds hashSize key fs) (putResult (Held (rank hashSize key fs)) t) (putResult New (table_of fixSize maxFixes put)) =
-      m ∙ tried-table maxFixes fixSize hashSize (joinRecord ss r s) key fs (key-length ss r) (omega arith) made-length ordered.wides ordered.ascends (rw count g.few)
-      ∙ ap₂ (λ (b : Bool) (u : List ℕ). cond (holds hashSize key fs) (putResult (Held (rank hashSize key fs)) u) (cond b (putResult Full u) (putResult New (table_of fixSize maxFixes put)))) full (sym is) in
-      way (holds hashSize key fs) false (rank hashSize key fs) t (table_of fixSize maxFixes put) a t' (q ∙ ap (λ (x : List ℕ). tryPut n maxFixes fixSize hashSize x t) e ∙ w)
+stands-less : (g f : Fix) → order g f ≡ Less → lower g f ≡ true
+stands-less g f e = by (lower g f) (λ u. u) (λ u. by (lower f g) (λ v. let z = rw (u, v) at e in cc) (λ v. let z = rw (u, v) at e in cc))
 
-  -- its identity was held: at place i, and nothing was written yet
-  pub record Found (i : ℕ) (t' : List ℕ) : Type 0 where
-    pub within : i < n
-    pub unwritten : t' ≡ t
-    pub is : i ≡ rank hashSize key fs
-    pub holding : holds hashSize key fs ≡ true
-    pub standing : take hashSize (get_or fs (rank hashSize key fs) []) ≡ key
+stands-greater : (g f : Fix) → order g f ≡ Greater → (lower g f ≡ false) × (lower f g ≡ true)
+stands-greater g f e = by (lower g f) (λ u. let z = rw u at e in cc) (λ u. by (lower f g) (λ v. (u, v)) (λ v. let z = rw (u, v) at e in cc))
 
-  pub found : {a : Put} {t' : List ℕ} → Entered ss r s n t a t' → (i : ℕ) → a ≡ Held i → Found i t'
-  found (none x g q z) i p = absurd (false≢true g)
-  found (new x g q z) i p = absurd (held-not-new p q)
-  found (held x q z) i p =
-      let k = rank hashSize key fs in
-      let e : has_key hashSize key fs k ≡ true = sym (holds-at-rank hashSize key fs ordered.ascends) ∙ x in
-      let l : k < length fs = ltb-true k (length fs) (and_left (ltb k (length fs)) (same (take hashSize (get_or fs k [])) key) e) in
-      let j : i ≡ k = cc in
-      record {
-        within = rw j (rw count at l);
-        unwritten = z;
-        is = j;
-        holding = x;
-        standing = same-eq (take hashSize (get_or fs k [])) key (and_right (ltb k (length fs)) (same (take hashSize (get_or fs k [])) key) e);
-      }
+stands-equal : (g f : Fix) → order g f ≡ Equal → (lower g f ≡ false) × (lower f g ≡ false)
+stands-equal g f e = by (lower g f) (λ u. let z = rw u at e in cc) (λ u. by (lower f g) (λ v. let z = rw (u, v) at e in cc) (λ v. (u, v)))
 
-  -- what is written there is the place changed
-  place-joint : (i : ℕ) → i < n → jointAt ss r s t i ≡ take hashSize (get_or fs i []) ++ joinRecord ss r s (drop hashSize (get_or fs i []))
-  place-joint i l =
-      let p = get_or fs i [] in
-      let at : p ≡ take fixSize (drop (i * fixSize) t) = place_of fixSize n i t l in
-      let lp : length p ≡ fixSize = wide_at fixSize i fs ordered.wides (rw count l) in
-      let v = drop hashSize p in
-      let lv : 0 < length v = rw (length-drop hashSize p, lp) (omega arith) in
-      let k : take hashSize (drop (i * fixSize) t) ≡ take hashSize p = sym (take-take hashSize fixSize (drop (i * fixSize) t) (omega arith)) ∙ ap (take hashSize) (sym at) in
-      let x : fixRecord t i ≡ take recordSize v = sym (part_of recordSize fixRecordAt fixSize (i * fixSize) t (omega arith)) ∙ ap (λ (y : List ℕ). take recordSize (drop fixRecordAt y)) (sym at) in
-      let ld : length (drop fixSignersAt p) ≤ 4 = rw (length-drop fixSignersAt p, lp) (omega arith) in
-      let y : fixSigners t i ≡ word (drop (recordSize + hashSize) v) =
-      ap word (sym (part_of 4 fixSignersAt fixSize (i * fixSize) t (omega arith)) ∙ ap (λ (y : List ℕ). take 4 (drop fixSignersAt y)) (sym at) ∙ take_all 4 (drop fixSignersAt p) ld ∙ sym (drop-drop (recordSize + hashSize) hashSize p)) in
-      ap₂ (λ (a b : List ℕ). a ++ b) k (ap₂ (λ (a : List ℕ) (b : ℕ). slotValue ss (lesserOf a r) (bit_or b s)) x y ∙ sym (joined-some ss r s v lv))
+searchable : (gs : List Fix) (f : Fix) → ascends gs ≡ true → IsNonDecreasingBy (λ y. ordering_index (order y f)) gs
+searchable gs f a i j d h l =
+    by (ltb i j)
+    (λ t. let e = earlier-lower gs a i j d (ltb-true i j t) l in
+    let x = get_or gs i d in let y = get_or gs j d in
+    by (lower y f)
+    (λ u. rw (before-trans x.identity y.identity f.identity e u, u) (omega arith))
+    (λ u. by (lower f y)
+    (λ v. rw (u, v) (at-most x))
+    (λ v. rw (u, v, rw (before_same y.identity f.identity u v) at e) (omega arith))))
+    (λ t. let z : i ≡ j = let q = ltb-false i j t in omega arith in rw z (omega arith))
+  where
+    at-most : (x : Fix) → ordering_index (order x f) ≤ 2
+    at-most x = by (lower x f) (λ u. rw u (omega arith)) (λ u. by (lower f x) (λ v. rw (u, v) (omega arith)) (λ v. rw (u, v) (omega arith)))
 
-  changed-length : (p : List ℕ) → length p ≡ fixSize → length (take hashSize p ++ joinRecord ss r s (drop hashSize p)) ≡ fixSize
-  changed-length p e =
-      let a : hashSize + length (drop hashSize p) ≡ fixSize = rw (length-drop hashSize p, e) refl in
-      rw (length-append (take hashSize p) (joinRecord ss r s (drop hashSize p)), length-take-le hashSize p (rw e (omega arith))) (again-length ss r s h (drop hashSize p) a)
+-- ---- what entering comes to at what was found
 
-  -- a table with that in the place of fix i
-  abbrev withJoint : ℕ → List ℕ → List ℕ
-  withJoint i u = take (i * fixSize) u ++ (jointAt ss r s u i ++ drop fixSize (drop (i * fixSize) u))
+-- every earlier fix is the lower, and every later one the higher: the fix goes in between
+enter-between : (f : Fix) (gs : List Fix) (i : ℕ) → i ≤ length gs → AllWithin (λ y. lower y f ≡ true) gs 0 i → AllWithin (λ y. (lower y f ≡ false) × (lower f y ≡ true)) gs i (length gs) → enter f gs ≡ insert gs i f
+unfolding enter
+enter-between f [] zero h a b = refl
+enter-between f [] (suc i) h a b = absurd (omega arith)
+enter-between f (g ∷ gs) zero h a b = let z = b 0 f (omega arith) (omega arith) in rw (z.0, z.1) refl
+enter-between f (g ∷ gs) (suc i) h a b =
+    let z = a 0 f (omega arith) (omega arith) in
+    rw z (ap (λ (ys : List Fix). g ∷ ys) (enter-between f gs i (omega arith) (λ k d p q. a (suc k) d (omega arith) (omega arith)) (λ k d p q. b (suc k) d (omega arith) (omega arith))))
 
-  pub again : (i : ℕ) (t' x : List ℕ) → Found i t' → x ≡ withJoint i t' → (n ≡ length put) × (x ≡ table_of fixSize maxFixes put)
-  again i t' x f e =
-      let k = rank hashSize key fs in
-      let y = take hashSize (get_or fs i []) ++ joinRecord ss r s (drop hashSize (get_or fs i [])) in
-      let l : i < length fs = rw count f.within in
-      let lk : k < length fs = rw (← f.is) l in
-      let changed : set fs i y ≡ put =
-      ap (λ (j : ℕ). set fs j (take hashSize (get_or fs j []) ++ joinRecord ss r s (drop hashSize (get_or fs j [])))) f.is ∙ sym (put-held hashSize (joinRecord ss r s) key fs lk f.standing) in
-      let ly : length y ≡ fixSize = changed-length (get_or fs i []) (wide_at fixSize i fs ordered.wides l) in (
-        sym count ∙ sym (put-length-held hashSize (joinRecord ss r s) key (key-length ss r) fs ordered.ascends f.holding),
-        e ∙ ap (withJoint i) f.unwritten
-            ∙ ap₂ (λ (a u : List ℕ). take (i * fixSize) u ++ (a ++ drop fixSize (drop (i * fixSize) u))) (place-joint i f.within) (gathered-is n t g)
-            ∙ replace-table fixSize maxFixes fs i y ordered.wides ly l ∙ ap (table_of fixSize maxFixes) changed,
-      )
+-- a fix that is neither lower nor higher, behind lower ones: they are united
+enter-at : (f : Fix) (gs : List Fix) (i : ℕ) (x : Fix) → i < length gs → AllWithin (λ y. lower y f ≡ true) gs 0 i → HoldsAt (λ y. (lower y f ≡ false) × (lower f y ≡ false)) gs i → enter f gs ≡ set gs i (unite (get_or gs i x) f)
+unfolding enter
+enter-at f [] i x h a b = absurd (omega arith)
+enter-at f (g ∷ gs) zero x h a b = let z = b f in rw (z.0, z.1) refl
+enter-at f (g ∷ gs) (suc i) x h a b =
+    let z = a 0 f (omega arith) (omega arith) in
+    rw z (ap (λ (ys : List Fix). g ∷ ys) (enter-at f gs i x (omega arith) (λ k d p q. a (suc k) d (omega arith) (omega arith)) (λ d. b d)))
 
-  -- its identity was not: it was put in
-  pub fresh : {a : Put} {t' : List ℕ} → Entered ss r s n t a t' → a ≡ New → (n + 1 ≡ length put) × (t' ≡ table_of fixSize maxFixes put)
-  fresh (held x q z) p = absurd (held-not-new q p)
-  fresh (none x g q z) p = absurd (false≢true g)
-  fresh (new x g q z) p = (ap (λ (i : ℕ). i + 1) (sym count) ∙ sym (one_more x), z)
-    where
-      one_more : holds hashSize key fs ≡ false → length put ≡ length fs + 1
-      one_more x = let l = rank-le hashSize key fs in ap length (put-new hashSize (joinRecord ss r s) key fs x) ∙ simp (length-append, length-take, length-drop) (omega arith)
+enter-held : (f : Fix) (gs : List Fix) (i : ℕ) (x : Fix) → ascends gs ≡ true → i < length gs → HoldsAt (λ y. order y f ≡ Equal) gs i → enter f gs ≡ set gs i (unite (get_or gs i x) f)
+enter-held f gs i x a h e =
+    enter-at f gs i x h
+    (λ k d p q. let z = stands-equal (get_or gs i d) f (e d) in rw (before_same (get_or gs i d).identity f.identity z.0 z.1) at (earlier-lower gs a k i d q h))
+    (λ d. stands-equal (get_or gs i d) f (e d))
 
-  pub never-full : {a : Put} {t' : List ℕ} → Entered ss r s n t a t' → a ≡ Full → ⊥
-  never-full (held x q z) p = held-not-full q p
-  never-full (none x g q z) p = false≢true g
-  never-full (new x g q z) p = full-not-new p q
+enter-new : (f : Fix) (gs : List Fix) (i : ℕ) → i ≤ length gs → AllWithin (λ y. order y f ≡ Less) gs 0 i → AllWithin (λ y. order y f ≡ Greater) gs i (length gs) → enter f gs ≡ insert gs i f
+enter-new f gs i h a b = enter-between f gs i h (λ k d p q. stands-less (get_or gs k d) f (a k d p q)) (λ k d p q. stands-greater (get_or gs k d) f (b k d p q))
 
--- ---- a place that is taken in
+-- a slice that was lent whole comes back as it is
+refilled : {X : Type 0} (n : ℕ) (old new : List X) → length new ≡ n → refill n old new ≡ new
+refilled n old new e = take-append-le n new (drop (length new) old) (omega arith) ∙ take_all n new (omega arith)
 
-pub taken : (ss : List (List ℕ)) (p : List ℕ) (s : ℕ) (fs : List (List ℕ)) → length p ≡ recordSize + 4 → s ≡ word_at 4 recordSize p → counts ss (take recordSize p) ≡ true
-    → enterRecord ss (take recordSize p) s fs ≡ takeSlot ss p fs
-taken ss p s fs l e c =
-    let z : length (drop recordSize p) ≤ 4 = rw (length-drop recordSize p, l) (omega arith) in
-    ap (λ (x : ℕ). enterRecord ss (take recordSize p) x fs) (e ∙ ap word (take_all 4 (drop recordSize p) z)) ∙ sym (rw c refl)
+-- ---- the two ways out of a search
+
+pub united-there : (f : Fix) (gs xs ys : List Fix) (i n : ℕ) (x new : Fix) → ascends gs ≡ true → n ≡ length gs → xs ≡ gs → ys ≡ gs → i < length xs → HoldsAt (λ y. order y f ≡ Equal) xs i → new ≡ unite (get_or ys i x) f
+    → refill n gs (set ys i new) ≡ enter f gs
+united-there f gs xs ys i n x new a en ex ey h e u =
+    let z : refill n gs (set ys i new) ≡ set gs i (unite (get_or gs i x) f) = rw (u, ey) (refilled n gs (set gs i (unite (get_or gs i x) f)) (length-set gs i _ ∙ sym en)) in
+    z ∙ sym (enter-held f gs i x a (rw ex at h) (rw ex at e))
+
+pub put-there : (f : Fix) (gs xs new : List Fix) (i : ℕ) → ascends gs ≡ true → xs ≡ gs → i ≤ length xs
+    → (IsNonDecreasingBy (λ y. ordering_index (order y f)) xs → AllWithin (λ y. order y f ≡ Less) xs 0 i × AllWithin (λ y. order y f ≡ Greater) xs i (length xs)) → new ≡ insert gs i f → new ≡ enter f gs
+put-there f gs xs new i a ex h p u =
+    let both = p (rw ex (searchable gs f a)) in
+    u ∙ sym (enter-new f gs i (rw ex at h) (rw ex at both.0) (rw ex at both.1))
+
+-- there is one more at most
+pub enter-length : (f : Fix) (gs : List Fix) → length (enter f gs) ≤ suc (length gs)
+unfolding enter
+enter-length f [] = omega arith
+enter-length f (g ∷ gs) =
+    let r = enter-length f gs in
+    by (lower g f) (λ u. rw u (omega arith)) (λ u. by (lower f g) (λ v. rw (u, v) (omega arith)) (λ v. rw (u, v) (omega arith)))

@@ -1,4 +1,4 @@
--- The fixes of a board (document 01, 'Models and identity'), from the summaries of a register (36 bytes each) and the slots of its records (a record of 222
+-- The fixes of a board, from the summaries of a register (36 bytes each) and the slots of its records (a record of 222
 -- bytes, and its signers).
 use Rattle.std.specs.Prelude.{ℕ, cond, List, [], ◌∷◌, map, take, drop}
 use Rattle.std.specs.Int.Bits.{bit_or}
@@ -23,11 +23,11 @@ fixOf ss p = record {
   signers = word (drop recordSize p);
 }
 
--- "Of two records with one identity, the part whose bytes come first in byte order is handed back and represents it"
+-- of two fixes of one identity, the one whose record comes first in byte order represents both
 abbrev pub representative : Fix → Fix → Fix
 representative f g = cond (isBefore g.recordBytes f.recordBytes) g f
 
--- "its engines are the signers of all of them"
+-- and the signers of both are its own
 abbrev pub unite : Fix → Fix → Fix
 unite f g = withSigners (bit_or f.signers g.signers) (representative f g)
 

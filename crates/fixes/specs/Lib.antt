@@ -1,5 +1,4 @@
--- The fixes of a board: what they are (Fixes), how a table of them lies in bytes (Layout), and what the code puts into it (Representatives, Gathered).
+-- The fixes of a board: what they are (Fixes), how they stand in the order of identities (Order), and what they are made of (Slots).
 pub mod Fixes
-pub mod Layout
-pub mod Representatives
-pub mod Gathered
+pub mod Order
+pub mod Slots

@@ -1,51 +1,61 @@
-// The fixes of a board, in lent bytes of `layout::FIX_SIZE` each: of one identity one record, with the signers of all.
+// The fixes of a board: of the records that count, one for each identity, with the signers of all.
 #![tactic(auto)]
 
-ghost use Rattle.std.specs.Prelude.{◌≡◌, ◌+◌, ◌*◌, ◌≤◌, length};
+ghost use Rattle.std.specs.Prelude.{◌≡◌, true, [], ◌+◌, ◌*◌, ◌<◌, ◌≤◌, length};
+ghost use Rattle.arrayvec.specs.ArrayVec.{array_vec_len};
+ghost use Rattle.places.specs.Places.{places, allPlaces};
 ghost use Rattle.record.specs.Layout.{recordSize};
-ghost use Rattle.items.specs.Layout.{hashSize};
-ghost use Rattle.fixes.specs.Layout as L;
+ghost use Rattle.models.specs.Answers.{listed};
+ghost use Rattle.fixes.specs.Slots.{slotFormed};
+ghost use Rattle.fixes.specs.Fixes as F;
+ghost use Rattle.fixes.specs.Order.{ascends};
 
-use items::layout::HASH_SIZE;
+mod fix;
+
+use arrayvec::ArrayVec;
+pub use fix::Fix;
+use items::layout::MAX_ITEMS;
+use models::citations;
+use models::summaries::Summaries;
+use record::Record;
 use record::layout::RECORD_SIZE;
 
-pub mod layout;
-pub mod representatives;
+// The most fixes on a board: as many as are decided at once.
+pub const MAX_FIXES: usize = MAX_ITEMS;
 
-// The identity of fix i.
-pub fn identity(t: &[u8], i: u8) -> &[u8]
-    requires { i * L.fixSize + L.fixSize ≤ length t.now }
-    ensures { (result.now ≡ L.fixIdentity t.now i) × (length result.now ≡ hashSize) }
+// The fixes of a board, in ascending identity.
+pub type Fixes<'a> = ArrayVec<Fix<'a>, MAX_FIXES>;
+
+// A place of a register's records: the record, and its signers.
+const PLACE_SIZE: usize = RECORD_SIZE + 4;
+
+// Puts a further fix among fixes in ascending identity.
+fn enter<'a>(fixes: &mut Fixes<'a>, fix: Fix<'a>)
+    requires room { array_vec_len fixes.old < MAX_FIXES }
+    requires in_order { ascends fixes.old.items ≡ true }
+    ensures { fixes.new.items ≡ F.enter fix.entry fixes.old.items }
 {
-    let a = i as usize * layout::FIX_SIZE;
-    let e = a + HASH_SIZE;
-    &t[a..e]
+    match fixes.binary_search_by(|held| held.compare(&fix)) {
+        Ok(i) => fixes[i].unite(fix),
+        Err(i) => fixes.insert(i, fix),
+    }
 }
 
-// The record of fix i.
-pub fn record_of(t: &[u8], i: u8) -> &[u8]
-    requires { i * L.fixSize + L.fixSize ≤ length t.now }
-    ensures { (result.now ≡ L.fixRecord t.now i) × (length result.now ≡ recordSize) }
+// Puts the fixes of nr places of a register's records into an empty list.
+pub fn represent<'a>(all: Summaries, recs: &'a [u8], nr: usize, fixes: &mut Fixes<'a>)
+    requires recs_len { nr * (recordSize + 4) ≤ length recs.now }
+    requires few { nr ≤ MAX_FIXES }
+    requires recs_formed { allPlaces slotFormed (places (recordSize + 4) nr recs.now) ≡ true }
+    requires none { fixes.old.items ≡ [] }
+    ensures { fixes.new.items ≡ F.fixesOf (listed all.entry) (places (recordSize + 4) nr recs.now) }
 {
-    let a = i as usize * layout::FIX_SIZE + layout::RECORD_AT;
-    let e = a + RECORD_SIZE;
-    &t[a..e]
-}
-
-// The model inputs of fix i.
-pub fn inputs(t: &[u8], i: u8) -> &[u8]
-    requires { i * L.fixSize + L.fixSize ≤ length t.now }
-    ensures { (result.now ≡ L.fixInputs t.now i) × (length result.now ≡ hashSize) }
-{
-    let a = i as usize * layout::FIX_SIZE + layout::INPUTS_AT;
-    let e = a + HASH_SIZE;
-    &t[a..e]
-}
-
-// The signers of fix i.
-pub fn signers(t: &[u8], i: u8) -> u32
-    requires { i * L.fixSize + L.fixSize ≤ length t.now }
-    ensures { result ≡ L.fixSigners t.now i }
-{
-    octets::words::u32_at(t, i as usize * layout::FIX_SIZE + layout::SIGNERS_AT)
+    for i in 0..nr {
+        let at = i * PLACE_SIZE;
+        let slot = &recs[at..at + PLACE_SIZE];
+        let record = Record::of(&slot[..RECORD_SIZE]);
+        if citations::counts(all, record) {
+            let signers = octets::words::u32_at(slot, RECORD_SIZE);
+            enter(fixes, Fix::of_record(all, record, signers));
+        }
+    }
 }

@@ -11,7 +11,7 @@ use lib.Seq.{get_or-set_same}
 use borrow.Author.Tests.{eqb-true, eqb-false}
 use Rattle.ranges.proofs.Bools.{by, or, clash}
 use Rattle.ranges.specs.Tables.{marked}
-use Rattle.fixes.specs.Layout.{maxFixes}
+use Rattle.fixes.specs.Slots.{maxFixes}
 use Rattle.links.specs.Chains.{ChainAt, here, more, Symmetric}
 use Rattle.links.specs.Walk.{noMarks, unmarked, each, visit, reached}
 use Rattle.links.proofs.Marks.{unmarked-set, set-marks, no-marks, Grown, next, next-old, next-apart, next-new, next-grown, visit-grown}

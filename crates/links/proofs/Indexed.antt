@@ -10,13 +10,13 @@ use lib.ListN.{length, get_or}
 use borrow.Author.Tests.{eqb-true, eq-eqb, ltb-true, ltb-false}
 use Rattle.octets.specs.Order.{same}
 use Rattle.octets.proofs.Comparison.{same-eq, same_refl}
-use Rattle.fixes.specs.Layout.{maxFixes}
+use Rattle.fixes.specs.Slots.{maxFixes}
 use Rattle.ranges.specs.Range.{filt}
 use Rattle.ranges.proofs.Range.{filt-ext, filt-at}
-use Rattle.ranges.proofs.Bools.{by, or, same_test, no_true}
+use Rattle.ranges.proofs.Bools.{by, same_test, no_true}
 use Rattle.links.specs.Chains as I
 use Rattle.links.specs.Walk as W
-use Rattle.links.proofs.Transmissions.{label-le, label-below, label-label, label_same}
+use Rattle.links.proofs.Naming.{label-le, label-below, label-label, label_same}
 use Rattle.links.proofs.Chains as C
 use Rattle.ranges.specs.Lists.{any_of, filter}
 use Rattle.shown.specs.Fix.{Fix}

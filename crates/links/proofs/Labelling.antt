@@ -10,13 +10,13 @@ use lib.ListN.{length, get_or, set, replicate}
 use borrow.Author.Tests.{ltb-true, ltb-false, lt-ltb, le-ltb}
 use Rattle.ranges.proofs.Bools.{by, or, clash, same_test}
 use Rattle.ranges.specs.Tables.{Cached, marked}
-use Rattle.fixes.specs.Layout.{maxFixes}
+use Rattle.fixes.specs.Slots.{maxFixes}
 use Rattle.links.specs.Chains.{ChainAt, Symmetric}
 use Rattle.links.specs.Labels.{relabel}
 use Rattle.links.specs.Walk.{noMarks, unmarked, visit, label}
 use Rattle.links.proofs.Marks.{Grown, no-marks, grown-none, grown-set, grown-more, visited-grown}
 use Rattle.links.proofs.Chains.{chain-to, Visited, visit-visited, complete}
-use Rattle.links.proofs.Transmissions.{label-le, label-below, label-label, label_same}
+use Rattle.links.proofs.Naming.{label-le, label-below, label-label, label_same}
 
 -- ---- what one visit writes
 

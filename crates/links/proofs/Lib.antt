@@ -1,6 +1,6 @@
 pub mod Marks
 pub mod Chains
-pub mod Transmissions
+pub mod Naming
 pub mod Symmetry
 pub mod Positions
 pub mod Labelling
@@ -11,3 +11,5 @@ pub mod Partition
 pub mod Fitness
 pub mod Limits
 pub mod Bursts
+pub mod Linking
+pub mod Parting

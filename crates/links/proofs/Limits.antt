@@ -8,10 +8,8 @@ use lib.Dec.{ltb}
 use borrow.Author.Tests.{ltb-true, ltb-false, leb-true, le-leb, lt-leb}
 use Rattle.octets.specs.Words.{word, word_bytes}
 use Rattle.octets.specs.Order.{same, isBefore}
-use Rattle.octets.specs.Runs.{allZero}
 use Rattle.octets.proofs.Comparison.{same_refl}
 use Rattle.record.specs.Fields.{time, tagsFrom}
-use Rattle.record.specs.Formed.{wellFormed, ascends, ascendsFrom, allUpTo}
 use Rattle.record.specs.Relations.{sharesTag, anyIn, member, tied}
 use Rattle.record.proofs.Laws.{subset-irrefl}
 use Rattle.ranges.specs.Lists.{any_of, filter, insert, sort}
@@ -20,7 +18,7 @@ use Rattle.shown.specs.Fix.{Fix}
 use Rattle.shown.specs.Ages.{timeOf}
 use Rattle.shown.specs.Shown.{Transmission, shown}
 use Rattle.links.specs.Transmissions.{linkSpan, difference, nearInTime, recordsLink, linked, reach, transmissionOf, leads, isFirst, transmissionsOf}
-use Rattle.links.specs.Bursts.{LinkExactlyWhen, Limit, start, middle, end, ChainsJoin, ranksAlone, FarSubset}
+use Rattle.links.specs.Bursts.{LinkExactlyWhen, Limit, ChainsJoin, ranksAlone, FarSubset}
 use Rattle.links.proofs.Symmetry.{linked-turned}
 use Rattle.links.proofs.Fitness.{self-linked}
 
@@ -49,11 +47,6 @@ link-exactly-when a b = (
 )
 
 -- ---- by computation
-
--- the fixes of these laws have well-formed records
-pub sent-formed : (wellFormed start.recordBytes ≡ true) × (wellFormed middle.recordBytes ≡ true) × (wellFormed (end (2 ∷ [])).recordBytes ≡ true) × (wellFormed (end (1 ∷ 3 ∷ [])).recordBytes ≡ true)
-unfolding wellFormed ascends ascendsFrom allUpTo allZero tagsFrom word word_bytes
-sent-formed = (refl, refl, refl, refl)
 
 pub limit : Limit
 unfolding recordsLink tied sharesTag anyIn member same isBefore tagsFrom word word_bytes

@@ -7,11 +7,11 @@ use mathlib.Core.List.Memᴰ
 use mathlib.Core.List.{List, [], ◌∷◌, map, Memᴰ}
 use lib.ListN.{length}
 use Rattle.ranges.proofs.Bools.{or}
-use Rattle.fixes.specs.Layout.{maxFixes}
+use Rattle.fixes.specs.Slots.{maxFixes}
 use Rattle.links.specs.Chains as I
 use Rattle.links.specs.Walk as W
 use Rattle.links.proofs.Symmetry.{linked-turned}
-use Rattle.links.proofs.Transmissions as X
+use Rattle.links.proofs.Naming as X
 use Rattle.shown.specs.Fix.{Fix}
 use Rattle.links.specs.Transmissions.{linked, Chain, transmissionOf, transmissionsOf}
 use Rattle.shown.specs.Items.{noFix, at, Apart}

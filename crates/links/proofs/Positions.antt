@@ -1,4 +1,4 @@
--- Document 01, 'Positions to check', 6: tags {1}, {2}, {1,2} make one transmission; and {1}, {2}, {3} make three.
+-- Tags {1}, {2}, {1,2} make one transmission; and {1}, {2}, {3} make three.
 use mathlib.Core.Path.{◌≡◌, refl}
 use mathlib.Core.Bool.{true}
 use mathlib.Core.List.{[], ◌∷◌}

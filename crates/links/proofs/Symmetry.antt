@@ -12,8 +12,6 @@ use Rattle.record.specs.Fields.{time, message}
 use Rattle.record.specs.Relations.{tied}
 use Rattle.record.proofs.Laws.{shares-sym}
 use Rattle.links.specs.Transmissions.{linkSpan, difference, nearInTime, recordsLink}
-use Rattle.links.specs.Links.{link_at}
-use Rattle.links.specs.Chains.{Symmetric}
 use Rattle.links.specs.Bursts.{LinkGoesBothWays}
 
 same-turned : (a b : List ℕ) → same a b ≡ same b a
@@ -40,6 +38,3 @@ near-turned s t = ap (λ (d : ℕ). leb d linkSpan) (difference-turned s t)
 pub linked-turned : LinkGoesBothWays
 unfolding recordsLink
 linked-turned a b = ap₂ ◌&&◌ (tied-turned a b) (near-turned (time a) (time b))
-
-pub links-turned : (t : List ℕ) → Symmetric (link_at t)
-links-turned t = record { turned = λ i j. linked-turned _ _ }

@@ -1,4 +1,4 @@
--- What is claimed of the limit in time that a link has (document 02, A.5): when two records link, which fixes are one transmission by it, and that a later burst
+-- What is claimed of the limit in time that a link has: when two records link, which fixes are one transmission by it, and that a later burst
 -- does not touch the transmissions of an earlier one, nor the earlier those of the later. The theorems are in proofs/Limits, proofs/Symmetry and proofs/Bursts.
 use Rattle.std.specs.Prelude.{ℕ, ◌+◌, ◌-◌, ◌^◌, ◌≤◌, ◌<◌, ◌≡◌, Bool, true, false, ◌⊎◌, ◌↔◌, ltb, leb}
 use mathlib.Core.List.{List, [], ◌∷◌, map, Memᴰ}
@@ -29,7 +29,7 @@ pub record AtTimes (s t : ℕ) (link : Bool) : Type 0 where
   pub forwards : linked (sent 1 (1 ∷ []) s) (sent 2 (1 ∷ []) t) ≡ link
   pub backwards : linked (sent 2 (1 ∷ []) t) (sent 1 (1 ∷ []) s) ≡ link
 
--- "at most 2,000,000,000": to the nanosecond, and without wrapping
+-- at most 2,000,000,000: to the nanosecond, and without wrapping
 pub record Limit : Type 0 where
   pub under : AtTimes 0 1_999_999_999 true
   pub exactly : AtTimes 0 2_000_000_000 true
@@ -51,7 +51,7 @@ pub record Joined (tags : List ℕ) : Type 0 where
   pub all : transmissionsOf (start ∷ middle ∷ end tags ∷ []) ≡ (start ∷ middle ∷ end tags ∷ []) ∷ []
   pub ends : transmissionsOf (start ∷ end tags ∷ []) ≡ (start ∷ []) ∷ (end tags ∷ []) ∷ []
 
--- "Chains still join, so a transmission as a whole may be longer."
+-- chains join, so a transmission as a whole may be longer than a link
 pub record ChainsJoin : Type 0 where
   -- where the last has a tag of the second alone
   pub by_tags : Joined (2 ∷ [])

@@ -14,6 +14,6 @@ pub record Partition (fs : List Fix) : Type 0 where
   -- and of no other
   pub one : (c d : List Fix) → Memᴰ c (transmissionsOf fs) → Memᴰ d (transmissionsOf fs) → (f : Fix) → Memᴰ f c → Memᴰ f d → c ≡ d
 
--- "6 P: tags {1}, {2}, {1,2} make one transmission."
+-- fixes of the tags {1}, {2} and {1,2} make one transmission
 abbrev pub Position6 : Type 0
 Position6 = transmissionsOf (one ∷ two ∷ both ∷ []) ≡ (one ∷ two ∷ both ∷ []) ∷ []

@@ -1,15 +1,22 @@
--- No claim rests on these definitions: they say when two fixes link in a table of fixes in bytes, and which table a walk can take.
-use Rattle.std.specs.Prelude.{◌≡◌, Bool, true, List, ℕ, ◌*◌, ◌≤◌, ◌<◌, length}
-use Rattle.record.specs.Formed.{wellFormed}
-use Rattle.fixes.specs.Layout.{maxFixes, fixSize, fixRecord}
-use Rattle.links.specs.Transmissions.{recordsLink}
+-- No claim rests on these definitions: they say when two fixes of a list link, by their indices, and which fixes have a label.
+use Rattle.std.specs.Prelude.{Bool, List, ℕ, ◌<◌, map, length, eqb, get_or}
+use Rattle.ranges.specs.Range.{filt}
+use Rattle.shown.specs.Fix.{Fix}
+use Rattle.shown.specs.Items.{at}
+use Rattle.links.specs.Transmissions.{linked}
 
--- fixes i and j of a table link
-abbrev pub link_at : List ℕ → ℕ → ℕ → Bool
-link_at t i j = recordsLink (fixRecord t i) (fixRecord t j)
+-- fixes i and j of a list link
+abbrev pub link_at : List Fix → ℕ → ℕ → Bool
+link_at fs i j = linked (at fs i) (at fs j)
 
--- t begins with n fixes, and the record of each is well-formed
-pub record Sound (t : List ℕ) (n : ℕ) : Type 0 where
-  pub few : n ≤ maxFixes
-  pub long : n * fixSize ≤ length t
-  pub formed : (i : ℕ) → i < n → wellFormed (fixRecord t i) ≡ true
+-- fix j has the label s
+abbrev pub has : List ℕ → ℕ → ℕ → Bool
+has l s j = eqb (get_or l j 0) s
+
+-- the fixes that have it
+abbrev pub having : List Fix → List ℕ → ℕ → List Fix
+having fs l s = map (at fs) (filt (has l s) 0 (length fs))
+
+-- indices of fixes of a list
+abbrev pub AllBelow : List Fix → List ℕ → Type 0
+AllBelow fs l = (i : ℕ) → i < length l → get_or l i 0 < length fs

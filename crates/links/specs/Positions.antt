@@ -1,4 +1,4 @@
--- The fixes of document 01's sixth position to check, all of one time: of tags {1}, {2} and {1,2}, and one of tag {3}. And fixes of any time.
+-- Fixes all of one time: of tags {1}, {2} and {1,2}, and one of tag {3}. And fixes of any time.
 use Rattle.std.specs.Prelude.{List, [], ◌∷◌, ◌++◌, ℕ, drop}
 use Rattle.octets.specs.Words.{word_bytes}
 use Rattle.record.specs.Layout.{latAt}

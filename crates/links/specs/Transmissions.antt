@@ -1,5 +1,5 @@
--- Transmissions (document 01, 'The board'): "Two representatives link when message and at least one tag are common; a transmission is everything linked
--- through any chain." Document 02, A.5: they "now link only if, besides message and tag, their transmit times differ by at most 2,000,000,000 nanoseconds."
+-- Transmissions (docs/REFERENCE.md, 'Register and board'): two fixes link where message and at least one tag are common and their times differ by at most
+-- 2,000,000,000 nanoseconds; a transmission is everything that a chain of links reaches.
 use Rattle.std.specs.Prelude.{ℕ, zero, suc, ◌-◌, ◌≡◌, Bool, true, false, cond, ◌&&◌, ltb, leb, length}
 use mathlib.Core.List.{List, [], ◌∷◌, Memᴰ, map}
 use Rattle.octets.specs.Order.{same}
@@ -16,7 +16,7 @@ linkSpan = 2_000_000_000
 abbrev pub difference : ℕ → ℕ → ℕ
 difference s t = cond (ltb s t) (t - s) (s - t)
 
--- "differ by at most 2,000,000,000 nanoseconds"
+-- two times differ by at most linkSpan
 abbrev pub nearInTime : ℕ → ℕ → Bool
 nearInTime s t = leb (difference s t) linkSpan
 

@@ -1,9 +1,9 @@
 -- No claim rests on these definitions: they say what a walk over links marks, and the number by which it names a transmission.
--- Document 01, 'The board': "One mark for each of the 96 places says what the walk has reached."
-use Rattle.std.specs.Prelude.{Bool, true, false, cond, List, [], ◌∷◌, ℕ, zero, suc, ◌+◌, ◌≤◌, eqb, length, set, replicate}
+-- One mark for each of the 96 places says what the walk has reached.
+use Rattle.std.specs.Prelude.{Bool, true, false, cond, List, [], ◌∷◌, ℕ, zero, suc, ◌+◌, eqb, set, replicate}
 use Rattle.ranges.specs.Range.{first, filt}
 use Rattle.ranges.specs.Tables.{marked}
-use Rattle.fixes.specs.Layout.{maxFixes}
+use Rattle.fixes.specs.Slots.{maxFixes}
 
 -- ---- the walk: who is reached has a mark
 

@@ -1,13 +1,12 @@
--- What is shown of a transmission is 01's decision of its fixes: none of them is verified, so none supersedes another.
+-- What is shown of a transmission is the decision of its fixes: none of them is verified, so none supersedes another.
 use mathlib.Core.Path.{◌≡◌, refl, sym, ap, ap₂, ◌∙◌}
-use mathlib.Core.Bool.{Bool, true, false, not, cond, ◌&&◌, ◌||◌}
+use mathlib.Core.Bool.{Bool, false, not, ◌&&◌, ◌||◌}
 use mathlib.Core.List.{List, [], ◌∷◌, flat_map}
 use Rattle.ranges.specs.Lists.{any_of, filter, sort}
 use Rattle.ranges.proofs.Lists.{any_none, filter_none}
 use Rattle.ranges.proofs.Bools.{by, and-unit}
 use Rattle.rule.specs.Standing as D
 use Rattle.rule.specs.Standing.{decide}
-use Rattle.rule.specs.Outcome.{Refused}
 use Rattle.shown.specs.Fix.{Fix}
 use Rattle.shown.specs.Shown.{disagrees, within, ahead, refuse, is_refused, isCovered, shown}
 use Rattle.shown.specs.Claims.{fixRelations, ShownIsDecided}

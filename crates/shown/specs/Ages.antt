@@ -1,5 +1,5 @@
--- Which of two fixes is older, and which of two transmissions (document 01, 'The board': "by time then identity of the first ranked"; the Rust's `arrange` goes
--- by the same of the fix kept).
+-- Which of two fixes is older, and which of two transmissions (docs/REFERENCE.md, 'Register and board' and 'Track and listing'): by time and
+-- then identity, of transmissions that of the first ranked.
 use Rattle.std.specs.Prelude.{ℕ, Bool, true, false, cond, List, [], ◌∷◌, ltb}
 use Rattle.record.specs.Fields.{time}
 use Rattle.shown.specs.Fix.{Fix}

@@ -1,4 +1,4 @@
--- What is claimed of a transmission that is shown: it is 01's decision of its fixes. The theorem is `shown-is-decided` in proofs/Plainly.
+-- What is claimed of a transmission that is shown: it is the decision of its fixes. The theorem is `shown-is-decided` in proofs/Plainly.
 use Rattle.std.specs.Prelude.{◌≡◌, false, List}
 use Rattle.arithmetic.specs.Agree.{chiSquareIn}
 use Rattle.rule.specs.Standing.{Relations, decide}
@@ -6,7 +6,7 @@ use Rattle.shown.specs.Fix.{Fix}
 use Rattle.shown.specs.Shown.{agreement, disagrees, within, lower, ahead, shown}
 use Rattle.arithmetic.specs.declared.standing.ChiSquare.{ChiSquare}
 
--- "with standing 0, consistent, unverified, not preferred": no fix has more standing than another, and none passed
+-- each has standing 0 and is consistent, unverified and not preferred: no fix has more standing than another, and none passed
 abbrev pub fixRelations : Relations Fix ChiSquare
 fixRelations = record {
   disagrees = disagrees;

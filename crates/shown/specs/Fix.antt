@@ -1,4 +1,4 @@
--- A fix, as a board and a track have it (document 01, 'Models and identity').
+-- A fix, as a board and a track have it (docs/REFERENCE.md, 'Models and identity').
 use Rattle.std.specs.Prelude.{ℕ, List}
 
 pub record Fix : Type 0 where

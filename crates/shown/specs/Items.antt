@@ -6,7 +6,7 @@ use Rattle.record.specs.Formed.{wellFormed}
 use Rattle.items.specs.Layout.{hashSize}
 use Rattle.shown.specs.Fix.{Fix}
 
--- "with standing 0, consistent, unverified, not preferred"
+-- standing 0, consistent, unverified, not preferred
 abbrev pub unjudged : List ℕ
 unjudged = replicate 8 0 ++ (1 ∷ 0 ∷ 0 ∷ [])
 

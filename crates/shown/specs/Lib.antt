@@ -1,4 +1,4 @@
--- A fix (Fix), what is shown of fixes (Shown), which of two is older (Ages), that what is shown is 01's decision (Claims); and fixes as the items of a
+-- A fix (Fix), what is shown of fixes (Shown), which of two is older (Ages), that what is shown is the decision of it (Claims); and fixes as the items of a
 -- decision, for the code (Items).
 pub mod Fix
 pub mod Shown

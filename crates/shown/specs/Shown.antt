@@ -1,5 +1,5 @@
--- What is shown of a transmission (document 01, 'The board' and 'Decide'): "Each is decided in ascending identity, with standing 0, consistent, unverified, not
--- preferred." Where no fix is verified none supersedes another, so a decision comes to what is said here; the law is `shown-is-decided` (specs/Claims).
+-- What is shown of a transmission (docs/REFERENCE.md, 'Agreement and decision' and 'Register and board'): its fixes are decided in ascending identity, each with
+-- standing 0, consistent, unverified and not preferred. None is verified, so none supersedes another, and a decision comes to this (`shown-is-decided`, specs/Claims).
 use Rattle.std.specs.Prelude.{ℕ, Bool, false, not, ◌&&◌}
 use mathlib.Core.List.{List, [], ◌∷◌, flat_map}
 use Rattle.octets.specs.Order.{isBefore, same}
@@ -19,7 +19,7 @@ Transmission = Outcome Fix ChiSquare
 
 -- ---- how two fixes relate
 
--- "the same message, all tags contained, and fewer tags": f is a subset of g
+-- f is a subset of g: the same message, all tags contained, and fewer of them
 abbrev pub subsetOf : Fix → Fix → Bool
 subsetOf f g = subset f.recordBytes g.recordBytes
 

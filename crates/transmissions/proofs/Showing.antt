@@ -1,56 +1,220 @@
--- What the loop leaves that takes the latest of those that are left, until there are enough or none is left.
-use mathlib.Core.Path.{◌≡◌, refl, sym, ap, ap₂, ◌∙◌}
-use mathlib.Core.Bool.{Bool, false}
-use mathlib.Core.List.{List, [], ◌∷◌}
+-- What is shown of fixes is what a decision of their items shows.
 use Prim.Native.Nat.{ℕ, zero, suc, ◌-◌, ◌≤◌, ◌<◌}
+use mathlib.Core.Path.{◌≡◌, refl, sym, ap, subst, ◌∙◌}
+use mathlib.Core.Bool.{not, false≢true}
+use mathlib.Core.List.Memᴰ
+use mathlib.Core.List.Permᴰ
+use mathlib.Core.List.{List, [], ◌∷◌, ◌++◌, map, Memᴰ}
 use native.Mathlib.Omega.{arith}
-use lib.ListN.{length, set, drop, replicate, length-set}
-use Rattle.fixes.specs.Layout.{maxFixes}
-use Rattle.rule.specs.declared.Choice.{Choice}
-use Rattle.rule.specs.declared.Choice.TheVariants.{Nobody, Item}
-use Rattle.transmissions.specs.Latest.{latestLeft, withChosen, latest}
-use Rattle.transmissions.specs.Picture.{maxShown}
+use lib.ListN.{length, get_or, take, replicate, length-append, length-map, get_or-append}
+use lib.Seq.{take_at, get_or-take, length-take-le}
+use Rattle.octets.specs.Order.{same}
+use Rattle.record.specs.Fields.{tagCount}
+use Rattle.record.proofs.Laws.{subset-fewer, subset-irrefl}
+use Rattle.arithmetic.specs.Agree.{agreesOf}
+use Rattle.arithmetic.specs.declared.standing.ChiSquare.{ChiSquare}
+use Rattle.ranges.specs.Lists.{any_of, filter, insert, sort, up_to}
+use Rattle.ranges.proofs.Lists.{up_in, count-length}
+use Rattle.ranges.proofs.Orders.{perm-mem, perm-length}
+use Rattle.ranges.proofs.Bools.{or, and_left}
+use Rattle.items.specs.Layout.{maxItems}
+use Rattle.rule.specs.Standing.{decide}
+use Rattle.rule.specs.Outcome.{Refused, Outcome}
+use Rattle.rule.specs.Related.{itemRelations}
+use Rattle.decision.specs.Claims.{listedIn}
+use Rattle.decision.specs.Answer.{decided, decision, indices, refusal, refusals, noRefusal}
+use Rattle.decision.specs.declared.Decision.{Decision}
+use Rattle.decision.specs.declared.Indices.{Indices}
+use Rattle.decision.specs.declared.Refusal.{Refusal}
+use Rattle.decision.proofs.Carried.{carriedOutcome}
+use Rattle.decision.proofs.Laws.{Sound, Named, opponent, successor, listed-once, refused-names, some-ranked}
+use Rattle.shown.specs.Fix.{Fix}
+use Rattle.shown.specs.Shown.{Transmission, subsetOf, agreement, shown}
+use Rattle.transmissions.specs.Leads.{firstOf}
+use Rattle.shown.specs.Items.{noFix, at, itemsFor}
+use Rattle.shown.specs.Claims.{fixRelations}
+use Rattle.shown.proofs.Accepted.{items-decided}
+use Rattle.shown.proofs.Indexed.{at_in}
+use Rattle.shown.proofs.Itemized.{shown-of-items}
+use Rattle.shown.proofs.Plainly.{shown-is-decided}
+use Rattle.transmissions.specs.Parts.{Part}
+use Rattle.transmissions.specs.Decided.{listed, refusedBy, refusedOf, outcomeIn, shownBy, AllBelow, Within}
 
-drop-set : (l : List ℕ) (k b : ℕ) → k < length l → drop k (set l k b) ≡ b ∷ drop (suc k) l
-drop-set [] k b h = absurd (omega arith)
-drop-set (x ∷ l) zero b h = refl
-drop-set (x ∷ l) (suc k) b h = drop-set l k b (omega arith)
+-- ---- a decision says its outcome
 
-module _ (t d : List ℕ) (n : ℕ) (heads : List Bool) where
-  pub record Showing (left : List Bool) (list : List ℕ) (k : ℕ) : Type 0 where
-    pub few : k ≤ maxShown
-    pub long : length list ≡ maxShown
-    pub wide : length left ≡ maxFixes
-    pub rest : latest t d n maxShown heads [] ≡ latest t d n k left (drop k list)
+map-back : (rs : List (Refused ℕ ChiSquare)) → map refusedBy (map refusal rs) ≡ rs
+map-back [] = refl
+map-back (r ∷ rs) = ap (λ (l : List (Refused ℕ ChiSquare)). r ∷ l) (map-back rs)
 
-  pub showing-none : length heads ≡ maxFixes → Showing heads (replicate maxShown 0) maxShown
-  showing-none h = record { few = omega arith; long = refl; wide = h; rest = refl }
+outcome-in : (o : Outcome ℕ ChiSquare) → outcomeIn (decision o) ≡ o
+unfolding decision indices refusals
+outcome-in o =
+    rw (
+      take_at o.ranked (replicate (maxItems - length o.ranked) 0) (length o.ranked) refl,
+      take_at o.dominated (replicate (maxItems - length o.dominated) 0) (length o.dominated) refl,
+      take_at (map refusal o.refused) (replicate (maxItems - length (map refusal o.refused)) noRefusal) (length (map refusal o.refused)) refl,
+      map-back o.refused,
+    ) refl
 
-  pub showing-more : (left : List Bool) (list : List ℕ) (k b : ℕ) → 0 < k → latestLeft t d n left ≡ Item b → Showing left list k
-      → Showing (set left b false) (set list (k - 1) b) (k - 1)
-  unfolding latest
-  showing-more left list k b h e s =
-      let fw = s.few in
-      let lg = s.long in
-      let z : k ≡ suc (k - 1) = omega arith in
+module _ (gs : List Fix) (p : Part gs) where
+  abbrev o : Outcome ℕ ChiSquare
+  o = decide (itemRelations (itemsFor gs)) (up_to (length gs))
+
+  decided-is : decided (itemsFor gs) ≡ decision o
+  decided-is = items-decided gs p.formed p.apart p.few
+
+  pub shown-by : (d : Decision) → d ≡ decided (itemsFor gs) → shownBy gs d ≡ shown gs
+  shown-by d e = ap (shownBy gs) (e ∙ decided-is) ∙ ap (carriedOutcome (at gs) (λ c. c)) (outcome-in o) ∙ sym (shown-of-items gs p.formed)
+
+  -- ---- it names fixes only
+
+  listed-below : (i : ℕ) → Memᴰ i (listedIn o) → i < length gs
+  listed-below i m = up_in (length gs) i (perm-mem (Permᴰ.symm (listed-once (itemRelations (itemsFor gs)) (up_to (length gs)))) m)
+
+  against-below : (x : Refused ℕ ChiSquare) → Memᴰ x o.refused → x.against < length gs
+  against-below x m = go (refused-names (itemRelations (itemsFor gs)) (up_to (length gs)) x m)
+    where
+      go : Named (itemRelations (itemsFor gs)) (up_to (length gs)) x → x.against < length gs
+      go (opponent q c k d u) = up_in (length gs) x.against k
+      go (successor q c k d v w) = up_in (length gs) x.against k
+
+  -- how many each list has
+  few-listed : (length o.ranked ≤ maxItems) × (length o.dominated ≤ maxItems) × (length o.refused ≤ maxItems)
+  few-listed =
+      let e = perm-length (listed-once (itemRelations (itemsFor gs)) (up_to (length gs))) ∙ count-length 0 (length gs) in
+      let f = length-append o.ranked (o.dominated ++ map (λ (x : Refused ℕ ChiSquare). x.item) o.refused) in
+      let g = length-append o.dominated (map (λ (x : Refused ℕ ChiSquare). x.item) o.refused) in
+      let k = length-map o.refused (λ (x : Refused ℕ ChiSquare). x.item) in
+      let q = p.few in
+      (omega arith, omega arith, omega arith)
+
+  array-below : (l : List ℕ) → length l ≤ maxItems → ((i : ℕ) → Memᴰ i l → i < length gs) → AllBelow (length gs) (indices l)
+  unfolding indices
+  array-below l few h = (
+    rw (length-append l (replicate (maxItems - length l) 0)) (omega arith),
+    few,
+    λ i k. rw (get_or-append l (replicate (maxItems - length l) 0) 0 i k) (h _ (at_in 0 l i k)),
+  )
+
+  map-in : {A B : Type 0} (f : A → B) (l : List A) (x : A) → Memᴰ x l → Memᴰ (f x) (map f l)
+  map-in f [] x m = absurd (Memᴰ.not-nil m)
+  map-in f (y ∷ l) x m = or (Memᴰ.cases_cons m) (λ e. Memᴰ.head (ap f e)) (λ k. Memᴰ.tail (map-in f l x k))
+
+  refusal-at : (rs : List (Refused ℕ ChiSquare)) (i : ℕ) (d : Refusal) → i < length (map refusal rs) → (x : Refused ℕ ChiSquare) × Memᴰ x rs × (get_or (map refusal rs) i d ≡ refusal x)
+  refusal-at [] i d h = absurd (omega arith)
+  refusal-at (x ∷ rs) zero d h = (x, Memᴰ.head refl, refl)
+  refusal-at (x ∷ rs) (suc i) d h = let r = refusal-at rs i d (omega arith) in (r.0, Memᴰ.tail r.1, r.2)
+
+  within-decision : Within (length gs) (decision o)
+  unfolding decision refusals
+  within-decision =
+      let rs = map refusal o.refused in
+      let pad = replicate (maxItems - length rs) noRefusal in
       record {
-        few = omega arith;
-        long = length-set list (k - 1) b ∙ s.long;
-        wide = length-set left b false ∙ s.wide;
-        rest = s.rest
-            ∙ ap₂ (λ (i j : ℕ). latest t d n i left (drop j list)) z z
-            ∙ ap (withChosen (drop (suc (k - 1)) list) (λ c. latest t d n (k - 1) (set left c false) (c ∷ drop (suc (k - 1)) list))) e
-            ∙ ap (latest t d n (k - 1) (set left b false)) (sym (drop-set list (k - 1) b (omega arith)));
+        ranked = array-below o.ranked few-listed.0 (λ i m. listed-below i (Memᴰ.append_left _ m));
+        dominated = array-below o.dominated few-listed.1 (λ i m. listed-below i (Memᴰ.append_right o.ranked (Memᴰ.append_left _ m)));
+        listing = (rw (length-append rs pad) (omega arith), rw (length-map o.refused refusal) few-listed.2);
+        refused = λ i d k.
+            let x = refusal-at o.refused i d k in
+            rw (get_or-append rs pad d i k, x.2)
+            (listed-below _ (Memᴰ.append_right o.ranked (Memᴰ.append_right o.dominated (map-in (λ (r : Refused ℕ ChiSquare). r.item) o.refused x.0 x.1))));
+        against = λ i d k.
+            let x = refusal-at o.refused i d k in
+            rw (get_or-append rs pad d i k, x.2) (against-below x.0 x.1);
       }
 
-  pub showing-end : (left : List Bool) (list : List ℕ) (k : ℕ) → 0 < k → latestLeft t d n left ≡ Nobody → Showing left list k → drop k list ≡ latest t d n maxShown heads []
-  unfolding latest
-  showing-end left list k h e s =
-      let z : k ≡ suc (k - 1) = omega arith in
-      sym (s.rest
-      ∙ ap (λ (i : ℕ). latest t d n i left (drop k list)) z
-      ∙ ap (withChosen (drop k list) (λ c. latest t d n (k - 1) (set left c false) (c ∷ drop k list))) e)
+  pub within : (d : Decision) → d ≡ decided (itemsFor gs) → Within (length gs) d
+  within d e = subst (Within (length gs)) (sym (e ∙ decided-is)) within-decision
 
-  pub showing-full : (left : List Bool) (list : List ℕ) (k : ℕ) → k ≤ 0 → Showing left list k → drop k list ≡ latest t d n maxShown heads []
-  unfolding latest
-  showing-full left list k h s = let z : k ≡ 0 = omega arith in sym (s.rest ∙ ap (λ (i : ℕ). latest t d n i left (drop k list)) z)
+-- ---- some fix is ranked
+
+-- a subset has fewer tags
+sound : Sound fixRelations
+sound = record {
+  standing = λ f. 0;
+  size = λ f. tagCount f.recordBytes;
+  over-is = λ f g e. absurd (false≢true e);
+  dis-size = λ f g e. subset-fewer g.recordBytes f.recordBytes (and_left (subsetOf g f) (not (agreesOf (agreement f g))) e);
+  sub-size = λ f g e. subset-fewer f.recordBytes g.recordBytes (and_left (subsetOf f g) (same f.inputs g.inputs) e);
+}
+
+pub some-first : (gs : List Fix) → 0 < length gs → (f : Fix) × (rest : List Fix) × ((shown gs).ranked ≡ f ∷ rest)
+some-first [] h = absurd (omega arith)
+some-first (g ∷ gs) h =
+    let all = g ∷ gs in
+    let e = ap (λ (t : Outcome Fix ChiSquare). t.ranked) (shown-is-decided all) in
+    let q = some-ranked fixRelations all sound g (Memᴰ.head refl) in
+    let r = go (decide fixRelations all).ranked q.0 q.1 in
+    (r.0, r.1, e ∙ r.2)
+  where
+    go : (l : List Fix) (x : Fix) → Memᴰ x l → (f : Fix) × (rest : List Fix) × (l ≡ f ∷ rest)
+    go [] x m = absurd (Memᴰ.not-nil m)
+    go (y ∷ l) x m = (y, l, refl)
+
+pub ranked-some : (gs : List Fix) → 0 < length gs → 0 < length (shown gs).ranked
+ranked-some gs h = let r = some-first gs h in rw r.2 (omega arith)
+
+-- whoever is alone is ranked
+pub alone : (f : Fix) → (shown (f ∷ [])).ranked ≡ f ∷ []
+unfolding shown any_of filter sort insert
+alone f = rw (subset-irrefl f.recordBytes) refl
+
+pub alone-first : (gs : List Fix) (f : Fix) → length gs ≡ 1 → f ≡ get_or gs 0 f → f ≡ firstOf gs
+unfolding firstOf
+alone-first [] f h e = absurd (omega arith)
+alone-first (g ∷ []) f h e = e ∙ sym (ap (λ (l : List Fix). at l 0) (alone g))
+alone-first (g ∷ (k ∷ gs)) f h e = absurd (omega arith)
+
+pub first-at : (gs : List Fix) (t : Transmission) → t ≡ shown gs → at t.ranked 0 ≡ firstOf gs
+unfolding firstOf
+first-at gs t e = ap (λ (u : Transmission). at u.ranked 0) e
+
+-- ---- one of those that are listed
+
+at-map : {A B : Type 0} (f : A → B) (l : List A) (i : ℕ) (x : A) (y : B) → i < length l → get_or (map f l) i y ≡ f (get_or l i x)
+at-map f [] i x y h = absurd (omega arith)
+at-map f (z ∷ l) zero x y h = refl
+at-map f (z ∷ l) (suc i) x y h = at-map f l i x y (omega arith)
+
+get_or-default : {A : Type 0} (l : List A) (i : ℕ) (x y : A) → i < length l → get_or l i x ≡ get_or l i y
+get_or-default [] i x y h = absurd (omega arith)
+get_or-default (z ∷ l) zero x y h = refl
+get_or-default (z ∷ l) (suc i) x y h = get_or-default l i x y (omega arith)
+
+module _ (gs : List Fix) where
+  -- what an index in an array stands for
+  pub named : (l : Indices) (i : ℕ) → AllBelow (length gs) l → i < length (map (at gs) (listed l)) → (i < l.count) × (i < maxItems) × (get_or l.list i 0 < length gs)
+  named l i b h =
+      let e : length (map (at gs) (listed l)) ≡ l.count = length-map (listed l) (at gs) ∙ length-take-le l.count l.list b.0 in
+      let k : i < l.count = rw e at h in
+      (k, let c = b.1 in omega arith, b.2 i k)
+
+  pub named-is : (l : Indices) (i : ℕ) (f : Fix) → AllBelow (length gs) l → i < length (map (at gs) (listed l)) → f ≡ get_or gs (get_or l.list i 0) f
+      → (x : Fix) → get_or (map (at gs) (listed l)) i x ≡ f
+  named-is l i f b h e x =
+      let k = named l i b h in
+      at-map (at gs) (listed l) i 0 x (rw (length-map (listed l) (at gs)) at h) ∙ ap (at gs) (get_or-take l.count l.list i 0 k.0)
+      ∙ get_or-default gs (get_or l.list i 0) noFix f k.2 ∙ sym e
+
+  -- and in a refusal
+  module _ (d : Decision) (w : Within (length gs) d) (i : ℕ) (h : i < length (shownBy gs d).refused) where
+    pub refusal-here : (i < d.refusals.count) × (i < maxItems)
+    refusal-here =
+        let l = take d.refusals.count d.refusals.list in
+        let e : length (map (refusedOf gs) (map refusedBy l)) ≡ d.refusals.count =
+        length-map (map refusedBy l) (refusedOf gs) ∙ length-map l refusedBy ∙ length-take-le d.refusals.count d.refusals.list w.listing.0 in
+        let k : i < d.refusals.count = rw e at h in
+        (k, let c = w.listing.1 in omega arith)
+
+    pub refusal-is : (r : Refusal) (x : Refused Fix ChiSquare) → get_or (shownBy gs d).refused i x ≡ refusedOf gs (refusedBy (get_or d.refusals.list i r))
+    refusal-is r x =
+        let l = take d.refusals.count d.refusals.list in
+        let k = rw (length-map (map refusedBy l) (refusedOf gs)) at h in
+        at-map (refusedOf gs) (map refusedBy l) i (refusedBy r) x k
+        ∙ ap (refusedOf gs) (at-map refusedBy l i r (refusedBy r) (rw (length-map l refusedBy) at k) ∙ ap refusedBy (get_or-take d.refusals.count d.refusals.list i r refusal-here.0))
+
+    pub item-is : (r : Refusal) (f : Fix) → f ≡ get_or gs (get_or d.refusals.list i r).refused f → (x : Refused Fix ChiSquare) → (get_or (shownBy gs d).refused i x).item ≡ f
+    item-is r f e x = ap (λ (z : Refused Fix ChiSquare). z.item) (refusal-is r x) ∙ get_or-default gs _ noFix f (w.refused i r refusal-here.0) ∙ sym e
+
+    pub against-is : (r : Refusal) (f : Fix) → f ≡ get_or gs (get_or d.refusals.list i r).kept f → (x : Refused Fix ChiSquare) → (get_or (shownBy gs d).refused i x).against ≡ f
+    against-is r f e x = ap (λ (z : Refused Fix ChiSquare). z.against) (refusal-is r x) ∙ get_or-default gs _ noFix f (w.against i r refusal-here.0) ∙ sym e

@@ -1,4 +1,5 @@
--- What is shown of a register (Picture); and how the code comes to it, by indices (Members, Latest).
+-- What is shown of a register (Picture); and how the code comes to it: a transmission as it is decided (Parts, Decided), and the order of transmissions (Leads).
 pub mod Picture
-pub mod Members
-pub mod Latest
+pub mod Parts
+pub mod Decided
+pub mod Leads

@@ -1,4 +1,4 @@
--- What a register shows (document 01, 'The board'): "The 8 latest are written, oldest first, by time then identity of the first ranked".
+-- What a register shows (docs/REFERENCE.md, 'Register and board'): of its transmissions the 8 latest, the oldest first, by time and then identity of the first ranked.
 use Rattle.std.specs.Prelude.{ℕ, Bool, List, map}
 use Rattle.ranges.specs.Lists.{sort, last_of}
 use Rattle.shown.specs.Shown.{Transmission, shown}
@@ -6,7 +6,7 @@ use Rattle.shown.specs.Ages.{olderFirst}
 use Rattle.fixes.specs.Fixes.{fixesOf}
 use Rattle.links.specs.Transmissions.{transmissionsOf}
 
--- "by time then identity of the first ranked"
+-- t is older than u: by time, then by identity, of the first ranked of each
 abbrev pub olderThan : Transmission → Transmission → Bool
 olderThan t u = olderFirst t.ranked u.ranked
 
@@ -18,6 +18,6 @@ picture ss ps = sort olderThan (map shown (transmissionsOf (fixesOf ss ps)))
 abbrev pub maxShown : ℕ
 maxShown = 8
 
--- "The 8 latest"
+-- the 8 latest
 abbrev pub latestOf : List Transmission → List Transmission
 latestOf ts = last_of maxShown ts

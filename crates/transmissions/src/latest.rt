@@ -1,108 +1,106 @@
-// Which transmissions are written: the latest, the oldest of them first.
-ghost use Rattle.std.specs.Prelude.{◌≡◌, [], ℕ, ◌+◌, ◌*◌, ◌<◌, ◌≤◌, length, get_or, drop};
-ghost use Rattle.fixes.specs.Layout.{fixSize, maxFixes};
-ghost use Rattle.rule.specs.Choosing.{better, Below};
-ghost use Rattle.transmissions.specs.Members.{headsOf};
-ghost use Rattle.transmissions.specs.Picture.{maxShown};
-ghost use Rattle.transmissions.specs.Latest as L;
+// The latest transmissions, the oldest of them first: by time, then by identity, of the first ranked of each.
+ghost use Rattle.std.specs.Prelude.{◌≡◌, ◌*◌, ◌≤◌, ◌<◌, [], length, not, position};
+ghost use Rattle.items.specs.Layout.{itemSize};
+ghost use Rattle.ranges.specs.Lists.{insert, sort, up_to};
+ghost use Rattle.shown.specs.Shown.{shown};
+ghost use Rattle.shown.specs.Items.{noFix};
+ghost use Rattle.arrayvec.specs.ArrayVec.{array_vec_len};
+ghost use Rattle.transmissions.specs.Parts.{Part, AllParts};
+ghost use Rattle.transmissions.specs.Leads.{before, leadOf, leadsOf, firstOf};
 
-use fixes::layout::MAX_FIXES;
-use rule::Choice;
+use crate::Shown;
+use arrayvec::ArrayVec;
+use fixes::{Fix, MAX_FIXES};
+use links::{Transmission, Transmissions};
+use models::hashes::{HASH_SIZE, Identity, precedes};
 
-// The most transmissions on a board.
-pub const MAX_SHOWN: usize = 8;
-
-// The transmissions that are written: those from `start` on.
+// A transmission by its number among all, with the time and the identity of its first ranked fix.
 #[derive(Clone, Copy)]
-pub struct Shown {
-    pub list: [u8; MAX_SHOWN],
-    pub start: u8,
+pub struct Lead {
+    pub number: u8,
+    pub time: u64,
+    pub identity: Identity,
 }
 
-// Which fixes head a transmission.
-pub fn heads(labels: &[u8; MAX_FIXES], n: u8) -> [bool; MAX_FIXES]
-    requires { n ≤ maxFixes }
-    ensures { result ≡ headsOf labels.now n }
-{
-    let mut list = [false; MAX_FIXES];
-    let mut s: u8 = 0;
-    while s < n {
-        list[s as usize] = labels[s as usize] == s;
-        s += 1;
-    }
-    list
-}
-
-// Whether fix i is later than fix j: by time, then by identity.
-fn later_fix(t: &[u8], i: u8, j: u8) -> bool
-    requires { (i * fixSize + fixSize ≤ length t.now) × (j * fixSize + fixSize ≤ length t.now) }
-    ensures { result ≡ L.laterFix t.now i j }
-{
-    let a = record::fields::time(fixes::record_of(t, i));
-    let b = record::fields::time(fixes::record_of(t, j));
-    if b < a {
-        return true;
-    }
-    if a < b {
-        return false;
-    }
-    octets::order::precedes(fixes::identity(t, j), fixes::identity(t, i))
-}
-
-// The later of best, if there is one, and k.
-fn later_of(t: &[u8], leads: &[u8], n: u8, best: Choice, k: u8) -> Choice
-    requires t_len { length t.now ≡ maxFixes * fixSize }
-    requires n_in_bounds { (n ≤ length leads.now) × ((i : ℕ) → get_or leads.now i 0 < maxFixes) }
-    requires k_lt_n { (k < n) × Below n best }
-    ensures { result ≡ better (L.later t.now leads.now) best k }
-{
-    let Choice::Item(b) = best else {
-        return Choice::Item(k);
-    };
-    if later_fix(t, leads[k as usize], leads[b as usize]) {
-        return Choice::Item(k);
-    }
-    best
-}
-
-// The latest of those left, if there is one.
-fn latest_left(t: &[u8], leads: &[u8], n: u8, left: &[bool; MAX_FIXES]) -> Choice
-    requires t_len { length t.now ≡ maxFixes * fixSize }
-    requires n_in_bounds { (n ≤ length leads.now) × ((i : ℕ) → get_or leads.now i 0 < maxFixes) }
-    requires n_le_max_fixes { n ≤ maxFixes }
-    ensures { result ≡ L.latestLeft t.now leads.now n left.now }
-{
-    let mut best = Choice::Nobody;
-    let mut i: u8 = 0;
-    while i < n {
-        if !left[i as usize] {
-            i += 1;
-            continue;
+impl Default for Lead {
+    // What an unused place of a list holds.
+    fn default() -> Lead {
+        Lead {
+            number: 0,
+            time: 0,
+            identity: Identity([0; HASH_SIZE]),
         }
-        best = later_of(t, leads, n, best, i);
-        i += 1;
     }
-    best
 }
 
-// The latest transmissions of those that have heads, whose first ranked fixes are `leads`.
-pub fn latest(t: &[u8], leads: &[u8], n: u8, heads: [bool; MAX_FIXES]) -> Shown
-    requires t_len { length t.now ≡ maxFixes * fixSize }
-    requires n_in_bounds { (n ≤ length leads.now) × ((i : ℕ) → get_or leads.now i 0 < maxFixes) }
-    requires n_le_max_fixes { (n ≤ maxFixes) × (length heads ≡ maxFixes) }
-    ensures { (result.start ≤ maxShown) × (length result.list ≡ maxShown) × (drop result.start result.list ≡ L.latest t.now leads.now n maxShown heads []) }
-{
-    let mut left = heads;
-    let mut list = [0u8; MAX_SHOWN];
-    let mut k: u8 = 8;
-    while 0 < k {
-        let last = latest_left(t, leads, n, &left);
-        let Choice::Item(b) = last else {
-            return Shown { list, start: k };
-        };
-        k -= 1;
-        list[k as usize] = b;
-        left[b as usize] = false;
+impl Lead {
+    ghost use Rattle.transmissions.specs.Leads.{before};
+
+    // Whether it is older than another.
+    fn is_older(&self, other: &Lead) -> bool
+        ensures { result ≡ before self.now other.now }
+    {
+        if self.time < other.time {
+            return true;
+        }
+        if other.time < self.time {
+            return false;
+        }
+        precedes(&self.identity, &other.identity)
     }
-    Shown { list, start: k }
+}
+
+// The first ranked fix of a transmission; whoever is alone is that.
+fn first_ranked<'s, 'a>(items: &mut [u8], transmission: Transmission<'s, 'a>) -> &'s Fix<'a>
+    requires items_len { length items.old ≡ MAX_FIXES * itemSize }
+    requires part { Part transmission }
+    ensures { result.now ≡ firstOf transmission.entry }
+{
+    if transmission.len() == 1 {
+        return transmission.fix(0);
+    }
+    let decision = crate::outcome(items, &transmission);
+    Shown::of(&transmission, &decision).ranked(0)
+}
+
+// Where the first stands that is not older, if there is one.
+fn place_of(leads: &[Lead], lead: &Lead) -> Option<usize>
+    ensures { result ≡ position (λ held. not (before held lead.now)) leads.now }
+{
+    leads.iter().position(|held| !held.is_older(lead))
+}
+
+// Puts one in behind those that are older.
+fn enter(leads: &mut ArrayVec<Lead, MAX_FIXES>, lead: Lead)
+    requires room { array_vec_len leads.old < MAX_FIXES }
+    ensures { leads.new.items ≡ insert before lead leads.old.items }
+{
+    let place = place_of(leads, &lead).unwrap_or(leads.len());
+    leads.insert(place, lead);
+}
+
+// Puts all transmissions into an empty list, the oldest first.
+pub fn arrange(
+    items: &mut [u8],
+    transmissions: &Transmissions<'_, '_>,
+    leads: &mut ArrayVec<Lead, MAX_FIXES>,
+)
+    requires items_len { length items.old ≡ MAX_FIXES * itemSize }
+    requires parts { AllParts transmissions.now }
+    requires few { length transmissions.now ≤ MAX_FIXES }
+    requires none { leads.old.items ≡ [] }
+    ensures arranged { leads.new.items ≡ sort before (leadsOf transmissions.now) }
+    ensures items_len { length items.new ≡ MAX_FIXES * itemSize }
+{
+    let mut k = transmissions.len();
+    while 0 < k {
+        k -= 1;
+        let first = first_ranked(items, transmissions.nth(k));
+        let lead = Lead {
+            number: k as u8,
+            time: first.report.time(),
+            identity: first.identity,
+        };
+        enter(leads, lead);
+    }
 }

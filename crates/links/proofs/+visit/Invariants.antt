@@ -1,12 +1,11 @@
 -- The measure is the number of places without a mark: a visit marks one that had none, and then no mark is taken away.
-use Prim.Native.Nat.{◌-◌, ◌≤◌}
+use Prim.Native.Nat.{◌-◌}
 use mathlib.Core.Path.{◌≡◌}
 use lib.ListN.{length}
-use Rattle.fixes.specs.Layout.{maxFixes}
-use Rattle.links.specs.Links.{link_at}
 use Rattle.links.specs.Walk as W
 use Rattle.links.specs.Walk.{unmarked, each}
 use Rattle.links.proofs.Labelling.{Progress}
+use Rattle.links.specs.Links.{link_at}
 use Rattle.links.proofs.+visit.Given as goal
 
 abbrev pub decreases-visit : goal.decreases-visit
@@ -14,8 +13,10 @@ decreases-visit l = unmarked l.marks.now
 
 abbrev pub invariant-loop-j : goal.invariant-loop-j
 invariant-loop-j l =
-    let v = W.visit (link_at l.t) l.n (unmarked l.initial.marks) in
-    (l.j ≤ l.n) × (length l.marks ≡ maxFixes) × (length l.labels ≡ maxFixes) × Progress l.s l.initial.marks l.marks l.initial.labels l.labels × (each v (link_at l.t l.i) l.initial.marks 0 l.n ≡ each v (link_at l.t l.i) l.marks l.j (l.n - l.j))
-
-abbrev pub decreases-loop-j : goal.decreases-loop-j
-decreases-loop-j l = l.n - l.j
+    let n = length l.fixes in
+    let link = link_at l.fixes in
+    let v = W.visit link n (unmarked l.initial.marks) in
+    record {
+      progress : Progress l.s l.initial.marks l.marks l.initial.labels l.labels;
+      left : each v (link l.i) l.initial.marks 0 n ≡ each v (link l.i) l.marks l.j (n - l.j);
+    }

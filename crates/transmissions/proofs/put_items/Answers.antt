@@ -1,16 +1,17 @@
-use Prim.Native.Nat.{◌-◌}
+use mathlib.Core.Path.{refl}
 use native.Mathlib.Omega.{arith}
-use Rattle.text.proofs.Writing.{put-put, put_as, put-none}
-use Rattle.transmissions.specs.Members.{items_of}
-use Rattle.transmissions.proofs.Gathering.{items_more}
+use Rattle.octets.proofs.Puts.{put-put, put_as, put-none}
+use Rattle.transmissions.proofs.Gathering.{items-none, items-more}
 use Rattle.transmissions.proofs.put_items.Goals as goal
 
 pub loop-i-init : goal.loop-i-init
-unfolding items_of
-loop-i-init c = (omega arith, omega arith, put-none _ _)
+loop-i-init c = record { here = refl; text = put_as items-none (put-none _ _) }
 
 pub loop-i-preserved : goal.loop-i-preserved
 loop-i-preserved c =
-    let l = c.loop-i in
+    let k = c.loop-i.invariant in
     let p = c.put_item-at.ensures in
-    (omega arith, omega (arith, p.0), put_as (items_more _ _ l.i (omega arith)) (put-put l.invariant.2 p.1))
+    record {
+      here = omega (arith, p.0, k.here);
+      text = put_as (items-more c.args.transmission.now c.loop-i.i c.fix.result.now (omega arith) c.fix.ensures) (put-put k.text p.1);
+    }

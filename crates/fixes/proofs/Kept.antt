@@ -1,0 +1,103 @@
+-- What is known of the fixes of a board: they ascend, so that no two have one identity; each is formed; and there are no more of them than records.
+use Prim.Native.Nat.{ℕ, suc, ◌+◌, ◌≤◌}
+use mathlib.Core.Path.{◌≡◌, refl, sym, subst}
+use mathlib.Core.Bool.{true}
+use mathlib.Core.List.Memᴰ
+use mathlib.Core.List.{List, [], ◌∷◌, Memᴰ}
+use native.Mathlib.Omega.{arith}
+use lib.Dec.{ltb}
+use lib.ListN.{length}
+use borrow.Author.Tests.{ltb-true, ltb-false}
+use Rattle.octets.specs.Order.{isBefore}
+use Rattle.octets.proofs.Comparison.{before-irrefl}
+use Rattle.ranges.specs.Lists.{filter}
+use Rattle.ranges.proofs.Bools.{by, or, clash, and_left, and_right}
+use Rattle.places.specs.Places.{allPlaces}
+use Rattle.models.specs.Models.{counts}
+use Rattle.models.specs.Identity.{setHash, citedInputs}
+use Rattle.models.proofs.Sets.{cited-length, identity-length}
+use Rattle.shown.specs.Fix.{Fix, withSigners}
+use Rattle.shown.specs.Shown.{lower}
+use Rattle.shown.specs.Items.{noFix, at, Formed, AllFormed, Apart}
+use Rattle.fixes.specs.Slots.{slotFormed}
+use Rattle.fixes.specs.Fixes.{recordIn, fixOf, unite, enter, enterAll, fixesOf}
+use Rattle.fixes.specs.Order.{ascends}
+use Rattle.fixes.proofs.Entering.{enter-ascends, enter-length, earlier-lower}
+use Rattle.fixes.proofs.Representing.{counted}
+
+-- ---- no two have one identity
+
+pub apart : (gs : List Fix) → ascends gs ≡ true → Apart gs
+apart gs a i j h k e =
+    by (ltb i j)
+    (λ t. clash (earlier-lower gs a i j noFix (ltb-true i j t) k) (rw e (before-irrefl (at gs j).identity)))
+    (λ t. by (ltb j i)
+    (λ u. clash (earlier-lower gs a j i noFix (ltb-true j i u) h) (rw e (before-irrefl (at gs j).identity)))
+    (λ u. let x = ltb-false i j t in let y = ltb-false j i u in omega arith))
+
+-- ---- each is formed
+
+formed-signed : (n : ℕ) (f : Fix) → Formed f → Formed (withSigners n f)
+formed-signed n f w = record { key = w.key; form = w.form; cited = w.cited }
+
+united-formed : (g f : Fix) → Formed g → Formed f → Formed (unite g f)
+united-formed g f u v = by (isBefore f.recordBytes g.recordBytes) (λ h. rw h (formed-signed _ f v)) (λ h. rw h (formed-signed _ g u))
+
+all-cons : (f : Fix) (fs : List Fix) → Formed f → AllFormed fs → AllFormed (f ∷ fs)
+all-cons f fs h w y m = or (Memᴰ.cases_cons m) (λ e. subst Formed (sym e) h) (λ k. w y k)
+
+enter-formed : (f : Fix) (gs : List Fix) → Formed f → AllFormed gs → AllFormed (enter f gs)
+unfolding enter
+enter-formed f [] h w = all-cons f [] h w
+enter-formed f (g ∷ gs) h w =
+    let first = w g (Memᴰ.head refl) in
+    let others : AllFormed gs = λ y m. w y (Memᴰ.tail m) in
+    by (lower g f)
+    (λ u. rw u (all-cons g (enter f gs) first (enter-formed f gs h others)))
+    (λ u. by (lower f g)
+    (λ v. rw (u, v) (all-cons f (g ∷ gs) h w))
+    (λ v. rw (u, v) (all-cons (unite g f) gs (united-formed g f first h) others)))
+
+slot-formed : (ss : List (List ℕ)) (p : List ℕ) → slotFormed p ≡ true → Formed (fixOf ss p)
+slot-formed ss p h = record { key = identity-length (setHash (recordIn p)) (citedInputs ss (recordIn p)); form = h; cited = cited-length ss (recordIn p) }
+
+-- ---- the fixes of summaries and records
+
+record Kept (fs : List Fix) (n : ℕ) : Type 0 where
+  in_order : ascends fs ≡ true
+  formed : AllFormed fs
+  few : length fs ≤ n
+
+all-kept : (ss ps : List (List ℕ)) (fs : List Fix) (n : ℕ) → allPlaces slotFormed ps ≡ true → Kept fs n → Kept (enterAll fs (counted ss [] 0 ps)) (n + length ps)
+unfolding allPlaces enterAll filter
+all-kept ss [] fs n h k = record { in_order = k.in_order; formed = k.formed; few = let x = k.few in omega arith }
+all-kept ss (p ∷ ps) fs n h k =
+    let one : slotFormed p ≡ true = and_left (slotFormed p) (allPlaces slotFormed ps) h in
+    let others : allPlaces slotFormed ps ≡ true = and_right (slotFormed p) (allPlaces slotFormed ps) h in
+    let f = fixOf ss p in
+    let x = k.few in
+    let z : suc n + length ps ≡ n + suc (length ps) = omega arith in
+    by (counts ss (recordIn p))
+    (λ c. rw (c, ← z) (all-kept ss ps (enter f fs) (suc n) others (record {
+      in_order = enter-ascends f fs k.in_order;
+      formed = enter-formed f fs (slot-formed ss p one) k.formed;
+      few = let y = enter-length f fs in omega arith;
+    })))
+    (λ c. rw (c, ← z) (all-kept ss ps fs (suc n) others (record { in_order = k.in_order; formed = k.formed; few = omega arith })))
+
+module _ (ss ps : List (List ℕ)) (h : allPlaces slotFormed ps ≡ true) where
+  all : Kept (fixesOf ss ps) (0 + length ps)
+  unfolding fixesOf ascends
+  all = all-kept ss ps [] 0 h (record { in_order = refl; formed = λ y m. absurd (Memᴰ.not-nil m); few = omega arith })
+
+  pub fixes-ascend : ascends (fixesOf ss ps) ≡ true
+  fixes-ascend = all.in_order
+
+  pub fixes-apart : Apart (fixesOf ss ps)
+  fixes-apart = apart (fixesOf ss ps) all.in_order
+
+  pub fixes-formed : AllFormed (fixesOf ss ps)
+  fixes-formed = all.formed
+
+  pub fixes-few : length (fixesOf ss ps) ≤ length ps
+  fixes-few = let x = all.few in omega arith

@@ -1,0 +1,99 @@
+// A fix: a record that is lent, what it is known by, and who signed it.
+ghost use Rattle.std.specs.Prelude.{◌≡◌};
+ghost use Rattle.models.specs.Answers.{listed};
+ghost use Rattle.fixes.specs.Fixes as F;
+ghost use Rattle.fixes.specs.Order.{order};
+ghost use Rattle.fixes.specs.Slots.{fix_of};
+
+use models::hashes::{HASH_SIZE, Identity, Inputs, precedes};
+use models::summaries::Summaries;
+use models::{citations, identities};
+use record::Record;
+use record::layout::RECORD_SIZE;
+use record::relations::lesser;
+use std::cmp::Ordering;
+use std::marker::Model;
+
+// A fix of a board: one for each identity.
+#[derive(Drop)]
+pub struct Fix<'a> {
+    pub identity: Identity,
+    // The record that represents it.
+    pub report: Record<'a>,
+    // The model inputs of that record.
+    pub inputs: Inputs,
+    // The engines that signed a record of this identity, bit n for engine n.
+    pub signers: u32,
+}
+
+impl<'a> Model for Fix<'a> {
+    ghost use Rattle.shown.specs.Fix as S;
+
+    ghost Value = { S.Fix };
+
+    ghost view = { λ f. record { identity = f.identity.0; recordBytes = f.report.bytes.now; inputs = f.inputs.0; signers = f.signers } };
+}
+
+// A record with a message of 7 zero bytes, and the tag 0.
+static BLANK: [u8; RECORD_SIZE] = [
+    0, 0, 0, 0, 0, 0, 0, 0, 0, 0, 0, 0, 0, 0, 0, 0, 0, 0, 0, 0, 0, 7, 0, 0, 0, 0, 0, 0, 0, 0, 0, 0,
+    0, 0, 0, 0, 1, 0, 0, 0, 0, 0, 0, 0, 0, 0, 0, 0, 0, 0, 0, 0, 0, 0, 0, 0, 0, 0, 0, 0, 0, 0, 0, 0,
+    0, 0, 0, 0, 0, 0, 0, 0, 0, 0, 0, 0, 0, 0, 0, 0, 0, 0, 0, 0, 0, 0, 0, 0, 0, 0, 0, 0, 0, 0, 0, 0,
+    0, 0, 0, 0, 0, 0, 0, 0, 0, 0, 0, 0, 0, 0, 0, 0, 0, 0, 0, 0, 0, 0, 0, 0, 0, 0, 0, 0, 0, 0, 0, 0,
+    0, 0, 0, 0, 0, 0, 0, 0, 0, 0, 0, 0, 0, 0, 0, 0, 0, 0, 0, 0, 0, 0, 0, 0, 0, 0, 0, 0, 0, 0, 0, 0,
+    0, 0, 0, 0, 0, 0, 0, 0, 0, 0, 0, 0, 0, 0, 0, 0, 0, 0, 0, 0, 0, 0, 0, 0, 0, 0, 0, 0, 0, 0, 0, 0,
+    0, 0, 0, 0, 0, 0, 0, 0, 0, 0, 0, 0, 0, 0, 0, 0, 0, 0, 0, 0, 0, 0, 0, 0, 0, 0, 0, 0, 0, 0,
+];
+
+impl Default for Fix<'_> {
+    // What an unused place of a list holds.
+    fn default() -> Self {
+        Fix {
+            identity: Identity([0; HASH_SIZE]),
+            report: Record::of(&BLANK),
+            inputs: Inputs([0; HASH_SIZE]),
+            signers: 0,
+        }
+    }
+}
+
+impl<'a> Fix<'a> {
+    // A record alone as a fix, with its signers.
+    pub fn of_record(all: Summaries, report: Record<'a>, signers: u32) -> Fix<'a>
+        ensures { result ≡ fix_of (listed all.entry) report.entry.bytes.now signers }
+    {
+        let inputs = citations::cited_inputs(all, report);
+        let set = identities::set_hash(report);
+        Fix {
+            identity: identities::identity(&set, &inputs),
+            report,
+            inputs,
+            signers,
+        }
+    }
+
+    // How two fixes stand in the order of identities.
+    pub fn compare(&self, other: &Fix<'_>) -> Ordering
+        ensures { result ≡ order self.now other.now }
+    {
+        if precedes(&self.identity, &other.identity) {
+            return Ordering::Less;
+        }
+        if precedes(&other.identity, &self.identity) {
+            return Ordering::Greater;
+        }
+        Ordering::Equal
+    }
+
+    // Takes a further fix of this identity in: the lesser of the two records represents both.
+    pub fn unite(&mut self, other: Fix<'a>)
+        ensures { self.new ≡ F.unite self.old other.entry }
+    {
+        let signers = self.signers | other.signers;
+        let represents = lesser(self.report, other.report);
+        if !octets::order::equal(represents.bytes, self.report.bytes) {
+            *self = other;
+        }
+        self.signers = signers;
+    }
+}

@@ -1,0 +1,53 @@
+-- Whether two fixes link, from the times of their records and what ties them.
+use Prim.Native.Nat.{ℕ, zero, suc, ◌<◌}
+use mathlib.Core.Path.{◌≡◌, refl, sym, ap₂, ◌∙◌}
+use mathlib.Core.Bool.{Bool, true, false, ◌&&◌}
+use mathlib.Core.List.{List, [], ◌∷◌}
+use native.Mathlib.Omega.{arith}
+use lib.ListN.{length, get_or}
+use Rattle.record.specs.Fields.{time}
+use Rattle.record.specs.Relations.{tied}
+use Rattle.shown.specs.Fix.{Fix}
+use Rattle.shown.specs.Items.{noFix, at}
+use Rattle.links.specs.Transmissions.{nearInTime, recordsLink, linked}
+use Rattle.links.specs.Chains.{Symmetric}
+use Rattle.links.proofs.Symmetry.{linked-turned}
+use Rattle.links.specs.Links.{link_at}
+
+and-true : (b : Bool) → b ≡ (b && true)
+and-true true = refl
+and-true false = refl
+
+and-false : (b : Bool) → false ≡ (b && false)
+and-false true = refl
+and-false false = refl
+
+module _ (f g : Fix) (a b : List ℕ) (x y : ℕ) (near : Bool) (of_f : a ≡ f.recordBytes) (of_g : b ≡ g.recordBytes) (x-is : x ≡ time a) (y-is : y ≡ time b) (near-is : near ≡ nearInTime x y) where
+  pub linked-near : (t : Bool) → near ≡ true → t ≡ tied a b → t ≡ linked f g
+  unfolding recordsLink
+  linked-near t h e =
+      let z : nearInTime (time a) (time b) ≡ true = sym (near-is ∙ ap₂ nearInTime x-is y-is) ∙ h in
+      rw (← of_f, ← of_g, z) (e ∙ and-true (tied a b))
+
+  pub linked-far : near ≡ false → near ≡ linked f g
+  unfolding recordsLink
+  linked-far h =
+      let z : nearInTime (time a) (time b) ≡ false = sym (near-is ∙ ap₂ nearInTime x-is y-is) ∙ h in
+      rw (← of_f, ← of_g, z, h) (and-false (tied a b))
+
+-- ---- fixes by their indices
+
+same-at : (fs : List Fix) (i : ℕ) (x y : Fix) → i < length fs → get_or fs i x ≡ get_or fs i y
+same-at [] i x y h = absurd (omega arith)
+same-at (f ∷ fs) zero x y h = refl
+same-at (f ∷ fs) (suc i) x y h = same-at fs i x y (omega arith)
+
+pub at_is : (fs : List Fix) (i : ℕ) (x : Fix) → i < length fs → x ≡ get_or fs i x → x ≡ at fs i
+at_is fs i x h e = e ∙ same-at fs i x noFix h
+
+pub linked-there : (fs : List Fix) (i j : ℕ) (x y : Fix) (b : Bool) → i < length fs → j < length fs → x ≡ get_or fs i x → y ≡ get_or fs j y → b ≡ linked x y → b ≡ link_at fs i j
+linked-there fs i j x y b h k e d p = p ∙ ap₂ linked (at_is fs i x h e) (at_is fs j y k d)
+
+-- links between the fixes of a list go both ways
+pub links-turned : (fs : List Fix) → Symmetric (link_at fs)
+links-turned fs = record { turned = λ i j. linked-turned _ _ }

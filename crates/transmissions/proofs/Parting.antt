@@ -1,0 +1,91 @@
+-- What is known of the transmissions of fixes.
+use Prim.Native.Nat.{ℕ, zero, suc, ◌≤◌, ◌<◌}
+use mathlib.Core.Path.{◌≡◌, refl, sym, subst, ◌∙◌}
+use mathlib.Core.Bool.{Bool, true, false≢true}
+use mathlib.Core.List.Memᴰ
+use mathlib.Core.List.{List, [], ◌∷◌, Memᴰ}
+use native.Mathlib.Omega.{arith}
+use lib.ListN.{length, get_or, length-map}
+use Rattle.octets.specs.Order.{isBefore}
+use Rattle.octets.proofs.Comparison.{before-trans}
+use Rattle.ranges.specs.Lists.{any_of, filter}
+use Rattle.ranges.proofs.Lists.{filter-in, filter-few}
+use Rattle.ranges.proofs.Bools.{by, and_left, and_right, and_both}
+use Rattle.items.specs.Layout.{maxItems}
+use Rattle.shown.specs.Fix.{Fix}
+use Rattle.shown.specs.Items.{AllFormed}
+use Rattle.shown.proofs.Indexed.{at_in}
+use Rattle.links.specs.Transmissions.{linked, reach, transmissionOf, leads, isFirst, transmissionsOf}
+use Rattle.links.proofs.Partition.{map-from}
+use Rattle.fixes.specs.Order.{ascends, ascendsFrom}
+use Rattle.fixes.proofs.Entering.{rest-ascends}
+use Rattle.fixes.proofs.Kept.{apart}
+use Rattle.transmissions.specs.Parts.{Part, AllParts}
+
+-- ---- some of fixes that ascend
+
+weaker : (a b : List ℕ) (fs : List Fix) → isBefore a b ≡ true → ascendsFrom b fs ≡ true → ascendsFrom a fs ≡ true
+unfolding ascendsFrom
+weaker a b [] h e = refl
+weaker a b (f ∷ fs) h e =
+    and_both (isBefore a f.identity) (ascendsFrom f.identity fs)
+    (before-trans a b f.identity h (and_left (isBefore b f.identity) (ascendsFrom f.identity fs) e))
+    (and_right (isBefore b f.identity) (ascendsFrom f.identity fs) e)
+
+filter-from : (p : Fix → Bool) (key : List ℕ) (fs : List Fix) → ascendsFrom key fs ≡ true → ascendsFrom key (filter p fs) ≡ true
+unfolding ascendsFrom filter
+filter-from p key [] e = refl
+filter-from p key (f ∷ fs) e =
+    let h = and_left (isBefore key f.identity) (ascendsFrom f.identity fs) e in
+    let k = filter-from p f.identity fs (and_right (isBefore key f.identity) (ascendsFrom f.identity fs) e) in
+    by (p f)
+    (λ t. rw t (and_both (isBefore key f.identity) (ascendsFrom f.identity (filter p fs)) h k))
+    (λ t. rw t (weaker key f.identity (filter p fs) h k))
+
+filter-ascends : (p : Fix → Bool) (fs : List Fix) → ascends fs ≡ true → ascends (filter p fs) ≡ true
+unfolding ascends filter
+filter-ascends p [] e = refl
+filter-ascends p (f ∷ fs) e =
+    let k = filter-from p f.identity fs e in
+    by (p f) (λ t. rw t k) (λ t. rw t (rest-ascends f.identity (filter p fs) k))
+
+-- ---- a transmission is some of the fixes
+
+by-test : (fs : List Fix) (a : Fix) (k : ℕ) → 0 < k → (p : Fix → Bool) × (reach fs k a ≡ filter p fs)
+unfolding reach
+by-test fs a zero h = absurd (omega arith)
+by-test fs a (suc k) h = (λ g. any_of (linked g) (reach fs k a), refl)
+
+led : (a : Fix) (c : List Fix) → leads a c ≡ true → 0 < length c
+led a [] e = absurd (false≢true e)
+led a (f ∷ c) e = omega arith
+
+held : (fs : List Fix) (a : Fix) → Memᴰ a fs → 0 < length fs
+held [] a m = absurd (Memᴰ.not-nil m)
+held (f ∷ fs) a m = omega arith
+
+module _ (fs : List Fix) (w : AllFormed fs) (e : ascends fs ≡ true) (few : length fs ≤ maxItems) where
+  filtered : (p : Fix → Bool) → 0 < length (filter p fs) → Part (filter p fs)
+  filtered p h = record {
+    formed = λ f m. w f (filter-in p fs f m).0;
+    apart = apart (filter p fs) (filter-ascends p fs e);
+    few = let q = filter-few p fs in omega arith;
+    some = h;
+  }
+
+  a-part : (c : List Fix) → Memᴰ c (transmissionsOf fs) → Part c
+  unfolding transmissionsOf
+  a-part c m =
+      let r = map-from (transmissionOf fs) (filter (isFirst fs) fs) c m in
+      let q = filter-in (isFirst fs) fs r.0 r.1 in
+      let t = by-test fs r.0 (length fs) (held fs r.0 q.0) in
+      let is : c ≡ filter t.0 fs = r.2 ∙ t.1 in
+      let some : 0 < length c = subst (λ (z : List Fix). 0 < length z) (sym r.2) (led r.0 (transmissionOf fs r.0) q.1) in
+      subst Part (sym is) (filtered t.0 (subst (λ (z : List Fix). 0 < length z) is some))
+
+  pub parts-of : AllParts (transmissionsOf fs)
+  parts-of k h = a-part (get_or (transmissionsOf fs) k []) (at_in [] (transmissionsOf fs) k h)
+
+pub few-parts : (fs : List Fix) → length (transmissionsOf fs) ≤ length fs
+unfolding transmissionsOf
+few-parts fs = rw (length-map (filter (isFirst fs) fs) (transmissionOf fs)) (filter-few (isFirst fs) fs)

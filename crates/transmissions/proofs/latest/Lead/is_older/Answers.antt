@@ -1,0 +1,16 @@
+use Rattle.std.proofs.Common.{refl}
+use borrow.Author.Tests.{lt-ltb, le-ltb}
+use Rattle.transmissions.specs.Leads.{before}
+use Rattle.transmissions.proofs.latest.Lead.is_older.Goals as goal
+
+pub returns-then-self-other : goal.returns-then-self-other
+unfolding before
+returns-then-self-other c = rw (lt-ltb _ _ c.if-self-other.true) refl
+
+pub returns-then-other-self : goal.returns-then-other-self
+unfolding before
+returns-then-other-self c = rw (le-ltb _ _ c.if-self-other.false, lt-ltb _ _ c.if-other-self.true) refl
+
+pub returns : goal.returns
+unfolding before
+returns c = rw (le-ltb _ _ c.if-self-other.false, le-ltb _ _ c.if-other-self.false) c.precedes.ensures

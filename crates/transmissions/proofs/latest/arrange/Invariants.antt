@@ -1,0 +1,18 @@
+use Prim.Native.Nat.{◌*◌, ◌-◌, ◌≤◌}
+use mathlib.Core.Path.{◌≡◌}
+use lib.ListN.{length}
+use mathlib.Core.List.{map}
+use Rattle.items.specs.Layout.{itemSize}
+use Rattle.ranges.specs.Lists.{sort, countFrom}
+use Rattle.transmissions.specs.Leads.{before, leadOf}
+use Rattle.transmissions.proofs.latest.arrange.Given as goal
+
+abbrev pub decreases-loop-k : goal.decreases-loop-k
+decreases-loop-k l = l.k
+
+abbrev pub invariant-loop-k : goal.invariant-loop-k
+invariant-loop-k l = record {
+  most : l.k ≤ length l.transmissions;
+  sorted : l.leads.items ≡ sort before (map (leadOf l.transmissions) (countFrom l.k (length l.transmissions - l.k)));
+  size : length l.items ≡ 96 * itemSize;
+}

@@ -1,0 +1,15 @@
+use mathlib.Core.Path.{sym, ◌∙◌}
+use Rattle.shown.specs.Items.{noFix}
+use Rattle.transmissions.specs.Leads.{firstOf}
+use Rattle.transmissions.proofs.Showing.{alone-first, ranked-some, first-at}
+use Rattle.transmissions.proofs.latest.first_ranked.Goals as goal
+
+pub returns-then-len-eq1 : goal.returns-then-len-eq1
+returns-then-len-eq1 c = alone-first c.args.transmission _ (sym c.len.ensures ∙ c.if-len-eq1.true) c.fix.ensures
+
+pub ranked-requires : goal.ranked-requires
+ranked-requires c = rw c.of.ensures (ranked-some c.args.transmission c.requires.part.some)
+
+pub returns : goal.returns
+unfolding firstOf
+returns c = sym (c.ranked.ensures noFix) ∙ first-at c.args.transmission _ c.of.ensures
