@@ -3,8 +3,8 @@
 
     oracle/peer/build && crates/previews/make_stdout.py
 
-A register is written here, from document 01's layout; what it holds is given to the peer too, a second writing of 01 in plain Rust
-(target/oracle/peer), as a session that ends with the conviction: what that prints after its answers is what the preview must have.
+A register is written here, from its layout in docs/REFERENCE.md; what it holds is given to the peer too, a second writing of register and
+board in plain Rust (target/oracle/peer), as a session that ends with the conviction: what that prints after its answers is what the preview must have.
 Nothing of ours is asked."""
 import os
 import struct
@@ -20,7 +20,7 @@ ENGINES = range(33)
 
 
 class Report:
-    """A report: its session lines, and its record by 01's layout."""
+    """A report: its session lines, and its record by the layout."""
 
     def __init__(self, engine, tags, lat, time=1000, height=1500, models=(), spec=0, message=b"\x8d" + bytes(6)):
         self.engine, self.tags, self.lat, self.time, self.height = engine, tags, lat, time, height

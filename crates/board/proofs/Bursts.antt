@@ -2,7 +2,7 @@
 use Rattle.links.proofs.Bursts.{bursts-stay-apart}
 use Rattle.board.specs.Shows.{fixesOver}
 use Rattle.board.specs.Bursts.{BurstsOnBoards}
-use Rattle.board.proofs.Shows.{fixed-over, what-is-shown}
+use Rattle.board.proofs.Shows.{standing-over, what-is-shown}
 
 pub bursts-on-boards : BurstsOnBoards
-bursts-on-boards cs f s = bursts-stay-apart (fixesOver cs) (what-is-shown cs f).parted (λ g m. ((fixed-over cs f).fit g m).form) s
+bursts-on-boards cs f s = bursts-stay-apart (fixesOver cs) (what-is-shown cs f).parted (λ g m. ((standing-over cs f).formed g m).form) s

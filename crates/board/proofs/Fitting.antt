@@ -1,55 +1,178 @@
--- Every board fits what a caller lends, and its length is 0 or greater than every refusal's number; less than what fits every board is refused.
-use Prim.Native.Nat.{ℕ, ◌≤◌, ◌<◌}
-use mathlib.Core.Path.{◌≡◌, refl}
-use mathlib.Core.Bool.{true}
-use mathlib.Core.List.{List}
+-- Every board fits what a caller lends, and its length is 0 or greater than every refusal's number.
+use Prim.Native.Nat.{ℕ, zero, suc, ◌+◌, ◌-◌, ◌≤◌, ◌<◌}
+use mathlib.Core.Path.{◌≡◌, refl, sym, ap, ap₂, ◌∙◌, subst}
+use mathlib.Core.Bool.{Bool, true, not}
 use mathlib.Core.Logic.{◌⊎◌, inl, inr, ⊎_elim}
+use mathlib.Core.List.{List, [], ◌∷◌, ◌++◌, map, Memᴰ, Permᴰ}
 use native.Mathlib.Omega.{arith}
-use lib.ListN.{length}
-use borrow.Author.Tests.{lt-ltb}
+use lib.Dec.{eqb}
+use lib.ListN.{length, drop, length-append, length-map, length-drop}
+use borrow.Author.Tests.{eqb-true, lt-ltb}
+use Rattle.ranges.specs.Lists.{filter, sort, up_to}
+use Rattle.ranges.proofs.Lists.{sort-perm, count-length}
+use Rattle.ranges.proofs.Orders.{perm-length}
+use Rattle.ranges.proofs.Searches.{filter_range}
+use Rattle.ranges.specs.Range.{filt}
+use Rattle.ranges.proofs.Range.{filt-at}
+use Rattle.ranges.proofs.Bools.{by, no_true}
+use Rattle.arithmetic.specs.declared.standing.ChiSquare.{ChiSquare}
+use Rattle.rule.specs.Outcome.{Refused, Outcome}
+use Rattle.decision.specs.Claims.{listedIn}
+use Rattle.decision.proofs.Laws.{listed-once}
+use Rattle.fixes.specs.Slots.{maxFixes}
+use Rattle.shown.specs.Fix.{Fix}
+use Rattle.shown.specs.Items.{at, AllFormed, Apart}
+use Rattle.shown.specs.Shown.{Transmission, shown}
+use Rattle.shown.specs.Claims.{fixRelations}
+use Rattle.shown.proofs.Plainly.{shown-is-decided}
+use Rattle.links.specs.Transmissions.{transmissionsOf}
+use Rattle.links.specs.Walk as W
+use Rattle.links.proofs.Fitness.{self-linked}
+use Rattle.links.proofs.Indexed.{transmissions-are}
+use Rattle.links.specs.Links.{link_at}
+use Rattle.links.proofs.Linking.{links-turned}
+use Rattle.transmissions.specs.Picture.{olderThan, picture, latestOf, maxShown}
+use Rattle.drawing.specs.Text.{boardText, boardSize}
+use Rattle.drawing.proofs.Lengths.{lines_in, all_lines, texts-width, board-long}
 use Rattle.octets.specs.Bytes.{Bytes}
-use Rattle.places.specs.Places.{table_of}
-use Rattle.fixes.specs.Layout.{maxFixes, fixSize}
-use Rattle.fixes.specs.Gathered.{Gathered}
-use Rattle.fixes.specs.Representatives.{representatives}
-use Rattle.fixes.proofs.Soundness.{representatives-gathered}
-use Rattle.drawing.specs.Text.{boardSize}
-use Rattle.drawing.proofs.Lengths.{board-fits, board-long}
+use Rattle.fixes.specs.Fixes.{fixesOf}
 use Rattle.held.specs.After.{after}
 use Rattle.register.specs.Register.{Register}
 use Rattle.register.specs.Memory.{wellFormed, decode}
 use Rattle.register.proofs.Opened.{opened}
 use Rattle.register.proofs.Valid.{Valid}
 use Rattle.register.proofs.Kept.{decode-valid}
-use Rattle.board.specs.Board.{boardIn, drawBoard}
+use Rattle.board.specs.Board.{boardOf, boardIn, drawBoard}
 use Rattle.board.specs.Claims.{greatestRefusal}
-use Rattle.board.specs.Tables.{labelsOf}
-use Rattle.board.proofs.Pictured.{slots-formed, valid-board}
+use Rattle.board.specs.Latest.{latest_over}
+use Rattle.board.proofs.Standing.{standing}
 
-module _ (s : Register) (v : Valid s) where
-  abbrev fs : List (List ℕ)
-  fs = representatives s.summaries s.records
+-- ---- sums over lists
 
+abbrev total : {A : Type 0} → (A → ℕ) → List A → ℕ
+total n [] = 0
+total n (x ∷ l) = n x + total n l
+
+total-drop : {A : Type 0} (n : A → ℕ) (k : ℕ) (l : List A) → total n (drop k l) ≤ total n l
+total-drop n zero l = omega arith
+total-drop n (suc k) [] = omega arith
+total-drop n (suc k) (x ∷ l) = let r = total-drop n k l in omega arith
+
+total-perm : {A : Type 0} (n : A → ℕ) {l m : List A} → Permᴰ l m → total n l ≡ total n m
+total-perm n Permᴰ.nil = refl
+total-perm n (Permᴰ.cons e p) = ap₂ ◌+◌ (ap n e) (total-perm n p)
+total-perm n (Permᴰ.swap d e) = let p = ap n d in let q = ap n e in omega arith
+total-perm n (Permᴰ.trans p q) = total-perm n p ∙ total-perm n q
+
+total-map : {A B : Type 0} (n : B → ℕ) (f : A → B) (l : List A) → total n (map f l) ≡ total (λ x. n (f x)) l
+total-map n f [] = refl
+total-map n f (x ∷ l) = ap (λ (k : ℕ). n (f x) + k) (total-map n f l)
+
+total-same : {A : Type 0} (n m : A → ℕ) (l : List A) → ((x : A) → Memᴰ x l → n x ≡ m x) → total n l ≡ total m l
+total-same n m [] e = refl
+total-same n m (x ∷ l) e = ap₂ ◌+◌ (e x (Memᴰ.head refl)) (total-same n m l (λ y k. e y (Memᴰ.tail k)))
+
+-- ---- members by their labels: each has one
+
+module _ (lab : ℕ → ℕ) where
+  abbrev has : ℕ → ℕ → Bool
+  has s j = eqb (lab j) s
+
+  abbrev others : ℕ → List ℕ → List ℕ
+  others s xs = filter (λ j. not (has s j)) xs
+
+  split : (s : ℕ) (xs : List ℕ) → length (filter (has s) xs) + length (others s xs) ≡ length xs
+  unfolding filter
+  split s [] = refl
+  split s (x ∷ xs) = let r = split s xs in by (has s x) (λ t. rw t (omega arith)) (λ t. rw t (omega arith))
+
+  among-others : (s r : ℕ) (xs : List ℕ) → (s ≡ r → ⊥) → filter (has s) xs ≡ filter (has s) (others r xs)
+  unfolding filter
+  among-others s r [] d = refl
+  among-others s r (x ∷ xs) d =
+      let go = among-others s r xs d in
+      by (has r x)
+      (λ t. let n = no_true (has s x) (λ u. d (sym (eqb-true (lab x) s u) ∙ eqb-true (lab x) r t)) in rw (t, n) go)
+      (λ t. by (has s x) (λ u. rw (t, u) (ap (λ (l : List ℕ). x ∷ l) go)) (λ u. rw (t, u) go))
+
+  several : (g : ℕ → Bool) (k f : ℕ) (xs : List ℕ) → total (λ s. length (filter (has s) xs)) (filt g k f) ≤ length xs
+  unfolding filt
+  several g k zero xs = omega arith
+  several g k (suc f) xs =
+      by (g k)
+      (λ t. let ys = others k xs in
+      let p = several g (suc k) f ys in
+      let q = total-same (λ s. length (filter (has s) xs)) (λ s. length (filter (has s) ys)) (filt g (suc k) f)
+      (λ s m. ap (λ (l : List ℕ). length l) (among-others s k xs (λ e. let z = filt-at g (suc k) f s m in omega arith))) in
+      let r = split k xs in
+      rw t (omega (arith, p, q, r)))
+      (λ t. rw t (several g (suc k) f xs))
+
+module _ (fs : List Fix) (w : AllFormed fs) (a : Apart fs) (few : length fs ≤ maxFixes) where
   abbrev n : ℕ
   n = length fs
 
-  abbrev t : List ℕ
-  t = table_of fixSize maxFixes fs
+  abbrev lab : ℕ → ℕ
+  lab = W.label (link_at fs) n
 
-  g : Gathered n t
-  g = representatives-gathered s.summaries s.records (slots-formed s v) v.few-records
+  -- no more fixes are in transmissions than there are
+  parted : total (λ (c : List Fix). length c) (transmissionsOf fs) ≤ length fs
+  unfolding W.members W.heads
+  parted =
+      let heads = filt (W.isHead (link_at fs) n) 0 n in
+      let e = ap (total (λ (c : List Fix). length c)) (transmissions-are fs few (λ f m. self-linked f.recordBytes (w f m).form) a (link_at fs) (λ i j h k. refl) (links-turned fs)) in
+      let f = total-map (λ (c : List Fix). length c) (λ s. map (at fs) (W.members (link_at fs) n s)) heads in
+      let g = total-same (λ s. length (map (at fs) (W.members (link_at fs) n s))) (λ s. length (filter (has lab s) (up_to n))) heads
+      (λ s _. length-map (filt (W.isMember (link_at fs) n s) 0 n) (at fs) ∙ ap (λ (l : List ℕ). length l) (sym (filter_range (W.isMember (link_at fs) n s) 0 n))) in
+      let h = several lab (W.isHead (link_at fs) n) 0 n (up_to n) in
+      let k = count-length 0 n in
+      omega (arith, e, f, g, h, k)
 
+-- ---- lines
+
+all-total : (ts : List Transmission) → all_lines ts ≡ total lines_in ts
+all-total [] = refl
+all-total (t ∷ ts) = ap (λ (k : ℕ). lines_in t + k) (all-total ts)
+
+-- each fix has one
+shown-lines : (gs : List Fix) → lines_in (shown gs) ≡ length gs
+shown-lines gs =
+    let o = shown gs in
+    let p = perm-length (subst (λ (t : Outcome Fix ChiSquare). Permᴰ (listedIn t) gs) (sym (shown-is-decided gs)) (listed-once fixRelations gs)) in
+    let e = length-append o.ranked (o.dominated ++ map (λ (x : Refused Fix ChiSquare). x.item) o.refused) in
+    let f = length-append o.dominated (map (λ (x : Refused Fix ChiSquare). x.item) o.refused) in
+    let g = length-map o.refused (λ (x : Refused Fix ChiSquare). x.item) in
+    omega arith
+
+pub board-fits : (fs : List Fix) → AllFormed fs → Apart fs → length fs ≤ maxFixes → length (boardText (latest_over fs)) ≤ boardSize
+board-fits fs w a few =
+    let s = sort olderThan (map shown (transmissionsOf fs)) in
+    let x = texts-width 1 (latestOf s) in
+    let y = all-total (latestOf s) in
+    let l = length-drop (length s - maxShown) s in
+    let d = total-drop lines_in (length s - maxShown) s in
+    let p = total-perm lines_in (sort-perm olderThan (map shown (transmissionsOf fs))) in
+    let m = total-map lines_in shown (transmissionsOf fs) in
+    let e = total-same (λ gs. lines_in (shown gs)) (λ (c : List Fix). length c) (transmissionsOf fs) (λ gs _. shown-lines gs) in
+    let q = parted fs w a few in
+    omega (arith, x, y, l, d, p, m, e, q)
+
+-- ---- of a register
+
+module _ (s : Register) (v : Valid s) where
   pub fits : length (boardIn s) ≤ boardSize
-  fits = rw (← valid-board s v) (board-fits t (labelsOf t n) n g.size g.few)
+  unfolding boardOf picture
+  fits = let k = standing s v in board-fits (fixesOf s.summaries s.records) k.formed k.apart k.few
 
   pub long : (length (boardIn s) ≡ 0) ⊎ (46 ≤ length (boardIn s))
-  long = rw (← valid-board s v) (board-long t (labelsOf t n) n g.size g.few)
+  unfolding boardOf
+  long = board-long (latestOf (picture s.summaries s.records))
 
   -- the length can be no refusal's number
   pub no-refusal : (length (boardIn s) ≡ 0) ⊎ (greatestRefusal < length (boardIn s))
   no-refusal = ⊎_elim (λ z. inl z) (λ z. inr (omega (arith, z))) long
 
--- of a register in memory
+-- in memory
 pub fits-board : (m : List ℕ) → Bytes m → wellFormed m ≡ true → length (boardIn (decode m)) ≤ boardSize
 fits-board m b w = fits (decode m) (decode-valid m (opened m w) b)
 

@@ -1,13 +1,11 @@
 pub mod Lent
-pub mod Labelled
-pub mod Members
-pub mod Drawn
-pub mod Pictured
+pub mod Standing
 pub mod Fitting
+pub mod Drawing
+pub mod Shows
 pub mod WholeLists
 pub mod Previewed
-pub mod Shows
-pub mod Bursts
 pub mod Nothing
+pub mod Bursts
 pub mod Positions
 pub mod Worked

@@ -18,10 +18,9 @@ use Rattle.models.specs.Models.{counts}
 use Rattle.shown.specs.Fix.{Fix}
 use Rattle.shown.specs.Shown.{Transmission, shown}
 use Rattle.fixes.specs.Fixes.{recordIn, fixOf, unite, enter, enterAll, fixesOf}
-use Rattle.fixes.proofs.Encoded.{all_apart}
 use Rattle.links.specs.Transmissions.{transmissionsOf}
 use Rattle.links.proofs.Partition.{partition, map_of}
-use Rattle.links.proofs.Fitness.{all-self-linked}
+use Rattle.links.proofs.Fitness.{self-linked}
 use Rattle.transmissions.specs.Picture.{olderThan, picture, maxShown, latestOf}
 use Rattle.drawing.specs.Lines.{header}
 use Rattle.drawing.specs.Text.{text_of, textFrom}
@@ -32,7 +31,7 @@ use Rattle.register.proofs.Valid.{Valid}
 use Rattle.register.proofs.Kept.{decode-valid}
 use Rattle.board.specs.Board.{boardOf, boardIn}
 use Rattle.board.specs.Nothing.{anyCounts, NoBytesExactlyWhen}
-use Rattle.board.proofs.Pictured.{valid-fixed}
+use Rattle.board.proofs.Standing.{standing}
 
 -- ---- nothing counts
 
@@ -91,8 +90,8 @@ module _ (s : Register) (v : Valid s) where
   picture-some : Some fs → Some (picture s.summaries s.records)
   unfolding picture
   picture-some k =
-      let x = valid-fixed s v in
-      let w = partition fs x.gathered.few (all-self-linked s.summaries fs x.fit) (all_apart s.summaries fs x.fit x.wides x.gathered) in
+      let x = standing s v in
+      let w = partition fs x.few (λ f m. self-linked f.recordBytes (x.formed f m).form) x.apart in
       let c = w.each k.0 k.1 in
       (shown c.0, perm-mem (sort-perm olderThan (map shown (transmissionsOf fs))) (map_of shown (transmissionsOf fs) c.0 c.1))
 

@@ -1,4 +1,4 @@
--- Document 01, 'Positions to check', 1 to 8; and a whole board by computation.
+-- Eight worked cases, and that a board of no records has no bytes.
 use Prim.Native.Nat.{ℕ}
 use mathlib.Core.Path.{◌≡◌, refl}
 use mathlib.Core.List.{List, []}

@@ -1,7 +1,7 @@
 -- What a register shows after a list of calls: each fix is of one transmission and has one line there, and the oldest transmission comes first.
 use Prim.Native.Nat.{ℕ, suc}
 use mathlib.Core.Path.{◌≡◌, refl, sym, ap, ap₂, ◌∙◌, subst}
-use mathlib.Core.Bool.{Bool, true, false, not, false≢true}
+use mathlib.Core.Bool.{Bool, true, not, false≢true}
 use mathlib.Core.Logic.{◌⊎◌, inl, inr}
 use mathlib.Core.List.Memᴰ
 use mathlib.Core.List.Permᴰ
@@ -25,13 +25,12 @@ use Rattle.shown.specs.Fix.{Fix}
 use Rattle.fixes.specs.Fixes.{fixesOf}
 use Rattle.shown.specs.Items.{noFix, at, Apart}
 use Rattle.shown.proofs.Indexed.{in-at}
-use Rattle.fixes.proofs.Encoded.{all_apart}
 use Rattle.links.specs.Transmissions.{transmissionOf, leads, isFirst, transmissionsOf}
 use Rattle.links.specs.Claims.{Partition}
 use Rattle.links.proofs.Indexed.{map-map}
 use Rattle.links.proofs.Reaching.{chain-in}
 use Rattle.links.proofs.Partition.{partition, map_of, map-from}
-use Rattle.links.proofs.Fitness.{all-self-linked}
+use Rattle.links.proofs.Fitness.{self-linked}
 use Rattle.shown.specs.Shown.{Transmission, subsetOf, agreement, shown}
 use Rattle.shown.specs.Ages.{older, olderFirst}
 use Rattle.transmissions.specs.Picture.{olderThan, picture}
@@ -44,7 +43,7 @@ use Rattle.register.specs.Calls.{Call, runs, noneFull, remaining}
 use Rattle.register.specs.Remains.{summariesHeld, recordsHeld}
 use Rattle.register.proofs.Remaining.{holds-in-order}
 use Rattle.board.specs.Shows.{WhatIsShown}
-use Rattle.board.proofs.Pictured.{Fixed, valid-fixed}
+use Rattle.board.proofs.Standing.{Standing, standing}
 use Rattle.board.proofs.WholeLists.{valid}
 use Rattle.arithmetic.specs.declared.standing.ChiSquare.{ChiSquare}
 
@@ -188,11 +187,11 @@ module _ (fs : List Fix) (d : Apart fs) (w : Partition fs) where
 
 -- ---- after a list of calls
 
-pub fixed-over : (cs : List Call) → noneFull fresh cs ≡ true → Fixed (summariesHeld (remaining cs)) (recordsHeld (remaining cs))
-fixed-over cs f =
+pub standing-over : (cs : List Call) → noneFull fresh cs ≡ true → Standing (summariesHeld (remaining cs)) (recordsHeld (remaining cs))
+standing-over cs f =
     let h = holds-in-order cs f in
-    subst (λ (z : List (List ℕ)). Fixed z (recordsHeld (remaining cs))) h.0
-    (subst (λ (z : List (List ℕ)). Fixed (decode (runs fresh cs)).summaries z) h.1 (valid-fixed (decode (runs fresh cs)) (valid cs f)))
+    subst (λ (z : List (List ℕ)). Standing z (recordsHeld (remaining cs))) h.0
+    (subst (λ (z : List (List ℕ)). Standing (decode (runs fresh cs)).summaries z) h.1 (standing (decode (runs fresh cs)) (valid cs f)))
 
 pub what-is-shown : WhatIsShown
 unfolding picture
@@ -200,9 +199,9 @@ what-is-shown cs f =
     let ss = summariesHeld (remaining cs) in
     let ps = recordsHeld (remaining cs) in
     let fs = fixesOf ss ps in
-    let x = fixed-over cs f in
-    let d : Apart fs = all_apart ss fs x.fit x.wides x.gathered in
-    let w : Partition fs = partition fs x.gathered.few (all-self-linked ss fs x.fit) d in
+    let x = standing-over cs f in
+    let d : Apart fs = x.apart in
+    let w : Partition fs = partition fs x.few (λ f m. self-linked f.recordBytes (x.formed f m).form) d in
     record {
       parted = w;
       one_line = λ c m. lines c;

@@ -30,7 +30,7 @@ use Rattle.fixes.specs.Fixes.{enter, enterAll, fixesOf}
 use Rattle.links.specs.Transmissions.{recordsLink, reach, transmissionsOf}
 use Rattle.shown.specs.Shown.{shown}
 use Rattle.transmissions.specs.Picture.{picture}
-use Rattle.drawing.specs.Lines.{header, line, chiSquareText, refusedLine, fixText, whereWhen, heightText}
+use Rattle.drawing.specs.Lines.{header, line, chiSquareText, refusedLine, fixText, whereWhen, metresText, heightText}
 use Rattle.drawing.specs.Text.{text_of, textFrom}
 use Rattle.register.specs.Register.{Register, strikeEngine}
 use Rattle.board.specs.Board.{boardOf, boardIn}
@@ -54,7 +54,7 @@ lines =
 
 -- what a board is computed from
 of-boards : Unit {0}
-unfolding boardOf shown textFrom text_of picture transmissionsOf reach fixesOf enter enterAll any_of filter insert sort foremost flat_map recordsLink tied sharesTag anyIn ascii header line chiSquareText refusedLine fixText whereWhen heightText digits signed hex allAgreed stateFrom summariesFor citedInputs setHash identityFrom inputsInOrder B.rotateRight B.iv B.sigma B.addWord B.turnWord B.halfMix B.mixWords B.mixColumns B.mixDiagonals B.roundBy B.rounds B.startState B.compressBlock B.words_of B.padBlock B.firstState B.chainBlocks B.hashWords B.bytesOfWords B.blake2s256 subset allIn member same isBefore bits tagsFrom claim_of word_bytes word limitOf geodeticOf matrixOf sumUnder finitely lengthUnder chiSquareOf differenceOf outcomeOf agreementOf agreesOf chiSquareIn degree radiansOf factorial coefficient sineSeries cosineSeries sincosOf flattening eccentricity2 toEcef enuBasis subOf dotOf less rowsBelow columns choleskyOf forwards forward backwards backward solveOf plus fromDecimal isqrt digitsOf rootOf rootFinite rootBits root count_leading_zeros of_bits to_bits round le lt eq of_int div mul add sub neg is_nan
+unfolding boardOf shown textFrom text_of picture transmissionsOf reach fixesOf enter enterAll any_of filter insert sort foremost flat_map recordsLink tied sharesTag anyIn ascii header line chiSquareText refusedLine fixText whereWhen heightText metresText digits signed hex allAgreed stateFrom summariesFor citedInputs setHash identityFrom inputsInOrder B.rotateRight B.iv B.sigma B.addWord B.turnWord B.halfMix B.mixWords B.mixColumns B.mixDiagonals B.roundBy B.rounds B.startState B.compressBlock B.words_of B.padBlock B.firstState B.chainBlocks B.hashWords B.bytesOfWords B.blake2s256 subset allIn member same isBefore bits tagsFrom claim_of word_bytes word limitOf geodeticOf matrixOf sumUnder finitely lengthUnder chiSquareOf differenceOf outcomeOf agreementOf agreesOf chiSquareIn degree radiansOf factorial coefficient sineSeries cosineSeries sincosOf flattening eccentricity2 toEcef enuBasis subOf dotOf less rowsBelow columns choleskyOf forwards forward backwards backward solveOf plus fromDecimal isqrt digitsOf rootOf rootFinite rootBits root count_leading_zeros of_bits to_bits round le lt eq of_int div mul add sub neg is_nan
 of-boards = tt
 
 pub whole-board : boardOf [] slots ≡ lines

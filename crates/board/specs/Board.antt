@@ -1,5 +1,5 @@
--- The board of a register (document 01, 'The board' and 'Answers and refusals, operation by operation').
-use Rattle.std.specs.Prelude.{ℕ, Bool, cond, List, ltb, length}
+-- The board of a register (docs/REFERENCE.md, 'Operations' and 'Register and board').
+use Rattle.std.specs.Prelude.{ℕ, cond, List, ltb, length}
 use Rattle.transmissions.specs.Picture.{picture, latestOf}
 use Rattle.drawing.specs.Text.{boardText, boardSize}
 use Rattle.held.specs.After.{After, after, writeText}
@@ -14,6 +14,6 @@ boardOf ss ps = boardText (latestOf (picture ss ps))
 abbrev pub boardIn : Register → List ℕ
 boardIn s = boardOf s.summaries s.records
 
--- "1; 10: output under 16,384 bytes"
+-- 1 for bytes that are no register, then 10 for an output under 16,384 bytes; else the board is written
 unfoldable pub drawBoard : List ℕ → List ℕ → After (List ℕ)
 drawBoard m out = cond (wellFormed m) (cond (ltb (length out) boardSize) (after 10 out) (writeText (boardIn (decode m)) out)) (after 1 out)

@@ -1,4 +1,4 @@
--- Receivers that restart their tags (document 02, A.5), on every board: where no fix was sent for longer than a link, the transmissions before and after are what
+-- Receivers that restart their tags, on every board: where no fix was sent for longer than a link, the transmissions before and after are what
 -- they would be without each other. A fix was sent when the record that represents it says. The theorem is `bursts-on-boards` in proofs/Bursts.
 use Rattle.std.specs.Prelude.{ℕ, ◌≡◌, true, List}
 use Rattle.links.specs.Bursts.{Pause, BurstsApart}

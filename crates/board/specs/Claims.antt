@@ -5,7 +5,7 @@
 -- register specs/Claims has the first two parts (`HoldsWhatRemains`, `FullExactlyWhen`), specs/Calls what is malformed, struck, remaining and refused as full,
 -- and `runs`, which folds the very definitions that the contracts of report, summary and conviction cite; specs/Board has `drawBoard`, which the contract of
 -- board cites.
-use Rattle.std.specs.Prelude.{ℕ, ◌≤◌, ◌<◌, ◌≡◌, ◌⊎◌, Bool, true, List, length, drop}
+use Rattle.std.specs.Prelude.{ℕ, ◌≤◌, ◌<◌, ◌≡◌, ◌⊎◌, true, List, length, drop}
 use Rattle.drawing.specs.Text.{boardSize}
 use Rattle.register.specs.Layout.{summaryCountAt}
 use Rattle.register.specs.Memory.{fresh}
@@ -15,7 +15,7 @@ use Rattle.register.specs.Claims.{SameRemains, HoldsWhatRemains, FullExactlyWhen
 use Rattle.held.specs.After.{writeText}
 use Rattle.board.specs.Board.{boardOf, drawBoard}
 
--- "The board over what remains takes the remaining records and summaries, with the engines of a record's remaining reports as its signers."
+-- the board over what remains: of the summaries and records that remain, each record with the engines of its remaining reports as its signers
 abbrev pub boardOver : List Call → List ℕ
 boardOver cs = boardOf (summariesHeld (remaining cs)) (recordsHeld (remaining cs))
 

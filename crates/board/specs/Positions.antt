@@ -1,4 +1,4 @@
--- Document 01, 'Positions to check', 1 to 8 as one conjunction, over the definitions that the contracts cite. The theorem is `positions` in proofs/Positions.
+-- Eight worked cases as one conjunction, over the definitions that the contracts cite. The theorem is `positions` in proofs/Positions.
 use Rattle.std.specs.Prelude.{◌≡◌, List, [], ℕ, pos}
 use Rattle.std.specs.Float.{binary64}
 use Rattle.std.specs.Float.Ieee.{of_int}
@@ -20,7 +20,7 @@ pub record Positions : Type 0 where
   pub p3-only : OnlyTheEndsDisagree
   -- 450,000,000 gives q 1, 449,999,999 q 0, -450,000,001 q -1
   pub p4 : Position4
-  -- 499 and 500 mm are 0, 1500 is 2, 2500 is 2, -1500 is -2: as document 02, A.4, amends it
+  -- 499 and 500 mm are 0, 1500 is 2, 2500 is 2, -1500 is -2: an exact half metre goes to the even metre
   pub p5 : HeightTexts
   -- tags {1}, {2}, {1,2} make one transmission
   pub p6 : Position6

@@ -1,4 +1,4 @@
--- What is claimed of a preview (document 02, A.1), on every memory that can be lent and after every list of calls. The theorems are in proofs/Previewed.
+-- What is claimed of a preview (docs/REFERENCE.md, 'Preview'), on every memory that can be lent and after every list of calls. The theorems are in proofs/Previewed.
 use Rattle.std.specs.Prelude.{ℕ, ◌≤◌, ◌<◌, ◌≡◌, ◌⊎◌, true, false, cond, not, List, [], ◌∷◌, ◌++◌, ltb, length}
 use Rattle.octets.specs.Bytes.{Bytes}
 use Rattle.octets.specs.Masks.{bit}
@@ -18,7 +18,7 @@ use Rattle.board.specs.Preview.{convict, drawPreview}
 
 -- ---- on any memory
 
--- "refused as the conviction is, then as the board is": 1; 2; 10. Else the board of the register without the engine.
+-- refused as the conviction is, then as the board is: with 1, 2, 10, the first that holds; else the board of the register without the engine
 abbrev pub RefusedInOrder : Type 0
 RefusedInOrder = (e : ℕ) (m : List ℕ) → Bytes m → (out : List ℕ)
     → drawPreview e m out
@@ -41,7 +41,7 @@ pub record AsPreviewed (e : ℕ) (m : List ℕ) : Type 0 where
 abbrev pub ThenConvicted : Type 0
 ThenConvicted = (e : ℕ) (m : List ℕ) → Bytes m → e ≤ maxEngine → wellFormed m ≡ true → AsPreviewed e m
 
--- "A convicted engine may be previewed, and the present board is the result", whatever is lent
+-- the preview of an engine that is convicted is the present board, whatever is lent
 abbrev pub ConvictedIsPresent : Type 0
 ConvictedIsPresent = (e : ℕ) (m : List ℕ) → Bytes m → bit (decode m).convicted e ≡ true → (out : List ℕ) → drawPreview e m out ≡ drawBoard m out
 

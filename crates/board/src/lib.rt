@@ -2,19 +2,48 @@
 #![tactic(auto)]
 
 ghost use Rattle.std.specs.Prelude.{◌≡◌, true, ◌≤◌, length};
-ghost use Rattle.text.specs.Buffer.{Put};
-ghost use Rattle.drawing.specs.Text.{boardSize};
+ghost use Rattle.octets.specs.Put.{Put};
+ghost use Rattle.shown.specs.Items.{AllFormed};
+ghost use Rattle.fixes.specs.Order.{ascends};
+ghost use Rattle.drawing.specs.Text.{boardSize, boardText};
 ghost use Rattle.held.specs.After.{after};
 ghost use Rattle.register.specs.Memory.{wellFormed, decode};
 ghost use Rattle.board.specs.Board.{boardIn, drawBoard};
 ghost use Rattle.board.specs.Preview.{drawPreview};
+ghost use Rattle.board.specs.Latest.{latest_over};
 
-use fixes::layout::{FIX_SIZE, MAX_FIXES};
+use arrayvec::ArrayVec;
+use fixes::{Fix, Fixes, MAX_FIXES};
+use items::layout::ITEM_SIZE;
+use links::Transmissions;
+use models::summaries::Summaries;
 use register::layout;
 use register::layout::REGISTER_SIZE;
 
+pub mod claims;
+mod texts;
+
 // The least output that a board is written to: every board fits.
 pub const BOARD_SIZE: usize = 16384;
+
+// The most transmissions on a board.
+const MAX_SHOWN: usize = 8;
+
+// Writes the board of fixes.
+fn draw_fixes(fixes: &[Fix<'_>], out: &mut [u8]) -> usize
+    requires few { length fixes.now ≤ MAX_FIXES }
+    requires formed { AllFormed fixes.now }
+    requires in_order { ascends fixes.now ≡ true }
+    requires room { length (boardText (latest_over fixes.now)) ≤ length out.old }
+    ensures { Put out.old 0 (boardText (latest_over fixes.now)) result out.new }
+{
+    let transmissions = Transmissions::of(fixes);
+    let mut items = [0u8; MAX_FIXES * ITEM_SIZE];
+    let mut leads = ArrayVec::new();
+    transmissions::latest::arrange(&mut items, &transmissions, &mut leads);
+    let start = leads.len().saturating_sub(MAX_SHOWN);
+    texts::write_latest(out, &mut items, &transmissions, &leads[start..])
+}
 
 // Writes the board of a register.
 fn draw(memory: &[u8], out: &mut [u8]) -> usize
@@ -22,18 +51,20 @@ fn draw(memory: &[u8], out: &mut [u8]) -> usize
     requires board_size_in_bounds { boardSize ≤ length out.old }
     ensures { Put out.old 0 (boardIn (decode memory.now)) result out.new }
 {
-    let summaries = octets::words::u16_at(memory, layout::SUMMARY_COUNT_AT);
-    let records = octets::words::u16_at(memory, layout::RECORD_COUNT_AT);
-    let mut t = [0u8; MAX_FIXES * FIX_SIZE];
-    let n = fixes::representatives::represent(
-        &memory[layout::SUMMARIES_AT..layout::RECORDS_AT],
-        summaries as usize,
+    let n = octets::words::u16_at(memory, layout::SUMMARY_COUNT_AT) as usize;
+    let records = octets::words::u16_at(memory, layout::RECORD_COUNT_AT) as usize;
+    let summaries = Summaries {
+        table: &memory[layout::SUMMARIES_AT..layout::RECORDS_AT],
+        count: n,
+    };
+    let mut fixes = Fixes::new();
+    fixes::represent(
+        summaries,
         &memory[layout::RECORDS_AT..],
-        records as usize,
-        &mut t,
+        records,
+        &mut fixes,
     );
-    let labels = links::labels(&t, n);
-    drawing::draw(out, &t, &labels, n)
+    draw_fixes(&fixes, out)
 }
 
 // The board of bytes that are a register: 10, or its length.

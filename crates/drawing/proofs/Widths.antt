@@ -1,19 +1,19 @@
 -- How long lines are: what a buffer must have room for, and that no board is so short that its length could be a refusal's number.
 use mathlib.Core.Path.{◌≡◌, refl, ap}
-use mathlib.Core.Bool.{Bool, cond}
-use mathlib.Core.List.{List, [], ◌∷◌, ◌++◌}
-use Prim.Native.Nat.{ℕ, suc, ◌+◌, ◌≤◌, ◌<◌}
+use Rattle.std.specs.Prelude.{Option, Some, None}
+use mathlib.Core.List.{List}
+use Prim.Native.Nat.{ℕ, suc, ◌≤◌}
 use native.Mathlib.Omega.{arith}
 use lib.IntN.{ℤ, pos, negsuc}
 use lib.Ieee.{binary64, to_bits}
 use lib.ListN.{length, length-append}
 use Rattle.ranges.proofs.Bools.{by}
-use Rattle.text.specs.Numbers.{decimal, signed, hex}
+use Rattle.text.specs.Numbers.{signed, hex}
 use Rattle.text.specs.Heights.{metres}
 use Rattle.text.proofs.Readback.{digits-width, hex-width}
-use Rattle.record.specs.Fields.{time, latitude, longitude, hasHeight, height, weight}
+use Rattle.record.specs.Fields.{time, latitude, longitude, height, weight}
 use Rattle.octets.specs.Ascii.{ascii}
-use Rattle.drawing.specs.Lines.{header, whereWhen, heightText, fixText, line, chiSquareText, refusedLine}
+use Rattle.drawing.specs.Lines.{header, whereWhen, metresText, heightText, fixText, line, chiSquareText, refusedLine}
 use Rattle.arithmetic.specs.declared.standing.ChiSquare.{ChiSquare}
 use Rattle.arithmetic.specs.declared.standing.ChiSquare.TheVariants.{Measured, Unmeasured}
 use Rattle.drawing.specs.Claims.{NoneExactlyWhen}
@@ -49,13 +49,17 @@ where-width r =
     let k : length (ascii " lon=") ≡ 5 = unfold ascii in refl in
     simp length-append (omega arith)
 
+metres-text-width : (h : Option ℤ) → length (metresText h) ≤ 11
+unfolding metresText
+metres-text-width None = let j : length (ascii "none") ≡ 4 = unfold ascii in refl in omega arith
+metres-text-width (Some h) = signed-width (metres h)
+
 height-width : (r : List ℕ) → length (heightText r) ≤ 19
 unfolding heightText
 height-width r =
-    let q = signed-width (metres (height r)) in
+    let q = metres-text-width (height r) in
     let i : length (ascii " height=") ≡ 8 = unfold ascii in refl in
-    let j : length (ascii "none") ≡ 4 = unfold ascii in refl in
-    by (hasHeight r) (λ e. rw e (simp length-append (omega arith))) (λ e. rw e (simp length-append (omega arith)))
+    simp length-append (omega arith)
 
 fix-width : (role r : List ℕ) (s : ℕ) → length role ≤ roleWidth → length (fixText role r s) ≤ 136
 unfolding fixText

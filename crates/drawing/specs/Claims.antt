@@ -1,4 +1,4 @@
--- What is claimed of the text of a chi-square (document 02, A.7): a line says `none` exactly where there is no number. The theorem is `none-exactly-when` in
+-- What is claimed of the text of a chi-square: a line says `none` exactly where there is no number. The theorem is `none-exactly-when` in
 -- proofs/Widths.
 use Rattle.std.specs.Prelude.{◌≡◌, ◌↔◌}
 use Rattle.octets.specs.Ascii.{ascii}

@@ -1,6 +1,7 @@
--- The text of a board: a header and a line (Lines), all of it (Text), and what is claimed of it (Claims); what the code writes by indices (Drawing), and how wide it can be (Widths).
+-- The text of a board: a header and a line (Lines), what became of a fix in a word (Roles), all of a board (Text), what is claimed of a line (Claims); and how wide a line can be
+-- (Widths).
 pub mod Lines
+pub mod Roles
 pub mod Text
 pub mod Claims
 pub mod Widths
-pub mod Drawing

@@ -1,5 +1,5 @@
--- The text of a board (document 01, 'The board'): "a header numbered from 1, then ranked lines in rank, dominated and refused by identity, a refused one
--- with its refusal's chi-square bits", or without a number (document 02, A.7). `Lines` has what a header and a line say.
+-- The text of a board: of each transmission a header, numbered from 1, then a line for each ranked fix in rank, and for each dominated and each refused fix in
+-- ascending identity. `Lines` has what a header and a line say.
 use Rattle.std.specs.Prelude.{ℕ, suc, length}
 use mathlib.Core.List.{List, [], ◌∷◌, ◌++◌, flat_map}
 use Rattle.shown.specs.Fix.{Fix}
@@ -31,10 +31,10 @@ unfoldable pub textFrom : ℕ → List Transmission → List ℕ
 textFrom number [] = []
 textFrom number (t ∷ ts) = text_of number t ++ textFrom (suc number) ts
 
--- "numbered from 1"
+-- the first is numbered 1
 abbrev pub boardText : List Transmission → List ℕ
 boardText ts = textFrom 1 ts
 
--- what a caller lends at least: "10: output under 16,384 bytes"
+-- what a caller lends at least: less is refused with 10
 abbrev pub boardSize : ℕ
 boardSize = 16384

@@ -11,9 +11,5 @@ headerWidth = 122
 abbrev pub lineWidth : ℕ
 lineWidth = 137
 
--- " chi2=" and 16 digits
-abbrev pub chiSquareWidth : ℕ
-chiSquareWidth = 22
-
 abbrev pub refusedWidth : ℕ
 refusedWidth = 159

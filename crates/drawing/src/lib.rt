@@ -1,165 +1,134 @@
-// The text of a board into a lent buffer, from a table of fixes and their labels.
+// The lines of a board: a header for each transmission, and a line for each of its fixes, each into a text in a lent buffer.
 #![tactic(auto)]
 
-ghost use Rattle.std.specs.Prelude.{◌≡◌, ℕ, ◌+◌, ◌*◌, ◌<◌, ◌≤◌, length, get_or, take};
-ghost use Rattle.text.specs.Buffer.{Put};
-ghost use Rattle.items.specs.Layout.{itemSize};
-ghost use Rattle.fixes.specs.Layout.{fixSize, maxFixes, fixRecord, fixSigners};
-ghost use Rattle.drawing.specs.Lines.{line, refusedLine};
-ghost use Rattle.drawing.specs.Widths.{roleWidth, headerWidth, lineWidth, refusedWidth};
-ghost use Rattle.transmissions.specs.Picture.{maxShown};
-ghost use Rattle.drawing.specs.Text.{boardSize};
-ghost use Rattle.drawing.specs.Drawing as D;
+ghost use Rattle.std.specs.Prelude.{◌≡◌, ◌++◌};
+ghost use Rattle.octets.specs.Ascii.{ascii};
+ghost use Rattle.record.specs.Fields as F;
+ghost use Rattle.text.specs.Numbers.{decimal, signed};
+ghost use Rattle.text.specs.Texts.{append};
+ghost use Rattle.drawing.specs.Lines as L;
+ghost use Rattle.drawing.specs.Roles.{roleName};
 
-use decision::{Decision, Refusal, Refusals};
-use fixes::layout::MAX_FIXES;
-use items::layout::ITEM_SIZE;
+use arithmetic::standing::ChiSquare;
+use record::Record;
+use text::{Append, Hex, Metres, Text};
 
-pub mod lines;
+pub mod claims;
 
-// The lines of ranked or dominated fixes: the first `count` of a list of indices into m.
-fn put_lines(
-    out: &mut [u8],
-    at: usize,
-    role: &[u8],
-    t: &[u8],
-    m: &[u8],
-    list: &[u8],
-    count: u8,
-) -> usize
-    requires role_len_bound { length role.now ≤ roleWidth }
-    requires t_len { length t.now ≡ maxFixes * fixSize }
-    requires count_in_bounds { (count ≤ length list.now) × D.OfFixes m.now }
-    requires refused_width_in_bounds { at + count * refusedWidth ≤ length out.old }
-    ensures { (result ≤ at + count * refusedWidth) × Put out.old at (D.lines_of role.now t.now m.now (take count list.now)) result out.new }
-{
-    let mut a = at;
-    let mut i: u8 = 0;
-    while i < count {
-        let j = transmissions::nth(m, list[i as usize]);
-        a = lines::put_line(out, a, role, fixes::record_of(t, j), fixes::signers(t, j));
-        i += 1;
+// What became of a fix.
+#[derive(Clone, Copy)]
+pub enum Role {
+    Ranked,
+    Dominated,
+    Refused,
+}
+
+impl Append for Role {
+    ghost text = { roleName };
+
+    #[tactic(auto, unfolding(crate::specs::Roles::roleName, octets::specs::Ascii::ascii))]
+    fn append_to(&self, out: &mut Text) {
+        match self {
+            Role::Ranked => out.push_str("ranked"),
+            Role::Dominated => out.push_str("dominated"),
+            Role::Refused => out.push_str("refused"),
+        }
     }
-    a
 }
 
-// The line of a refused fix.
-fn put_refusal(out: &mut [u8], at: usize, t: &[u8], m: &[u8], r: Refusal) -> usize
-    requires t_len { length t.now ≡ maxFixes * fixSize }
-    requires of_fixes { D.OfFixes m.now }
-    requires refused_width_in_bounds { at + refusedWidth ≤ length out.old }
-    ensures { (result ≤ at + refusedWidth) × Put out.old at (refusedLine (fixRecord t.now (get_or m.now r.refused 0)) (fixSigners t.now (get_or m.now r.refused 0)) r.chi2) result out.new }
+#[tactic(auto, unfolding(octets::specs::Ascii::ascii))]
+fn push_time(out: &mut Text, report: Record)
+    ensures { out.new ≡ append out.old (ascii " time=" ++ decimal (F.time report.entry.bytes.now)) }
 {
-    let j = transmissions::nth(m, r.refused);
-    let chi2 = r.chi2;
-    lines::put_refused(out, at, fixes::record_of(t, j), fixes::signers(t, j), chi2)
+    out.push_field(" time=", &report.time());
 }
 
-// The lines of the refused fixes.
-fn put_refusals(out: &mut [u8], at: usize, t: &[u8], m: &[u8], refusals: Refusals) -> usize
-    requires t_len { length t.now ≡ maxFixes * fixSize }
-    requires of_fixes { D.OfFixes m.now }
-    requires count_le_max_fixes { (refusals.count ≤ maxFixes) × (length refusals.list ≡ maxFixes) }
-    requires refused_width_in_bounds { at + refusals.count * refusedWidth ≤ length out.old }
-    ensures { (result ≤ at + refusals.count * refusedWidth) × Put out.old at (D.refusedLines t.now m.now (take refusals.count refusals.list)) result out.new }
+#[tactic(auto, unfolding(octets::specs::Ascii::ascii))]
+fn push_latitude(out: &mut Text, report: Record)
+    ensures { out.new ≡ append out.old (ascii " lat=" ++ signed (F.latitude report.entry.bytes.now)) }
 {
-    let list = refusals.list;
-    let count = refusals.count;
-    let mut a = at;
-    let mut i: u8 = 0;
-    while i < count {
-        a = put_refusal(out, a, t, m, list[i as usize]);
-        i += 1;
+    out.push_field(" lat=", &report.latitude());
+}
+
+#[tactic(auto, unfolding(octets::specs::Ascii::ascii))]
+fn push_longitude(out: &mut Text, report: Record)
+    ensures { out.new ≡ append out.old (ascii " lon=" ++ signed (F.longitude report.entry.bytes.now)) }
+{
+    out.push_field(" lon=", &report.longitude());
+}
+
+// When and where.
+fn push_where_when(out: &mut Text, report: Record)
+    ensures { out.new ≡ append out.old (L.whereWhen report.entry.bytes.now) }
+{
+    push_time(out, report);
+    push_latitude(out, report);
+    push_longitude(out, report);
+}
+
+#[tactic(auto, unfolding(crate::specs::Lines::heightText, crate::specs::Lines::metresText, octets::specs::Ascii::ascii))]
+fn push_height(out: &mut Text, report: Record)
+    ensures { out.new ≡ append out.old (L.heightText report.entry.bytes.now) }
+{
+    match report.height() {
+        Some(height) => out.push_field(" height=", &Metres(height)),
+        None => out.push_str(" height=none"),
     }
-    a
 }
 
-// A transmission's header and lines: of its fixes m, d was decided.
-fn put_decided(out: &mut [u8], at: usize, number: u8, t: &[u8], m: &[u8], d: Decision) -> usize
-    requires t_len { length t.now ≡ maxFixes * fixSize }
-    requires of_fixes { D.OfFixes m.now }
-    requires arrayed { D.Arrayed d }
-    requires refused_width_in_bounds { at + headerWidth + D.linesIn d * refusedWidth ≤ length out.old }
-    ensures { (result ≤ at + headerWidth + D.linesIn d * refusedWidth) × Put out.old at (D.decidedText number t.now m.now d) result out.new }
+#[tactic(auto, unfolding(octets::specs::Ascii::ascii))]
+fn push_weight(out: &mut Text, report: Record)
+    ensures { out.new ≡ append out.old (ascii " weight=" ++ decimal (F.weight report.entry.bytes.now)) }
 {
-    let ranked = d.ranked;
-    let dominated = d.dominated;
-    let refusals = d.refusals;
-    let a = lines::put_header(
-        out,
-        at,
-        number as u64,
-        ranked.count as u64,
-        dominated.count as u64,
-        refusals.count as u64,
-    );
-    let b = put_lines(out, a, b"ranked", t, m, &ranked.list, ranked.count);
-    let c = put_lines(out, b, b"dominated", t, m, &dominated.list, dominated.count);
-    put_refusals(out, c, t, m, refusals)
+    out.push_field(" weight=", &(report.weight() as u64));
 }
 
-// The transmission s.
-fn put_transmission(
-    out: &mut [u8],
-    at: usize,
-    number: u8,
-    items: &mut [u8],
-    t: &[u8],
-    labels: &[u8; MAX_FIXES],
-    n: u8,
-    s: u8,
-) -> usize
-    requires len { length items.old ≡ maxFixes * itemSize }
-    requires t_len { length t.now ≡ maxFixes * fixSize }
-    requires n_le_max_fixes { n ≤ maxFixes }
-    requires s_in_bounds { at + D.roomOf labels.now n s ≤ length out.old }
-    ensures { (result ≤ at + D.roomOf labels.now n s) × Put out.old at (D.transmissionText t.now labels.now n number s) result out.new }
+// What every line says of a fix.
+fn push_fix(out: &mut Text, role: Role, report: Record, signers: u32)
+    ensures { out.new ≡ append out.old (L.fixText (roleName role) report.entry.bytes.now signers) }
 {
-    let m = transmissions::members(labels, n, s);
-    let list = m.list;
-    let d = transmissions::outcome(items, t, &list, m.count);
-    put_decided(out, at, number, t, &list, d)
+    out.push_field("role=", &role);
+    push_where_when(out, report);
+    push_height(out, report);
+    push_weight(out, report);
+    out.push_field(" signers=", &Hex::<8>(signers as u64));
 }
 
-// Transmissions one after another, numbered from 1.
-fn put_shown(
-    out: &mut [u8],
-    items: &mut [u8],
-    t: &[u8],
-    labels: &[u8; MAX_FIXES],
-    n: u8,
-    shown: &[u8],
-) -> usize
-    requires len { length items.old ≡ maxFixes * itemSize }
-    requires t_len { length t.now ≡ maxFixes * fixSize }
-    requires n_le_max_fixes { (n ≤ maxFixes) × (length shown.now ≤ maxShown) }
-    requires shown_in_bounds { D.rooms labels.now n shown.now ≤ length out.old }
-    ensures { Put out.old 0 (D.drawFrom t.now labels.now n 1 shown.now) result out.new }
+// The line of a fix that is ranked or dominated.
+pub fn push_line(out: &mut Text, role: Role, report: Record, signers: u32)
+    ensures { out.new ≡ append out.old (L.line (roleName role) report.entry.bytes.now signers) }
 {
-    let mut at = 0;
-    let mut i: u8 = 0;
-    while (i as usize) < shown.len() {
-        at = put_transmission(out, at, i + 1, items, t, labels, n, shown[i as usize]);
-        i += 1;
+    push_fix(out, role, report, signers);
+    out.push_str("\n");
+}
+
+// The bits of a chi-square, or that there is none.
+#[tactic(auto, unfolding(crate::specs::Lines::chiSquareText, octets::specs::Ascii::ascii))]
+fn push_chi_square(out: &mut Text, chi2: ChiSquare)
+    ensures { out.new ≡ append out.old (ascii " chi2=" ++ L.chiSquareText chi2) }
+{
+    match chi2 {
+        ChiSquare::Measured(x) => out.push_field(" chi2=", &Hex::<16>(floats::to_bits(x))),
+        ChiSquare::Unmeasured => out.push_str(" chi2=none"),
     }
-    at
 }
 
-// The board of a table of n fixes with these labels.
-pub fn draw(out: &mut [u8], t: &[u8], labels: &[u8; MAX_FIXES], n: u8) -> usize
-    requires t_len { length t.now ≡ maxFixes * fixSize }
-    requires n_le_max_fixes { n ≤ maxFixes }
-    requires board_size_in_bounds { boardSize ≤ length out.old }
-    ensures { Put out.old 0 (D.drawTable t.now labels.now n) result out.new }
+// The line of a refused fix, with its refusal's chi-square.
+pub fn push_refused(out: &mut Text, report: Record, signers: u32, chi2: ChiSquare)
+    ensures { out.new ≡ append out.old (L.refusedLine report.entry.bytes.now signers chi2) }
 {
-    let mut items = [0u8; MAX_FIXES * ITEM_SIZE];
-    let leads = transmissions::leaders(&mut items, t, labels, n);
-    let shown = transmissions::latest::latest(
-        t,
-        &leads,
-        n,
-        transmissions::latest::heads(labels, n),
-    );
-    let list = shown.list;
-    put_shown(out, &mut items, t, labels, n, &list[shown.start as usize..])
+    push_fix(out, Role::Refused, report, signers);
+    push_chi_square(out, chi2);
+    out.push_str("\n");
+}
+
+// The header of a transmission: its number, and how many of its fixes have each role.
+pub fn push_header(out: &mut Text, number: u64, ranked: usize, dominated: usize, refused: usize)
+    ensures { out.new ≡ append out.old (L.header number ranked dominated refused) }
+{
+    out.push_field("transmission=", &number);
+    out.push_field(" ranked=", &(ranked as u64));
+    out.push_field(" dominated=", &(dominated as u64));
+    out.push_field(" refused=", &(refused as u64));
+    out.push_str("\n");
 }
