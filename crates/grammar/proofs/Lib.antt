@@ -1,6 +1,9 @@
-pub mod Worked
-pub mod Steps
-pub mod Filling
-pub mod Whole
-pub mod Empty
+pub mod Texts
+pub mod Heights
+pub mod Printed
+pub mod Encoded
+pub mod Swapped
+pub mod Forward
+pub mod Sessions
+pub mod Named
 pub mod Shortest

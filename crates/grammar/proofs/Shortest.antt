@@ -1,84 +1,69 @@
 -- The fewest bytes of a good operation: its first line alone has as many as `op=report` and a line feed.
-use Prim.Native.Nat.{ℕ, ◌+◌, ◌-◌, ◌≤◌}
-use mathlib.Core.Path.{◌≡◌, refl, sym, ap, ◌∙◌}
-use mathlib.Core.List.{List}
-use mathlib.Core.Option.{Option, none, some}
-use native.Mathlib.Omega.{arith}
-use borrow.Author.Tests.{ltb-true}
-use lib.Dec.{ltb}
-use lib.ListN.{length, take, drop, length-take, length-drop}
-use Rattle.octets.specs.Order.{same}
+use Rattle.std.proofs.Common.{◌≡◌, ap, refl, ℕ, zero, suc, ◌+◌, ◌*◌, ◌≤◌, ◌<◌, List, length, Option, Some, None, Ok, Err, ok_or, arith}
+use Rattle.std.specs.Prelude.{codes}
+use Rattle.std.specs.Str.{bytes_eq}
+use Rattle.std.proofs.lemmas.Slice.Eq.{bytes_eq-Decides}
 use Rattle.ranges.proofs.Bools.{by}
-use Rattle.octets.proofs.Comparison.{same-eq}
 use Rattle.register.specs.Calls.{Call}
-use Rattle.octets.specs.Ascii.{ascii}
-use Rattle.grammar.specs.Reading.{Reading, bad, good, addLines, ◌▸◌, endLine}
-use Rattle.values.specs.Values as Val
-use Rattle.grammar.specs.Grammar.{dueText, readLine, readKind, readOperands, readOperation}
-use Rattle.grammar.proofs.Steps.{kind-none}
-use Rattle.grammar.proofs.Whole.{Shrinks, lines-shrinks}
+use Rattle.grammar.specs.declared.lines.Due.TheVariants as due
+use Rattle.grammar.specs.declared.lines.Kind.{Kind}
+use Rattle.grammar.specs.Keys.{key_of}
+use Rattle.grammar.specs.Lines.{At, Reading, ◌>>=◌, bad, cut, text, value}
+use Rattle.grammar.specs.Operations.{operands_at, operation_at, kind_of}
+use Rattle.grammar.specs.Session.{calls_by, calls_at}
+use Rattle.grammar.proofs.Forward.{Below, Shorter, cut_shorter, operands_below}
 
 -- the bytes of `op=report` and its line feed
 abbrev pub shortest : ℕ
 shortest = 10
 
--- ---- a good reading takes w bytes at least
-
-abbrev Takes : {A : Type 0} → ℕ → ℕ → Reading A → Type 0
-Takes w l (bad n) = Unit {0}
-Takes w l (good n a rest) = w + length rest ≤ l
-
-after-takes : {A : Type 0} (w n k l : ℕ) (m : Reading A) → Shrinks k m → w + k ≤ l → Takes w l (addLines n m)
-after-takes w n k l (bad j) h e = tt
-after-takes w n k l (good j a rest) h e = omega arith
-
--- where its first part does
-then-takes : {A B : Type 0} (w l : ℕ) (m : Reading A) (k : A → List ℕ → Reading B) → Takes w l m → ((a : A) (rest : List ℕ) → Shrinks (length rest) (k a rest)) → Takes w l (m ▸ k)
-then-takes w l (bad n) k h f = tt
-then-takes w l (good n a rest) k h f = after-takes w n (length rest) l (k a rest) (f a rest) h
-
--- the texts that are a value have w bytes at least
-abbrev Wide : {A : Type 0} → ℕ → (List ℕ → Option A) → Type 0
-Wide {A} w f = (t : List ℕ) (a : A) → f t ≡ some a → w ≤ length t
-
-end-takes : {A : Type 0} (w l : ℕ) (rest : List ℕ) (o : Option A) → ((a : A) → o ≡ some a → w + length rest ≤ l) → Takes w l (addLines 0 (endLine o rest))
-end-takes w l rest none h = tt
-end-takes w l rest (some a) h = h a refl
-
--- a line has its key, its value and a line feed
-line-takes : {A : Type 0} (w : ℕ) (key : List ℕ) (f : List ℕ → Option A) → Wide w f → (s : List ℕ) → Takes (length key + w + 1) (length s) (readLine key f s)
-unfolding dueText
-line-takes w key f h s =
-    let t = drop (length key) s in
-    let n = Val.index_of 10 t in
-    by (same (take (length key) s) key)
-    (λ e. rw e (by (ltb n (length t))
-    (λ k. rw k (end-takes (length key + w + 1) (length s) (drop (n + 1) t) (f (take n t)) (λ a q.
-    let v = h (take n t) a q in
-    let p = sym (length-take (length key) s) ∙ ap length (same-eq (take (length key) s) key e) in
-    omega (arith, v, p, length-take n t, ltb-true n (length t) k, length-drop (n + 1) t, length-drop (length key) s))))
-    (λ k. rw k tt)))
-    (λ e. rw e tt)
-
--- ---- an operation
+-- a good reading takes so many bytes at least
+abbrev Takes : {A : Type 0} → ℕ → Reading A → Type 0
+Takes n (Ok x) = shortest + length (x.1).rest ≤ n
+Takes n (Err e) = Unit {0}
 
 -- `report` is the shortest of the three words
-kind-wide : Wide 6 readKind
-unfolding ascii
-kind-wide t a h =
-    by (same t (ascii "summary")) (λ p. omega (arith, ap length (same-eq t (ascii "summary") p)))
-    (λ p. by (same t (ascii "convict")) (λ q. omega (arith, ap length (same-eq t (ascii "convict") q)))
-    (λ q. by (same t (ascii "report")) (λ r. omega (arith, ap length (same-eq t (ascii "report") r)))
-    (λ r. let f = kind-none t p q r in absurd (let z : ◌≡◌ {A = ℕ} 0 1 = cc in omega arith))))
+kind-wide : (t : List ℕ) (k : Kind) → kind_of t ≡ Some k → 6 ≤ length t
+unfolding kind_of
+kind-wide t k h =
+    by (bytes_eq t (codes "summary")) (λ p. omega (arith, ap length ((bytes_eq-Decides t (codes "summary")).0 p)))
+    (λ p. by (bytes_eq t (codes "convict")) (λ q. omega (arith, ap length ((bytes_eq-Decides t (codes "convict")).0 q)))
+    (λ q. by (bytes_eq t (codes "report")) (λ r. omega (arith, ap length ((bytes_eq-Decides t (codes "report")).0 r)))
+    (λ r. let f : None ≡ Some k = rw (p, q, r) at h in absurd (let z : ◌≡◌ {A = ℕ} 0 1 = cc in omega arith))))
 
-operation-takes : (s : List ℕ) → Takes shortest (length s) (readOperation s)
-unfolding readOperation ascii
-operation-takes s = then-takes shortest (length s) (readLine (ascii "op=") readKind s) readOperands (line-takes 6 (ascii "op=") readKind kind-wide s) lines-shrinks
+first-takes : (s : At) → Takes (length s.rest) (value due.Op kind_of s)
+unfolding value text
+first-takes s = go (cut (key_of due.Op) s.rest) (cut_shorter (key_of due.Op) s.rest)
+  where
+    end : (p : List ℕ × List ℕ) → 3 + length p.0 + length p.1 < length s.rest → (o : Option Kind) → kind_of p.0 ≡ o
+        → Takes (length s.rest) (ok_or o (bad due.Op s) >>= λ (k : Kind). Ok (k, record { rest = p.1; line = s.line + 1 }))
+    end p q None h = tt
+    end p q (Some k) h = let w = kind-wide p.0 k h in omega arith
 
--- so the next operation begins that much later
-pub goes-far : (input : List ℕ) (at next n : ℕ) (c : Call) → readOperation (drop at input) ≡ good n c (drop next input)
-    → shortest + (length input - next) ≤ length input - at
-goes-far input at next n c e =
-    let h : shortest + length (drop next input) ≤ length (drop at input) = rw e at (operation-takes (drop at input)) in
-    let x = length-drop next input in let y = length-drop at input in
-    omega arith
+    go : (o : Option (List ℕ × List ℕ)) → Shorter 3 (length s.rest) o
+        → Takes (length s.rest)
+        ((ok_or o (bad due.Op s) >>= λ (t : List ℕ × List ℕ). Ok (t.0, record { rest = t.1; line = s.line + 1 })) >>= λ (t : List ℕ × At). ok_or (kind_of t.0) (bad due.Op s) >>= λ (k : Kind). Ok (k, t.1))
+    go None q = tt
+    go (Some p) q = end p q (kind_of p.0) refl
+
+operation-takes : (s : At) → Takes (length s.rest) (operation_at s)
+unfolding operation_at
+operation-takes s = go (value due.Op kind_of s) (first-takes s)
+  where
+    more : (n : ℕ) (m : Reading Call) → Below n m → shortest + n ≤ length s.rest → Takes (length s.rest) m
+    more n (Ok c) b h = omega arith
+    more n (Err e) b h = tt
+
+    go : (m : Reading Kind) → Takes (length s.rest) m → Takes (length s.rest) (m >>= λ (k : Kind × At). operands_at k.0 k.1)
+    go (Ok k) h = more (length (k.1).rest) (operands_at k.0 k.1) (operands_below k.0 k.1 (length (k.1).rest) (omega arith)) h
+    go (Err e) h = tt
+
+by-short : (k n : ℕ) (m : Reading Call) → Takes n m → ((r : At) → shortest * length (calls_at k r) ≤ length r.rest) → shortest * length (calls_by (calls_at k) m) ≤ n
+by-short k n (Ok c) h f = let g = f c.1 in omega arith
+by-short k n (Err e) h f = omega arith
+
+-- a session has no more calls than a tenth of its bytes
+pub calls-short : (k : ℕ) (s : At) → shortest * length (calls_at k s) ≤ length s.rest
+unfolding calls_at
+calls-short zero s = omega arith
+calls-short (suc k) s = by-short k (length s.rest) (operation_at s) (operation-takes s) (calls-short k)

@@ -1,4 +1,8 @@
-pub mod Reading
-pub mod Grammar
+pub mod Numbers
+pub mod Records
+pub mod Keys
+pub mod Lines
+pub mod Operations
+pub mod Session
+pub mod Gives
 pub mod Claims
-pub mod Cursors

@@ -1,7 +1,13 @@
-// A session's bytes, read as calls on a register.
+// A session's bytes, read as calls on a register (docs/REFERENCE.md, 'Session'): the lines that are left, what is due on the next one, and
+// the first line that is bad.
 #![tactic(auto)]
 
-pub mod keyed;
-pub mod operations;
-pub mod records;
-pub mod sessions;
+pub mod claims;
+mod lines;
+mod numbers;
+mod reader;
+mod reports;
+mod session;
+
+pub use lines::{BadLine, Call, Due, Lines, Report};
+pub use session::check;

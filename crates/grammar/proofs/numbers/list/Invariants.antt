@@ -1,0 +1,10 @@
+use Rattle.std.proofs.Common.{◌≡◌, ◌-◌, ◌++◌, List, ℕ, option_map}
+use Rattle.arrayvec.specs.ArrayVec.{array_vec_len}
+use Rattle.grammar.specs.Numbers as Val
+use Rattle.grammar.proofs.numbers.list.Given as goal
+
+abbrev pub invariant-loop-rest : goal.invariant-loop-rest
+invariant-loop-rest g l = Val.readNumbers l.most g.row.ROOM l.text ≡ option_map (λ (m : List ℕ). l.numbers.items ++ m) (Val.readNumbers l.most (g.row.ROOM - array_vec_len l.numbers) l.rest)
+
+abbrev pub decreases-loop-rest : goal.decreases-loop-rest
+decreases-loop-rest g l = g.row.ROOM - array_vec_len l.numbers

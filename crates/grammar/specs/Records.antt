@@ -1,0 +1,38 @@
+-- What a report says as the 222 bytes of a record (docs/REFERENCE.md, 'Record').
+use Rattle.std.specs.Prelude.{ℕ, ◌-◌, List, ◌∷◌, ◌++◌, length, replicate, flat_map, Option, Some, None, ℤ}
+use Rattle.std.specs.Int.{w32, cast_unsigned}
+use Rattle.octets.specs.Words.{word_bytes}
+use Rattle.record.specs.Layout.{longMessage}
+
+-- a signed number of 32 bits as the number that its bits are
+abbrev pub bits : ℤ → ℕ
+bits z = cast_unsigned w32 z
+
+-- l and zeros behind it, n numbers in all
+abbrev pub pad : ℕ → List ℕ → List ℕ
+pad n l = l ++ replicate (n - length l) 0
+
+-- numbers of w bytes each
+abbrev pub words : ℕ → List ℕ → List ℕ
+words w xs = flat_map (word_bytes w) xs
+
+-- a height's flag and number: zeros where it is unknown
+abbrev pub height_bytes : Option ℤ → List ℕ
+height_bytes None = replicate 5 0
+height_bytes (Some z) = 1 ∷ word_bytes 4 (bits z)
+
+-- a message's length and its bytes
+abbrev pub message_bytes : List ℕ → List ℕ
+message_bytes m = length m ∷ pad longMessage m
+
+-- when and where: the first 21 bytes
+abbrev pub placeBytes : ℕ → ℕ → ℕ → List ℕ → List ℕ
+placeBytes time lat lon height = word_bytes 8 time ++ (word_bytes 4 lat ++ (word_bytes 4 lon ++ height))
+
+-- the message and the tags: the next 146
+abbrev pub sightingBytes : List ℕ → ℕ → ℕ → List ℕ → List ℕ
+sightingBytes message count used tags = message ++ (count ∷ (word_bytes 2 used ++ words 8 tags))
+
+-- the models, spec and covariance: the last 55
+abbrev pub citedBytes : ℕ → List ℕ → ℕ → List ℕ → List ℕ
+citedBytes count models spec cov = count ∷ (words 1 models ++ (word_bytes 2 spec ++ cov))

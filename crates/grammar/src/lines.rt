@@ -1,0 +1,80 @@
+// The lines of a session, what they say, and the first that is bad.
+ghost use Rattle.std.specs.Prelude.{◌+◌, ◌^◌, ◌<◌, length};
+
+use arrayvec::ArrayVec;
+
+// The lines that are left, and the number of the first of them.
+#[derive(Drop)]
+pub struct Lines<'a> {
+    pub rest: &'a [u8],
+    pub line: usize,
+    ghost fits: { line + length rest.now < 2 ^ 64 },
+}
+
+// What is due on a line.
+#[derive(Clone, Copy)]
+pub enum Due {
+    Op,
+    Engine,
+    Model,
+    Spec,
+    Inputs,
+    Time,
+    Lat,
+    Lon,
+    Height,
+    Message,
+    Tags,
+    Used,
+    Models,
+    Cov,
+}
+
+// A bad line: its number, and what is due there.
+#[derive(Clone, Copy)]
+pub struct BadLine {
+    pub line: usize,
+    pub due: Due,
+}
+
+// Which operation a session's first line names.
+#[derive(Clone, Copy)]
+pub enum Kind {
+    Summary,
+    Conviction,
+    Report,
+}
+
+// A report's lines after the engine's. Time is in nanoseconds, places in 1e-7 degree, a height in millimetres.
+#[derive(Drop)]
+pub struct Report {
+    pub time: u64,
+    pub lat: i32,
+    pub lon: i32,
+    pub height: Option<i32>,
+    pub message: ArrayVec<u8, 14>,
+    pub tags: ArrayVec<u64, 16>,
+    pub used: u16,
+    pub models: ArrayVec<u64, 4>,
+    pub spec: u16,
+    // The bits of its six numbers, as they stand in memory.
+    pub covariance: [u8; 48],
+}
+
+// A call on a register.
+#[derive(Drop)]
+pub enum Call {
+    Summary {
+        engine: u8,
+        model: u8,
+        spec: u16,
+        inputs: [u8; 32],
+    },
+    Conviction {
+        engine: u8,
+    },
+    Report {
+        engine: u8,
+        report: Report,
+    },
+}

@@ -1,0 +1,216 @@
+// The values of lines, each from the whole text of a value.
+ghost use Rattle.std.specs.Prelude.{◌≡◌, ◌≤◌, ◌<◌, ◌==◌, ◌&&◌, nat_lt, slice_index, length, IfSome, option_map, position};
+ghost use Rattle.grammar.specs.Numbers as Val;
+ghost use Rattle.grammar.specs.Operations.{kind_of};
+
+use crate::lines::Kind;
+use arrayvec::ArrayVec;
+
+// Where a byte stands first.
+fn find(bytes: &[u8], byte: u8) -> Option<usize>
+    ensures value { result ≡ position (λ b. b == byte) bytes.now }
+    ensures bound { IfSome result (λ i. i < length bytes.now) }
+{
+    bytes.iter().position(|b| *b == byte)
+}
+
+// What stands before the first separator, and what behind it.
+pub fn split_once(bytes: &[u8], separator: u8) -> Option<(&[u8], &[u8])>
+    ensures value { option_map (λ x. (x.0.now, x.1.now)) result ≡ Val.split_once separator bytes.now }
+    ensures shorter { IfSome result (λ x. length x.1.now < length bytes.now) }
+{
+    let end = find(bytes, separator)?;
+    Some((&bytes[..end], &bytes[end + 1..]))
+}
+
+// The digits of a number of at most `most`.
+#[tactic(auto, using(crate::proofs::Texts::digits_steps))]
+fn digits(text: &[u8], most: u64) -> Option<u64>
+    ensures value { result ≡ Val.digitsAfter most 0 text.now }
+    ensures bound { IfSome result (λ n. n ≤ most) }
+{
+    let mut value: u64 = 0;
+    for d in text {
+        let low = match *d {
+            b'0'..=b'9' => (*d - b'0') as u64,
+            _ => return None,
+        };
+        value = value.checked_mul(10)?.checked_add(low)?;
+        if most < value {
+            return None;
+        }
+    }
+    Some(value)
+}
+
+// Whether a zero stands before further digits.
+fn has_leading_zero(text: &[u8]) -> bool
+    ensures { result ≡ (nat_lt 1 (length text.now) && slice_index text.now 0 == 48) }
+{
+    1 < text.len() && text[0] == b'0'
+}
+
+// A number of at most `most`, in decimal without leading zeros.
+#[tactic(auto, unfolding(crate::specs::Numbers::readNumber))]
+pub fn number(text: &[u8], most: u64) -> Option<u64>
+    ensures value { result ≡ Val.readNumber most text.now }
+    ensures bound { IfSome result (λ n. n ≤ most) }
+{
+    if text.is_empty() || has_leading_zero(text) {
+        return None;
+    }
+    digits(text, most)
+}
+
+// A number of 32 bits, with a minus only where it is negative.
+#[tactic(auto, unfolding(crate::specs::Numbers::readSigned))]
+pub fn signed(text: &[u8]) -> Option<i32>
+    ensures { result ≡ Val.readSigned text.now }
+{
+    match text.strip_prefix(b"-") {
+        Some(magnitude) => match number(magnitude, 0x8000_0000)? {
+            0 => None,
+            n => Some(-(n as i64) as i32),
+        },
+        None => Some(number(text, 0x7fff_ffff)? as i32),
+    }
+}
+
+// A height, which may be unknown.
+#[tactic(auto, unfolding(crate::specs::Numbers::readHeight))]
+pub fn height(text: &[u8]) -> Option<Option<i32>>
+    ensures { result ≡ Val.readHeight text.now }
+{
+    if text == b"none".as_slice() {
+        return Some(None);
+    }
+    Some(Some(signed(text)?))
+}
+
+// The value of a lowercase hex digit.
+fn nibble(c: u8) -> Option<u8>
+    ensures value { result ≡ Val.nibble c }
+    ensures bound { IfSome result (λ n. n < 16) }
+{
+    match c {
+        b'0'..=b'9' => Some(c - b'0'),
+        b'a'..=b'f' => Some(c - b'a' + 10),
+        _ => None,
+    }
+}
+
+// The byte that two hex digits make.
+fn hex_byte(high: u8, low: u8) -> Option<u8>
+    ensures { result ≡ Val.hexByte high low }
+{
+    Some(nibble(high)? * 16 + nibble(low)?)
+}
+
+// Hex of no more bytes than there is room for.
+fn hex<const ROOM: usize>(text: &[u8]) -> Option<ArrayVec<u8, ROOM>>
+    ensures { option_map (λ v. v.items) result ≡ Val.hexUpTo ROOM text.now }
+{
+    if ROOM < text.len() / 2 {
+        return None;
+    }
+    let mut bytes = ArrayVec::new();
+    let mut rest = text;
+    while let [high, low, others @ ..] = rest {
+        bytes.push(hex_byte(*high, *low)?);
+        rest = others;
+    }
+    if rest.is_empty() { Some(bytes) } else { None }
+}
+
+// Hex of a due number of bytes.
+#[tactic(auto, unfolding(crate::specs::Numbers::readHex))]
+pub fn hex_array<const SIZE: usize>(text: &[u8]) -> Option<[u8; SIZE]>
+    requires { SIZE ≤ 65536 }
+    ensures { result ≡ Val.readHex SIZE text.now }
+{
+    match hex::<SIZE>(text)?.into_inner() {
+        Ok(bytes) => Some(bytes),
+        Err(_) => None,
+    }
+}
+
+// A message of 7 or 14 bytes.
+#[tactic(auto, unfolding(crate::specs::Numbers::readMessage))]
+pub fn message(text: &[u8]) -> Option<ArrayVec<u8, 14>>
+    ensures { option_map (λ v. v.items) result ≡ Val.readMessage text.now }
+{
+    if text.len() == 14 || text.len() == 28 {
+        return hex(text);
+    }
+    None
+}
+
+// Numbers with commas between, each of at most `most`: at least one, and no more than there is room for.
+pub fn list<const ROOM: usize>(text: &[u8], most: u64) -> Option<ArrayVec<u64, ROOM>>
+    ensures { option_map (λ v. v.items) result ≡ Val.readNumbers most ROOM text.now }
+{
+    let mut numbers = ArrayVec::new();
+    let mut rest = text;
+    while !numbers.is_full() {
+        match split_once(rest, b',') {
+            Some((first, others)) => {
+                numbers.push(number(first, most)?);
+                rest = others;
+            }
+            None => {
+                numbers.push(number(rest, most)?);
+                return Some(numbers);
+            }
+        }
+    }
+    None
+}
+
+// Models, of which there may be none.
+#[tactic(auto, unfolding(crate::specs::Numbers::readModels))]
+pub fn models(text: &[u8]) -> Option<ArrayVec<u64, 4>>
+    ensures { option_map (λ v. v.items) result ≡ Val.readModels text.now }
+{
+    if text == b"none".as_slice() {
+        return Some(ArrayVec::new());
+    }
+    list(text, 255)
+}
+
+// Six numbers of 8 bytes each, from the highest byte first to the lowest first.
+fn swap_bytes(s: &[u8]) -> [u8; 48]
+    requires { length s.now ≡ 48 }
+    ensures { result ≡ Val.swapBytes 6 s.now }
+{
+    let mut out = [0u8; 48];
+    let mut i: usize = 0;
+    while i < 48 {
+        out[i] = s[i + 7 - 2 * (i % 8)];
+        i += 1;
+    }
+    out
+}
+
+// The bits of a covariance's six numbers, as they stand in memory.
+#[tactic(auto, unfolding(crate::specs::Numbers::readCovariance))]
+pub fn covariance(text: &[u8]) -> Option<[u8; 48]>
+    ensures { result ≡ Val.readCovariance text.now }
+{
+    Some(swap_bytes(&hex_array::<48>(text)?))
+}
+
+// The operation that a text names.
+#[tactic(auto, unfolding(crate::specs::Operations::kind_of))]
+pub fn kind(text: &[u8]) -> Option<Kind>
+    ensures { result ≡ kind_of text.now }
+{
+    if text == b"summary".as_slice() {
+        Some(Kind::Summary)
+    } else if text == b"convict".as_slice() {
+        Some(Kind::Conviction)
+    } else if text == b"report".as_slice() {
+        Some(Kind::Report)
+    } else {
+        None
+    }
+}

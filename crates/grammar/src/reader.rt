@@ -1,0 +1,250 @@
+// Reading the lines.
+ghost use Rattle.std.specs.Prelude.{◌≡◌, ◌≤◌, ◌+◌, ◌<◌, length, List, ℕ, take, drop, MatchOption, IfOk};
+ghost use Rattle.models.specs.Summary.{inputsSize};
+ghost use Rattle.grammar.specs.Numbers as Val;
+ghost use Rattle.grammar.specs.Operations as G;
+ghost use Rattle.grammar.specs.Lines as R;
+ghost use Rattle.grammar.specs.Gives.{Gives, at, call_of};
+ghost use Rattle.grammar.specs.Keys.{key_of, words_of};
+
+use crate::lines::{BadLine, Call, Due, Kind, Lines, Report};
+use crate::numbers;
+use arrayvec::ArrayVec;
+
+impl Due {
+    // What the line begins with.
+    pub fn key(self) -> &'static [u8]
+        ensures { result.now ≡ key_of self }
+    {
+        match self {
+            Due::Op => b"op=",
+            Due::Engine => b"engine=",
+            Due::Model => b"model=",
+            Due::Spec => b"spec=",
+            Due::Inputs => b"inputs=",
+            Due::Time => b"time=",
+            Due::Lat => b"lat=",
+            Due::Lon => b"lon=",
+            Due::Height => b"height=",
+            Due::Message => b"message=",
+            Due::Tags => b"tags=",
+            Due::Used => b"used=",
+            Due::Models => b"models=",
+            Due::Cov => b"cov=",
+        }
+    }
+
+    // What the value of the line is to be, in words.
+    pub fn words(self) -> &'static [u8]
+        ensures { result.now ≡ words_of self }
+    {
+        match self {
+            Due::Op => b"summary, convict or report",
+            Due::Engine | Due::Model => b"a decimal number from 0 to 255 without leading zeros",
+            Due::Spec | Due::Used => b"a decimal number from 0 to 65535 without leading zeros",
+            Due::Inputs => b"64 lowercase hex digits",
+            Due::Time => b"a decimal number from 0 to 18446744073709551615 without leading zeros",
+            Due::Lat | Due::Lon => b"a decimal number from -2147483648 to 2147483647 without leading zeros",
+            Due::Height => b"the word none, or a decimal number from -2147483648 to 2147483647 without leading zeros",
+            Due::Message => b"14 or 28 lowercase hex digits",
+            Due::Tags => b"1 to 16 decimal numbers from 0 to 18446744073709551615 without leading zeros, with commas between",
+            Due::Models => b"the word none, or 1 to 4 decimal numbers from 0 to 255 without leading zeros, with commas between",
+            Due::Cov => b"96 lowercase hex digits, 16 for each of six numbers",
+        }
+    }
+}
+
+impl<'a> Lines<'a> {
+    // All lines of an input, of which the first has the number 1.
+    pub fn new(input: &'a [u8]) -> Self
+        ensures line { result.line ≡ 1 }
+        ensures rest { result.rest.now ≡ input.now }
+    {
+        Lines {
+            rest: input,
+            line: 1,
+        }
+    }
+
+    fn bad(&self, due: Due) -> BadLine
+        ensures { result ≡ R.bad due (at self.now) }
+    {
+        BadLine {
+            line: self.line,
+            due,
+        }
+    }
+
+    // The text of the line due.
+    #[tactic(auto, unfolding(crate::specs::Lines::text, crate::specs::Lines::cut))]
+    fn text(&mut self, due: Due) -> Result<&'a [u8], BadLine>
+        ensures { Gives (λ t. t.now) result self.new (R.text due (at self.old)) }
+    {
+        let bad = self.bad(due);
+        let rest = self.rest;
+        let value = rest.strip_prefix(due.key()).ok_or(bad)?;
+        let (text, rest) = numbers::split_once(value, b'\n').ok_or(bad)?;
+        self.rest = rest;
+        self.line += 1;
+        Ok(text)
+    }
+
+    // The number of at most `most` on the line due.
+    #[tactic(auto, unfolding(crate::specs::Lines::value))]
+    fn number(&mut self, due: Due, most: u64) -> Result<u64, BadLine>
+        ensures value { Gives (λ n. n) result self.new (R.value due (Val.readNumber most) (at self.old)) }
+        ensures bound { IfOk result (λ n. n ≤ most) }
+    {
+        let bad = self.bad(due);
+        let text = self.text(due)?;
+        numbers::number(text, most).ok_or(bad)
+    }
+
+    // The signed number on the line due.
+    #[tactic(auto, unfolding(crate::specs::Lines::value))]
+    fn signed(&mut self, due: Due) -> Result<i32, BadLine>
+        ensures { Gives (λ z. z) result self.new (R.value due Val.readSigned (at self.old)) }
+    {
+        let bad = self.bad(due);
+        let text = self.text(due)?;
+        numbers::signed(text).ok_or(bad)
+    }
+
+    // The height on the line due.
+    #[tactic(auto, unfolding(crate::specs::Lines::value))]
+    fn height(&mut self, due: Due) -> Result<Option<i32>, BadLine>
+        ensures { Gives (λ h. h) result self.new (R.value due Val.readHeight (at self.old)) }
+    {
+        let bad = self.bad(due);
+        let text = self.text(due)?;
+        numbers::height(text).ok_or(bad)
+    }
+
+    // The message on the line due.
+    #[tactic(auto, unfolding(crate::specs::Lines::value))]
+    fn message(&mut self, due: Due) -> Result<ArrayVec<u8, 14>, BadLine>
+        ensures { Gives (λ v. v.items) result self.new (R.value due Val.readMessage (at self.old)) }
+    {
+        let bad = self.bad(due);
+        let text = self.text(due)?;
+        numbers::message(text).ok_or(bad)
+    }
+
+    // The tags on the line due.
+    #[tactic(auto, unfolding(crate::specs::Lines::value))]
+    fn tags(&mut self, due: Due) -> Result<ArrayVec<u64, 16>, BadLine>
+        ensures { Gives (λ v. v.items) result self.new (R.value due Val.readTags (at self.old)) }
+    {
+        let bad = self.bad(due);
+        let text = self.text(due)?;
+        numbers::list(text, u64::MAX).ok_or(bad)
+    }
+
+    // The models on the line due.
+    #[tactic(auto, unfolding(crate::specs::Lines::value))]
+    fn models(&mut self, due: Due) -> Result<ArrayVec<u64, 4>, BadLine>
+        ensures { Gives (λ v. v.items) result self.new (R.value due Val.readModels (at self.old)) }
+    {
+        let bad = self.bad(due);
+        let text = self.text(due)?;
+        numbers::models(text).ok_or(bad)
+    }
+
+    // The inputs on the line due.
+    #[tactic(auto, unfolding(crate::specs::Lines::value))]
+    fn inputs(&mut self, due: Due) -> Result<[u8; 32], BadLine>
+        ensures { Gives (λ v. v) result self.new (R.value due (Val.readHex inputsSize) (at self.old)) }
+    {
+        let bad = self.bad(due);
+        let text = self.text(due)?;
+        numbers::hex_array(text).ok_or(bad)
+    }
+
+    // The covariance on the line due.
+    #[tactic(auto, unfolding(crate::specs::Lines::value))]
+    fn covariance(&mut self, due: Due) -> Result<[u8; 48], BadLine>
+        ensures { Gives (λ v. v) result self.new (R.value due Val.readCovariance (at self.old)) }
+    {
+        let bad = self.bad(due);
+        let text = self.text(due)?;
+        numbers::covariance(text).ok_or(bad)
+    }
+
+    // The operation on the line due.
+    #[tactic(auto, unfolding(crate::specs::Lines::value))]
+    fn kind(&mut self, due: Due) -> Result<Kind, BadLine>
+        ensures { Gives (λ k. k) result self.new (R.value due G.kind_of (at self.old)) }
+    {
+        let bad = self.bad(due);
+        let text = self.text(due)?;
+        numbers::kind(text).ok_or(bad)
+    }
+
+    #[tactic(auto, unfolding(crate::specs::Operations::conviction_at))]
+    fn conviction(&mut self) -> Result<Call, BadLine>
+        ensures { Gives call_of result self.new (G.conviction_at (at self.old)) }
+    {
+        let engine = self.number(Due::Engine, 255)? as u8;
+        Ok(Call::Conviction { engine })
+    }
+
+    #[tactic(auto, unfolding(crate::specs::Operations::summary_at))]
+    fn summary(&mut self) -> Result<Call, BadLine>
+        ensures { Gives call_of result self.new (G.summary_at (at self.old)) }
+    {
+        let engine = self.number(Due::Engine, 255)? as u8;
+        let model = self.number(Due::Model, 255)? as u8;
+        let spec = self.number(Due::Spec, 0xffff)? as u16;
+        let inputs = self.inputs(Due::Inputs)?;
+        Ok(Call::Summary {
+            engine,
+            model,
+            spec,
+            inputs,
+        })
+    }
+
+    #[tactic(auto, unfolding(crate::specs::Operations::report_at))]
+    fn report(&mut self) -> Result<Call, BadLine>
+        ensures { Gives call_of result self.new (G.report_at (at self.old)) }
+    {
+        let engine = self.number(Due::Engine, 255)? as u8;
+        let time = self.number(Due::Time, u64::MAX)?;
+        let lat = self.signed(Due::Lat)?;
+        let lon = self.signed(Due::Lon)?;
+        let height = self.height(Due::Height)?;
+        let message = self.message(Due::Message)?;
+        let tags = self.tags(Due::Tags)?;
+        let used = self.number(Due::Used, 65535)? as u16;
+        let models = self.models(Due::Models)?;
+        let spec = self.number(Due::Spec, 0xffff)? as u16;
+        let cov = self.covariance(Due::Cov)?;
+        Ok(Call::Report {
+            engine,
+            report: Report {
+                time,
+                lat,
+                lon,
+                height,
+                message,
+                tags,
+                used,
+                models,
+                spec,
+                covariance: cov,
+            },
+        })
+    }
+
+    // The operation whose first line is due.
+    #[tactic(auto, unfolding(crate::specs::Operations::operation_at))]
+    pub fn operation(&mut self) -> Result<Call, BadLine>
+        ensures { Gives call_of result self.new (G.operation_at (at self.old)) }
+    {
+        match self.kind(Due::Op)? {
+            Kind::Summary => self.summary(),
+            Kind::Conviction => self.conviction(),
+            Kind::Report => self.report(),
+        }
+    }
+}

@@ -1,3 +1,0 @@
-pub mod Texts
-pub mod Printed
-pub mod Worked
