@@ -1,7 +1,7 @@
 #!/usr/bin/env python3
 """Makes stdin (sessions, each after its length in four bytes, lowest first) and stdout (what each must print) of this program.
 
-The expected output is the peer's, a second writing of document 01 in plain Rust (oracle/peer/build makes target/oracle/peer), and what is
+The expected output is the peer's, a second writing of register, board and session in plain Rust (oracle/peer/build makes target/oracle/peer), and what is
 written here by hand beside some cases is compared with it. Nothing of ours is asked."""
 import hashlib
 import os
@@ -49,7 +49,7 @@ role=ranked time=1000 lat=500000000 lon=100000000 height=2 weight=2 signers=0000
 role=refused time=1000 lat=500000000 lon=100000000 height=none weight=3 signers=00000004 chi2=none
 """
 
-# heights in millimetres and the whole metres written for them (document 02, A.4, whose own numbers come first); a row is one session
+# heights in millimetres and the whole metres written for them (docs/REFERENCE.md, 'Register and board'); a row is one session
 HEIGHTS = (
     {"500": "0", "1500": "2", "2500": "2", "-1500": "-2"},
     {"499": "0", "501": "1", "0": "0", "none": "none"},
@@ -71,7 +71,7 @@ def of_heights(row):
     return "".join(report(1, [i], time=i, height=height) for i, height in enumerate(row, 1)), "answer=0\n" * len(row) + board
 
 
-# two times, and whether fixes of these times with a common tag are one transmission (document 02, A.5)
+# two times, and whether fixes of these times with a common tag are one transmission (docs/REFERENCE.md, 'Register and board')
 SECOND = 10**9
 HOUR = 3600 * SECOND
 LAST = 2**64 - 1
@@ -142,7 +142,7 @@ def of_one_identity(early):
     yield "".join(reversed(reports)), "answer=0\n" * 3 + drawn
 
 
-# what is printed in place of a board without bytes (document 02, A.14)
+# what is printed in place of a board without bytes (docs/REFERENCE.md, 'Session')
 QUIET = "transmissions=0\n"
 
 

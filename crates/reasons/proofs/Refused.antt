@@ -1,49 +1,78 @@
 -- The cases of a reason, and that there is one exactly where a session is refused.
-use Prim.Native.Nat.{ℕ, ◌≤◌, ◌<◌}
-use mathlib.Core.Path.{◌≡◌, refl, sym, ap}
-use mathlib.Core.List.{List, [], ◌∷◌}
-use mathlib.Core.Option.{none, some}
-use native.Mathlib.Omega.{arith}
-use borrow.Author.Tests.{le-ltb, lt-ltb}
-use lib.Dec.{ltb, eqb}
-use lib.ListN.{length, get_or}
-use Rattle.ranges.proofs.Bools.{by}
+use Rattle.std.proofs.Common.{◌≡◌, ap, sym, refl, ℕ, ◌≤◌, List, [], ◌∷◌, length, get_or, length-append, Some, None, Result, Ok, Err, ltb, eqb, arith}
+use Rattle.std.specs.Result.{result_err}
+use borrow.Author.Tests.{lt-ltb}
 use Rattle.octets.specs.Ascii.{ascii}
-use Rattle.grammar.specs.Grammar.{Session, badAt, calls, sessionOf}
-use Rattle.grammar.specs.Cursors.{badLineOf, firstBad}
-use Rattle.sessions.specs.Output.{maxInput, answerLine, answers, answersThenBoard, badLineText, sessionText, outputOf}
-use Rattle.sessions.proofs.Quiet.{empty-text}
-use Rattle.reasons.specs.Reasons.{lineDue, badLineReason, sessionReason, reasonOf}
-use Rattle.reasons.specs.Claims.{ReasonWhereRefused}
+use Rattle.text.proofs.Readback.{decimal-width}
+use Rattle.register.specs.Calls.{Call}
+use Rattle.grammar.specs.declared.lines.BadLine.{BadLine}
+use Rattle.grammar.specs.declared.lines.Due.{Due}
+use Rattle.grammar.specs.declared.lines.Due.TheVariants as due
+use Rattle.sessions.specs.declared.refusals.Refusal.{Refusal}
+use Rattle.sessions.specs.declared.refusals.Refusal.TheVariants as refusal
+use Rattle.sessions.specs.Output.{calls_of, answerLine, answers, answersThenBoard, refusal_text, text_by, outputOf}
+use Rattle.sessions.proofs.Quiet.{calls_good, empty-text}
+use Rattle.reasons.specs.Reasons.{lineText, badLineReason, reason_text, reason_by, reasonOf}
+use Rattle.reasons.specs.Claims.{ReasonWhereRefused, NamesTheBadLine}
 
-pub reason-long : (s : List ℕ) → maxInput < length s → reasonOf s ≡ ascii "the input has more than 65536 bytes\n"
+pub reason-none : (s : List ℕ) → None ≡ result_err (calls_of s) → reasonOf s ≡ []
 unfolding reasonOf
-reason-long s h = rw (lt-ltb maxInput (length s) h) refl
+reason-none s e = go (calls_of s) e
+  where
+    go : (m : Result (List Call) Refusal) → None ≡ result_err m → reason_by m ≡ []
+    go (Ok cs) e = refl
+    go (Err r) e = cc
 
-text-bad : (m : Session) (s : List ℕ) (n : ℕ) → badLineOf m ≡ some n → sessionReason m s ≡ badLineReason n (lineDue s)
-text-bad (badAt k) s n h = let z : k ≡ n = cc in ap (λ (x : ℕ). badLineReason x (lineDue s)) z
-text-bad (calls cs) s n h = absurd (let z : ◌≡◌ {A = ℕ} 0 1 = cc in omega arith)
-
-text-none : (m : Session) (s : List ℕ) → badLineOf m ≡ none → sessionReason m s ≡ []
-text-none (badAt n) s h = absurd (let z : ◌≡◌ {A = ℕ} 0 1 = cc in omega arith)
-text-none (calls cs) s h = refl
-
-pub reason-bad : (s : List ℕ) (n : ℕ) → length s ≤ maxInput → firstBad s ≡ some n → reasonOf s ≡ badLineReason n (lineDue s)
+pub reason-some : (s : List ℕ) (r : Refusal) → Some r ≡ result_err (calls_of s) → reasonOf s ≡ reason_text r
 unfolding reasonOf
-reason-bad s n h f = rw (le-ltb maxInput (length s) h) (text-bad (sessionOf s) s n f)
+reason-some s r e = go (calls_of s) e
+  where
+    go : (m : Result (List Call) Refusal) → Some r ≡ result_err m → reason_by m ≡ reason_text r
+    go (Ok cs) e = cc
+    go (Err q) e = ap reason_text (let z : q ≡ r = cc in z)
 
-pub reason-none : (s : List ℕ) → length s ≤ maxInput → firstBad s ≡ none → reasonOf s ≡ []
-unfolding reasonOf
-reason-none s h f = rw (le-ltb maxInput (length s) h) (text-none (sessionOf s) s f)
+-- ---- how long a reason is
+
+line-short : (d : Due) → length (lineText d) ≤ 128
+unfolding ascii
+line-short due.Op = omega arith
+line-short due.Engine = omega arith
+line-short due.Model = omega arith
+line-short due.Spec = omega arith
+line-short due.Inputs = omega arith
+line-short due.Time = omega arith
+line-short due.Lat = omega arith
+line-short due.Lon = omega arith
+line-short due.Height = omega arith
+line-short due.Message = omega arith
+line-short due.Tags = omega arith
+line-short due.Used = omega arith
+line-short due.Models = omega arith
+line-short due.Cov = omega arith
+
+bad-short : (bad : BadLine) → length (badLineReason bad) ≤ 192
+unfolding badLineReason ascii
+bad-short bad = let width = decimal-width bad.line in let line = line-short bad.due in simp length-append (omega (arith, width, line, length-append {A = ℕ}))
+
+pub reason-short : (r : Refusal) → length (reason_text r) ≤ 192
+unfolding reason_text ascii
+reason-short refusal.TooLong = omega arith
+reason-short (refusal.BadLine bad) = bad-short bad
 
 -- ---- what is printed begins with 'r' exactly where a session is refused
 
-text-refused : (m : Session) (s : List ℕ) → ltb 0 (length (sessionReason m s)) ≡ eqb (get_or (sessionText m) 0 0) 114
-unfolding badLineReason badLineText answersThenBoard answers answerLine ascii
-text-refused (badAt n) s = lt-ltb 0 (length (sessionReason (badAt n) s)) (omega arith)
-text-refused (calls []) s = ap (λ (t : List ℕ). eqb (get_or t 0 0) 114) (sym empty-text)
-text-refused (calls (c ∷ cs)) s = refl
-
 pub reason-where-refused : ReasonWhereRefused
-unfolding reasonOf outputOf ascii
-reason-where-refused s = by (ltb maxInput (length s)) (λ h. rw h refl) (λ h. rw h (text-refused (sessionOf s) s))
+unfolding reasonOf outputOf reason_text badLineReason refusal_text answersThenBoard answers answerLine ascii
+reason-where-refused s = go (calls_of s)
+  where
+    go : (m : Result (List Call) Refusal) → ltb 0 (length (reason_by m)) ≡ eqb (get_or (text_by m) 0 0) 114
+    go (Err refusal.TooLong) = refl
+    go (Err (refusal.BadLine bad)) = lt-ltb 0 (length (reason_text (refusal.BadLine bad))) (omega arith)
+    go (Ok []) = ap (λ (t : List ℕ). eqb (get_or t 0 0) 114) (sym empty-text)
+    go (Ok (c ∷ cs)) = refl
+
+-- ---- the line that it names
+
+pub names-the-bad-line : NamesTheBadLine
+unfolding reasonOf reason_text
+names-the-bad-line s bad h e = ap reason_by (calls_good s (Err bad) h e)

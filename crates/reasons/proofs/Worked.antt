@@ -1,12 +1,13 @@
 -- Reasons of some sessions.
-use mathlib.Core.Path.{◌≡◌, refl}
-use mathlib.Core.List.{[]}
+use Rattle.std.proofs.Common.{◌≡◌, refl, []}
 use Rattle.octets.specs.Ascii.{ascii}
-use Rattle.octets.specs.Order.{isBefore, same}
 use Rattle.text.specs.Numbers.{digits, decimalValue}
-use Rattle.values.specs.Values.{index_of, allDigits, digitsAfter, readNumber}
-use Rattle.grammar.specs.Grammar.{dueText, readConviction, readSummary, readKind, readOperation, readOperations, sessionOf}
-use Rattle.reasons.specs.Reasons.{dueAfter, dueAmong, badLineReason, reasonOf}
+use Rattle.grammar.specs.Numbers.{allDigits, digitsAfter, readNumber}
+use Rattle.grammar.specs.Lines.{cut, text, value}
+use Rattle.grammar.specs.Operations.{kind_of, conviction_at, summary_at, operation_at}
+use Rattle.grammar.specs.Session.{operations_at, session_at}
+use Rattle.sessions.specs.Output.{calls_of}
+use Rattle.reasons.specs.Reasons.{badLineReason, reason_text, reasonOf}
 
 -- an empty line; an operation that there is not; a number with a leading zero; a line of another key; a line that no line feed ends; and two sessions that are
 -- not refused
@@ -18,5 +19,5 @@ reasons :
     × (reasonOf (ascii "op=summary\nengine=7\nmodel=1\nspec=1") ≡ ascii "line 4: spec= is due, then a decimal number from 0 to 65535 without leading zeros, then a line feed\n")
     × (reasonOf (ascii "op=convict\nengine=7\n") ≡ [])
     × (reasonOf [] ≡ [])
-unfolding reasonOf badLineReason dueAmong dueAfter sessionOf readOperations readOperation readKind readConviction readSummary dueText same isBefore index_of readNumber digitsAfter allDigits decimalValue digits ascii
+unfolding reasonOf reason_text badLineReason calls_of session_at operations_at operation_at kind_of conviction_at summary_at value text cut readNumber digitsAfter allDigits decimalValue digits ascii
 reasons = (refl, refl, refl, refl, refl, refl, refl)

@@ -1,4 +1,2 @@
-pub mod Lines
 pub mod Reasons
 pub mod Claims
-pub mod Widths

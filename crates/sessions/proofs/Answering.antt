@@ -1,96 +1,55 @@
--- What the loop over a session's operations leaves: the answers so far, and the register, with the rest of the operations before them.
-use Prim.Native.Nat.{ℕ, ◌+◌, ◌-◌, ◌≤◌, ◌<◌}
-use mathlib.Core.Path.{◌≡◌, refl, sym, ap, ◌∙◌}
-use mathlib.Core.Bool.{true}
-use mathlib.Core.List.{List, [], ◌++◌, append_assoc, append-nil}
-use mathlib.Core.Option.{none, some}
-use native.Mathlib.Omega.{arith}
-use lib.ListN.{length, drop, length-drop, drop_of_length-le}
-use Rattle.octets.specs.Bytes.{Bytes}
-use Rattle.text.specs.Buffer.{Put}
-use Rattle.text.proofs.Writing.{put-put, put_as, put-none}
+-- The answers of a session's calls, one by one, and that they are no longer than what was read.
+use Rattle.std.proofs.Common.{◌≡◌, ◌∙◌, sym, ap, ℕ, ◌*◌, ◌≤◌, List, [], ◌∷◌, length, Ok, Err, arith, length-append}
+use Rattle.text.specs.declared.Text.{Text}
+use Rattle.text.specs.Texts.{append}
+use Rattle.text.proofs.Appending.{append-append, append-nil}
 use Rattle.held.specs.After.{After, after}
-use Rattle.register.specs.Memory.{wellFormed, on_memory}
+use Rattle.register.specs.Memory.{on_memory}
 use Rattle.register.specs.Calls.{Call, act, runs}
-use Rattle.register.proofs.Kept.{still_formed}
-use Rattle.grammar.specs.Reading.{bad, good}
-use Rattle.grammar.specs.Grammar.{readOperation}
-use Rattle.grammar.specs.Cursors.{badLineOf, firstBad, callsFrom}
-use Rattle.grammar.proofs.Shortest.{goes-far}
-use Rattle.grammar.proofs.Whole.{session-bad, goes_on, calls-none, calls-step}
+use Rattle.grammar.specs.declared.lines.BadLine.{BadLine}
+use Rattle.grammar.specs.Lines.{At}
+use Rattle.grammar.specs.Operations.{operation_at}
+use Rattle.grammar.specs.Session.{start, calls_from}
+use Rattle.grammar.proofs.Forward.{calls-step, calls-end}
+use Rattle.grammar.proofs.Shortest.{calls-short}
 use Rattle.sessions.specs.Output.{answerLine, answers}
-use Rattle.sessions.specs.Widths.{maxAnswer, answerWidth}
-use Rattle.sessions.proofs.Digits.{answer-digit, answer-width}
+use Rattle.sessions.proofs.Digits.{answerWidth, answer-digit, answer-width}
 
--- the next operation begins later
-pub advances : (input : List ℕ) (at n : ℕ) (c : Call) (next : ℕ) → readOperation (drop at input) ≡ good n c (drop next input) → length input - next < length input - at
-advances input at n c next e = let t = goes_on input at next n c e in omega (arith, t.0, t.1)
+answers-short : (m : List ℕ) (cs : List Call) → length (answers m cs) ≤ answerWidth * length cs
+unfolding answers
+answers-short m [] = omega arith
+answers-short m (c ∷ cs) =
+    let more = answers-short (on_memory (act c) m).left cs in
+    let line = answer-width (on_memory (act c) m).answer (answer-digit c m) in
+    simp length-append (omega arith)
 
-module _ (input m₀ out₀ : List ℕ) where
-  pub record Answered (m out : List ℕ) (at end : ℕ) : Type 0 where
-    pub text : List ℕ
-    pub put : Put out₀ 0 text end out
-    pub answered : answers m₀ (callsFrom input) ≡ text ++ answers m (callsFrom (drop at input))
-    pub left : runs m₀ (callsFrom input) ≡ runs m (callsFrom (drop at input))
-    pub room : end + (length input - at) ≤ length input
-    pub rest : firstBad (drop at input) ≡ none
-    pub formed : wellFormed m ≡ true
-    pub bytes : Bytes m
+-- a line of an answer is shorter than the shortest operation
+pub answers-fit : (m s : List ℕ) → length (answers m (calls_from (start s))) ≤ length s
+answers-fit m s = let a = answers-short m (calls_from (start s)) in let b = calls-short (length s) (start s) in omega arith
 
-  pub answered-none : firstBad input ≡ none → wellFormed m₀ ≡ true → Bytes m₀ → Answered m₀ out₀ 0 0
-  answered-none h w b = record {
-    text = [];
-    put = put-none out₀ 0;
-    answered = refl;
-    left = refl;
-    room = omega arith;
-    rest = h;
-    formed = w;
-    bytes = b;
-  }
+-- the text and the register after what is left of a session are those of the whole
+pub record Answered (whole : Text) (end : List ℕ) (m : List ℕ) (text : Text) (s : At) : Type 0 where
+  pub text_is : whole ≡ append text (answers m (calls_from s))
+  pub left : end ≡ runs m (calls_from s)
 
-  -- an operation that begins before the end is not bad
-  pub never-bad : (m out : List ℕ) (at end : ℕ) → at < length input → Answered m out at end → (n : ℕ) → readOperation (drop at input) ≡ bad n → ⊥
-  never-bad m out at end h a n e =
-      let d = length-drop at input in
-      let b : some (n + 1) ≡ none = sym (ap badLineOf (session-bad (drop at input) n (omega arith) e)) ∙ a.rest in
-      let z : ◌≡◌ {A = ℕ} 0 1 = cc in omega arith
-
-  -- an answer is a digit, and its line no longer than its operation
-  pub answer-fits : (m out : List ℕ) (at end : ℕ) → at < length input → Answered m out at end
-      → (n : ℕ) (c : Call) (next : ℕ) → readOperation (drop at input) ≡ good n c (drop next input)
-      → (a : ℕ) (m' : List ℕ) → after a m' ≡ on_memory (act c) m → (a ≤ maxAnswer) × (end + answerWidth ≤ length input)
-  answer-fits m out at end h s n c next e a m' p =
-      let x : (on_memory (act c) m).answer ≡ a = ap (λ (y : After (List ℕ)). y.answer) (sym p) in
-      (rw x at (answer-digit c m), omega (arith, s.room, goes-far input at next n c e))
-
-  pub answered-more : (m out : List ℕ) (at end : ℕ) → at < length input → Answered m out at end
-      → (n : ℕ) (c : Call) (next : ℕ) → readOperation (drop at input) ≡ good n c (drop next input)
-      → (a : ℕ) (m' : List ℕ) → Bytes m' → after a m' ≡ on_memory (act c) m
-      → (end' : ℕ) (out' : List ℕ) → Put out end (answerLine a) end' out'
-      → Answered m' out' next end'
+module _ (whole : Text) (end m : List ℕ) (text : Text) (s : At) (h : Answered whole end m text s) where
+  -- after a call
+  pub answered-more : (c : Call) (r : At) → operation_at s ≡ Ok (c, r)
+      → (a : ℕ) (m' : List ℕ) → after a m' ≡ on_memory (act c) m → (text' : Text) → text' ≡ append text (answerLine a) → Answered whole end m' text' r
   unfolding answers runs
-  answered-more m out at end h s n c next e a m' b p end' out' q =
-      let w = calls-step (drop at input) n c (drop next input) e s.rest in
+  answered-more c r q a m' p text' e =
+      let step = calls-step s c r q in
       let x : (on_memory (act c) m).answer ≡ a = ap (λ (y : After (List ℕ)). y.answer) (sym p) in
       let y : (on_memory (act c) m).left ≡ m' = ap (λ (z : After (List ℕ)). z.left) (sym p) in
-      let f = answer-fits m out at end h s n c next e a m' p in
-      let l = answer-width a f.0 in
       record {
-        text = s.text ++ answerLine a;
-        put = put-put s.put q;
-        answered = s.answered ∙ ap (λ (cs : List Call). s.text ++ answers m cs) w.0 ∙ rw (x, y) (sym (append_assoc s.text (answerLine a) (answers m' (callsFrom (drop next input)))));
-        left = s.left ∙ ap (runs m) w.0 ∙ ap (λ (z : List ℕ). runs z (callsFrom (drop next input))) y;
-        room = omega (arith, s.room, goes-far input at next n c e, l, q.next);
-        rest = w.1;
-        formed = rw (← y) (still_formed c m s.bytes s.formed);
-        bytes = b;
+        text_is = h.text_is ∙ ap (λ (cs : List Call). append text (answers m cs)) step
+            ∙ rw (x, y) (sym (append-append text (answerLine a) (answers m' (calls_from r))) ∙ ap (λ (t : Text). append t (answers m' (calls_from r))) (sym e));
+        left = h.left ∙ ap (runs m) step ∙ ap (λ (z : List ℕ). runs z (calls_from r)) y;
       }
 
-  pub answered-put : (m out : List ℕ) (at end : ℕ) → length input ≤ at → Answered m out at end → Put out₀ 0 (answers m₀ (callsFrom input)) end out
-  unfolding answers
-  answered-put m out at end h s = put_as (sym (s.answered ∙ rw (drop_of_length-le input h, calls-none) (append-nil s.text))) s.put
-
-  pub answered-left : (m out : List ℕ) (at end : ℕ) → length input ≤ at → Answered m out at end → m ≡ runs m₀ (callsFrom input)
-  unfolding runs
-  answered-left m out at end h s = sym (s.left ∙ rw (drop_of_length-le input h, calls-none) refl)
+  -- where no further call is good
+  pub answered-end : (b : BadLine) → operation_at s ≡ Err b → (text ≡ whole) × (m ≡ end)
+  unfolding answers runs
+  answered-end b q =
+      let none = calls-end s b q in
+      (sym (h.text_is ∙ ap (λ (cs : List Call). append text (answers m cs)) none ∙ append-nil text), sym (h.left ∙ ap (runs m) none))

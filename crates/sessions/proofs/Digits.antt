@@ -1,6 +1,6 @@
 -- A register's answers are digits, so that their lines have one width.
 use Prim.Native.Nat.{ℕ, ◌≤◌}
-use mathlib.Core.Path.{◌≡◌, refl, sym, ◌∙◌}
+use mathlib.Core.Path.{◌≡◌, refl}
 use mathlib.Core.Bool.{Bool, not, ◌||◌}
 use mathlib.Core.List.{List}
 use native.Mathlib.Omega.{arith}
@@ -8,7 +8,6 @@ use lib.Dec.{ltb, eqb}
 use lib.ListN.{length}
 use Rattle.octets.specs.Masks.{bit}
 use Rattle.ranges.proofs.Bools.{by}
-use Rattle.text.specs.Numbers.{digits, decimal}
 use Rattle.text.proofs.Shapes.{digits-one}
 use Rattle.record.specs.Layout.{maxModel}
 use Rattle.record.specs.Formed as R
@@ -21,9 +20,14 @@ use Rattle.register.specs.Memory.{wellFormed, decode, on_memory}
 use Rattle.register.specs.Calls.{Call, report, summary, conviction, act}
 use Rattle.register.proofs.History.{Way, report-way, summary-way}
 use Rattle.sessions.specs.Output.{answerLine}
-use Rattle.sessions.specs.Widths.{maxAnswer, answerWidth}
 
--- ---- an answer is at most 9
+-- the greatest answer of a register
+abbrev pub maxAnswer : ℕ
+maxAnswer = 9
+
+-- the bytes of the line of an answer, which is one digit
+abbrev pub answerWidth : ℕ
+answerWidth = 9
 
 -- whether a call finds its table full
 abbrev fullIn : {fit full free : Bool} {s done : Register} {a : After Register} → Way fit full free s done a → Bool
@@ -46,11 +50,6 @@ answer-digit c m =
     by (wellFormed m)
     (λ h. by (eqb (act c (decode m)).answer 0) (λ k. rw (h, k) (omega arith)) (λ k. rw (h, k) (act-digit c (decode m))))
     (λ h. rw h (omega arith))
-
--- ---- and so one digit
-
-pub one-digit : (n : ℕ) → n ≤ maxAnswer → digits 0 n ≡ decimal n
-one-digit n h = digits-one 0 n (omega arith) ∙ sym (digits-one 19 n (omega arith))
 
 pub answer-width : (n : ℕ) → n ≤ maxAnswer → length (answerLine n) ≡ answerWidth
 unfolding answerLine ascii

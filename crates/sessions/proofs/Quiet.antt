@@ -7,6 +7,8 @@ use native.Mathlib.Omega.{arith}
 use lib.Dec.{ltb}
 use lib.ListN.{length, get_or, length-append}
 use borrow.Author.Tests.{le-ltb}
+use Rattle.std.specs.Prelude.{Result, Ok, Err}
+use Rattle.std.specs.Result.{result_map_both}
 use Rattle.ranges.specs.Lists.{any_of}
 use Rattle.ranges.proofs.Bools.{by}
 use Rattle.octets.specs.Ascii.{ascii}
@@ -19,12 +21,30 @@ use Rattle.register.proofs.Whole.{decoded}
 use Rattle.board.specs.Board.{boardIn}
 use Rattle.board.proofs.Fitting.{long}
 use Rattle.board.proofs.Nothing.{no_bytes}
-use Rattle.grammar.specs.Grammar.{Session, badAt, calls, sessionOf}
-use Rattle.grammar.proofs.Whole.{session-empty}
-use Rattle.grammar.proofs.Empty.{others-have-calls}
-use Rattle.sessions.specs.Output.{maxInput, answerLine, answers, noTransmissions, printed, answersThenBoard, badLineText, sessionText, outputOf}
+use Rattle.grammar.specs.declared.lines.BadLine.{BadLine}
+use Rattle.grammar.specs.Session.{start, session_of}
+use Rattle.grammar.proofs.Forward.{session-empty}
+use Rattle.grammar.proofs.Sessions.{others-have-calls}
+use Rattle.sessions.specs.declared.refusals.Refusal.{Refusal}
+use Rattle.sessions.specs.declared.refusals.Refusal.TheVariants as refusal
+use Rattle.sessions.specs.Output.{maxInput, calls_of, answerLine, answers, noTransmissions, printed, answersThenBoard, refusal_text, text_by, outputOf}
 use Rattle.sessions.specs.Claims.{NeverSilent, EmptyIsQuiet, OnlyEmptyIsQuiet, LineWithoutBoard, BoardAsItIs, NoBoardIsTheLine}
 use Rattle.sessions.proofs.Ending.{printed-some}
+
+-- ---- the calls of a session
+
+module _ (s : List ℕ) where
+  pub calls_good : (m : Result (List Call) BadLine) → length s ≤ maxInput → session_of s ≡ m → calls_of s ≡ result_map_both (λ (cs : List Call). cs) refusal.BadLine m
+  unfolding calls_of
+  calls_good m h e = rw (le-ltb maxInput (length s) h, e) refl
+
+  session-good : (cs : List Call) → calls_of s ≡ Ok cs → session_of s ≡ Ok cs
+  unfolding calls_of
+  session-good cs e = by (ltb maxInput (length s)) (λ h. let f : ◌≡◌ {A = Result (List Call) Refusal} (Err refusal.TooLong) (Ok cs) = rw h at e in cc) (λ h. go (session_of s) (rw h at e))
+    where
+      go : (m : Result (List Call) BadLine) → result_map_both (λ (ds : List Call). ds) refusal.BadLine m ≡ Ok cs → m ≡ Ok cs
+      go (Ok ds) e = cc
+      go (Err b) e = cc
 
 -- ---- something is printed
 
@@ -33,16 +53,17 @@ unfolding ascii
 printed-long [] = omega arith
 printed-long (b ∷ t) = omega arith
 
-text-long : (m : Session) → 0 < length (sessionText m)
-unfolding badLineText answersThenBoard ascii
-text-long (badAt n) = omega arith
-text-long (calls cs) =
+text-long : (m : Result (List Call) Refusal) → 0 < length (text_by m)
+unfolding refusal_text answersThenBoard ascii
+text-long (Err refusal.TooLong) = omega arith
+text-long (Err (refusal.BadLine b)) = omega arith
+text-long (Ok cs) =
     let t = printed (boardIn (decode (runs fresh cs))) in
     omega (arith, length-append (answers fresh cs) t, printed-long (boardIn (decode (runs fresh cs))))
 
 pub never-silent : NeverSilent
-unfolding outputOf ascii
-never-silent s = by (ltb maxInput (length s)) (λ h. rw h (omega arith)) (λ h. rw h (text-long (sessionOf s)))
+unfolding outputOf
+never-silent s = text-long (calls_of s)
 
 -- ---- the empty input
 
@@ -51,13 +72,13 @@ fresh-board : boardIn (decode (runs fresh [])) ≡ []
 unfolding noneFull run any_of
 fresh-board = ap boardIn (decoded [] refl) ∙ no_bytes [] [] refl
 
-pub empty-text : sessionText (calls []) ≡ noTransmissions
+pub empty-text : text_by (Ok []) ≡ noTransmissions
 unfolding answersThenBoard answers
 empty-text = ap printed fresh-board
 
 pub empty-is-quiet : EmptyIsQuiet
 unfolding outputOf
-empty-is-quiet = ap sessionText session-empty ∙ empty-text
+empty-is-quiet = ap text_by (calls_good [] (Ok []) (omega arith) (session-empty (start []) refl)) ∙ empty-text
 
 -- ---- no other input
 
@@ -65,25 +86,23 @@ empty-is-quiet = ap sessionText session-empty ∙ empty-text
 apart : (t u : List ℕ) → (get_or t 0 0 ≡ get_or u 0 0 → ⊥) → t ≡ u → ⊥
 apart t u f e = f (ap (λ (x : List ℕ). get_or x 0 0) e)
 
-quiet-session : (m : Session) → sessionText m ≡ noTransmissions → m ≡ calls []
-unfolding badLineText answersThenBoard answers answerLine ascii
-quiet-session (badAt n) h = absurd (apart (sessionText (badAt n)) noTransmissions (λ e. omega arith) h)
-quiet-session (calls []) h = refl
-quiet-session (calls (c ∷ cs)) h = absurd (apart (sessionText (calls (c ∷ cs))) noTransmissions (λ e. omega arith) h)
+quiet-session : (m : Result (List Call) Refusal) → text_by m ≡ noTransmissions → m ≡ Ok []
+unfolding refusal_text answersThenBoard answers answerLine ascii
+quiet-session (Err refusal.TooLong) h = absurd (apart (text_by (Err refusal.TooLong)) noTransmissions (λ e. omega arith) h)
+quiet-session (Err (refusal.BadLine b)) h = absurd (apart (text_by (Err (refusal.BadLine b))) noTransmissions (λ e. omega arith) h)
+quiet-session (Ok []) h = refl
+quiet-session (Ok (c ∷ cs)) h = absurd (apart (text_by (Ok (c ∷ cs))) noTransmissions (λ e. omega arith) h)
 
 pub only-empty-is-quiet : OnlyEmptyIsQuiet
-unfolding outputOf ascii
-only-empty-is-quiet s h =
-    by (ltb maxInput (length s))
-    (λ k. absurd (apart (ascii "refused=12\n") noTransmissions (λ e. omega arith) (rw k at h)))
-    (λ k. others-have-calls s (quiet-session (sessionOf s) (rw k at h)))
+unfolding outputOf
+only-empty-is-quiet s h = others-have-calls s (session-good s [] (quiet-session (calls_of s) h))
 
 -- ---- after the answers
 
 module _ (s : List ℕ) (cs : List Call) where
-  printed-after : length s ≤ maxInput → sessionOf s ≡ calls cs → outputOf s ≡ answers fresh cs ++ printed (boardIn (decode (runs fresh cs)))
+  printed-after : length s ≤ maxInput → session_of s ≡ Ok cs → outputOf s ≡ answers fresh cs ++ printed (boardIn (decode (runs fresh cs)))
   unfolding outputOf answersThenBoard
-  printed-after h e = rw (le-ltb maxInput (length s) h, e) refl
+  printed-after h e = ap text_by (calls_good s (Ok cs) h e)
 
 pub line-without-board : LineWithoutBoard
 line-without-board s cs h e q = printed-after s cs h e ∙ ap (λ (t : List ℕ). answers fresh cs ++ printed t) q

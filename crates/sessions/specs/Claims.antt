@@ -1,17 +1,17 @@
--- What is claimed of what a session prints (document 02, A.14). The proofs are in proofs/Quiet.
-use Rattle.std.specs.Prelude.{ℕ, ◌≤◌, ◌<◌, ◌≡◌, true, List, [], ◌++◌, length}
+-- What is claimed of what a session prints. The contracts of src/claims.rt name it; the proofs are in proofs/Quiet.
+use Rattle.std.specs.Prelude.{ℕ, ◌≤◌, ◌<◌, ◌≡◌, true, List, [], ◌++◌, length, Ok}
 use Rattle.octets.specs.Bytes.{Bytes}
 use Rattle.register.specs.Memory.{wellFormed, decode, fresh}
 use Rattle.register.specs.Calls.{Call, runs}
 use Rattle.board.specs.Board.{boardIn}
-use Rattle.grammar.specs.Grammar.{calls, sessionOf}
+use Rattle.grammar.specs.Session.{session_of}
 use Rattle.sessions.specs.Output.{maxInput, answers, noTransmissions, outputOf}
 
 -- something is printed, whatever the input is
 abbrev pub NeverSilent : Type 0
 NeverSilent = (s : List ℕ) → 0 < length (outputOf s)
 
--- "An empty file now means a fresh register without calls, and the program prints the single line `transmissions=0`."
+-- an empty input is a list without calls: it prints the line `transmissions=0` alone
 abbrev pub EmptyIsQuiet : Type 0
 EmptyIsQuiet = outputOf [] ≡ noTransmissions
 
@@ -19,14 +19,14 @@ EmptyIsQuiet = outputOf [] ≡ noTransmissions
 abbrev pub OnlyEmptyIsQuiet : Type 0
 OnlyEmptyIsQuiet = (s : List ℕ) → outputOf s ≡ noTransmissions → s ≡ []
 
--- "A file with calls whose board has no bytes prints the answers and then the same line."
+-- where the board has no bytes, the same line comes after the answers
 abbrev pub LineWithoutBoard : Type 0
-LineWithoutBoard = (s : List ℕ) (cs : List Call) → length s ≤ maxInput → sessionOf s ≡ calls cs
+LineWithoutBoard = (s : List ℕ) (cs : List Call) → length s ≤ maxInput → session_of s ≡ Ok cs
     → boardIn (decode (runs fresh cs)) ≡ [] → outputOf s ≡ answers fresh cs ++ noTransmissions
 
 -- a board with bytes comes after the answers as it is
 abbrev pub BoardAsItIs : Type 0
-BoardAsItIs = (s : List ℕ) (cs : List Call) → length s ≤ maxInput → sessionOf s ≡ calls cs
+BoardAsItIs = (s : List ℕ) (cs : List Call) → length s ≤ maxInput → session_of s ≡ Ok cs
     → 0 < length (boardIn (decode (runs fresh cs))) → outputOf s ≡ answers fresh cs ++ boardIn (decode (runs fresh cs))
 
 -- and none is this line, so that what is printed shows which of the two it was

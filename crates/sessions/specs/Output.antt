@@ -1,18 +1,24 @@
--- What a session prints (document 01, 'The track and the session' and 'Answers and refusals'): "Prints only `refused=12` if input is over 65,536 bytes, else
--- only `refused=11 line=N` for the first bad line"; else "Each operation prints `answer=` and its register answer, then comes the board". "A file with
--- calls whose board has no bytes prints the answers and then the same line" as an empty one, `transmissions=0` (document 02, A.14).
-use Rattle.std.specs.Prelude.{ℕ, ◌+◌, cond, List, [], ◌∷◌, ◌++◌, ltb, length}
+-- What a session prints (docs/REFERENCE.md, 'Session'): `refused=12` alone where the input is longer than the longest that is read, else `refused=11 line=N`
+-- alone for the first bad line, else the answer of each operation and then the board; where the board has no bytes, `transmissions=0` stands in its place.
+use Rattle.std.specs.Prelude.{ℕ, ◌+◌, cond, List, [], ◌∷◌, ◌++◌, ltb, length, Result, Ok, Err}
+use Rattle.std.specs.Result.{result_map_both}
 use Rattle.text.specs.Numbers.{decimal}
 use Rattle.octets.specs.Ascii.{ascii}
 use Rattle.register.specs.Memory.{decode, fresh, on_memory}
 use Rattle.register.specs.Calls.{Call, act, runs}
 use Rattle.drawing.specs.Text.{boardSize}
 use Rattle.board.specs.Board.{boardIn}
-use Rattle.grammar.specs.Grammar.{Session, badAt, calls, sessionOf}
+use Rattle.grammar.specs.Session.{session_of}
+use Rattle.sessions.specs.declared.refusals.Refusal.{Refusal}
+use Rattle.sessions.specs.declared.refusals.Refusal.TheVariants as refusal
 
 -- the longest input that is read
 abbrev pub maxInput : ℕ
 maxInput = 65536
+
+-- the calls of a session, or why it is refused
+unfoldable pub calls_of : List ℕ → Result (List Call) Refusal
+calls_of input = cond (ltb maxInput (length input)) (Err refusal.TooLong) (result_map_both (λ cs. cs) refusal.BadLine (session_of input))
 
 unfoldable pub answerLine : ℕ → List ℕ
 answerLine n = (ascii "answer=" ++ decimal n) ++ ascii "\n"
@@ -39,12 +45,13 @@ printed (b ∷ t) = b ∷ t
 unfoldable pub answersThenBoard : List ℕ → List Call → List ℕ
 answersThenBoard m cs = answers m cs ++ printed (boardIn (decode (runs m cs)))
 
-unfoldable pub badLineText : ℕ → List ℕ
-badLineText n = (ascii "refused=11 line=" ++ decimal n) ++ ascii "\n"
+unfoldable pub refusal_text : Refusal → List ℕ
+refusal_text refusal.TooLong = ascii "refused=12\n"
+refusal_text (refusal.BadLine bad) = (ascii "refused=11 line=" ++ decimal bad.line) ++ ascii "\n"
 
-abbrev pub sessionText : Session → List ℕ
-sessionText (badAt n) = badLineText n
-sessionText (calls cs) = answersThenBoard fresh cs
+abbrev pub text_by : Result (List Call) Refusal → List ℕ
+text_by (Ok cs) = answersThenBoard fresh cs
+text_by (Err r) = refusal_text r
 
 unfoldable pub outputOf : List ℕ → List ℕ
-outputOf input = cond (ltb maxInput (length input)) (ascii "refused=12\n") (sessionText (sessionOf input))
+outputOf input = text_by (calls_of input)

@@ -2,22 +2,25 @@
 #![tactic(auto)]
 
 ghost use Rattle.std.specs.Prelude.{◌≡◌, true, ◌+◌, ◌≤◌, length};
-ghost use Rattle.std.proofs.Math.Option.{none};
-ghost use Rattle.octets.specs.Bytes.{Bytes};
-ghost use Rattle.text.specs.Buffer.{Put};
+ghost use Rattle.octets.specs.Put.{Put};
+ghost use Rattle.text.specs.Texts.{append};
 ghost use Rattle.drawing.specs.Text.{boardSize};
 ghost use Rattle.held.specs.After.{after};
 ghost use Rattle.register.specs.Memory.{wellFormed, decode, on_memory, fresh};
 ghost use Rattle.register.specs.Calls.{act, runs};
 ghost use Rattle.board.specs.Board.{boardIn};
-ghost use Rattle.grammar.specs.Cursors.{call_in, firstBad, callsFrom};
+ghost use Rattle.grammar.specs.Gives.{call_of};
+ghost use Rattle.grammar.specs.Session.{start, calls_from};
 ghost use Rattle.sessions.specs.Output as O;
-ghost use Rattle.sessions.specs.Widths.{maxAnswer, answerWidth};
 
-use grammar::keyed::Cursor;
-use grammar::operations::{Operation, Request};
-use grammar::sessions::FirstBad;
+use grammar::{Call, Lines};
 use register::layout::REGISTER_SIZE;
+use text::Text;
+
+pub mod claims;
+mod refusals;
+
+pub use refusals::{Refusal, check};
 
 // The longest input that is read.
 pub const MAX_INPUT: usize = 65536;
@@ -25,109 +28,86 @@ pub const MAX_INPUT: usize = 65536;
 // What a session may print: the answers, each shorter than its operation, and a board.
 pub const OUTPUT_SIZE: usize = MAX_INPUT + board::BOARD_SIZE;
 
-// The line of an answer, which is one digit.
-fn put_answer(out: &mut [u8], at: usize, n: u32) -> usize
-    requires n_le_max_answer { n ≤ maxAnswer }
-    requires answer_width_in_bounds { at + answerWidth ≤ length out.old }
-    ensures { Put out.old at (O.answerLine n) result out.new }
+// The line of an answer.
+fn push_answer(out: &mut Text, answer: u32)
+    ensures { out.new ≡ append out.old (O.answerLine answer) }
 {
-    let a = text::put_bytes(out, at, b"answer=");
-    let b = text::put_digits(out, a, 0, n as u64);
-    text::put_bytes(out, b, b"\n")
-}
-
-// What is printed of the first bad line.
-fn put_bad_line(out: &mut [u8], line: usize) -> usize
-    requires { 37 ≤ length out.old }
-    ensures { (result ≤ 37) × Put out.old 0 (O.badLineText line) result out.new }
-{
-    let a = text::put_bytes(out, 0, b"refused=11 line=");
-    let b = text::put_u64(out, a, line as u64);
-    text::put_bytes(out, b, b"\n")
+    out.push_field("answer=", &(answer as u64));
+    out.push_str("\n");
 }
 
 // Calls the register.
-fn perform(memory: &mut [u8], request: Request, inputs: &[u8], r: &[u8]) -> u32
-    ensures { after result memory.new ≡ on_memory (act (call_in request inputs.now r.now)) memory.old }
+fn perform(memory: &mut [u8], call: &Call) -> u32
+    ensures { after result memory.new ≡ on_memory (act (call_of call.now)) memory.old }
 {
-    match request {
-        Request::Summary {
+    match call {
+        Call::Summary {
             engine,
             model,
             spec,
-        } => register::summaries::summary(memory, engine as u32, model as u32, spec, inputs),
-        Request::Conviction { engine } => register::convictions::conviction(memory, engine as u32),
-        Request::Report { engine } => register::reports::report(memory, engine as u32, r),
+            inputs,
+        } => register::summaries::summary(memory, *engine as u32, *model as u32, *spec, inputs),
+        Call::Conviction { engine } => register::convictions::conviction(memory, *engine as u32),
+        Call::Report { engine, report } => {
+            register::reports::report(memory, *engine as u32, &report.record())
+        }
     }
 }
 
-// Calls the register for an operation.
-fn perform_one(memory: &mut [u8], o: Operation) -> u32
-    ensures { after result memory.new ≡ on_memory (act (call_in o.request o.inputs o.record)) memory.old }
+// Performs the operations of a session up to its first bad line, and appends their answers.
+fn answer_all(input: &[u8], memory: &mut [u8], out: &mut Text)
+    ensures text { out.new ≡ append out.old (O.answers memory.old (calls_from (start input.now))) }
+    ensures left { memory.new ≡ runs memory.old (calls_from (start input.now)) }
 {
-    let request = o.request;
-    let inputs = o.inputs;
-    let r = o.record;
-    perform(memory, request, &inputs, &r)
-}
-
-// Runs a good session's operations on a register, and writes their answers. None of them is bad.
-fn answer_all(input: &[u8], memory: &mut [u8], out: &mut [u8]) -> usize
-    requires input_value { firstBad input.now ≡ none }
-    requires memory_value { wellFormed memory.old ≡ true }
-    requires input_in_bounds { length input.now ≤ length out.old }
-    ensures upper_bound { (result ≤ length input.now) × Put out.old 0 (O.answers memory.old (callsFrom input.now)) result out.new }
-    ensures memory_after { (memory.new ≡ runs memory.old (callsFrom input.now)) × (wellFormed memory.new ≡ true) × Bytes memory.new }
-{
-    let mut at: usize = 0;
-    let mut end: usize = 0;
-    while at < input.len() {
-        let o = grammar::sessions::operation(input, at);
-        let next = o.next;
-        let Cursor::At { lines: _, at: e } = next else {
-            return end;
-        };
-        at = e;
-        let a = perform_one(memory, o);
-        end = put_answer(out, end, a);
+    let mut lines = Lines::new(input);
+    while let Ok(call) = lines.operation() {
+        let answer = perform(memory, &call);
+        push_answer(out, answer);
     }
-    end
 }
 
-// The board of a register, and where it has no bytes the line that says so.
-fn put_board(memory: &[u8], out: &mut [u8], at: usize) -> usize
+// Their answers at the start of `out`.
+fn write_answers(input: &[u8], memory: &mut [u8], out: &mut [u8]) -> usize
+    requires { length input.now ≤ length out.old }
+    ensures text { Put out.old 0 (O.answers memory.old (calls_from (start input.now))) result out.new }
+    ensures bound { result ≤ length input.now }
+    ensures left { memory.new ≡ runs memory.old (calls_from (start input.now)) }
+{
+    let mut text = Text::new(out);
+    answer_all(input, memory, &mut text);
+    text.len()
+}
+
+// The board of a register at the start of `out`, or the line that says that it has no bytes.
+fn write_board(memory: &[u8], out: &mut [u8]) -> usize
     requires memory_value { wellFormed memory.now ≡ true }
-    requires board_size_in_bounds { at + boardSize ≤ length out.old }
-    ensures { (result ≤ at + boardSize) × Put out.old at (O.printed (boardIn (decode memory.now))) result out.new }
+    requires room { boardSize ≤ length out.old }
+    ensures text { Put out.old 0 (O.printed (boardIn (decode memory.now))) result out.new }
+    ensures bound { result ≤ boardSize }
 {
-    let n = board::board(memory, &mut out[at..]);
-    let end = at + n as usize;
-    if n == 0 {
-        return text::put_bytes(out, end, b"transmissions=0\n");
+    match board::board(memory, out) {
+        0 => octets::runs::put_bytes(out, 0, b"transmissions=0\n"),
+        n => n as usize,
     }
-    end
 }
 
-// Runs a good session from a fresh register: the answers, then the board.
+// Performs the operations of a session up to its first bad line on a fresh register: the answers, then the board.
 fn perform_all(input: &[u8], out: &mut [u8]) -> usize
-    requires input_value { firstBad input.now ≡ none }
-    requires board_size_in_bounds { length input.now + boardSize ≤ length out.old }
-    ensures { (result ≤ length input.now + boardSize) × Put out.old 0 (O.answersThenBoard fresh (callsFrom input.now)) result out.new }
+    requires { length input.now + boardSize ≤ length out.old }
+    ensures text { Put out.old 0 (O.answersThenBoard fresh (calls_from (start input.now))) result out.new }
+    ensures bound { result ≤ length input.now + boardSize }
 {
     let mut memory = [0u8; REGISTER_SIZE];
-    let at = answer_all(input, &mut memory, out);
-    put_board(&memory, out, at)
+    let end = write_answers(input, &mut memory, out);
+    end + write_board(&memory, &mut out[end..])
 }
 
 // What a session prints, at the start of `out`; the answer is its length.
 pub fn run(input: &[u8], out: &mut [u8; OUTPUT_SIZE]) -> usize
     ensures { (result ≤ O.outputSize) × Put out.old 0 (O.outputOf input.now) result out.new }
 {
-    if MAX_INPUT < input.len() {
-        return text::put_bytes(out, 0, b"refused=12\n");
-    }
-    match grammar::sessions::first_bad(input) {
-        FirstBad::Line(line) => put_bad_line(out, line),
-        FirstBad::Nowhere => perform_all(input, out),
+    match check(input) {
+        Ok(()) => perform_all(input, out),
+        Err(refusal) => text::write(out, &refusal),
     }
 }

@@ -1,11 +1,16 @@
-use Prim.Native.Nat.{◌-◌}
-use mathlib.Core.Path.{◌≡◌}
-use lib.ListN.{length}
+use Rattle.std.proofs.Common.{length}
+use Rattle.text.specs.Texts.{append}
+use Rattle.register.specs.Calls.{runs}
+use Rattle.grammar.specs.Gives.{at}
+use Rattle.grammar.specs.Session.{start, calls_from}
+use Rattle.sessions.specs.Output.{answers}
 use Rattle.sessions.proofs.Answering.{Answered}
 use Rattle.sessions.proofs.answer_all.Given as goal
 
-abbrev pub invariant-loop-at : goal.invariant-loop-at
-invariant-loop-at l = (length l.memory ≡ length l.initial.memory) × Answered l.input l.initial.memory l.initial.out l.memory l.out l.at l.end
+abbrev pub invariant-loop-call : goal.invariant-loop-call
+invariant-loop-call l =
+    let calls = calls_from (start l.input) in
+    Answered (append l.initial.out (answers l.initial.memory calls)) (runs l.initial.memory calls) l.memory l.out (at l.lines)
 
-abbrev pub decreases-loop-at : goal.decreases-loop-at
-decreases-loop-at l = length l.input - l.at
+abbrev pub decreases-loop-call : goal.decreases-loop-call
+decreases-loop-call l = length l.lines.rest.now

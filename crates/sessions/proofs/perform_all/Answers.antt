@@ -1,21 +1,23 @@
--- `perform_all` meets its contract.
-use Prim.Native.Nat.{ℕ}
-use mathlib.Core.Path.{ap}
-use mathlib.Core.List.{List}
-use native.Mathlib.Omega.{arith}
-use Rattle.text.proofs.Writing.{put-put, put_as}
-use Rattle.register.specs.Memory.{decode}
+use Rattle.std.proofs.Common.{ℕ, List, ap, arith}
+use Rattle.octets.proofs.Puts.{put-put, put_as, put-length}
+use Rattle.register.specs.Memory.{decode, fresh}
+use Rattle.register.specs.Calls.{runs}
+use Rattle.register.proofs.Further.{runs-formed}
 use Rattle.board.specs.Board.{boardIn}
+use Rattle.grammar.specs.Session.{start, calls_from}
 use Rattle.sessions.specs.Output.{printed, answersThenBoard}
-use Rattle.sessions.proofs.Ending.{fresh-formed}
+use Rattle.sessions.proofs.Ending.{put-behind}
 use Rattle.sessions.proofs.perform_all.Goals as goal
 
-pub answer_all-at-requires-clause-memory_value : goal.answer_all-at-requires-clause-memory_value
-answer_all-at-requires-clause-memory_value c = fresh-formed
+pub write_board-requires-clause-memory_value : goal.write_board-requires-clause-memory_value
+write_board-requires-clause-memory_value c = rw c.write_answers-end.ensures.left (runs-formed (calls_from (start c.args.input.now)))
 
-pub returns : goal.returns
+pub returns-clause-text : goal.returns-clause-text
 unfolding answersThenBoard
-returns c =
-    let a = c.answer_all-at.ensures in
-    let b = c.put_board.ensures in
-    (omega (arith, a.upper_bound.0, b.0), put-put a.upper_bound.1 (put_as (ap (λ (m : List ℕ). printed (boardIn (decode m))) a.memory_after.0) b.1))
+returns-clause-text c =
+    let first = c.write_answers-end.ensures in
+    let board = c.write_board.ensures in
+    let drawing : List ℕ = printed (boardIn (decode (runs fresh (calls_from (start c.args.input.now))))) in
+    let later = put_as (ap (λ (m : List ℕ). printed (boardIn (decode m))) first.left) board.text in
+    let same = put-length first.text in
+    put-put first.text (put-behind _ _ drawing _ _ (omega (arith, later.next, board.bound, first.bound, same, c.requires)) later)

@@ -1,0 +1,41 @@
+-- The cases of a session's output.
+use Rattle.std.proofs.Common.{◌≡◌, ap, sym, refl, ℕ, ◌≤◌, List, length, length-append, Some, None, Result, Ok, Err, ltb, arith}
+use Rattle.std.specs.Result.{result_err, result_map_both}
+use borrow.Author.Tests.{ltb-false}
+use Rattle.ranges.proofs.Bools.{by}
+use Rattle.octets.specs.Ascii.{ascii}
+use Rattle.text.proofs.Readback.{decimal-width}
+use Rattle.register.specs.Memory.{fresh}
+use Rattle.register.specs.Calls.{Call}
+use Rattle.grammar.specs.declared.lines.BadLine.{BadLine}
+use Rattle.grammar.specs.Session.{start, session_of, calls_from}
+use Rattle.grammar.proofs.Forward.{calls-good}
+use Rattle.sessions.specs.declared.refusals.Refusal.{Refusal}
+use Rattle.sessions.specs.declared.refusals.Refusal.TheVariants as refusal
+use Rattle.sessions.specs.Output.{maxInput, calls_of, answersThenBoard, refusal_text, text_by, outputOf}
+
+-- not refused
+pub output-good : (s : List ℕ) → None ≡ result_err (calls_of s) → (length s ≤ maxInput) × (outputOf s ≡ answersThenBoard fresh (calls_from (start s)))
+unfolding calls_of outputOf
+output-good s e =
+    by (ltb maxInput (length s)) (λ h. let f : None ≡ Some refusal.TooLong = rw h at e in cc)
+    (λ h. (ltb-false maxInput (length s) h, rw h (go (session_of s) refl (rw h at e))))
+  where
+    go : (m : Result (List Call) BadLine) → session_of s ≡ m → None ≡ result_err (result_map_both (λ (cs : List Call). cs) refusal.BadLine m)
+        → text_by (result_map_both (λ (cs : List Call). cs) refusal.BadLine m) ≡ answersThenBoard fresh (calls_from (start s))
+    go (Ok cs) q e = ap (answersThenBoard fresh) (sym (calls-good (start s) cs q))
+    go (Err b) q e = cc
+
+-- refused
+pub output-refused : (s : List ℕ) (r : Refusal) → Some r ≡ result_err (calls_of s) → outputOf s ≡ refusal_text r
+unfolding outputOf
+output-refused s r e = go (calls_of s) e
+  where
+    go : (m : Result (List Call) Refusal) → Some r ≡ result_err m → text_by m ≡ refusal_text r
+    go (Ok cs) e = cc
+    go (Err q) e = ap refusal_text (let z : q ≡ r = cc in z)
+
+pub refusal-short : (r : Refusal) → length (refusal_text r) ≤ 37
+unfolding refusal_text ascii
+refusal-short refusal.TooLong = omega arith
+refusal-short (refusal.BadLine bad) = let width = decimal-width bad.line in simp length-append (omega (arith, width))
