@@ -3,8 +3,8 @@
 
     oracle/build && crates/tracks/make_stdout.py [FILE]
 
-FILE has lists in the form that src/main.rt reads. Without one the lists are few: document 01's position 9 in its two orders, and the same
-with a call more. The answers and the tracks come from target/oracle/oracle-program, which is the Rust (oracle/README.md); they are hashed by
+FILE has lists in the form that src/main.rt reads. Without one the lists are few: three nested fixes S, M and L in two orders,
+and the same with a call more. The answers and the tracks come from target/oracle/oracle-program, which is the Rust (oracle/README.md); they are hashed by
 hashlib, and a listing is written here from the Rust's track. Nothing of what the program itself prints goes into them."""
 import fractions
 import hashlib
@@ -22,7 +22,7 @@ INFINITY = 0x7FF0_0000_0000_0000
 
 
 def record(tags, lat):
-    """A record of document 01's positions: a 7-byte message, all tags used, no models, covariance diag(100, 100, 100)."""
+    """A record as the worked cases have it: a 7-byte message, all tags used, no models, covariance diag(100, 100, 100)."""
     numbers = struct.pack("<QiiBi", 1000, lat, 0, 1, 1500)
     message = bytes([7, 0x8D]) + bytes(13)
     room = b"".join(struct.pack("<Q", t) for t in tags).ljust(128, b"\0")
@@ -79,12 +79,12 @@ class Rust:
 
 
 def metres(height):
-    """Document 02, A.4: the nearest whole metre, and the even one of two equally near, which is how Python rounds a fraction."""
+    """The nearest whole metre, and the even one of two equally near, which is how Python rounds a fraction."""
     return round(fractions.Fraction(height, 1000))
 
 
 def measured(bits):
-    """Document 02, A.7: no number where the stored chi-square is infinite, which says that none was measured."""
+    """No number where the stored chi-square is infinite, which says that none was measured."""
     return "none" if bits == INFINITY else f"{bits:016x}"
 
 
@@ -98,7 +98,7 @@ def line(role, fix, chi2=None):
 
 
 def listing(state):
-    """Document 01: a line `contested=N`, then board lines in the track's order with `dominated=0`."""
+    """A line `contested=N`, then board lines in the track's order with `dominated=0`."""
     text = f"contested={struct.unpack_from('<Q', state, 8)[0]}\n"
     for k in range(state[6]):
         block = state[TRANSMISSIONS_AT + k * TRANSMISSION :][:TRANSMISSION]

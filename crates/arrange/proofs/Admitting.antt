@@ -22,7 +22,7 @@ use Rattle.arrange.specs.Blocks.{blocks, blockTable, hasFixIn, olderBlock, arran
 use Rattle.arrange.proofs.Kept.{firstHeld, older-first, some-fix, no-fix}
 use Rattle.arrange.proofs.Tables.{append-table}
 use Rattle.arrange.proofs.Settling.{AllSound, all-wide, positive, count-is, table_filled, arranged-in}
-use Rattle.arrange.proofs.Stable.{sort-agree, Weak, sort-front, Ordered, none, next, sort-ordered, sort-same, last-first, first-stays}
+use Rattle.arrange.proofs.Stable.{sort-agree, Weak, sort-front, Ordered, next, sort-ordered, sort-same, last-first, first-stays}
 
 -- ---- the order of those that have fixes
 

@@ -6,8 +6,8 @@ use native.Mathlib.Omega.{arith}
 use lib.ListN.{length, take, drop, replicate, length-append, length-take, length-drop, length-replicate}
 use lib.Seq.{take_at, drop_at, drop-drop}
 use borrow.Rule.Slice.PartMut.{put_mid}
-use Rattle.text.specs.Buffer.{Put}
-use Rattle.text.proofs.Writing.{put_whole}
+use Rattle.octets.specs.Put.{Put}
+use Rattle.octets.proofs.Puts.{put_whole}
 
 -- of T the m bytes at `from` were copied down to a
 module _ (T t : List ℕ) (from a m : ℕ) (low : a ≤ from) (within : from + m ≤ length T) (is : t ≡ take a T ++ (take m (drop from T) ++ drop (a + m) T)) where

@@ -6,8 +6,8 @@ use native.Mathlib.Omega.{arith}
 use borrow.Author.Tests.{ltb-true, ltb-false, eqb-true, eqb-false}
 use borrow.Rule.Slice.PartMut.{put_mid}
 use lib.Dec.{ltb, eqb}
-use lib.ListN.{length, get_or, take, drop, set, replicate, length-append, length-take, length-drop, length-replicate, take-append-drop, replicate-append-replicate}
-use lib.Seq.{take_at, drop_at, drop-drop, drop-append-le, take-append-le, length-take-le, get_or-set_same, get_or-set_other}
+use lib.ListN.{length, get_or, take, drop, replicate, length-append, length-take, length-drop, length-replicate, take-append-drop, replicate-append-replicate}
+use lib.Seq.{take_at, drop_at, drop-drop, drop-append-le, take-append-le, length-take-le}
 use Rattle.ranges.proofs.Bools.{by}
 use Rattle.items.proofs.Pairing.{width}
 use Rattle.places.specs.Places.{places, flat}
@@ -145,16 +145,6 @@ module _ (s y : List ℕ) (i : ℕ) (z : length s ≡ maxTransmissions * knownSi
     subst (λ (u : List ℕ). 1 ≤ knownCount u) (sym sheet-here) c,
   )
 
-  -- the sheet of a transmission that was written anew
-  pub known-set : (t t' x : List ℕ) (n : ℕ) → Known t s n → i < n → blocks n t' ≡ set (blocks n t) i x → Knows x y → Known t' putSheet n
-  known-set t t' x n k l e v = record {
-    size = put-length ∙ z;
-    right = λ j g. subst (Knows (get_or (blocks n t') j [])) (sym (place_of knownSize n j putSheet g))
-        (put_all (λ (m : ℕ) (u : List ℕ). Knows (get_or (blocks n t') m []) u) j
-        (subst (λ (b : List ℕ). Knows b y) (sym (ap (λ (bs : List (List ℕ)). get_or bs i []) e ∙ get_or-set_same (blocks n t) i x [] (rw (length-places transmissionSize n t) l))) v)
-        (λ d. subst (λ (b : List ℕ). Knows b (sheetAt s j)) (sym (ap (λ (bs : List (List ℕ)). get_or bs j []) e ∙ get_or-set_other (blocks n t) i j x [] d)) (subst (Knows (get_or (blocks n t) j [])) (place_of knownSize n j s g) (k.right j g))));
-  }
-
 -- as a lent part comes back
 pub part-put : (w a : ℕ) (s y : List ℕ) → put_mid a (a + w - a) s y ≡ take a s ++ (y ++ drop (a + w) s)
 part-put w a s y = ap (λ (k : ℕ). take a s ++ (y ++ drop k (drop a s))) (width w a) ∙ ap (λ (x : List ℕ). take a s ++ (y ++ x)) (drop-drop w a s)
@@ -173,9 +163,6 @@ pub ready_at : (t s : List ℕ) (n : ℕ) → Filled t n → Known t s n → (i 
 ready_at t s n f y i h c =
     let e = block_at t n f i h in
     record { among = let l = f.few in omega (arith, l, h); size = f.size; sheets = y.size; sound = rw e (sound-at t n f i h); fixes = rw e c; knows = known_at y i h }
-
-pub ready_on : {t s s' : List ℕ} {i : ℕ} → Comparable t s i → Still t s s' → length s' ≡ length s → Comparable t s' i
-ready_on {t} {s} {s'} {i} r y z = record { among = r.among; size = r.size; sheets = z ∙ r.sheets; sound = r.sound; fixes = r.fixes; knows = y.right i r.among r.knows }
 
 -- at first nothing is known
 pub none-known : (t : List ℕ) (n : ℕ) → n ≤ maxTransmissions → Known t (replicate (maxTransmissions * knownSize) 0) n

@@ -1,7 +1,7 @@
 -- What is arranged in bytes is what is arranged of the transmissions that they hold.
 use Prim.Native.Nat.{ℕ, zero, suc, ◌-◌, ◌≤◌}
 use mathlib.Core.Path.{◌≡◌, refl, sym, ap, ap₂, ◌∙◌}
-use mathlib.Core.List.{List, [], ◌∷◌, ◌++◌, map, map-append}
+use mathlib.Core.List.{List, [], ◌∷◌, map}
 use native.Mathlib.Omega.{arith}
 use lib.ListN.{length, drop, length-map}
 use Rattle.ranges.specs.Lists.{filter, sort, last_of}
@@ -9,7 +9,7 @@ use Rattle.ranges.proofs.Lists.{filter_map, sort-map}
 use Rattle.tracked.specs.Held.{HeldTransmission}
 use Rattle.tracked.specs.Bytes.{transmissionIn}
 use Rattle.arrange.specs.Arranged.{maxTransmissions, hasFix, olderThan, arranged}
-use Rattle.arrange.specs.Blocks.{hasFixIn, olderBlock, arrangedBlocks, admitted}
+use Rattle.arrange.specs.Blocks.{hasFixIn, olderBlock, arrangedBlocks}
 use Rattle.arrange.proofs.Admitting.{few-stay}
 use Rattle.arrange.proofs.Settling.{arranged-few}
 
@@ -33,6 +33,3 @@ latest-values bs =
 -- of at most eight none goes
 pub arranged-values : (bs : List (List ℕ)) → length bs ≤ maxTransmissions → map transmissionIn (arrangedBlocks bs) ≡ arranged (map transmissionIn bs)
 arranged-values bs h = ap (map transmissionIn) (sym (few-stay (arrangedBlocks bs) (let f = arranged-few bs in omega (arith, f, h)))) ∙ latest-values bs
-
-pub admitted-values : (bs : List (List ℕ)) (b : List ℕ) → map transmissionIn (admitted bs b) ≡ arranged (map transmissionIn bs ++ (transmissionIn b ∷ []))
-admitted-values bs b = latest-values (bs ++ (b ∷ [])) ∙ ap arranged (map-append transmissionIn bs (b ∷ []))

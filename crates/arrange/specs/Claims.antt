@@ -1,4 +1,4 @@
--- What is claimed of the order of a track's transmissions (document 01, 'The track and the session'), whatever transmissions are given. proofs/Claimed has a
+-- What is claimed of the order of a track's transmissions (docs/REFERENCE.md, 'Track and listing'), whatever transmissions are given. proofs/Claimed has a
 -- theorem of each of these types.
 use Rattle.std.specs.Prelude.{◌≤◌, min, ◌≡◌, Bool, true, false, not, ◌&&◌, length}
 use mathlib.Core.List.{List, [], ◌∷◌, ◌++◌, Memᴰ, Permᴰ}

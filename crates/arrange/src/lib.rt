@@ -17,6 +17,8 @@ ghost use Rattle.arrange.specs.Blocks as B;
 
 use tracked::layout::{KNOWN_SIZE, TRANSMISSION_SIZE};
 
+pub mod claims;
+
 pub const MAX_TRANSMISSIONS: usize = 8;
 
 // A sheet for each transmission.
@@ -37,9 +39,7 @@ fn earlier(a: &[u8], b: &[u8]) -> bool
     requires { Sound a.now × Sound b.now × (1 ≤ fixCount a.now) × (1 ≤ fixCount b.now) }
     ensures { result ≡ ltb (B.firstTime a.now) (B.firstTime b.now) }
 {
-    let x = record::fields::time(tracked::record_of(tracked::held(a, 0)));
-    let y = record::fields::time(tracked::record_of(tracked::held(b, 0)));
-    x < y
+    tracked::held(a, 0).record().time() < tracked::held(b, 0).record().time()
 }
 
 // Works out the identity of the first fix of transmission i, unless it is known.
@@ -106,14 +106,12 @@ fn place_below(t: &[u8], known: &mut [u8], n: usize, i: usize) -> usize
     ensures value { result ≡ i + 1 + B.leading (λ b. B.olderBlock b (get_or (B.blocks n t.now) i [])) (drop (i + 1) (B.blocks n t.now)) }
     ensures known { B.Known t.now known.new n }
 {
-    let mut j = i + 1;
-    while j < n {
+    for j in i + 1..n {
         if !older_at(t, known, j, i) {
             return j;
         }
-        j += 1;
     }
-    j
+    n
 }
 
 // The w bytes at a, in an array with room for a transmission.
@@ -123,7 +121,7 @@ fn copy_of(t: &[u8], a: usize, w: usize) -> [u8; TRANSMISSION_SIZE]
 {
     let mut x = [0u8; TRANSMISSION_SIZE];
     let e = a + w;
-    text::put_bytes(&mut x, 0, &t[a..e]);
+    octets::runs::put_bytes(&mut x, 0, &t[a..e]);
     x
 }
 
@@ -134,7 +132,7 @@ fn turn(t: &mut [u8], a: usize, w: usize, e: usize)
 {
     let x = copy_of(t, a, w);
     octets::runs::copy_down(t, a + w, a, e - (a + w));
-    text::put_bytes(t, e - w, &x[0..w]);
+    octets::runs::put_bytes(t, e - w, &x[0..w]);
 }
 
 // Takes the w bytes at a out of those up to e.
@@ -195,9 +193,7 @@ pub fn arrange(t: &mut [u8], known: &mut [u8], n: usize) -> usize
     ensures known { B.Known t.new known.new result }
 {
     let mut m = n;
-    let mut i = n;
-    while 0 < i {
-        i -= 1;
+    for i in (0..n).rev() {
         m = settle(t, known, m, i);
     }
     m
@@ -210,8 +206,8 @@ fn append(t: &mut [u8], known: &mut [u8], n: usize, b: &[u8], s: &[u8]) -> usize
     ensures t_after { t.new ≡ B.blockTable (B.arrangedBlocks (B.blocks n t.old ++ (b.now ∷ []))) }
     ensures known { B.Known t.new known.new result }
 {
-    text::put_bytes(t, n * TRANSMISSION_SIZE, b);
-    text::put_bytes(known, n * KNOWN_SIZE, s);
+    octets::runs::put_bytes(t, n * TRANSMISSION_SIZE, b);
+    octets::runs::put_bytes(known, n * KNOWN_SIZE, s);
     arrange(t, known, n + 1)
 }
 

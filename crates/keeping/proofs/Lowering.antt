@@ -24,9 +24,6 @@ use Rattle.keeping.specs.Working.{lesser, unread, pushed, lowerRefusal, Lies, lo
 pub lesser-right : (a b : ℕ) → lesser a b ≤ b
 lesser-right a b = by (ltb b a) (λ t. rw t (omega arith)) (λ t. let h = ltb-false b a t in rw t (omega arith))
 
-pub lesser-left : (a b : ℕ) → lesser a b ≤ a
-lesser-left a b = by (ltb b a) (λ t. let h = ltb-true b a t in rw t (omega arith)) (λ t. rw t (omega arith))
-
 -- the first b of the first a
 pub take-lesser : {A : Type 0} (a b : ℕ) (l : List A) → take (lesser a b) l ≡ take b (take a l)
 take-lesser a b l =

@@ -4,35 +4,22 @@ use mathlib.Core.Path.{◌≡◌, refl, sym, ap, ◌∙◌, subst}
 use mathlib.Core.List.Memᴰ
 use mathlib.Core.List.{List, [], ◌∷◌, ◌++◌, map, map-append, Memᴰ}
 use native.Mathlib.Omega.{arith}
-use native.Mathlib.Numerals.{add-one}
 use lib.ListN.{length, get_or, take, drop, set, length-append, length-map, length-set, get_or-map}
-use lib.Seq.{get_or-take, take-suc, take-suc-set, length-take-le, drop-drop}
+use lib.Seq.{get_or-take, length-take-le, drop-drop}
 use Rattle.places.specs.Places.{flat}
 use Rattle.places.proofs.Tables.{wide, flat_append, flat-length, places-flat}
 use Rattle.places.proofs.Walks.{place_of}
 use Rattle.ranges.proofs.Bools.{or}
-use Rattle.text.specs.Buffer.{Put}
-use Rattle.text.proofs.Writing.{put-put, put_as, put_whole, put-length}
+use Rattle.octets.specs.Put.{Put}
+use Rattle.octets.proofs.Puts.{put-put, put_as, put_whole, put-length}
 use Rattle.items.specs.Layout.{itemSize, hashSize, itemIdentityAt}
 use Rattle.items.specs.Items.{itemIdentity}
 use Rattle.items.proofs.Pairing.{taken}
-use Rattle.tracked.specs.Layout as L
 use Rattle.tracked.specs.Known.{maxHeld, identitiesAt, knownSize, knownCount}
 use Rattle.tracked.proofs.Encoding.{map-wide}
 use Rattle.keeping.specs.declared.Kept.{Kept}
 use Rattle.keeping.specs.Working.{unread, Lies, Named, lowestIn, Keeps, refusedOf, heldItems, Names}
 use Rattle.keeping.proofs.Lowering.{front-all}
-
--- ---- a function of each, written into an array
-
-pub map_more : {A B : Type 0} (f : A → B) (d : A) (l : List A) (a : List B) (i : ℕ) → i < length l → i < length a → take i a ≡ map f (take i l)
-    → take (i + 1) (set a i (f (get_or l i d))) ≡ map f (take (i + 1) l)
-map_more {A} {B} f d l a i h k e =
-    ap (λ (j : ℕ). take j (set a i (f (get_or l i d)))) (add-one i)
-    ∙ take-suc-set a i (f (get_or l i d)) k
-    ∙ ap (λ (x : List B). x ++ (f (get_or l i d) ∷ [])) e
-    ∙ sym (map-append f (take i l) (get_or l i d ∷ []))
-    ∙ ap (map f) (sym (take-suc l i d h) ∙ ap (λ (j : ℕ). take j l) (sym (add-one i)))
 
 -- ---- the items that are kept
 

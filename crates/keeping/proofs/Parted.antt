@@ -1,12 +1,12 @@
 -- The bytes of a transmission whose counts and tables are written, each into its part of b.
-use Prim.Native.Nat.{ℕ, ◌+◌, ◌-◌}
+use Prim.Native.Nat.{ℕ, ◌-◌}
 use mathlib.Core.Path.{◌≡◌, refl, sym, ap, ◌∙◌}
 use mathlib.Core.List.{List, [], ◌∷◌, ◌++◌, append_assoc}
 use native.Mathlib.Omega.{arith}
 use lib.ListN.{length, take, drop, set, length-append, length-set, length-drop, length-take}
 use lib.Seq.{take_at, length-take-le}
-use Rattle.octets.proofs.Moves.{tail-back, tail-lent}
-use Rattle.tracked.specs.Layout.{fixesAt, fixesSize, refusedAt, refusedTableSize, transmissionSize}
+use Rattle.octets.proofs.Moves.{tail-back}
+use Rattle.tracked.specs.Layout.{fixesAt, fixesSize, refusedAt, transmissionSize}
 
 module _ (b : List ℕ) (n m : ℕ) (size : length b ≡ transmissionSize) where
   -- the counts
@@ -32,9 +32,6 @@ module _ (b : List ℕ) (n m : ℕ) (size : length b ≡ transmissionSize) where
         let e = headed-length in
         simp (length-append, length-take, length-drop) (omega arith)
 
-    pub rest-length : length (take (length filled - refusedAt) (drop refusedAt filled)) ≡ refusedTableSize
-    rest-length = ap length (tail-lent filled refusedAt) ∙ length-drop refusedAt filled ∙ (let e = filled-length in omega arith)
-
     front : (c : List ℕ) → length c ≡ transmissionSize → take fixesAt (set (set c 0 n) 1 m) ≡ n ∷ (m ∷ [])
     front [] e = absurd (omega arith)
     front (x ∷ []) e = absurd (omega arith)
@@ -48,6 +45,3 @@ module _ (b : List ℕ) (n m : ℕ) (size : length b ≡ transmissionSize) where
         let e : length (x ++ f) ≡ refusedAt = let w = front_length in length-append x f ∙ omega arith in
         tail-back filled r refusedAt
         ∙ ap (λ (y : List ℕ). y ++ r) (ap (take refusedAt) (sym (append_assoc x f z)) ∙ take_at (x ++ f) z refusedAt e ∙ ap (λ (y : List ℕ). y ++ f) (front b size))
-
-    pub written-length : length r ≡ refusedTableSize → length (n ∷ (m ∷ (f ++ r))) ≡ transmissionSize
-    written-length e = let q = length-append f r in omega arith

@@ -10,8 +10,8 @@ use lib.Seq.{sets-eq, take-suc, drop_at}
 use Rattle.octets.specs.Words.{word_bytes}
 use Rattle.octets.specs.Writes.{putWord}
 use Rattle.octets.proofs.Numbers.{length-word-bytes}
-use Rattle.text.specs.Buffer.{Put}
-use Rattle.text.proofs.Writing.{put_whole}
+use Rattle.octets.specs.Put.{Put}
+use Rattle.octets.proofs.Puts.{put_whole}
 use Rattle.places.specs.Places.{flat, table_of}
 use Rattle.places.proofs.Tables.{flat_append}
 

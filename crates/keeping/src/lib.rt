@@ -6,7 +6,7 @@ ghost use Rattle.std.specs.Prelude.{◌≡◌, false, not, ◌++◌, map, ℕ, �
 ghost use Rattle.ranges.specs.Lists as Lists;
 ghost use Rattle.ranges.specs.Range.{first};
 ghost use Rattle.places.specs.Places.{flat, table_of};
-ghost use Rattle.text.specs.Buffer.{Put};
+ghost use Rattle.octets.specs.Put.{Put};
 ghost use Rattle.items.specs.Layout.{hashSize, maxItems};
 ghost use Rattle.items.specs.Items.{itemIdentity};
 ghost use Rattle.decision.specs.Answer.{bad};
@@ -52,15 +52,13 @@ fn place_in(s: &[u8], l: Lowest, x: Refusal) -> u8
 {
     let list = l.list;
     let count = l.count;
-    let mut i: u8 = 0;
-    while i < count {
+    for i in 0..count {
         let y = list[i as usize];
         if !items::lower(s, y.refused, x.refused) {
             return i;
         }
-        i += 1;
     }
-    i
+    count
 }
 
 // Puts a refusal in before what stands at a place. The last is lost.
@@ -70,12 +68,10 @@ fn push_in(l: [Refusal; MAX_REFUSED], at: u8, x: Refusal) -> [Refusal; MAX_REFUS
 {
     let mut list = l;
     let mut carried = x;
-    let mut i = at;
-    while (i as usize) < MAX_REFUSED {
-        let y = list[i as usize];
-        list[i as usize] = carried;
+    for i in at as usize..MAX_REFUSED {
+        let y = list[i];
+        list[i] = carried;
         carried = y;
-        i += 1;
     }
     list
 }
@@ -110,9 +106,8 @@ fn lowest_of(s: &[u8], refusals: Refusals) -> Lowest
         list: [none; MAX_REFUSED],
         count: 0,
     };
-    let mut j = refusals.count;
-    while 0 < j {
-        j -= 1;
+    let count = refusals.count;
+    for j in (0..count).rev() {
         l = insert(s, l, refused[j as usize]);
     }
     l
@@ -142,9 +137,9 @@ fn put_fix(t: &mut [u8], at: usize, s: &[u8], g: &[u32], i: u8) -> usize
     requires lies { K.Lies s.now i × K.Signed s.now g.now }
     ensures { (result ≡ at + L.fixSize) × Put t.old at (fixBytes (K.itemFix s.now g.now i)) result t.new }
 {
-    let a = text::put_bytes(t, at, items::record_of(s, i));
+    let a = octets::runs::put_bytes(t, at, items::record_bytes(s, i));
     octets::words::put_u32(t, a, g[i as usize]);
-    text::put_bytes(t, a + 4, items::hash_of(s, i, items::layout::INPUTS_AT))
+    octets::runs::put_bytes(t, a + 4, items::hash_of(s, i, items::layout::INPUTS_AT))
 }
 
 // Writes a refused item as a refused fix.
@@ -154,7 +149,7 @@ fn put_refusal(t: &mut [u8], at: usize, s: &[u8], g: &[u32], x: Refusal) -> usiz
     ensures { (result ≡ at + L.refusedSize) × Put t.old at (refusedBytes (K.itemRefused s.now g.now x)) result t.new }
 {
     let a = put_fix(t, at, s, g, x.refused);
-    let b = text::put_bytes(t, a, items::hash_of(s, x.kept, items::layout::IDENTITY_AT));
+    let b = octets::runs::put_bytes(t, a, items::hash_of(s, x.kept, items::layout::IDENTITY_AT));
     let chi2 = x.chi2;
     octets::words::put_u64(t, b, arithmetic::stored_bits(chi2));
     b + 8
@@ -168,10 +163,8 @@ fn write_fixes(t: &mut [u8], s: &[u8], g: &[u32], list: &[u8], count: u8)
 {
     octets::runs::clear(t);
     let mut at = 0;
-    let mut i: u8 = 0;
-    while i < count {
+    for i in 0..count {
         at = put_fix(t, at, s, g, list[i as usize]);
-        i += 1;
     }
 }
 
@@ -185,10 +178,8 @@ fn write_refused(t: &mut [u8], s: &[u8], g: &[u32], l: Lowest)
     let list = l.list;
     let count = l.count;
     let mut at = 0;
-    let mut i: u8 = 0;
-    while i < count {
+    for i in 0..count {
         at = put_refusal(t, at, s, g, list[i as usize]);
-        i += 1;
     }
 }
 
@@ -214,11 +205,9 @@ pub fn refused_items(l: Lowest) -> [u8; MAX_REFUSED]
     let refusals = l.list;
     let count = l.count;
     let mut list = [0u8; MAX_REFUSED];
-    let mut i: u8 = 0;
-    while i < count {
+    for i in 0..count {
         let x = refusals[i as usize];
         list[i as usize] = x.refused;
-        i += 1;
     }
     list
 }
@@ -230,11 +219,9 @@ fn put_identities(t: &mut [u8], at: usize, s: &[u8], list: &[u8], count: u8) -> 
     ensures { (result ≡ at + count * hashSize) × Put t.old at (flat (map (itemIdentity s.now) (take count list.now))) result t.new }
 {
     let mut a = at;
-    let mut i: u8 = 0;
-    while i < count {
+    for i in 0..count {
         let id = items::hash_of(s, list[i as usize], items::layout::IDENTITY_AT);
-        a = text::put_bytes(t, a, id);
-        i += 1;
+        a = octets::runs::put_bytes(t, a, id);
     }
     a
 }

@@ -1,8 +1,7 @@
 -- Transmissions arranged, and their bytes.
-use Prim.Native.Nat.{ℕ, zero, suc, ◌-◌, ◌≤◌}
+use Prim.Native.Nat.{ℕ, zero, suc, ◌-◌}
 use mathlib.Core.Path.{◌≡◌, refl, sym, ap, ap₂, ◌∙◌}
-use mathlib.Core.Bool.{Bool, true, false}
-use mathlib.Core.List.{List, [], ◌∷◌, ◌++◌, map, Memᴰ}
+use mathlib.Core.List.{List, [], ◌∷◌, map, Memᴰ}
 use lib.ListN.{length, drop, length-map}
 use Rattle.ranges.specs.Lists.{filter, sort, last_of}
 use Rattle.ranges.proofs.Lists.{filter_map, filter-in, sort-map}

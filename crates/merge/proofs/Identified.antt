@@ -3,13 +3,13 @@ use Prim.Native.Nat.{ℕ, zero, suc, ◌+◌, ◌*◌, ◌-◌, ◌≤◌, ◌<�
 use mathlib.Core.Path.{◌≡◌, refl, sym, ap, ap₂, ◌∙◌, subst}
 use mathlib.Core.Bool.{Bool, true, false, cond, ◌||◌}
 use mathlib.Core.List.Memᴰ
-use mathlib.Core.List.{List, [], ◌∷◌, ◌++◌, map, Memᴰ}
+use mathlib.Core.List.{List, [], ◌∷◌, ◌++◌, map}
 use native.Mathlib.Omega.{arith}
 use lib.Bits.{bit_or}
 use lib.Dec.{ltb}
 use lib.ListN.{length, get_or, take, drop, set, length-map, length-drop, take-append-drop, get_or-append}
 use lib.Seq.{take-append-le, take-append-add, get_or-append-add}
-use borrow.Author.Tests.{ltb-true, ltb-false, lt-ltb, le-ltb}
+use borrow.Author.Tests.{ltb-true, ltb-false}
 use Rattle.octets.specs.Bytes.{Bytes}
 use Rattle.octets.specs.Order.{same}
 use Rattle.octets.proofs.Comparison.{same_refl}
@@ -17,7 +17,7 @@ use Rattle.octets.specs.Words.{word, word_at}
 use Rattle.octets.specs.Writes.{putWord}
 use Rattle.octets.proofs.Numbers.{bytes_take, bytes_drop}
 use Rattle.ranges.specs.Lists.{any_of}
-use Rattle.ranges.proofs.Bools.{by, or, clash}
+use Rattle.ranges.proofs.Bools.{by, clash}
 use Rattle.ranges.proofs.Lists.{any-map, any-of}
 use Rattle.places.specs.Places.{places, flat, allPlaces}
 use Rattle.places.proofs.Tables.{wide, length-places, places-flat, places-wide}
@@ -36,7 +36,7 @@ use Rattle.tracked.specs.Parts.{heldPlaces, heldCount, heldPlace, fixPlace, refu
 use Rattle.tracked.proofs.Holding.{held-length, held_at, held-are, held-formed}
 use Rattle.tracked.proofs.Sets.{same-identity}
 use Rattle.tracked.proofs.Encoding.{ValidFix, ValidRefused, Valid, bytes-of-places, wide-in}
-use Rattle.normalize.specs.Normal.{signedBy, signFirst}
+use Rattle.normalize.specs.Normal.{signFirst}
 use Rattle.normalize.specs.Joining.{upholds}
 use Rattle.normalize.specs.Working.{signedPlace, Listed}
 use Rattle.normalize.proofs.Listing.{all-identities}

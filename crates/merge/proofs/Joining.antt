@@ -1,7 +1,7 @@
 -- A fix that is tied to one transmission: the bytes that are left are those of what is left.
 use Prim.Native.Nat.{ℕ, zero, suc, ◌+◌, ◌*◌, ◌-◌, ◌≤◌, ◌<◌}
 use mathlib.Core.Path.{◌≡◌, refl, sym, ap, ap₂, ◌∙◌, subst}
-use mathlib.Core.Bool.{Bool, true, false, cond, ◌||◌}
+use mathlib.Core.Bool.{Bool, true, false}
 use mathlib.Core.List.Memᴰ
 use mathlib.Core.List.{List, [], ◌∷◌, ◌++◌, map, Memᴰ}
 use mathlib.Core.Logic.{◌⊎◌, inl, inr}
@@ -13,27 +13,26 @@ use borrow.Rule.Slice.PartMut.{put_mid}
 use Rattle.places.proofs.Tables.{wide, replace-table}
 use Rattle.items.proofs.Pairing.{width}
 use Rattle.ranges.specs.Lists.{any_of, filter, last_of}
-use Rattle.ranges.proofs.Bools.{or, by}
+use Rattle.ranges.proofs.Bools.{or}
 use Rattle.ranges.proofs.Lists.{any-map, filter_map, filter_none}
 use Rattle.record.specs.Formed.{wellFormed}
 use Rattle.shown.specs.Fix.{Fix}
 use Rattle.shown.proofs.Indexed.{at_in}
 use Rattle.tracked.specs.Layout as L
-use Rattle.tracked.specs.Held.{HeldTransmission, RefusedFix, fixOf, heldIn, is_of, tiedTo}
+use Rattle.tracked.specs.Held.{HeldTransmission, fixOf, heldIn, is_of, tiedTo}
 use Rattle.tracked.specs.Bytes.{recordIn, fixIn, transmissionIn, transmissionBytes}
 use Rattle.tracked.specs.Parts.{heldPlaces, tiesTo, Sound}
 use Rattle.tracked.proofs.Holding.{held-are}
 use Rattle.tracked.proofs.Encoding.{Valid, fixes-back}
-use Rattle.normalize.specs.Joining.{withFix, entered, refuses, upholds, moved}
+use Rattle.normalize.specs.Joining.{withFix, entered}
 use Rattle.normalize.specs.Did.{did}
 use Rattle.normalize.proofs.Validity.{Holdable, holdable-in, with-holdable, normalized-valid, normalized-sound}
 use Rattle.arrange.specs.Arranged.{maxTransmissions, arranged}
 use Rattle.arrange.specs.Blocks.{blockTable, arrangedBlocks}
 use Rattle.arrange.proofs.Settling.{arranged-few}
 use Rattle.arrange.proofs.Admitting.{few-stay}
-use Rattle.merge.specs.declared.Merged.{Merged}
 use Rattle.merge.specs.declared.Merged.TheVariants.{Duplicate}
-use Rattle.merge.specs.Merged.{Step, inPlace, signIn, answer_of, opened, joined, mergedInto, merged}
+use Rattle.merge.specs.Merged.{inPlace, signIn, answer_of, opened, joined, mergedInto, merged}
 use Rattle.merge.specs.Searching.{tiesBlock, answer_in, Steady}
 use Rattle.merge.proofs.Counting.{filter-one, filter-several, replace-one}
 use Rattle.merge.proofs.Arranging.{FixesBack, AllBack, arranged-bytes}

@@ -1,15 +1,14 @@
 -- A fix that opens a transmission of its own: the bytes that are left are those of what is left.
-use Prim.Native.Nat.{ℕ, zero, suc, ◌+◌, ◌*◌, ◌-◌, ◌^◌, ◌≤◌, ◌<◌}
+use Prim.Native.Nat.{ℕ, zero, suc, ◌-◌, ◌^◌, ◌≤◌, ◌<◌}
 use mathlib.Core.Path.{◌≡◌, refl, sym, ap, ap₂, ◌∙◌, subst}
 use mathlib.Core.Bool.{Bool, true, cond}
 use mathlib.Core.List.Memᴰ
-use mathlib.Core.List.{List, [], ◌∷◌, ◌++◌, map, map-append, append-nil, Memᴰ}
+use mathlib.Core.List.{List, [], ◌∷◌, ◌++◌, map, map-append, Memᴰ}
 use native.Mathlib.Omega.{arith}
-use lib.ListN.{length, get_or, take, drop, length-map, length-drop, length-append, length-take}
+use lib.ListN.{length, take, drop, length-map, length-drop}
 use lib.Seq.{take_at, length-take-le}
 use Rattle.octets.specs.Bytes.{Bytes}
-use Rattle.octets.specs.Order.{same}
-use Rattle.octets.specs.Words.{word, word_bytes}
+use Rattle.octets.specs.Words.{word_bytes}
 use Rattle.octets.proofs.Numbers.{bytes_take, bytes_drop, word_lt}
 use Rattle.ranges.specs.Lists.{any_of, filter, sort, last_of}
 use Rattle.ranges.proofs.Bools.{or, and_both}
@@ -21,22 +20,21 @@ use Rattle.items.specs.Layout.{hashSize}
 use Rattle.items.proofs.Pairing.{taken}
 use Rattle.shown.specs.Fix.{Fix}
 use Rattle.tracked.specs.Layout as L
-use Rattle.tracked.specs.Held.{RefusedFix, HeldTransmission, fixOf, heldIn, is_of}
-use Rattle.tracked.specs.Bytes.{recordIn, signersIn, inputsIn, identityIn, fixIn, fixBytes, refusedBytes, fixCount, refusedCount, fixPlaces, refusedPlaces, transmissionIn, transmissionBytes}
+use Rattle.tracked.specs.Held.{RefusedFix, HeldTransmission, fixOf, heldIn}
+use Rattle.tracked.specs.Bytes.{recordIn, signersIn, identityIn, fixIn, fixBytes, refusedBytes, fixCount, transmissionIn, transmissionBytes}
 use Rattle.tracked.specs.Parts.{heldPlaces, recordFormed, Sound}
-use Rattle.tracked.proofs.Encoding.{ValidFix, ValidRefused, Valid, fix-length, bytes-length, fix-count-back, refused-count-back, fix-places-back, refused-places-back, fixes-back, fix-back}
+use Rattle.tracked.proofs.Encoding.{ValidFix, ValidRefused, Valid, fix-length, bytes-length, fix-count-back, refused-count-back, fix-places-back, refused-places-back, fixes-back}
 use Rattle.normalize.specs.Normal.{normalized}
 use Rattle.normalize.specs.Joining.{leads}
 use Rattle.normalize.proofs.Claimed.{alone-stands}
-use Rattle.arrange.specs.Arranged.{maxTransmissions, is_some, hasFix, olderThan, arranged}
-use Rattle.arrange.specs.Blocks.{blocks, blockTable, hasFixIn, olderBlock, arrangedBlocks, admitted, Filled}
+use Rattle.arrange.specs.Arranged.{maxTransmissions, hasFix, olderThan, arranged}
+use Rattle.arrange.specs.Blocks.{arrangedBlocks, admitted}
 use Rattle.arrange.proofs.Kept.{first-fix}
-use Rattle.arrange.proofs.Settling.{AllSound, count-is, table_filled, arranged-in, drop-in}
+use Rattle.arrange.proofs.Settling.{AllSound, drop-in}
 use Rattle.arrange.proofs.Admitting.{has-count, arranged-all-kept, arranged-sound}
-use Rattle.merge.specs.declared.Merged.{Merged}
 use Rattle.merge.specs.declared.Merged.TheVariants.{Changed, Dropped}
 use Rattle.merge.specs.Merged.{keeps, opened}
-use Rattle.merge.specs.Searching.{firstHeld, keepsIdentity, AllFixed, Steady, Ready}
+use Rattle.merge.specs.Searching.{keepsIdentity, AllFixed, Steady}
 use Rattle.merge.proofs.Single.{single}
 use Rattle.merge.proofs.Arranging.{FixesBack, AllBack, arranged-bytes}
 

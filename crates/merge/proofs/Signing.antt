@@ -1,24 +1,16 @@
 -- A signature put into the bytes of a transmission.
-use Prim.Native.Nat.{ℕ, zero, suc, ◌+◌, ◌*◌, ◌-◌, ◌^◌, ◌≤◌, ◌<◌}
-use mathlib.Core.Path.{◌≡◌, refl, sym, ap, ap₂, ◌∙◌}
-use mathlib.Core.Bool.{Bool, true, false, cond}
-use mathlib.Core.List.{List, [], ◌∷◌, ◌++◌, map, append_assoc, Memᴰ}
+use Prim.Native.Nat.{ℕ, zero, suc, ◌+◌, ◌*◌, ◌≤◌, ◌<◌}
+use mathlib.Core.Path.{◌≡◌, refl, sym, ap, ◌∙◌}
+use mathlib.Core.Bool.{true, false}
+use mathlib.Core.List.{List, [], ◌∷◌, ◌++◌, map, append_assoc}
 use native.Mathlib.Omega.{arith}
 use lib.Bits.{bit_or}
-use lib.Dec.{ltb}
-use lib.ListN.{length, get_or, take, drop, set, length-set, length-map}
-use borrow.Author.Tests.{ltb-true, ltb-false, lt-ltb, le-ltb}
-use Rattle.octets.specs.Words.{word, word_bytes, word_at}
-use Rattle.octets.specs.Bytes.{Bytes}
+use lib.ListN.{length, get_or, take, set, length-set, length-map}
+use Rattle.octets.specs.Words.{word_bytes}
 use Rattle.octets.specs.Writes.{putWord}
-use Rattle.octets.proofs.Numbers.{bytes_take, bytes_drop, word_lt}
 use Rattle.ranges.specs.Lists.{any_of}
 use Rattle.ranges.proofs.Bools.{by, clash}
-use Rattle.ranges.proofs.Lists.{any-map}
 use Rattle.places.specs.Places.{table_of}
-use Rattle.places.proofs.Tables.{wide}
-use Rattle.places.proofs.Walks.{part_of}
-use Rattle.record.specs.Layout.{recordSize}
 use Rattle.shown.specs.Fix.{Fix, withSigners}
 use Rattle.shown.specs.Items.{noFix}
 use Rattle.shown.proofs.Indexed.{at_in}
@@ -26,7 +18,7 @@ use Rattle.tracked.specs.Layout as L
 use Rattle.tracked.specs.Held.{RefusedFix, HeldTransmission, is_of}
 use Rattle.tracked.specs.Bytes.{fixBytes, refusedBytes, transmissionBytes}
 use Rattle.tracked.specs.Parts.{fixPlace, refusedPlace}
-use Rattle.tracked.proofs.Encoding.{ValidFix, ValidRefused, Valid, fix-length, refused-length, wide-fixes, wide-refused, fixes-length}
+use Rattle.tracked.proofs.Encoding.{Valid, wide-fixes, wide-refused, fixes-length}
 use Rattle.normalize.specs.Normal.{signedBy, signFirst}
 use Rattle.merge.specs.Merged.{signRefused}
 use Rattle.merge.proofs.Putting.{put_second, put_first, put-place}

@@ -1,6 +1,6 @@
 -- The bytes of a transmission of one fix.
-use Prim.Native.Nat.{ℕ, ◌+◌, ◌*◌, ◌-◌, ◌≤◌}
-use mathlib.Core.Path.{◌≡◌, refl, sym, ap, ap₂, ◌∙◌}
+use Prim.Native.Nat.{ℕ, ◌+◌, ◌*◌, ◌-◌}
+use mathlib.Core.Path.{◌≡◌, sym, ap, ◌∙◌}
 use mathlib.Core.List.{List, [], ◌∷◌, ◌++◌, append_assoc, append-nil}
 use lib.ListN.{length, take, drop, replicate, length-replicate, replicate-append-replicate}
 use lib.Seq.{drop_at, drop-drop}
@@ -8,7 +8,7 @@ use Rattle.octets.specs.Bytes.{Bytes}
 use Rattle.places.specs.Places.{flat}
 use Rattle.tracked.specs.Layout.{fixSize, refusedSize, maxStanding, maxRefused}
 use Rattle.tracked.specs.Held.{HeldTransmission}
-use Rattle.tracked.specs.Bytes.{fixIn, fixBytes, transmissionBytes}
+use Rattle.tracked.specs.Bytes.{fixIn, transmissionBytes}
 use Rattle.tracked.proofs.Encoding.{fix-bytes-back}
 
 abbrev pub single : List ℕ → HeldTransmission

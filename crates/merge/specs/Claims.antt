@@ -1,4 +1,4 @@
--- What is claimed of what a track does with a further fix (document 01, 'The track and the session'), whatever transmissions it holds. proofs/Claimed has a
+-- What is claimed of what a track does with a further fix (docs/REFERENCE.md, 'Track and listing'), whatever transmissions it holds. proofs/Claimed has a
 -- theorem of each of these types.
 use Rattle.std.specs.Prelude.{◌≤◌, ◌≡◌, false, List, [], ◌∷◌}
 use Rattle.ranges.specs.Lists.{any_of, filter}

@@ -1,4 +1,4 @@
--- What a track does with a further fix (document 01, 'The track and the session'; the Rust's `merge`).
+-- What a track does with a further fix (docs/REFERENCE.md, 'Track and listing'; the Rust's `merge`).
 use Rattle.std.specs.Prelude.{ℕ, Bool, cond, ◌||◌, List, [], ◌∷◌, ◌++◌, map}
 use Rattle.ranges.specs.Lists.{any_of, filter}
 use Rattle.shown.specs.Fix.{Fix}
@@ -9,7 +9,7 @@ use Rattle.arrange.specs.Arranged.{arranged}
 use Rattle.merge.specs.declared.Merged.{Merged}
 use Rattle.merge.specs.declared.Merged.TheVariants.{Changed, Contested, Duplicate, Dropped}
 
--- document 01 gives these no number, and document 02 takes numbers up to 17
+-- their numbers, apart from those of what is done or refused (docs/REFERENCE.md, 'Operations')
 abbrev pub number_of : Merged → ℕ
 number_of Changed = 20
 number_of Contested = 21
@@ -28,7 +28,7 @@ pub record Step : Type 0 where
 abbrev pub keeps : Fix → HeldTransmission → Bool
 keeps f t = leads f t.fixes
 
--- it opens a transmission of its own; "a fix tied to two transmissions opens a third in a track"
+-- it opens a transmission of its own: one that is tied to two opens a third
 unfoldable pub opened : Fix → List HeldTransmission → Step
 opened f ts =
     let us = arranged (ts ++ (normalized (f ∷ []) ∷ [])) in

@@ -4,7 +4,6 @@
 ghost use Rattle.std.specs.Prelude.{◌≡◌, true, [], ◌∷◌, map, ◌*◌, ◌<◌, ◌≤◌, length, get_or};
 ghost use Rattle.ranges.specs.Lists.{any_of};
 ghost use Rattle.places.specs.Places.{places};
-ghost use Rattle.record.specs.Formed.{wellFormed};
 ghost use Rattle.items.specs.Layout.{hashSize};
 ghost use Rattle.tracked.specs.Layout.{fixSize};
 ghost use Rattle.tracked.specs.Bytes.{recordIn, fixIn, identityIn, fixCount, transmissionIn, transmissionBytes};
@@ -15,9 +14,13 @@ ghost use Rattle.merge.specs.Merged.{opened, merged};
 ghost use Rattle.merge.specs.Searching as S;
 
 use arrange::KNOWN_TABLE_SIZE;
-use items::layout::HASH_SIZE;
+use models::hashes::{HASH_SIZE, Identity};
 use normalize::Joined;
+use record::Record;
+use tracked::Fix;
 use tracked::layout::{KNOWN_SIZE, MAX_REFUSED, MAX_STANDING, TRANSMISSION_SIZE};
+
+pub mod claims;
 
 // What became of a fix that was reported.
 #[derive(Clone, Copy)]
@@ -67,26 +70,22 @@ pub enum Joint {
 const IDS_SIZE: usize = (MAX_STANDING + MAX_REFUSED) * HASH_SIZE;
 
 // The first transmission from a place on that is tied to a record.
-fn next_tied(t: &[u8], n: usize, from: usize, r: &[u8]) -> Found
-    requires filled { Filled t.now n × (from ≤ n) }
-    requires r_value { wellFormed r.now ≡ true }
-    ensures { S.First (S.tiesBlock r.now) (blocks n t.now) [] from result }
+fn next_tied(t: &[u8], n: usize, from: usize, r: Record) -> Found
+    requires { Filled t.now n × (from ≤ n) }
+    ensures { S.First (S.tiesBlock r.entry.bytes.now) (blocks n t.now) [] from result }
 {
-    let mut i = from;
-    while i < n {
+    for i in from..n {
         if tracked::ties(arrange::block(t, i), r) {
             return Found::At(i);
         }
-        i += 1;
     }
     Found::Nobody
 }
 
 // The transmissions that a record is tied to.
-fn tied_to(t: &[u8], n: usize, r: &[u8]) -> Tied
-    requires filled { Filled t.now n }
-    requires r_value { wellFormed r.now ≡ true }
-    ensures { S.Ties (S.tiesBlock r.now) (blocks n t.now) [] result }
+fn tied_to(t: &[u8], n: usize, r: Record) -> Tied
+    requires { Filled t.now n }
+    ensures { S.Ties (S.tiesBlock r.entry.bytes.now) (blocks n t.now) [] result }
 {
     let first = next_tied(t, n, 0, r);
     let Found::At(i) = first else {
@@ -100,46 +99,42 @@ fn tied_to(t: &[u8], n: usize, r: &[u8]) -> Tied
 }
 
 // A transmission of one fix.
-fn alone(f: &[u8]) -> [u8; TRANSMISSION_SIZE]
-    requires { length f.now ≡ fixSize }
-    ensures { result ≡ transmissionBytes (record { fixes = fixIn f.now ∷ []; refused = [] }) }
+fn alone(f: Fix) -> [u8; TRANSMISSION_SIZE]
+    ensures { result ≡ transmissionBytes (record { fixes = fixIn f.entry.bytes.now ∷ []; refused = [] }) }
 {
     let mut b = [0u8; TRANSMISSION_SIZE];
     b[tracked::layout::FIX_COUNT_AT] = 1;
-    text::put_bytes(&mut b, tracked::layout::FIXES_AT, f);
+    octets::runs::put_bytes(&mut b, tracked::layout::FIXES_AT, f.bytes);
     b
 }
 
 // Whether the fix kept of some transmission has the message, tags and inputs of f.
-fn keeps_set(t: &[u8], n: usize, f: &[u8]) -> bool
-    requires filled { Filled t.now n × S.AllFixed (blocks n t.now) }
-    requires f_len { length f.now ≡ fixSize }
-    ensures { result ≡ any_of (S.keepsSet f.now) (blocks n t.now) }
+fn keeps_set(t: &[u8], n: usize, f: Fix) -> bool
+    requires { Filled t.now n × S.AllFixed (blocks n t.now) }
+    ensures { result ≡ any_of (S.keepsSet f.entry.bytes.now) (blocks n t.now) }
 {
-    let mut i = 0;
-    while i < n {
-        if tracked::same_set(tracked::held(arrange::block(t, i), 0), f) {
+    for i in 0..n {
+        if tracked::held(arrange::block(t, i), 0).has_set_of(f) {
             return true;
         }
-        i += 1;
     }
     false
 }
 
 // Whether the fix kept of a transmission has an identity. That of the fix is worked out unless the sheet s has it.
-fn keeps_first(b: &[u8], s: &mut [u8], id: &[u8]) -> bool
+fn keeps_first(b: &[u8], s: &mut [u8], id: &Identity) -> bool
     requires { Sound b.now × (1 ≤ fixCount b.now) × Knows b.now s.old }
-    ensures value { result ≡ S.keepsIdentity id.now b.now }
+    ensures value { result ≡ S.keepsIdentity id.now.0 b.now }
     ensures knows { Knows b.now s.new × (1 ≤ knownCount s.new) }
 {
     tracked::known::learn_first(b, s);
-    octets::order::equal(tracked::known::identity_at(s, 0), id)
+    octets::order::equal(tracked::known::identity_at(s, 0), &id.0)
 }
 
 // The same of transmission i, whose sheet is in place i.
-fn keeps_at(t: &[u8], known: &mut [u8], i: usize, id: &[u8]) -> bool
+fn keeps_at(t: &[u8], known: &mut [u8], i: usize, id: &Identity) -> bool
     requires { Comparable t.now known.old i }
-    ensures value { result ≡ S.keepsIdentity id.now (transmissionAt t.now i) }
+    ensures value { result ≡ S.keepsIdentity id.now.0 (transmissionAt t.now i) }
     ensures still { Still t.now known.old known.new }
 {
     let a = i * KNOWN_SIZE;
@@ -148,37 +143,33 @@ fn keeps_at(t: &[u8], known: &mut [u8], i: usize, id: &[u8]) -> bool
 }
 
 // Whether the fix kept of some transmission has an identity.
-fn keeps_identity(t: &[u8], known: &mut [u8], n: usize, id: &[u8]) -> bool
+fn keeps_identity(t: &[u8], known: &mut [u8], n: usize, id: &Identity) -> bool
     requires { Filled t.now n × S.AllFixed (blocks n t.now) × Known t.now known.old n }
-    ensures { result ≡ any_of (S.keepsIdentity id.now) (blocks n t.now) }
+    ensures { result ≡ any_of (S.keepsIdentity id.now.0) (blocks n t.now) }
 {
-    let mut i = 0;
-    while i < n {
+    for i in 0..n {
         if keeps_at(t, known, i, id) {
             return true;
         }
-        i += 1;
     }
     false
 }
 
 // Whether the fix kept of some transmission has the identity of f. Mostly that is f itself, and nothing is hashed.
-fn keeps(t: &[u8], known: &mut [u8], n: usize, f: &[u8]) -> bool
-    requires filled { Filled t.now n × S.AllFixed (blocks n t.now) × Known t.now known.old n }
-    requires f_len { (length f.now ≡ fixSize) × (wellFormed (recordIn f.now) ≡ true) }
-    ensures { result ≡ any_of (S.keepsIdentity (identityIn f.now)) (blocks n t.now) }
+fn keeps(t: &[u8], known: &mut [u8], n: usize, f: Fix) -> bool
+    requires { Filled t.now n × S.AllFixed (blocks n t.now) × Known t.now known.old n }
+    ensures { result ≡ any_of (S.keepsIdentity (identityIn f.entry.bytes.now)) (blocks n t.now) }
 {
     if keeps_set(t, n, f) {
         return true;
     }
-    keeps_identity(t, known, n, &tracked::identity(f))
+    keeps_identity(t, known, n, &f.identity())
 }
 
 // A fix that is tied to none or to several transmissions opens one of its own.
-fn open(t: &mut [u8], n: usize, f: &[u8]) -> Outcome
-    requires ready { S.Ready t.old n }
-    requires f_len { (length f.now ≡ fixSize) × (wellFormed (recordIn f.now) ≡ true) }
-    ensures { S.Leaves (opened (fixIn f.now) (map transmissionIn (blocks n t.old))) result t.new }
+fn open(t: &mut [u8], n: usize, f: Fix) -> Outcome
+    requires { S.Ready t.old n }
+    ensures { S.Leaves (opened (fixIn f.entry.bytes.now) (map transmissionIn (blocks n t.old))) result t.new }
 {
     let b = alone(f);
     let mut known = [0u8; KNOWN_TABLE_SIZE];
@@ -199,76 +190,67 @@ fn open(t: &mut [u8], n: usize, f: &[u8]) -> Outcome
 }
 
 // The first of n identities that is this one.
-fn find_identity(ids: &[u8], n: usize, id: &[u8]) -> Found
+fn find_identity(ids: &[u8], n: usize, id: &Identity) -> Found
     requires { n * hashSize ≤ length ids.now }
-    ensures { S.First (S.isIdentity id.now) (places hashSize n ids.now) [] 0 result }
+    ensures { S.First (S.isIdentity id.now.0) (places hashSize n ids.now) [] 0 result }
 {
-    let mut k = 0;
-    let mut at = 0;
-    while k < n {
+    for k in 0..n {
+        let at = k * HASH_SIZE;
         let e = at + HASH_SIZE;
-        if octets::order::equal(&ids[at..e], id) {
+        if octets::order::equal(&ids[at..e], &id.0) {
             return Found::At(k);
         }
-        at = e;
-        k += 1;
     }
     Found::Nobody
 }
 
 // The first held fix that has the message, tags and inputs of f.
-fn find_set(b: &[u8], f: &[u8]) -> Found
-    requires { Sound b.now × (length f.now ≡ fixSize) }
-    ensures { S.First (S.hasSet f.now) (heldPlaces b.now) [] 0 result }
+fn find_set(b: &[u8], f: Fix) -> Found
+    requires { Sound b.now }
+    ensures { S.First (S.hasSet f.entry.bytes.now) (heldPlaces b.now) [] 0 result }
 {
     let n = tracked::held_count(b);
-    let mut k: u8 = 0;
-    while k < n {
-        if tracked::same_set(tracked::held(b, k), f) {
+    for k in 0..n {
+        if tracked::held(b, k).has_set_of(f) {
             return Found::At(k as usize);
         }
-        k += 1;
     }
     Found::Nobody
 }
 
 // The first held fix that has the identity of f, which fix k has. Where that is the first of all, nothing is hashed.
-fn first_identified(b: &[u8], k: u8, f: &[u8]) -> u8
-    requires sound { Sound b.now × (k < heldCount b.now) × (identityIn (get_or (heldPlaces b.now) k []) ≡ identityIn f.now) }
-    requires f_len { (length f.now ≡ fixSize) × (wellFormed (recordIn f.now) ≡ true) }
-    ensures { S.First (S.isIdentity (identityIn f.now)) (map identityIn (heldPlaces b.now)) [] 0 (Found.At result) }
+fn first_identified(b: &[u8], k: u8, f: Fix) -> u8
+    requires { Sound b.now × (k < heldCount b.now) × (identityIn (get_or (heldPlaces b.now) k []) ≡ identityIn f.bytes.now) }
+    ensures { S.First (S.isIdentity (identityIn f.entry.bytes.now)) (map identityIn (heldPlaces b.now)) [] 0 (Found.At result) }
 {
     if k == 0 {
         return 0;
     }
-    let id = tracked::identity(f);
-    let mut i: u8 = 0;
-    while i < k {
-        if octets::order::equal(&tracked::identity(tracked::held(b, i)), &id) {
+    let id = f.identity();
+    for i in 0..k {
+        if octets::order::equal(&tracked::held(b, i).identity().0, &id.0) {
             return i;
         }
-        i += 1;
     }
     k
 }
 
 // Adds the signers of f to the held fix k, the first that has its identity.
-fn sign_held(b: &mut [u8], k: u8, f: &[u8])
-    requires steady { S.Steady b.old × (length f.now ≡ fixSize) }
-    requires first { S.First (S.isIdentity (identityIn f.now)) (map identityIn (heldPlaces b.old)) [] 0 (Found.At k) }
-    ensures { S.JointAs (fixIn f.now) (transmissionIn b.old) Joint.Signed b.new }
+fn sign_held(b: &mut [u8], k: u8, f: Fix)
+    requires steady { S.Steady b.old }
+    requires first { S.First (S.isIdentity (identityIn f.bytes.now)) (map identityIn (heldPlaces b.old)) [] 0 (Found.At k) }
+    ensures { S.JointAs (fixIn f.entry.bytes.now) (transmissionIn b.old) Joint.Signed b.new }
 {
-    tracked::sign(b, k, tracked::signers(f));
+    tracked::sign(b, k, f.signers());
 }
 
 // A fix in the transmission that it is tied to, by the identities of all that are held. s is the sheet of the transmission.
-fn join_identified(b: &mut [u8], f: &[u8], s: &mut [u8]) -> Joint
-    requires steady { S.Steady b.old × Knows b.old s.old }
-    requires f_len { (length f.now ≡ fixSize) × (wellFormed (recordIn f.now) ≡ true) }
-    ensures joint_as { S.JointAs (fixIn f.now) (transmissionIn b.old) result b.new }
+fn join_identified(b: &mut [u8], f: Fix, s: &mut [u8]) -> Joint
+    requires { S.Steady b.old × Knows b.old s.old }
+    ensures joint_as { S.JointAs (fixIn f.entry.bytes.now) (transmissionIn b.old) result b.new }
     ensures knows_decided { S.KnowsDecided result b.new s.new }
 {
-    let id = tracked::identity(f);
+    let id = f.identity();
     let mut ids = [0u8; IDS_SIZE];
     normalize::identities(b, s, &mut ids);
     let n = tracked::held_count(b);
@@ -282,10 +264,9 @@ fn join_identified(b: &mut [u8], f: &[u8], s: &mut [u8]) -> Joint
 
 // A fix in the transmission that it is tied to. Where a held fix has its message, tags and inputs, only those before it are hashed.
 // s is the sheet of the transmission.
-fn join_block(b: &mut [u8], f: &[u8], s: &mut [u8]) -> Joint
-    requires steady { S.Steady b.old × Knows b.old s.old }
-    requires f_len { (length f.now ≡ fixSize) × (wellFormed (recordIn f.now) ≡ true) }
-    ensures joint_as { S.JointAs (fixIn f.now) (transmissionIn b.old) result b.new }
+fn join_block(b: &mut [u8], f: Fix, s: &mut [u8]) -> Joint
+    requires { S.Steady b.old × Knows b.old s.old }
+    ensures joint_as { S.JointAs (fixIn f.entry.bytes.now) (transmissionIn b.old) result b.new }
     ensures knows_decided { S.KnowsDecided result b.new s.new }
 {
     let found = find_set(b, f);
@@ -320,16 +301,15 @@ fn rearrange(t: &mut [u8], n: usize, i: usize, s: &[u8]) -> usize
     ensures t_after { t.new ≡ blockTable (arrangedBlocks (blocks n t.old)) }
 {
     let mut known = [0u8; KNOWN_TABLE_SIZE];
-    text::put_bytes(&mut known, i * KNOWN_SIZE, s);
+    octets::runs::put_bytes(&mut known, i * KNOWN_SIZE, s);
     arrange::arrange(t, &mut known, n)
 }
 
 // A fix that is tied to transmission i alone.
-fn join_at(t: &mut [u8], n: usize, i: usize, f: &[u8]) -> Outcome
+fn join_at(t: &mut [u8], n: usize, i: usize, f: Fix) -> Outcome
     requires ready { S.Ready t.old n }
-    requires f_len { (length f.now ≡ fixSize) × (wellFormed (recordIn f.now) ≡ true) }
-    requires ties { S.Ties (S.tiesBlock (recordIn f.now)) (blocks n t.old) [] (Tied.One i) }
-    ensures { S.Leaves (merged (fixIn f.now) (map transmissionIn (blocks n t.old))) result t.new }
+    requires ties { S.Ties (S.tiesBlock (recordIn f.bytes.now)) (blocks n t.old) [] (Tied.One i) }
+    ensures { S.Leaves (merged (fixIn f.entry.bytes.now) (map transmissionIn (blocks n t.old))) result t.new }
 {
     let a = i * TRANSMISSION_SIZE;
     let e = a + TRANSMISSION_SIZE;
@@ -351,13 +331,11 @@ fn join_at(t: &mut [u8], n: usize, i: usize, f: &[u8]) -> Outcome
 }
 
 // Takes a further fix f in among n transmissions.
-pub fn merge(t: &mut [u8], n: usize, f: &[u8]) -> Outcome
-    requires ready { S.Ready t.old n }
-    requires f_len { (length f.now ≡ fixSize) × (wellFormed (recordIn f.now) ≡ true) }
-    ensures { S.Leaves (merged (fixIn f.now) (map transmissionIn (blocks n t.old))) result t.new }
+pub fn merge(t: &mut [u8], n: usize, f: Fix) -> Outcome
+    requires { S.Ready t.old n }
+    ensures { S.Leaves (merged (fixIn f.entry.bytes.now) (map transmissionIn (blocks n t.old))) result t.new }
 {
-    let tied = tied_to(t, n, tracked::record_of(f));
-    match tied {
+    match tied_to(t, n, f.record()) {
         Tied::One(i) => join_at(t, n, i, f),
         Tied::Nothing => open(t, n, f),
         Tied::Several => open(t, n, f),

@@ -13,8 +13,8 @@ use Rattle.octets.specs.Order.{same}
 use Rattle.places.specs.Places.{flat}
 use Rattle.places.proofs.Tables.{flat_append}
 use Rattle.places.proofs.Walks.{part_in}
-use Rattle.text.specs.Buffer.{Put}
-use Rattle.text.proofs.Writing.{put_whole, put-length}
+use Rattle.octets.specs.Put.{Put}
+use Rattle.octets.proofs.Puts.{put_whole, put-length}
 use Rattle.ranges.specs.Lists.{any_of, up_to}
 use Rattle.ranges.specs.Range.{first}
 use Rattle.ranges.proofs.Bools.{no_true}

@@ -7,7 +7,7 @@ use mathlib.Core.List.{List, [], ◌∷◌, ◌++◌, map, map-map, append-nil, 
 use native.Mathlib.Omega.{arith}
 use native.Mathlib.Nat.{sub-zero}
 use native.Mathlib.Numerals.{add-one}
-use lib.ListN.{length, get_or, take, drop, replicate, length-map, length-take, length-replicate}
+use lib.ListN.{length, get_or, take, drop, length-map, length-take, length-replicate}
 use lib.Seq.{drop-cons, take_at, take_all, drop_at}
 use borrow.Author.Tests.{ne_eqb}
 use Rattle.places.specs.Places.{table_of, allPlaces}
@@ -133,9 +133,6 @@ signed-width p =
 
 pub signed_is : (p : List ℕ) → signedPlace p ≡ true → signedIdentity p ≡ identityIn p
 signed_is p e = rw e refl
-
-pub unsigned_is : (p : List ℕ) → signersIn p ≡ 0 → signedIdentity p ≡ replicate hashSize 0
-unsigned_is p e = rw e refl
 
 pub signed-place : (p : List ℕ) → (signersIn p ≡ 0 → ⊥) → signedPlace p ≡ true
 signed-place p e = ap not (ne_eqb (signersIn p) 0 e)

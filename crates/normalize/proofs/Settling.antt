@@ -23,13 +23,13 @@ use Rattle.shown.proofs.Accepted.{items-length, items-count, items-good}
 use Rattle.tracked.specs.Layout.{maxStanding, maxRefused}
 use Rattle.tracked.specs.Held.{RefusedFix, fixOf, heldIn}
 use Rattle.keeping.specs.declared.Kept.{Kept}
-use Rattle.keeping.specs.Working.{Lies, lowerItem, lowestIn, Keeps, itemFix, itemRefused, Signed, keptIn, refusedOf, heldItems}
+use Rattle.keeping.specs.Working.{Lies, lowerItem, lowestIn, Keeps, itemFix, itemRefused, keptIn, refusedOf, heldItems}
 use Rattle.keeping.proofs.Lowering.{take_in}
 use Rattle.keeping.proofs.Outcomes.{take-map, ranked-lies, refused-lies}
 use Rattle.normalize.specs.Normal.{distinct, refusedFix, lowerRefused, normalized}
 use Rattle.normalize.specs.Claims.{identityOf}
 use Rattle.normalize.specs.Working.{Laid, kept, standingIn, refusedIn}
-use Rattle.normalize.proofs.Laying.{map_same, front-fix, laid-length, laid-few}
+use Rattle.normalize.proofs.Laying.{map_same, front-fix, laid-few}
 use Rattle.arithmetic.specs.Bits.{storedBits}
 use Rattle.arithmetic.specs.declared.standing.ChiSquare.{ChiSquare}
 
@@ -42,9 +42,6 @@ module _ {s g : List ℕ} {n : ℕ} {ks : List Fix} (w : Laid s g n ks) where
   -- they are decided
   pub laid-good : bad (take (n * itemSize) s) ≡ false
   laid-good = let f = laid-few w in rw w.items (items-good ks w.formed w.apart (omega (arith, w.count)))
-
-  pub laid-signed : Signed (take (n * itemSize) s) g
-  laid-signed = let l = laid-length w in let f = laid-few w in omega (arith, w.seats)
 
   abbrev y : List ℕ
   y = itemsFor ks

@@ -1,13 +1,10 @@
 -- Fixes that are gathered have different identities, and each has the signers of all that were given of its identity.
-use Prim.Native.Nat.{ℕ, zero, suc, ◌+◌, ◌/◌, ◌%◌, ◌<◌, max}
+use Prim.Native.Nat.{ℕ}
 use mathlib.Core.Path.{◌≡◌, refl, sym, ap, ◌∙◌, subst}
 use mathlib.Core.Bool.{Bool, true, false, ◌&&◌, ◌||◌}
 use mathlib.Core.Logic.{◌⊎◌, inl, inr}
 use mathlib.Core.List.Memᴰ
 use mathlib.Core.List.{List, [], ◌∷◌, ◌++◌, map, map-append, append_assoc, append-nil, Memᴰ}
-use native.Mathlib.Omega.{arith}
-use lib.Bits.{bit_or, or_step}
-use lib.Dec.{eqb}
 use Rattle.octets.specs.Order.{same}
 use Rattle.octets.specs.Masks.{bit}
 use Rattle.octets.proofs.Lookup.{bit-or}

@@ -1,21 +1,19 @@
 -- What is kept of fixes that a track can hold, a track can hold: its bytes are sound, and hold it.
-use Prim.Native.Nat.{ℕ, ◌+◌, ◌-◌, ◌^◌, ◌<◌}
+use Prim.Native.Nat.{ℕ, ◌^◌, ◌<◌}
 use mathlib.Core.Path.{◌≡◌, refl, sym, ap, ap₂, ◌∙◌, subst}
 use mathlib.Core.Bool.{Bool, true}
 use mathlib.Core.List.Memᴰ
 use mathlib.Core.List.{List, [], ◌∷◌, ◌++◌, map, map-append, map-map, append-nil, Memᴰ}
 use native.Mathlib.Omega.{arith}
-use lib.Bits.{bit_or, or_lt}
-use lib.Dec.{eqb}
+use lib.Bits.{or_lt}
 use lib.ListN.{length, get_or, take, drop, length-map}
 use lib.Seq.{take_at, length-take-le}
 use Rattle.octets.specs.Bytes.{Bytes}
 use Rattle.octets.specs.Words.{word}
 use Rattle.octets.proofs.Numbers.{word_lt, bytes_take, bytes_drop}
-use Rattle.octets.proofs.Zeros.{or-zero}
 use Rattle.places.specs.Places.{allPlaces}
 use Rattle.ranges.specs.Lists.{any_of, filter}
-use Rattle.ranges.proofs.Bools.{by, or, and_both, not_f, not_t}
+use Rattle.ranges.proofs.Bools.{by, or, and_both}
 use Rattle.ranges.proofs.Lists.{filter-in}
 use Rattle.arithmetic.specs.Bits.{storedBits}
 use Rattle.arithmetic.proofs.Outcomes.{stored-bounded}
@@ -38,14 +36,13 @@ use Rattle.tracked.specs.Held.{RefusedFix, HeldTransmission, fixOf, heldIn, is_o
 use Rattle.tracked.specs.Bytes.{recordIn, identityIn, fixIn, fixBytes, refusedBytes, transmissionIn, transmissionBytes}
 use Rattle.tracked.specs.Parts.{heldPlaces, heldCount, Sound, heldPlace}
 use Rattle.tracked.specs.Known.{Knows, knownCount}
-use Rattle.tracked.proofs.Encoding.{ValidFix, ValidRefused, Valid, Bounded, fix-length, fix-back, bytes-length, fix-places-back, refused-places-back, decode-encode}
+use Rattle.tracked.proofs.Encoding.{ValidFix, ValidRefused, Valid, Bounded, fix-length, fix-back, bytes-length, fix-places-back, refused-places-back}
 use Rattle.tracked.proofs.Holding.{held-length, held_at, held-size, held-formed, held-are}
 use Rattle.keeping.specs.Working.{Names}
 use Rattle.keeping.proofs.Lowering.{take_in}
 use Rattle.normalize.specs.Normal.{signedBy, signFirst, gather, gatherAll, distinct, refusedFix, normalized}
 use Rattle.normalize.specs.Signed.{is_signed}
 use Rattle.normalize.specs.Claims.{identityOf}
-use Rattle.normalize.specs.Working.{signedPlace}
 use Rattle.normalize.proofs.Distinct.{gather-held, gather-new}
 use Rattle.normalize.proofs.Laying.{map_same}
 use Rattle.normalize.proofs.Listing.{map_at}
@@ -163,10 +160,6 @@ module _ (fs : List Fix) where
           });
     }
 
-    -- its bytes hold it
-    pub normalized-read : transmissionIn (transmissionBytes (normalized fs)) ≡ normalized fs
-    normalized-read = decode-encode u normalized-valid normalized-bounded
-
 -- ---- the places in its bytes
 
 all-places : (test : List ℕ → Bool) (l : List Fix) → ((f : Fix) → Memᴰ f l → test (fixBytes f) ≡ true) → allPlaces test (map fixBytes l) ≡ true
@@ -207,15 +200,6 @@ module _ (fs : List Fix) (w : (f : Fix) → Memᴰ f fs → Holdable f) where
     few-refused = (few-kept fs).1;
     formed = held-pass (normalized fs) (normalized-valid fs w) (λ f. wellFormed f.recordBytes) (λ f m. (kept-holdable fs w f m).form);
   }
-
-  -- signed, where all that are given are
-  pub normalized-signed : ((f : Fix) → Memᴰ f fs → is_signed f ≡ true) → allPlaces signedPlace (heldPlaces (transmissionBytes (normalized fs))) ≡ true
-  normalized-signed s =
-      held-pass (normalized fs) (normalized-valid fs w) is_signed
-      (λ f m. all-distinct (λ g. is_signed g ≡ true) both fs s f (kept_in fs f m))
-    where
-      both : (f g : Fix) → is_signed f ≡ true → is_signed g ≡ true → is_signed (signedBy f g) ≡ true
-      both f g p q = not_f (eqb (bit_or g.signers f.signers) 0) (or-zero g.signers f.signers ∙ rw (not_t (eqb g.signers 0) q) refl)
 
 -- ---- the identities of all that is kept are known
 

@@ -1,4 +1,4 @@
--- What is claimed of what a track keeps of fixes (document 01, 'The track and the session'), whatever fixes are given. proofs/Claimed and proofs/Given have a
+-- What is claimed of what a track keeps of fixes (docs/REFERENCE.md, 'Track and listing'), whatever fixes are given. proofs/Claimed and proofs/Given have a
 -- theorem of each of these types.
 use Rattle.std.specs.Prelude.{ℕ, ◌≤◌, ◌≡◌, true, ◌&&◌, length, drop}
 use mathlib.Core.List.{List, [], ◌∷◌, ◌++◌, map, Memᴰ, Permᴰ}

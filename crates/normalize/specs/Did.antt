@@ -1,4 +1,4 @@
--- What is told of a further fix (document 01, 'The track and the session'; what the Rust's `merge` goes by for its answer).
+-- What is told of a further fix (docs/REFERENCE.md, 'Track and listing'; what the Rust's `merge` goes by for its answer).
 use Rattle.shown.specs.Fix.{Fix}
 use Rattle.tracked.specs.Held.{HeldTransmission}
 use Rattle.normalize.specs.declared.Joined.{Joined}

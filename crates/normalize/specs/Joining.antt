@@ -1,4 +1,4 @@
--- A further fix among those of a transmission (document 01, 'The track and the session'; the Rust's `merge`, where a fix is tied to one transmission).
+-- A further fix among those of a transmission (docs/REFERENCE.md, 'Track and listing'; the Rust's `merge`, where a fix is tied to one transmission).
 use Rattle.std.specs.Prelude.{ℕ, Bool, true, false, not, List, [], ◌∷◌, ◌++◌, map, length}
 use Rattle.ranges.specs.Lists.{any_of, filter}
 use Rattle.shown.specs.Fix.{Fix}

@@ -1,6 +1,6 @@
--- What a track keeps of the fixes of one transmission (document 01, 'The track and the session'; the Rust's `normalize`): of one identity one fix, the best five
+-- What a track keeps of the fixes of one transmission (docs/REFERENCE.md, 'Track and listing'; the Rust's `normalize`): of one identity one fix, the best five
 -- of those that stand, and of the refused the four of lowest identity. The dominated are forgotten.
-use Rattle.std.specs.Prelude.{ℕ, Bool, cond, List, [], ◌∷◌, ◌++◌, map, take}
+use Rattle.std.specs.Prelude.{Bool, cond, List, [], ◌∷◌, ◌++◌, map, take}
 use Rattle.std.specs.Int.Bits.{bit_or}
 use Rattle.ranges.specs.Lists.{any_of, sort}
 use Rattle.rule.specs.Outcome.{Refused}

@@ -1,4 +1,4 @@
--- Which fixes count still (document 01, 'The track and the session'; the Rust's `convict`: a fix stands while an engine that is not faulted has signed it).
+-- Which fixes count still (docs/REFERENCE.md, 'Track and listing'; the Rust's `convict`: a fix stands while an engine that is not faulted has signed it).
 use Rattle.std.specs.Prelude.{Bool, not, eqb}
 use Rattle.shown.specs.Fix.{Fix}
 

@@ -4,10 +4,9 @@
 
 ghost use Rattle.std.specs.Prelude.{◌≡◌, true, [], ◌++◌, map, ℕ, ◌+◌, ◌*◌, ◌-◌, ◌<◌, ◌≤◌, length, get_or, take, drop};
 ghost use Rattle.places.specs.Places.{allPlaces};
-ghost use Rattle.text.specs.Buffer.{Put};
+ghost use Rattle.octets.specs.Put.{Put};
 ghost use Rattle.ranges.specs.Lists.{any_of, filter};
 ghost use Rattle.ranges.specs.Range.{first};
-ghost use Rattle.record.specs.Formed.{wellFormed};
 ghost use Rattle.items.specs.Layout.{itemSize, hashSize};
 ghost use Rattle.tracked.specs.Layout as L;
 ghost use Rattle.tracked.specs.Held.{heldIn};
@@ -24,7 +23,11 @@ ghost use Rattle.normalize.specs.Working as W;
 
 use items::layout::{HASH_SIZE, ITEM_SIZE};
 use keeping::Kept;
+use models::hashes::Identity;
+use tracked::Fix;
 use tracked::layout::{MAX_REFUSED, MAX_STANDING};
+
+pub mod claims;
 
 // The most fixes that are decided at once: those that a transmission holds, and one more.
 const MAX_GATHERED: usize = MAX_STANDING + MAX_REFUSED + 1;
@@ -45,14 +48,13 @@ fn put_identity(ids: &mut [u8], at: usize, b: &[u8], s: &[u8], k: u8) -> usize
     ensures { Put ids.old at (W.signedIdentity (get_or (P.heldPlaces b.now) k [])) result ids.new }
 {
     let f = tracked::held(b, k);
-    if tracked::signers(f) == 0 {
-        return text::put_bytes(ids, at, &[0u8; HASH_SIZE]);
+    if f.signers() == 0 {
+        return octets::runs::put_bytes(ids, at, &[0u8; HASH_SIZE]);
     }
     if k < tracked::known::count(s) {
-        return text::put_bytes(ids, at, tracked::known::identity_at(s, k));
+        return octets::runs::put_bytes(ids, at, tracked::known::identity_at(s, k));
     }
-    let id = tracked::identity(f);
-    text::put_bytes(ids, at, &id)
+    octets::runs::put_bytes(ids, at, &f.identity().0)
 }
 
 // The identities of the fixes that b holds, one after another.
@@ -63,10 +65,8 @@ pub fn identities(b: &[u8], s: &[u8], ids: &mut [u8])
 {
     let n = tracked::held_count(b);
     let mut at = 0;
-    let mut k: u8 = 0;
-    while k < n {
+    for k in 0..n {
         at = put_identity(ids, at, b, s, k);
-        k += 1;
     }
 }
 
@@ -85,14 +85,12 @@ fn seat_of(items: &[u8], n: u8, id: &[u8]) -> u8
     requires { n * itemSize ≤ length items.now }
     ensures { result ≡ first (W.identified items.now id.now) 0 n }
 {
-    let mut i: u8 = 0;
-    while i < n {
+    for i in 0..n {
         if octets::order::equal(items::hash_of(items, i, items::layout::IDENTITY_AT), id) {
             return i;
         }
-        i += 1;
     }
-    i
+    n
 }
 
 // Room for the items that are gathered, and for the identities of the fixes that are held.
@@ -105,24 +103,18 @@ fn identity_room() -> [u8; MAX_GATHERED * HASH_SIZE] {
 }
 
 // Gathers a fix among n items: the item of its identity gains its signers, or it becomes the last item.
-fn gather(items: &mut [u8], signers: &mut [u32], n: u8, f: &[u8], id: &[u8]) -> u8
+fn gather(items: &mut [u8], signers: &mut [u32], n: u8, f: Fix, id: &[u8]) -> u8
     requires laid { W.Laid items.old signers.old n (W.fixesIn items.old signers.old n) }
-    requires n_bound { (n < W.maxGathered) × (length f.now ≡ L.fixSize) × (wellFormed (B.recordIn f.now) ≡ true) × (id.now ≡ B.identityIn f.now) }
-    ensures { W.Laid items.new signers.new result (N.gather (W.fixesIn items.old signers.old n) (B.fixIn f.now)) }
+    requires n_bound { (n < W.maxGathered) × (id.now ≡ B.identityIn f.bytes.now) }
+    ensures { W.Laid items.new signers.new result (N.gather (W.fixesIn items.old signers.old n) (B.fixIn f.entry.bytes.now)) }
 {
     let i = seat_of(items, n, id);
     if i < n {
-        signers[i as usize] = signers[i as usize] | tracked::signers(f);
+        signers[i as usize] = signers[i as usize] | f.signers();
         return n;
     }
-    shown::put_item(
-        items,
-        n as usize * ITEM_SIZE,
-        tracked::record_of(f),
-        tracked::inputs(f),
-        id,
-    );
-    signers[n as usize] = tracked::signers(f);
+    shown::put_item(items, n as usize * ITEM_SIZE, f.record(), f.inputs(), id);
+    signers[n as usize] = f.signers();
     n + 1
 }
 
@@ -142,15 +134,12 @@ fn gather_held(
     ensures { W.Laid items.new signers.new result (N.gatherAll (W.fixesIn items.old signers.old n) (W.signedIn b.now from to)) }
 {
     let mut m = n;
-    let mut k = from;
-    while k < to {
+    for k in from..to {
         let f = tracked::held(b, k);
-        if tracked::signers(f) == 0 {
-            k += 1;
+        if f.signers() == 0 {
             continue;
         }
         m = gather(items, signers, m, f, identity_at(ids, k));
-        k += 1;
     }
     m
 }
@@ -173,15 +162,13 @@ fn among(s: &[u8], list: &[u8], count: u8, id: &[u8]) -> bool
     requires { (count ≤ length list.now) × ((i : ℕ) → i < count → Lies s.now (get_or list.now i 0)) }
     ensures { result ≡ any_of (W.identified s.now id.now) (take count list.now) }
 {
-    let mut i: u8 = 0;
-    while i < count {
+    for i in 0..count {
         if octets::order::equal(
             items::hash_of(s, list[i as usize], items::layout::IDENTITY_AT),
             id,
         ) {
             return true;
         }
-        i += 1;
     }
     false
 }
@@ -191,12 +178,10 @@ fn is_listed(ids: &[u8], k: u8, e: u8, id: &[u8]) -> bool
     requires { e * hashSize ≤ length ids.now }
     ensures { result ≡ W.isListed ids.now k e id.now }
 {
-    let mut j = k;
-    while j < e {
+    for j in k..e {
         if octets::order::equal(identity_at(ids, j), id) {
             return true;
         }
-        j += 1;
     }
     false
 }
@@ -208,15 +193,12 @@ fn unlisted(s: &[u8], list: &[u8], count: u8, ids: &[u8], k: u8, e: u8) -> u8
     ensures { result ≡ W.unlisted s.now ids.now k e (take count list.now) }
 {
     let mut n: u8 = 0;
-    let mut i: u8 = 0;
-    while i < count {
+    for i in 0..count {
         let id = items::hash_of(s, list[i as usize], items::layout::IDENTITY_AT);
         if is_listed(ids, k, e, id) {
-            i += 1;
             continue;
         }
         n += 1;
-        i += 1;
     }
     n
 }
@@ -244,18 +226,11 @@ fn tell(s: &[u8], k: Kept, id: &[u8], ids: &[u8], c: u8, e: u8) -> Joined
 }
 
 // Gathers the fixes of b that are signed, with a further one between those that stand and the refused.
-fn gather_with(
-    items: &mut [u8],
-    signers: &mut [u32],
-    b: &[u8],
-    f: &[u8],
-    id: &[u8],
-    ids: &[u8],
-) -> u8
+fn gather_with(items: &mut [u8], signers: &mut [u32], b: &[u8], f: Fix, id: &[u8], ids: &[u8]) -> u8
     requires laid { W.Laid items.old signers.old 0 [] }
     requires sound { P.Sound b.now × W.Listed b.now ids.now }
-    requires f_len { (length f.now ≡ L.fixSize) × (wellFormed (B.recordIn f.now) ≡ true) × (id.now ≡ B.identityIn f.now) }
-    ensures { W.Laid items.new signers.new result (N.distinct (W.signedWith b.now (B.fixIn f.now))) }
+    requires identified { id.now ≡ B.identityIn f.bytes.now }
+    ensures { W.Laid items.new signers.new result (N.distinct (W.signedWith b.now (B.fixIn f.entry.bytes.now))) }
 {
     let c = tracked::fix_count(b);
     let e = tracked::held_count(b);
@@ -280,18 +255,18 @@ pub fn normalize(b: &mut [u8], s: &mut [u8])
 }
 
 // Puts a further fix among the fixes of b, which are signed, and decides all again; s knows then all that is kept.
-pub fn join(b: &mut [u8], f: &[u8], id: &[u8], ids: &[u8], s: &mut [u8]) -> Joined
+pub fn join(b: &mut [u8], f: Fix, id: &Identity, ids: &[u8], s: &mut [u8]) -> Joined
     requires sound { P.Sound b.old × (1 ≤ B.fixCount b.old) × (allPlaces W.signedPlace (P.heldPlaces b.old) ≡ true) × W.Listed b.old ids.now }
-    requires f_len { (length f.now ≡ L.fixSize) × (wellFormed (B.recordIn f.now) ≡ true) × (id.now ≡ B.identityIn f.now) }
+    requires identified { id.now.0 ≡ B.identityIn f.bytes.now }
     requires s_len { length s.old ≡ knownSize }
-    ensures { (b.new ≡ B.transmissionBytes (withFix (B.fixIn f.now) (B.transmissionIn b.old))) × (result ≡ did (B.fixIn f.now) (B.transmissionIn b.old) (withFix (B.fixIn f.now) (B.transmissionIn b.old))) × Knows b.new s.new × (knownCount s.new ≡ P.heldCount b.new) }
+    ensures { (b.new ≡ B.transmissionBytes (withFix (B.fixIn f.entry.bytes.now) (B.transmissionIn b.old))) × (result ≡ did (B.fixIn f.entry.bytes.now) (B.transmissionIn b.old) (withFix (B.fixIn f.entry.bytes.now) (B.transmissionIn b.old))) × Knows b.new s.new × (knownCount s.new ≡ P.heldCount b.new) }
 {
     let mut items = item_room();
     let mut signers = [0u32; MAX_GATHERED];
     let c = tracked::fix_count(b);
     let e = tracked::held_count(b);
-    let n = gather_with(&mut items, &mut signers, b, f, id, ids);
+    let n = gather_with(&mut items, &mut signers, b, f, &id.0, ids);
     let kept = settle(b, &items, &signers, n, s);
     let end = n as usize * ITEM_SIZE;
-    tell(&items[..end], kept, id, ids, c, e)
+    tell(&items[..end], kept, &id.0, ids, c, e)
 }

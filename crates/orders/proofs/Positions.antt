@@ -1,4 +1,4 @@
--- Document 01, 'Positions to check', 9: the tracks that S, M and L leave in the two orders, in bytes.
+-- The tracks that S, M and L leave in the two orders, in bytes.
 use Prim.Native.Nat.{ℕ, ◌+◌, ◌%◌, ◌^◌}
 use mathlib.Core.Path.{◌≡◌, refl, sym, ap, ◌∙◌, subst}
 use mathlib.Core.Bool.{true, false}

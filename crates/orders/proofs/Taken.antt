@@ -1,4 +1,4 @@
--- Document 01, 'Positions to check', 9: what a track does with S, M and L, call by call. Each call's step is computed once, with the identities as numbers.
+-- What a track does with S, M and L, call by call. Each call's step is computed once, with the identities as numbers.
 use Prim.Native.Nat.{ℕ}
 use mathlib.Core.Path.{◌≡◌, refl}
 use mathlib.Core.List.{List, [], ◌∷◌, ◌++◌, flat_map}

@@ -1,6 +1,6 @@
--- Whether the order of calls matters. To a track it does (document 01, 'Positions to check': "9: a track taking S, M, L serves L; taking L, S, M it serves M"). To a
--- board it does not: the same calls in those two orders, or in any other two where nothing is refused as full, show the same board. A reader who believes this
--- file, and the definitions it names, needs none of the proofs; the theorem is `order-matters` in proofs/Claimed.
+-- Whether the order of calls matters. To a track it does: one that takes S, M, L serves L, and one that takes L, S, M serves M. To a board it does not: the same
+-- calls in those two orders, or in any other two where nothing is refused as full, show the same board. A reader who believes this file, and the definitions it
+-- names, needs none of the proofs; the contract of src/claims.rt names the claim, and the proof is in proofs/Claimed.
 use Rattle.std.specs.Prelude.{ℕ, ◌≤◌, ◌≡◌, true, length}
 use mathlib.Core.List.{List, [], ◌∷◌, map, Permᴰ}
 use Rattle.decision.specs.Positions.{S, M, L}
@@ -48,7 +48,7 @@ growing = report 1 S ∷ report 1 M ∷ report 1 L ∷ []
 abbrev pub largestFirst : List Call
 largestFirst = report 1 L ∷ report 1 S ∷ report 1 M ∷ []
 
--- "9: a track taking S, M, L serves L; taking L, S, M it serves M."
+-- a track that takes S, M, L serves L, and one that takes L, S, M serves M
 pub record Position9 : Type 0 where
   pub serves-l : serves (trackAfter growing) ≡ L ∷ []
   pub serves-m : serves (trackAfter largestFirst) ≡ M ∷ []

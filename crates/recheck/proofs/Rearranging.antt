@@ -1,9 +1,8 @@
 -- Transmissions decided again in their bytes, one after another, and brought into their order.
 use Prim.Native.Nat.{ℕ, zero, suc, ◌+◌, ◌*◌, ◌-◌, ◌≤◌, ◌<◌}
 use mathlib.Core.Path.{◌≡◌, refl, sym, ap, ap₂, ◌∙◌, subst}
-use mathlib.Core.Bool.{Bool, true, false, not}
 use mathlib.Core.List.Memᴰ
-use mathlib.Core.List.{List, [], ◌∷◌, ◌++◌, map, map-map, append_assoc, Memᴰ}
+use mathlib.Core.List.{List, [], ◌∷◌, ◌++◌, map, append_assoc, Memᴰ}
 use native.Mathlib.Omega.{arith}
 use lib.Dec.{eqb}
 use lib.ListN.{length, get_or, set, take, drop, length-append, length-map, take-append-drop}
@@ -12,7 +11,7 @@ use Rattle.ranges.specs.Lists.{filter}
 use Rattle.ranges.proofs.Bools.{or, not_f}
 use Rattle.octets.specs.Bytes.{Bytes}
 use Rattle.octets.proofs.Moves.{tail-lent, tail-back}
-use Rattle.places.specs.Places.{places, table_of}
+use Rattle.places.specs.Places.{places}
 use Rattle.places.proofs.Tables.{wide, wide-drop, place_at, replace-table, places-of-table, table-length}
 use Rattle.record.specs.Formed as R
 use Rattle.shown.specs.Fix.{Fix}
@@ -26,7 +25,7 @@ use Rattle.normalize.specs.Signed.{is_signed}
 use Rattle.normalize.proofs.Validity.{held-pass}
 use Rattle.arrange.specs.Arranged.{maxTransmissions, arranged}
 use Rattle.arrange.specs.Blocks.{blocks, blockTable, arrangedBlocks, Filled}
-use Rattle.arrange.proofs.Settling.{arranged-few, arranged-in}
+use Rattle.arrange.proofs.Settling.{arranged-in}
 use Rattle.arrange.proofs.Values.{arranged-values}
 use Rattle.held.specs.Limits.{summariesSize}
 use Rattle.places.proofs.Walks.{part_in}
@@ -36,7 +35,7 @@ use Rattle.stored.specs.Steps.{block_at, Carries, OnlyAt}
 use Rattle.stored.proofs.Blocks.{of_map, wide-map, Kept, block-upheld}
 use Rattle.stored.proofs.Changing.{Changed, changed-none, changed-rest, changed-length, changed-all, changed-set}
 use Rattle.stored.proofs.Opened.{Opened, transmissions-length, block-parts, block_size, all_held, mem-at, placeAt}
-use Rattle.recheck.specs.Recheck.{stands, standing, withoutEngine}
+use Rattle.recheck.specs.Recheck.{standing, withoutEngine}
 use Rattle.recheck.specs.Steps.{silenced, AllSigned, standingBytes, withoutBytes}
 use Rattle.recheck.proofs.Renewing.{standing-kept, without-kept}
 use Rattle.recheck.proofs.Standing.{lent-block, standing-left}

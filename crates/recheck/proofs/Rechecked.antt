@@ -1,15 +1,11 @@
 -- What a recheck leaves of a track's bytes: the bytes of the track without the fixes that do not stand.
-use Prim.Native.Nat.{ℕ, ◌+◌, ◌-◌, ◌≤◌}
-use mathlib.Core.Path.{◌≡◌, refl, sym, ap, ap₂, ◌∙◌}
+use Prim.Native.Nat.{ℕ, ◌≤◌}
+use mathlib.Core.Path.{◌≡◌, refl, sym, ap, ◌∙◌}
 use mathlib.Core.Bool.{true, false}
 use mathlib.Core.List.{List, [], ◌∷◌, ◌++◌, map, Memᴰ}
-use native.Mathlib.Omega.{arith}
-use lib.ListN.{length, set, take, drop, length-map}
+use lib.ListN.{length, set, take, length-map}
 use Rattle.ranges.specs.Lists.{any_of}
 use Rattle.octets.specs.Bytes.{Bytes}
-use Rattle.places.specs.Places.{table_of}
-use Rattle.models.specs.Summary.{summarySize}
-use Rattle.held.specs.Limits.{maxSummaries}
 use Rattle.tracked.specs.Held.{HeldTransmission}
 use Rattle.tracked.specs.Bytes.{transmissionIn, transmissionBytes}
 use Rattle.arrange.specs.Arranged.{maxTransmissions, arranged}
@@ -18,7 +14,7 @@ use Rattle.stored.specs.Layout.{transmissionCountAt, transmissionsAt}
 use Rattle.stored.specs.Track.{withTransmissions}
 use Rattle.stored.specs.Memory.{convictedIn, summaryCount, transmissionCount, contestedIn, summaryTable, transmissionTable, summariesIn, transmissionPlaces, decode, encode}
 use Rattle.stored.proofs.Blocks.{of_map, Kept}
-use Rattle.stored.proofs.Frames.{frame, frame_same, set-transmission-count, frame-transmissions-back}
+use Rattle.stored.proofs.Frames.{frame_same, set-transmission-count, frame-transmissions-back}
 use Rattle.stored.proofs.Opened.{Opened, summaries-length, summaries-are, summary-bytes-length, transmissions-length, all_held, framed, encode-decode}
 use Rattle.recheck.specs.Recheck.{hasStale, standing, recheck}
 use Rattle.recheck.specs.Steps.{standingBytes}

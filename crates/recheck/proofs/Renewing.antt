@@ -1,23 +1,20 @@
 -- What is decided again of the transmissions of a track, a track may hold: the tracks that a recheck and a conviction leave are valid.
-use Prim.Native.Nat.{ℕ, zero, suc, ◌+◌, ◌-◌, ◌^◌, ◌≤◌, ◌<◌}
+use Prim.Native.Nat.{ℕ, zero, suc, ◌-◌, ◌≤◌}
 use mathlib.Core.Path.{◌≡◌, refl, sym, ap, ap₂, ◌∙◌, subst}
-use mathlib.Core.Bool.{Bool, true, false, not, ◌&&◌, false≢true}
+use mathlib.Core.Bool.{Bool, true, false, ◌&&◌, false≢true}
 use mathlib.Core.List.Memᴰ
 use mathlib.Core.List.{List, [], ◌∷◌, ◌++◌, map, append-nil, Memᴰ}
 use native.Mathlib.Omega.{arith}
-use lib.Bits.{bit_and, bit_or}
 use lib.Dec.{eqb}
-use lib.ListN.{length, take, drop, length-drop, length-map, take-append-drop}
+use lib.ListN.{length, take, drop, length-drop, take-append-drop}
 use lib.Seq.{take_all}
 use borrow.Author.Tests.{not-true}
 use Rattle.ranges.specs.Lists.{any_of, filter, sort}
-use Rattle.ranges.proofs.Bools.{by, or, and_left, and_right, and_both}
-use Rattle.ranges.proofs.Lists.{any-in, filter-in, sort-in, filter-few}
+use Rattle.ranges.proofs.Bools.{by, or, and_right}
+use Rattle.ranges.proofs.Lists.{any-in, filter-in, sort-in}
 use Rattle.octets.specs.Masks.{bit, withBit, withoutBit}
-use Rattle.octets.proofs.Lookup.{bit-zero}
 use Rattle.octets.proofs.Zeros.{or-zero}
-use Rattle.record.specs.Formed as R
-use Rattle.places.specs.Places.{ascending, keepPlaces, allPlaces}
+use Rattle.places.specs.Places.{ascending, keepPlaces}
 use Rattle.places.proofs.Keeping.{kept-length, kept-wide, kept-ascending, kept-all}
 use Rattle.places.proofs.Tables.{wide}
 use Rattle.models.specs.Summary.{summarySize}
@@ -25,9 +22,8 @@ use Rattle.held.specs.Limits.{maxEngine}
 use Rattle.held.specs.Summaries.{summaryFormed, isOfAnother, noValue}
 use Rattle.held.proofs.Signatures.{apart, disjoint, without-apart, with-small, without-small}
 use Rattle.held.proofs.Summarized.{all_of, none_more, kept-summary}
-use Rattle.shown.specs.Fix.{Fix, withSigners}
-use Rattle.tracked.specs.Held.{RefusedFix, HeldTransmission, fixOf, heldIn, is_of}
-use Rattle.tracked.proofs.Encoding as E
+use Rattle.shown.specs.Fix.{Fix}
+use Rattle.tracked.specs.Held.{HeldTransmission, fixOf, heldIn, is_of}
 use Rattle.tracked.proofs.Encoding.{ValidFix}
 use Rattle.normalize.specs.Normal.{signedBy, normalized}
 use Rattle.normalize.specs.Signed.{is_signed}

@@ -1,17 +1,16 @@
 -- Which fixes stand, and which of a transmission are left where those that do not have no signers.
-use Prim.Native.Nat.{ℕ, ◌+◌, ◌-◌, ◌≤◌}
+use Prim.Native.Nat.{ℕ, ◌+◌, ◌-◌}
 use mathlib.Core.Path.{◌≡◌, refl, sym, ap, ap₂, ◌∙◌}
-use mathlib.Core.Bool.{Bool, true, false, cond, not, ◌&&◌}
+use mathlib.Core.Bool.{Bool, true, false}
 use mathlib.Core.List.{List, [], ◌∷◌, map, Memᴰ}
 use native.Mathlib.Omega.{arith}
-use lib.Dec.{eqb}
-use lib.ListN.{length, take, drop}
+use lib.ListN.{take, drop}
 use Rattle.ranges.specs.Lists.{filter}
 use Rattle.ranges.proofs.Bools.{by}
 use Rattle.octets.specs.Order.{same}
 use Rattle.models.specs.Models.{counts}
 use Rattle.models.specs.Identity.{citedInputs}
-use Rattle.shown.specs.Fix.{Fix, withSigners}
+use Rattle.shown.specs.Fix.{Fix}
 use Rattle.tracked.specs.Layout.{transmissionSize}
 use Rattle.tracked.specs.Bytes.{recordIn, inputsIn, fixIn}
 use Rattle.normalize.specs.Signed.{is_signed}

@@ -1,5 +1,5 @@
 -- What a track is left with where its summaries or its engines change: the fixes that its summaries still bear out, and those that engines not convicted signed
--- (document 01, 'The track and the session'; the Rust's `recheck` and `convict`).
+-- (docs/REFERENCE.md, 'Track and listing'; the Rust's `recheck` and `convict`).
 use Rattle.std.specs.Prelude.{ℕ, Bool, cond, not, ◌&&◌, List, map}
 use Rattle.octets.specs.Masks.{withBit, withoutBit}
 use Rattle.octets.specs.Order.{same}

@@ -2,12 +2,12 @@
 ghost use Rattle.std.specs.Prelude.{◌≡◌, true, not, map, ◌++◌, ◌+◌, ◌*◌, ◌<◌, ◌≤◌, length, take, drop};
 ghost use Rattle.ranges.specs.Lists.{any_of};
 ghost use Rattle.places.specs.Places.{places};
-ghost use Rattle.record.specs.Formed as R;
+ghost use Rattle.models.specs.Answers.{listed};
 ghost use Rattle.models.specs.Summary.{summarySize};
 ghost use Rattle.held.specs.Limits.{maxSummaries};
-ghost use Rattle.tracked.specs.Layout.{fixSize, transmissionSize};
+ghost use Rattle.tracked.specs.Layout.{transmissionSize};
 ghost use Rattle.tracked.specs.Held.{heldIn};
-ghost use Rattle.tracked.specs.Bytes.{recordIn, fixIn, transmissionIn};
+ghost use Rattle.tracked.specs.Bytes.{fixIn, transmissionIn};
 ghost use Rattle.tracked.specs.Parts.{heldCount, Sound};
 ghost use Rattle.tracked.specs.Known.{Knows};
 ghost use Rattle.arrange.specs.Arranged.{arranged};
@@ -20,21 +20,21 @@ ghost use Rattle.recheck.specs.Recheck as T;
 ghost use Rattle.recheck.specs.Steps as S;
 
 use arrange::KNOWN_TABLE_SIZE;
+use models::summaries::Summaries;
 use stored::{layout, signatures};
+use tracked::Fix;
 use tracked::layout::{KNOWN_SIZE, TRANSMISSION_SIZE};
 
 // Whether the models of a fix still say what it was checked under.
-fn stands(summaries: &[u8], n: usize, f: &[u8]) -> bool
-    requires summary_size_in_bounds { n * summarySize ≤ length summaries.now }
-    requires f_len { (length f.now ≡ fixSize) × (R.wellFormed (recordIn f.now) ≡ true) }
-    ensures { result ≡ T.stands (places summarySize n summaries.now) (fixIn f.now) }
+fn stands(summaries: Summaries, fix: Fix) -> bool
+    ensures { result ≡ T.stands (listed summaries.entry) (fixIn fix.entry.bytes.now) }
 {
-    let r = tracked::record_of(f);
-    if !models::citations::counts(summaries, n, r) {
+    let record = fix.record();
+    if !models::citations::counts(summaries, record) {
         return false;
     }
-    let inputs = models::citations::cited_inputs(summaries, n, r);
-    octets::order::equal(&inputs, tracked::inputs(f))
+    let inputs = models::citations::cited_inputs(summaries, record);
+    octets::order::equal(&inputs.0, fix.inputs())
 }
 
 // Whether the held fix k of the transmission at a byte of a track does, which has n summaries.
@@ -44,12 +44,12 @@ fn stands_at(memory: &[u8], n: usize, at: usize, k: u8) -> bool
     ensures { result ≡ T.stands (places summarySize n (summaryTable memory.now)) (heldFix k (block_at at memory.now)) }
 {
     let e = at + TRANSMISSION_SIZE;
-    let f = tracked::held(&memory[at..e], k);
-    stands(
-        &memory[layout::SUMMARIES_AT..layout::TRANSMISSIONS_AT],
-        n,
-        f,
-    )
+    let fix = tracked::held(&memory[at..e], k);
+    let summaries = Summaries {
+        table: &memory[layout::SUMMARIES_AT..layout::TRANSMISSIONS_AT],
+        count: n,
+    };
+    stands(summaries, fix)
 }
 
 // Whether some held fix of a transmission does not stand.
@@ -60,12 +60,10 @@ fn has_stale(memory: &[u8], n: usize, at: usize) -> bool
 {
     let e = at + TRANSMISSION_SIZE;
     let count = tracked::held_count(&memory[at..e]);
-    let mut k: u8 = 0;
-    while k < count {
+    for k in 0..count {
         if !stands_at(memory, n, at, k) {
             return true;
         }
-        k += 1;
     }
     false
 }
@@ -77,14 +75,10 @@ fn any_stale(memory: &[u8]) -> bool
 {
     let n = octets::words::u16_at(memory, layout::SUMMARY_COUNT_AT) as usize;
     let count = memory[layout::TRANSMISSION_COUNT_AT] as usize;
-    let mut i = 0;
-    let mut at = layout::TRANSMISSIONS_AT;
-    while i < count {
-        if has_stale(memory, n, at) {
+    for i in 0..count {
+        if has_stale(memory, n, layout::TRANSMISSIONS_AT + i * TRANSMISSION_SIZE) {
             return true;
         }
-        at += TRANSMISSION_SIZE;
-        i += 1;
     }
     false
 }
@@ -98,14 +92,11 @@ fn silence(memory: &mut [u8], n: usize, at: usize)
 {
     let e = at + TRANSMISSION_SIZE;
     let count = tracked::held_count(&memory[at..e]);
-    let mut k: u8 = 0;
-    while k < count {
+    for k in 0..count {
         if stands_at(memory, n, at, k) {
-            k += 1;
             continue;
         }
         signatures::put_signers(&mut memory[at..e], k, 0);
-        k += 1;
     }
 }
 
@@ -129,14 +120,11 @@ fn renew_all(memory: &mut [u8], known: &mut [u8])
 {
     let n = octets::words::u16_at(memory, layout::SUMMARY_COUNT_AT) as usize;
     let count = memory[layout::TRANSMISSION_COUNT_AT] as usize;
-    let mut i = 0;
-    let mut at = layout::TRANSMISSIONS_AT;
-    while i < count {
+    for i in 0..count {
+        let at = layout::TRANSMISSIONS_AT + i * TRANSMISSION_SIZE;
         let k = i * KNOWN_SIZE;
         let k_end = k + KNOWN_SIZE;
         renew(memory, n, at, &mut known[k..k_end]);
-        at += TRANSMISSION_SIZE;
-        i += 1;
     }
 }
 

@@ -1,5 +1,5 @@
 -- What the bytes of a formed transmission show, and that the bytes of a transmission which a track may hold are formed.
-use Prim.Native.Nat.{ℕ, zero, suc, ◌+◌, ◌*◌, ◌-◌, ◌^◌, ◌≤◌, ◌<◌}
+use Prim.Native.Nat.{ℕ, ◌+◌, ◌*◌, ◌-◌, ◌^◌, ◌≤◌, ◌<◌}
 use mathlib.Core.Path.{◌≡◌, refl, sym, ap, ap₂, ◌∙◌}
 use mathlib.Core.Bool.{Bool, true, false, not, ◌&&◌}
 use mathlib.Core.List.Memᴰ
@@ -7,7 +7,7 @@ use mathlib.Core.List.{List, [], ◌∷◌, ◌++◌, map, append_assoc, append-
 use native.Mathlib.Omega.{arith}
 use lib.Bits.{bit_and}
 use lib.Dec.{leb, eqb}
-use lib.ListN.{length, take, drop, length-append, length-take, length-drop, length-map, replicate}
+use lib.ListN.{length, take, drop, length-append, length-drop, length-map, replicate}
 use lib.Seq.{take_at, drop_at, take-take, length-take-le}
 use borrow.Author.Tests.{leb-true, le-leb, not-true}
 use Rattle.ranges.proofs.Bools.{and_left, and_right, and_both, or}
@@ -16,7 +16,7 @@ use Rattle.octets.specs.Words.{word, word_bytes}
 use Rattle.octets.specs.Runs.{allZero}
 use Rattle.octets.proofs.Numbers.{bytes_take, bytes_drop, length-word-bytes}
 use Rattle.octets.proofs.Zeros.{run-zero}
-use Rattle.places.specs.Places.{places, flat, table_of, allPlaces}
+use Rattle.places.specs.Places.{flat, table_of, allPlaces}
 use Rattle.places.proofs.Walks.{part_in}
 use Rattle.places.proofs.Tables.{wide, flat-length, places-flat, length-places, places-wide, table-length}
 use Rattle.record.specs.Layout.{recordSize}
@@ -27,13 +27,13 @@ use Rattle.held.specs.Limits.{placeSize}
 use Rattle.held.specs.Signed as H
 use Rattle.held.specs.Signed.{placeFormed, beginFormed}
 use Rattle.held.proofs.Framing.{word_small}
-use Rattle.held.proofs.Signatures.{placeHeld, signers-at, record-length, held_place}
+use Rattle.held.proofs.Signatures.{signers-at, held_place}
 use Rattle.held.proofs.Testing.{all-weaken}
 use Rattle.shown.specs.Fix.{Fix}
 use Rattle.tracked.specs.Layout as L
-use Rattle.tracked.specs.Held.{RefusedFix, HeldTransmission, fixOf, heldIn}
-use Rattle.tracked.specs.Bytes.{recordIn, signersIn, inputsIn, fixIn, fixBytes, refusedIn, refusedBytes, fixCount, refusedCount, fixTable, refusedTable, fixPlaces, refusedPlaces, filledBy, transmissionFormed, transmissionIn, transmissionBytes}
-use Rattle.tracked.specs.Parts.{heldPlaces, recordFormed, Sound}
+use Rattle.tracked.specs.Held.{HeldTransmission, fixOf, heldIn}
+use Rattle.tracked.specs.Bytes.{recordIn, signersIn, fixIn, fixBytes, refusedIn, refusedBytes, fixCount, refusedCount, fixTable, refusedTable, fixPlaces, refusedPlaces, filledBy, transmissionFormed, transmissionIn, transmissionBytes}
+use Rattle.tracked.specs.Parts.{recordFormed, Sound}
 use Rattle.tracked.proofs.Encoding.{ValidFix, ValidRefused, Valid, Bounded, Canonical, fix-length, refused-length, fix-count-back, refused-count-back, bytes-of-places, wide-in}
 
 -- ---- places that all pass a test

@@ -1,12 +1,12 @@
 -- Lists of which the members are tested or changed one after another.
-use Prim.Native.Nat.{ℕ, zero, suc, ◌+◌, ◌-◌, ◌≤◌, ◌<◌}
+use Prim.Native.Nat.{ℕ, zero, suc, ◌+◌, ◌≤◌, ◌<◌}
 use mathlib.Core.Path.{◌≡◌, refl, sym, ap, ap₂, ◌∙◌}
 use mathlib.Core.Bool.{Bool, true, false, ◌||◌}
 use mathlib.Core.List.{List, [], ◌∷◌, ◌++◌, map, append_assoc, map-append}
 use native.Mathlib.Omega.{arith}
 use native.Mathlib.Numerals.{add-one}
-use lib.ListN.{length, get_or, set, take, drop, length-append, length-take, length-drop, length-map, take-append-drop}
-use lib.Seq.{sets, take-set-lt, take-set-le, drop-set-lt, drop-set-add, drop-cons, take-suc, take_at, drop_at, take_all, drop-drop, length-take-le}
+use lib.ListN.{length, get_or, set, take, drop, length-append, length-drop, length-map, take-append-drop}
+use lib.Seq.{sets, take-set-lt, take-set-le, drop-set-lt, drop-set-add, drop-cons, take-suc, take_at, drop_at, take_all, length-take-le}
 use Rattle.ranges.specs.Lists.{any_of}
 
 module _ {A : Type 0} where

@@ -1,14 +1,12 @@
 -- A track's bytes as a header and two tables: what is read of each part, and what a write to it leaves.
-use Prim.Native.Nat.{ℕ, ◌+◌, ◌-◌, ◌^◌, ◌<◌}
+use Prim.Native.Nat.{ℕ, ◌+◌, ◌^◌, ◌<◌}
 use mathlib.Core.Path.{◌≡◌, refl, sym, ap, ap₂, ◌∙◌}
-use mathlib.Core.List.{List, [], ◌∷◌, ◌++◌, append_assoc}
-use native.Mathlib.Omega.{arith}
+use mathlib.Core.List.{List, ◌∷◌, ◌++◌, append_assoc}
 use lib.ListN.{length, get_or, set, take, drop, length-append}
 use lib.Seq.{take_at, drop_at}
-use Rattle.octets.specs.Words.{word, word_bytes, word_at}
+use Rattle.octets.specs.Words.{word_bytes, word_at}
 use Rattle.octets.specs.Writes.{putWord}
-use Rattle.octets.proofs.Numbers.{length-word-bytes, word-of-bytes}
-use Rattle.octets.proofs.Moves.{tail-back, tail-lent}
+use Rattle.octets.proofs.Numbers.{word-of-bytes}
 use Rattle.held.specs.Limits.{summariesSize}
 use Rattle.held.proofs.Framing.{mid-taken}
 use Rattle.stored.specs.Layout.{convictedAt, summaryCountAt, transmissionCountAt, zeroAt, contestedAt, summariesAt, transmissionsAt}
@@ -24,11 +22,11 @@ pub frame_same : (c x : ℕ) {n n' k k' : ℕ} {s s' t t' : List ℕ} → n ≡ 
 frame_same c x p q r u = λ i. frame c (p i) (q i) x (r i) (u i)
 
 module _ (c n k x : ℕ) (s t : List ℕ) where
-  header-length : length (header c n k x) ≡ summariesAt
+  pub header-length : length (header c n k x) ≡ summariesAt
   unfolding word_bytes
   header-length = refl
 
-  behind-header : frame c n k x s t ≡ header c n k x ++ (s ++ t)
+  pub behind-header : frame c n k x s t ≡ header c n k x ++ (s ++ t)
   unfolding word_bytes
   behind-header = refl
 
@@ -69,6 +67,15 @@ module _ (c n k x : ℕ) (s t : List ℕ) where
   pub read-contested : x < 256 ^ 8 → word_at 8 contestedAt (frame c n k x s t) ≡ x
   unfolding word_bytes
   read-contested h = word-of-bytes 8 x h
+
+  -- the same of the header alone
+  pub put-count : (y : ℕ) → putWord 2 summaryCountAt y (header c n k x) ≡ header c y k x
+  unfolding word_bytes
+  put-count y = refl
+
+  pub read-count : n < 256 ^ 2 → word_at 2 summaryCountAt (header c n k x) ≡ n
+  unfolding word_bytes
+  read-count h = word-of-bytes 2 n h
 
   -- ---- the tables
 

@@ -1,25 +1,22 @@
 -- What putting a summary by its engine and model into a track's bytes leaves: the bytes of the track with it.
-use Prim.Native.Nat.{ℕ, ◌+◌, ◌*◌, ◌-◌, ◌≤◌, ◌<◌}
+use Prim.Native.Nat.{ℕ, ◌+◌}
 use mathlib.Core.Path.{◌≡◌, refl, sym, ap, ap₂, ◌∙◌}
-use mathlib.Core.Bool.{true, false, not, ◌&&◌}
+use mathlib.Core.Bool.{true, false, not, ◌&&◌, false≢true}
+use Rattle.std.specs.Prelude.{Result, Ok, Err}
 use mathlib.Core.List.{List, [], ◌++◌}
 use native.Mathlib.Omega.{arith}
 use lib.Dec.{leb}
-use lib.ListN.{length, set, take, drop, length-drop, length-map, take-append-drop}
-use lib.Seq.{length-take-le}
+use lib.ListN.{length, take, drop, length-drop, length-map, take-append-drop}
+use lib.Seq.{length-take-le, take_at, drop-drop}
 use borrow.Author.Tests.{leb-false}
 use Rattle.ranges.proofs.Bools.{by}
 use Rattle.octets.specs.Bytes.{Bytes}
 use Rattle.octets.specs.Writes.{putWord}
+use Rattle.octets.specs.Words.{word_at}
 use Rattle.places.specs.Places.{table_of, holds, putPlace}
-use Rattle.places.specs.Positions.{rank}
-use Rattle.places.specs.Put.{putResult, tryPut}
-use Rattle.places.specs.declared.Put.{Put}
-use Rattle.places.specs.declared.Put.TheVariants.{Held, Full, New}
-use Rattle.places.proofs.Tables.{replace-table}
-use Rattle.places.proofs.Putting.{put-held, put-length-held, put-ascending, put-wide, put_all}
-use Rattle.places.proofs.Ways.{Way, way, held-told, full-told, new_told, held_at, new-length}
-use Rattle.places.proofs.Trying.{tried-table}
+use Rattle.places.specs.Tables.{sought, full, Sorted}
+use Rattle.places.proofs.Puts.{told_found, told_none}
+use Rattle.places.proofs.Putting.{new-length, put-length-held, put-ascending, put-wide, put_all}
 use Rattle.models.specs.Summary.{summarySize}
 use Rattle.held.specs.After.{after}
 use Rattle.held.specs.Limits.{maxSummaries, summariesSize}
@@ -31,13 +28,9 @@ use Rattle.stored.specs.Layout.{pairSize, summaryCountAt, summariesAt}
 use Rattle.stored.specs.Track.{Track}
 use Rattle.stored.specs.Memory.{convictedIn, summaryCount, transmissionCount, contestedIn, summaryTable, transmissionTable, summariesIn, transmissionPlaces, decode, encode, commit}
 use Rattle.stored.specs.Steps.{withPair, put_pair}
-use Rattle.stored.proofs.Frames.{frame, frame_same, put-summary-count, frame-summaries-back}
-use Rattle.stored.proofs.Opened.{Opened, summaries-length, summaries-wide, summaries-ascend, summaries-are, summary-bytes-length, framed, blocks-back, transmissions-length, transmissions-are}
+use Rattle.stored.proofs.Frames.{header, frame, frame_same, behind-header, header-length, put-count, read-count}
+use Rattle.stored.proofs.Opened.{Opened, summaries-length, summary-bytes-length, framed, blocks-back, transmissions-length, transmissions-are}
 use Rattle.stored.proofs.Valid.{Valid}
-
--- a memory whose lent summaries have become these bytes
-abbrev pub withTable : List ℕ → List ℕ → List ℕ
-withTable m t = take summariesAt m ++ (t ++ drop summariesSize (drop summariesAt m))
 
 module _ (p : List ℕ) (lp : length p ≡ summarySize) where
   abbrev key : List ℕ
@@ -64,28 +57,6 @@ module _ (p : List ℕ) (lp : length p ≡ summarySize) where
     abbrev put : List (List ℕ)
     put = putPlace pairSize value key ss
 
-    few : length ss ≤ maxSummaries
-    few = rw (summaries-length m o) o.few-summaries
-
-    -- which way the summary went
-    abbrev pub PairWay : Put → List ℕ → Type 0
-    PairWay a t = Way (holds pairSize key ss) (leb maxSummaries (length ss)) (rank pairSize key ss) (table_of summarySize maxSummaries ss) (table_of summarySize maxSummaries put) a t
-
-    pub pair-way : (n : ℕ) (a : Put) (t : List ℕ) → n ≡ summaryCount m → putResult a t ≡ tryPut n maxSummaries summarySize pairSize p (take summariesSize (drop summariesAt m)) → PairWay a t
-    pair-way n a t en q =
-        way (holds pairSize key ss) (leb maxSummaries (length ss)) (rank pairSize key ss) (table_of summarySize maxSummaries ss) (table_of summarySize maxSummaries put) a t
-        (q ∙ ap₂ (λ (x : ℕ) (y : List ℕ). tryPut x maxSummaries summarySize pairSize y (take summariesSize (drop summariesAt m))) (en ∙ sym (summaries-length m o)) (sym whole)
-        ∙ ap (tryPut (length ss) maxSummaries summarySize pairSize (key ++ value [])) (summaries-are m o)
-        ∙ tried-table maxSummaries summarySize pairSize value key ss key-length (omega arith) (ap length whole ∙ lp) (summaries-wide m o) (summaries-ascend m o) few)
-
-    back : (t : List ℕ) → withTable m t ≡ frame (convictedIn m) (summaryCount m) (transmissionCount m) (contestedIn m) t (transmissionTable m)
-    back t =
-        ap (λ (x : List ℕ). withTable x t) (framed m o b)
-        ∙ frame-summaries-back (convictedIn m) (summaryCount m) (transmissionCount m) (contestedIn m) (summaryTable m) (transmissionTable m) (summary-bytes-length m o) t
-
-    back-same : (t : List ℕ) → t ≡ table_of summarySize maxSummaries ss → withTable m t ≡ m
-    back-same t q = back t ∙ ap (λ (x : List ℕ). frame (convictedIn m) (summaryCount m) (transmissionCount m) (contestedIn m) x (transmissionTable m)) (q ∙ sym (summaries-are m o)) ∙ sym (framed m o b)
-
     -- the track with it
     left_is : (n : ℕ) → n ≡ length put → (t : List ℕ) → t ≡ table_of summarySize maxSummaries put → frame (convictedIn m) n (transmissionCount m) (contestedIn m) t (transmissionTable m) ≡ encode (withPair p (decode m))
     unfolding encode decode
@@ -93,53 +64,67 @@ module _ (p : List ℕ) (lp : length p ≡ summarySize) where
         frame_same (convictedIn m) (contestedIn m) e (sym (length-map (transmissionPlaces m) transmissionIn ∙ transmissions-length m o)) q
         (transmissions-are m o ∙ ap (table_of transmissionSize maxTransmissions) (sym (blocks-back m o b)))
 
-    new-commit : holds pairSize key ss ≡ false → leb maxSummaries (length ss) ≡ false → after 0 (encode (withPair p (decode m))) ≡ commit m (put_pair p (decode m))
+    pub sorted : (n : ℕ) (t : List ℕ) → n ≡ summaryCount m → t ≡ summaryTable m → Sorted summarySize pairSize maxSummaries n t
+    sorted n t e q = rw (e, q) (record {
+      width = omega arith;
+      room = omega arith;
+      key = omega arith;
+      size = summary-bytes-length m o;
+      few = o.few-summaries;
+      table = o.summary-table;
+    })
+
+    -- there was no room
+    refused-full : (f : Result ℕ ℕ) → f ≡ sought pairSize key ss → full maxSummaries (summaryCount m) f ≡ true → after 5 m ≡ commit m (put_pair p (decode m))
     unfolding decode
-    new-commit h g = rw (h, g) refl
+    refused-full (Ok i) h u = absurd (false≢true u)
+    refused-full (Err i) h u = let t = told_none pairSize key ss i h in rw (t.0, summaries-length m o, u) refl
 
-    held-commit : holds pairSize key ss ≡ true → after 0 (encode (withPair p (decode m))) ≡ commit m (put_pair p (decode m))
+    -- there was
+    taken : (f : Result ℕ ℕ) → f ≡ sought pairSize key ss → full maxSummaries (summaryCount m) f ≡ false → after 0 (encode (withPair p (decode m))) ≡ commit m (put_pair p (decode m))
     unfolding decode
-    held-commit h = rw h refl
+    taken (Ok i) h u = let t = told_found pairSize key ss i h in rw t.0 refl
+    taken (Err i) h u = let t = told_none pairSize key ss i h in rw (t.0, summaries-length m o, u) refl
 
-    pub pair-full : {a : Put} (t : List ℕ) → PairWay a t → a ≡ Full → after 5 (withTable m t) ≡ commit m (put_pair p (decode m))
-    unfolding decode
-    pair-full t w a = let v = full-told w a in rw (v.0, v.1.0) (ap (after 5) (back-same t v.1.1))
+    -- the header and the tables, as they are split off one after another
+    module _ (h r s t : List ℕ) (h-is : h ≡ take summariesAt m) (r-is : r ≡ drop summariesAt m) (s-is : s ≡ take summariesSize r) (t-is : t ≡ drop summariesSize r) where
+      head-is : h ≡ header (convictedIn m) (summaryCount m) (transmissionCount m) (contestedIn m)
+      head-is =
+          let c = convictedIn m in
+          let n = summaryCount m in
+          let k = transmissionCount m in
+          let x = contestedIn m in
+          h-is ∙ ap (take summariesAt) (framed m o b ∙ behind-header c n k x (summaryTable m) (transmissionTable m))
+          ∙ take_at (header c n k x) (summaryTable m ++ transmissionTable m) summariesAt (header-length c n k x (summaryTable m) (transmissionTable m))
 
-    pub pair-new : {a : Put} (t x : List ℕ) (n : ℕ) → n ≡ summaryCount m → PairWay a t → a ≡ New → x ≡ putWord 2 summaryCountAt (n + 1) (withTable m t) → after 0 x ≡ commit m (put_pair p (decode m))
-    pair-new t x n en w a z =
-        let v = new_told w a in
-        let l : n + 1 ≡ length put = ap (λ (i : ℕ). i + 1) (en ∙ sym (summaries-length m o)) ∙ sym (new-length pairSize value key ss v.0) in
-        ap (after 0)
-        (z ∙ ap (putWord 2 summaryCountAt (n + 1)) (back t)
-        ∙ put-summary-count (convictedIn m) (summaryCount m) (transmissionCount m) (contestedIn m) t (transmissionTable m) (n + 1) ∙ left_is (n + 1) l t v.1.1)
-        ∙ new-commit v.0 v.1.0
+      pub count-is : word_at 2 summaryCountAt h ≡ summaryCount m
+      count-is =
+          let f = o.few-summaries in
+          ap (word_at 2 summaryCountAt) head-is ∙ read-count (convictedIn m) (summaryCount m) (transmissionCount m) (contestedIn m) (summaryTable m) (transmissionTable m) (omega (arith, f))
 
-    -- a pair that is held: its summary is put anew
-    module _ {a : Put} (t : List ℕ) (w : PairWay a t) (i : ℕ) (is_held_lem : a ≡ Held i) where
-      pub held-inside : i * summarySize + summarySize ≤ summariesSize
-      held-inside =
-          let v = held-told w i is_held_lem in
-          let at = (held_at pairSize key ss (summaries-ascend m o) v.1.0).0 in
-          let h : i < maxSummaries = rw v.0 (omega (arith, at, few)) in
-          omega arith
+      pub table-is : s ≡ summaryTable m
+      table-is = s-is ∙ ap (take summariesSize) r-is
 
-      pub pair-unwritten : withTable m t ≡ m
-      pair-unwritten = back-same t (held-told w i is_held_lem).1.1
+      transmissions-there : t ≡ transmissionTable m
+      transmissions-there = t-is ∙ ap (drop summariesSize) r-is ∙ drop-drop summariesSize summariesAt m
 
-      pub pair-again : (u x : List ℕ) → u ≡ take (i * summarySize) (take summariesSize (drop summariesAt (withTable m t))) ++ (p ++ drop summarySize (drop (i * summarySize) (take summariesSize (drop summariesAt (withTable m t)))))
-          → x ≡ withTable (withTable m t) u → after 0 x ≡ commit m (put_pair p (decode m))
-      pair-again u x q z =
-          let v = held-told w i is_held_lem in
-          let at = held_at pairSize key ss (summaries-ascend m o) v.1.0 in
-          let il : i < length ss = rw v.0 at.0 in
-          let u' : u ≡ table_of summarySize maxSummaries put =
-          q ∙ ap (λ (l : List ℕ). take (i * summarySize) l ++ (p ++ drop summarySize (drop (i * summarySize) l))) (ap (λ (l : List ℕ). take summariesSize (drop summariesAt l)) pair-unwritten ∙ summaries-are m o)
-          ∙ replace-table summarySize maxSummaries ss i p (summaries-wide m o) lp il
-          ∙ ap (table_of summarySize maxSummaries) (ap (λ (j : ℕ). set ss j p) v.0 ∙ ap (set ss (rank pairSize key ss)) (sym (ap (λ (l : List ℕ). l ++ value []) at.1 ∙ whole)) ∙ sym (put-held pairSize value key ss at.0 at.1)) in
-          ap (after 0)
-          (z ∙ ap (λ (l : List ℕ). withTable l u) pair-unwritten ∙ back u
-          ∙ left_is (summaryCount m) (sym (summaries-length m o) ∙ sym (put-length-held pairSize value key key-length ss (summaries-ascend m o) v.1.0)) u u')
-          ∙ held-commit v.1.0
+      module _ (f : Result ℕ ℕ) (e : f ≡ sought pairSize key ss) where
+        -- the memory as it was
+        pub left : (s' : List ℕ) → s' ≡ s → full maxSummaries (summaryCount m) f ≡ true → after 5 (h ++ (s' ++ t)) ≡ commit m (put_pair p (decode m))
+        left s' q u = rw (q, s-is, t-is, take-append-drop summariesSize r, h-is, r-is) (ap (after 5) (take-append-drop summariesAt m) ∙ refused-full f e u)
+
+        -- the memory with the summary
+        pub done : (n : ℕ) (h' s' : List ℕ) → n ≡ length put → h' ≡ putWord 2 summaryCountAt n h → s' ≡ table_of summarySize maxSummaries put
+            → full maxSummaries (summaryCount m) f ≡ false → after 0 (h' ++ (s' ++ t)) ≡ commit m (put_pair p (decode m))
+        done n h' s' n-is z q u =
+            let c = convictedIn m in
+            let k = transmissionCount m in
+            let x = contestedIn m in
+            let new : h' ≡ header c n k x = z ∙ ap (putWord 2 summaryCountAt n) head-is ∙ put-count c (summaryCount m) k x (summaryTable m) (transmissionTable m) n in
+            ap (after 0)
+            (ap₂ (λ (y l : List ℕ). y ++ (s' ++ l)) new transmissions-there ∙ sym (behind-header c n k x s' (transmissionTable m))
+            ∙ left_is n n-is s' q)
+            ∙ taken f e u
 
   -- ---- the track that is left is valid
 

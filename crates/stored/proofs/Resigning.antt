@@ -1,7 +1,7 @@
 -- What putting signers into a held fix leaves of a transmission: the fix has these signers, and all else is as it was.
 use Prim.Native.Nat.{ℕ, zero, suc, ◌+◌, ◌*◌, ◌-◌, ◌^◌, ◌≤◌, ◌<◌}
 use mathlib.Core.Path.{◌≡◌, refl, sym, ap, ap₂, ◌∙◌}
-use mathlib.Core.Bool.{Bool, true, cond, ◌&&◌}
+use mathlib.Core.Bool.{Bool, true}
 use mathlib.Core.List.{List, [], ◌∷◌, ◌++◌, map, append_assoc}
 use native.Mathlib.Omega.{arith}
 use native.Mathlib.Nat.{suc-mul}
@@ -10,7 +10,7 @@ use lib.ListN.{length, get_or, set, take, drop, length-append, length-drop, leng
 use lib.Seq.{take_at, drop-drop, length-take-le, sets, sets-eq, length-sets, set-append_left, get_or-take, get_or-append-add}
 use borrow.Author.Tests.{ltb-true, ltb-false}
 use Rattle.ranges.proofs.Bools.{by, and_left, and_right, and_both}
-use Rattle.octets.specs.Words.{word, word_bytes, word_at}
+use Rattle.octets.specs.Words.{word_bytes, word_at}
 use Rattle.octets.specs.Writes.{putWord}
 use Rattle.octets.proofs.Numbers.{length-word-bytes, put-read}
 use Rattle.places.specs.Places.{places, allPlaces}

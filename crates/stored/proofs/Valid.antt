@@ -1,5 +1,5 @@
 -- Tracks that bytes can hold: their bytes are well-formed, and decode to them; what well-formed bytes decode to is one.
-use Prim.Native.Nat.{ℕ, ◌+◌, ◌*◌, ◌^◌, ◌≤◌, ◌<◌}
+use Prim.Native.Nat.{ℕ, ◌^◌, ◌≤◌, ◌<◌}
 use mathlib.Core.Path.{◌≡◌, refl, sym, ap, ap₂, ◌∙◌}
 use mathlib.Core.Bool.{true, ◌&&◌}
 use mathlib.Core.List.{List, [], ◌∷◌, map, Memᴰ}
@@ -15,7 +15,6 @@ use Rattle.models.specs.Summary.{summarySize}
 use Rattle.held.specs.Limits.{maxSummaries, summariesSize}
 use Rattle.held.specs.Summaries.{summaryFormed}
 use Rattle.held.specs.Signed.{beginFormed}
-use Rattle.held.specs.After.{After}
 use Rattle.held.proofs.Framing.{word_small}
 use Rattle.tracked.specs.Layout.{transmissionSize}
 use Rattle.tracked.specs.Held.{HeldTransmission}

@@ -1,5 +1,5 @@
--- The layout of a track (document 01, 'The track and the session'): "convicted mask u32, summary count u16, transmission count u8, a zero byte, contested u64
--- (counted modulo 2^64); 256 summary places as above, ascending by engine and model, one a pair; 8 transmissions of 2,484 bytes". Each part begins where the one
+-- The layout of a track (docs/REFERENCE.md, 'Layouts'): the convicted engines, the counts of summaries and transmissions, a zero byte, and `contested`, which is
+-- counted modulo 2^64; 256 places of summaries, ascending by engine and model, one for each pair; 8 transmissions of 2,484 bytes. Each part begins where the one
 -- before it ends.
 use Rattle.std.specs.Prelude.{ℕ, ◌+◌, ◌*◌}
 use Rattle.models.specs.Summary.{summarySpecAt}
@@ -7,7 +7,7 @@ use Rattle.held.specs.Limits.{summariesSize}
 use Rattle.tracked.specs.Layout.{transmissionSize}
 use Rattle.arrange.specs.Arranged.{maxTransmissions}
 
--- "one a pair": a summary's key is its engine and its model
+-- one for each pair: a summary's key is its engine and its model
 abbrev pub pairSize : ℕ
 pairSize = summarySpecAt
 

@@ -1,7 +1,6 @@
--- A track in memory (document 01, 'The track and the session'): which bytes are one, the track that bytes are, its bytes, and an operation on bytes.
-use Rattle.std.specs.Prelude.{ℕ, ◌*◌, Bool, cond, ◌&&◌, List, [], ◌∷◌, ◌++◌, map, leb, eqb, length, take, drop, get_or, replicate}
+-- A track in memory (docs/REFERENCE.md, 'Layouts'): which bytes are one, the track that bytes are, its bytes, and an operation on bytes.
+use Rattle.std.specs.Prelude.{ℕ, Bool, cond, ◌&&◌, List, ◌∷◌, ◌++◌, map, leb, eqb, length, take, drop, get_or, replicate}
 use Rattle.octets.specs.Words.{word_at, word_bytes}
-use Rattle.octets.specs.Runs.{allZero}
 use Rattle.places.specs.Places.{places, table_of, isTable, allPlaces}
 use Rattle.models.specs.Summary.{summarySize}
 use Rattle.held.specs.After.{After, after}
@@ -43,7 +42,7 @@ transmissionPlaces m = places transmissionSize (transmissionCount m) (transmissi
 
 -- ---- which bytes are a track
 
--- "Places, signers and unused bytes keep the register's rules, except that fixes and transmissions stand in the Rust's order, which no check reads."
+-- Summaries, signers and what is not used keep the register's rules. Nothing is asked of the order of fixes and transmissions.
 unfoldable pub wellFormed : List ℕ → Bool
 wellFormed m =
     eqb (length m) L.trackSize
@@ -67,17 +66,17 @@ encode s =
     (word_bytes 8 s.contested
     ++ (table_of summarySize maxSummaries s.summaries ++ table_of transmissionSize maxTransmissions (map transmissionBytes s.transmissions))))))
 
--- "Fresh is all zero."
+-- a fresh track is all zeros
 abbrev pub fresh : List ℕ
 fresh = replicate L.trackSize 0
 
 -- ---- an operation on bytes
 
--- "A refusal returns its number and changes no lent byte."
+-- a refusal answers its number, and changes no lent byte
 abbrev pub commit : List ℕ → Outcome → After (List ℕ)
 commit m (refused n) = after n m
 commit m (done n s) = after n (encode s)
 
--- "1 (malformed track)"
+-- 1 for bytes that are no track
 unfoldable pub on_memory : (Track → Outcome) → List ℕ → After (List ℕ)
 on_memory f m = cond (wellFormed m) (commit m (f (decode m))) (after 1 m)

@@ -1,4 +1,4 @@
--- What a track holds, and what an operation on it answers and leaves (document 01, 'Answers and refusals, operation by operation' and 'The track and the session').
+-- What a track holds, and what an operation on it answers and leaves (docs/REFERENCE.md, 'Operations' and 'Track and listing').
 use Rattle.std.specs.Prelude.{ℕ, List}
 use Rattle.tracked.specs.Held.{HeldTransmission}
 

@@ -9,17 +9,19 @@ ghost use Rattle.stored.specs.Memory.{wellFormed};
 
 use crate::layout;
 use arrange::MAX_TRANSMISSIONS;
+use held::engines::Signers;
 use held::layout::MAX_SUMMARIES;
+use models::summaries::Summaries;
 use tracked::layout::{
     FIX_SIZE, FIXES_AT, MAX_REFUSED, MAX_STANDING, REFUSED_AT, REFUSED_SIZE, TRANSMISSION_SIZE,
 };
 
 // Whether t has n places of w bytes each that begin with a record and signers, none of them
 // convicted, and zeros behind them.
-fn filled(t: &[u8], n: usize, w: usize, convicted: u32) -> bool
+fn filled(t: &[u8], n: usize, w: usize, convicted: Signers) -> bool
     requires w_in_bounds { n * w ≤ length t.now }
     requires place_size_le_w { placeSize ≤ w }
-    ensures { result ≡ filledBy (beginFormed convicted) w n t.now }
+    ensures { result ≡ filledBy (beginFormed convicted.0) w n t.now }
 {
     if !held::formed::places_formed(t, n, w, convicted) {
         return false;
@@ -29,9 +31,9 @@ fn filled(t: &[u8], n: usize, w: usize, convicted: u32) -> bool
 }
 
 // Whether the bytes hold a transmission.
-fn transmission_formed(b: &[u8], convicted: u32) -> bool
+fn transmission_formed(b: &[u8], convicted: Signers) -> bool
     requires { length b.now ≡ transmissionSize }
-    ensures { result ≡ transmissionFormed (beginFormed convicted) b.now }
+    ensures { result ≡ transmissionFormed (beginFormed convicted.0) b.now }
 {
     let n = tracked::fix_count(b) as usize;
     if n < 1 {
@@ -51,27 +53,23 @@ fn transmission_formed(b: &[u8], convicted: u32) -> bool
 }
 
 // Whether the first n transmissions of a table are.
-fn transmissions_formed(t: &[u8], n: usize, convicted: u32) -> bool
+fn transmissions_formed(t: &[u8], n: usize, convicted: Signers) -> bool
     requires { n * transmissionSize ≤ length t.now }
-    ensures { result ≡ allPlaces (transmissionFormed (beginFormed convicted)) (places transmissionSize n t.now) }
+    ensures { result ≡ allPlaces (transmissionFormed (beginFormed convicted.0)) (places transmissionSize n t.now) }
 {
-    let mut i = 0;
-    let mut at = 0;
-    while i < n {
-        let e = at + TRANSMISSION_SIZE;
-        if !transmission_formed(&t[at..e], convicted) {
+    for i in 0..n {
+        let at = i * TRANSMISSION_SIZE;
+        if !transmission_formed(&t[at..at + TRANSMISSION_SIZE], convicted) {
             return false;
         }
-        at = e;
-        i += 1;
     }
     true
 }
 
 // Whether a table holds n transmissions, and zeros behind them.
-fn transmission_table_formed(t: &[u8], n: usize, convicted: u32) -> bool
+fn transmission_table_formed(t: &[u8], n: usize, convicted: Signers) -> bool
     requires { n * transmissionSize ≤ length t.now }
-    ensures { result ≡ filledBy (transmissionFormed (beginFormed convicted)) transmissionSize n t.now }
+    ensures { result ≡ filledBy (transmissionFormed (beginFormed convicted.0)) transmissionSize n t.now }
 {
     if !transmissions_formed(t, n, convicted) {
         return false;
@@ -87,7 +85,7 @@ pub fn well_formed(m: &[u8]) -> bool
     if m.len() != layout::TRACK_SIZE {
         return false;
     }
-    let convicted = octets::words::u32_at(m, layout::CONVICTED_AT);
+    let convicted = Signers(octets::words::u32_at(m, layout::CONVICTED_AT));
     let n = octets::words::u16_at(m, layout::SUMMARY_COUNT_AT) as usize;
     if MAX_SUMMARIES < n {
         return false;
@@ -99,8 +97,11 @@ pub fn well_formed(m: &[u8]) -> bool
     if m[layout::ZERO_AT] != 0 {
         return false;
     }
-    let summaries = &m[layout::SUMMARIES_AT..layout::TRANSMISSIONS_AT];
-    if !held::formed::summary_table_formed(summaries, n, layout::PAIR_SIZE, convicted) {
+    let summaries = Summaries {
+        table: &m[layout::SUMMARIES_AT..layout::TRANSMISSIONS_AT],
+        count: n,
+    };
+    if !held::formed::summary_table_formed::<{ layout::PAIR_SIZE }>(summaries, convicted) {
         return false;
     }
     transmission_table_formed(&m[layout::TRANSMISSIONS_AT..], k, convicted)

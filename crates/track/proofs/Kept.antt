@@ -1,7 +1,7 @@
 -- The claims about every track in memory and every call on it.
-use Rattle.std.proofs.Common.{◌≡◌, ℕ, ◌≤◌, Bool, true, false, not, ◌&&◌, ◌||◌, eqb, ltb, leb, List, length, take, sym, refl, ap, ◌∙◌, true≢false, ltb-false, eqb-true, le-leb}
+use Rattle.std.proofs.Common.{◌≡◌, ℕ, true, not, ◌&&◌, ◌||◌, eqb, ltb, leb, List, length, take, refl, ltb-false, eqb-true, le-leb}
 use borrow.Author.Tests.{not-false}
-use Rattle.ranges.proofs.Bools.{by, no_false, neither_left, neither_right}
+use Rattle.ranges.proofs.Bools.{by, neither_left, neither_right}
 use Rattle.octets.specs.Bytes.{Bytes}
 use Rattle.octets.specs.Masks.{bit}
 use Rattle.places.specs.Places.{holds}
@@ -13,18 +13,17 @@ use Rattle.models.specs.Missing.{citesMissing}
 use Rattle.held.specs.Limits.{maxEngine, maxSummaries}
 use Rattle.held.specs.Summaries.{summaryFormed}
 use Rattle.held.proofs.Summarized.{summary-length}
-use Rattle.merge.specs.Merged.{merged}
 use Rattle.stored.specs.Layout.{pairSize}
 use Rattle.stored.specs.Track.{Track, Outcome, refused, done}
-use Rattle.stored.specs.Memory.{wellFormed, decode, encode, commit, on_memory}
+use Rattle.stored.specs.Memory.{wellFormed, decode, commit, on_memory}
 use Rattle.stored.specs.Steps.{withPair}
 use Rattle.stored.proofs.Opened as O
 use Rattle.stored.proofs.Opened.{opened}
 use Rattle.stored.proofs.Valid.{Valid, decode-valid, formed-encode, decode-encode}
 use Rattle.stored.proofs.Pairs.{pair-valid}
-use Rattle.recheck.specs.Recheck.{recheck, strikeEngine}
+use Rattle.recheck.specs.Recheck.{strikeEngine}
 use Rattle.recheck.proofs.Renewing.{recheck-valid, strike-valid}
-use Rattle.track.specs.Track.{fixFrom, stepped, takeCited, trackReport, becomesDisputed, holdPair, trackSummary, trackConviction}
+use Rattle.track.specs.Track.{trackReport, becomesDisputed, holdPair, trackSummary}
 use Rattle.track.specs.Calls.{Call, report, summary, conviction, act, leftBy}
 use Rattle.track.specs.Claims.{EncodeDecode, LeavesTrack, HoldsLeft, RefusalLeaves, MalformedLeaves}
 use Rattle.track.proofs.Merging.{stepped-valid}

@@ -1,4 +1,3 @@
-pub mod Answers
 pub mod Holding
 pub mod Merging
 pub mod Reported

@@ -1,16 +1,15 @@
 -- What a merge leaves of the transmissions of a track, a track may hold.
-use Rattle.std.proofs.Common.{◌≡◌, ℕ, zero, suc, ◌+◌, ◌%◌, ◌^◌, ◌<◌, ◌≤◌, Bool, true, false, cond, ◌&&◌, eqb, List, [], ◌∷◌, ◌++◌, map, length, sym, refl, ap, ◌∙◌, subst, ap₂, arith}
+use Rattle.std.proofs.Common.{◌≡◌, ℕ, suc, ◌^◌, ◌<◌, ◌≤◌, true, false, cond, List, [], ◌∷◌, ◌++◌, map, length, sym, refl, ap, ◌∙◌, subst, arith}
 use mathlib.Core.List.Memᴰ
 use mathlib.Core.List.{Memᴰ}
-use lib.Bits.{bit_and, bit_or, or_lt}
+use lib.Bits.{or_lt}
 use lib.ListN.{length-map}
 use Rattle.ranges.specs.Lists.{any_of, filter}
 use Rattle.ranges.proofs.Bools.{by, or}
 use Rattle.ranges.proofs.Lists.{filter-in}
-use Rattle.octets.specs.Masks.{bit, withBit}
+use Rattle.octets.specs.Masks.{bit}
 use Rattle.octets.proofs.Zeros.{or-zero}
 use Rattle.record.specs.Formed as R
-use Rattle.models.specs.Identity.{citedInputs}
 use Rattle.models.proofs.Sets.{cited-length}
 use Rattle.held.specs.Limits.{maxEngine}
 use Rattle.held.proofs.Signatures.{record-length, or_apart, with-apart, nothing-apart, with-some, with-small}
@@ -21,8 +20,8 @@ use Rattle.tracked.specs.Held.{RefusedFix, HeldTransmission, fixOf, heldIn, is_o
 use Rattle.normalize.specs.Normal.{signedBy, signFirst, normalized}
 use Rattle.normalize.specs.Joining.{withFix, upholds}
 use Rattle.normalize.proofs.Distinct.{sign-length}
-use Rattle.arrange.specs.Arranged.{maxTransmissions, arranged}
-use Rattle.merge.specs.Merged.{Step, opened, inPlace, signRefused, signIn, joined, mergedInto, merged}
+use Rattle.arrange.specs.Arranged.{maxTransmissions}
+use Rattle.merge.specs.Merged.{opened, inPlace, signRefused, signIn, joined, mergedInto, merged}
 use Rattle.stored.specs.Track.{Track}
 use Rattle.stored.proofs.Blocks.{Upheld, Kept, Held, of_map}
 use Rattle.stored.proofs.Valid.{Valid}

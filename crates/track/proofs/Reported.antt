@@ -1,29 +1,24 @@
 -- A record that is reported: the bytes of its fix, and what a merge leaves of a track's bytes.
-use Rattle.std.proofs.Common.{◌≡◌, ℕ, ◌+◌, ◌-◌, ◌*◌, ◌%◌, ◌^◌, ◌<◌, ◌≤◌, true, false, List, [], ◌∷◌, ◌++◌, map, length, get_or, take, drop, set, replicate, sym, refl, ap, ◌∙◌, subst, ap₂, append_assoc, append-nil, arith, length-append, length-drop, take-append-drop, length-take, length-take-le, take_all, take_at, drop_at}
+use Rattle.std.proofs.Common.{◌≡◌, ℕ, ◌+◌, ◌-◌, ◌%◌, ◌^◌, ◌≤◌, true, List, [], ◌++◌, map, length, take, drop, set, replicate, sym, refl, ap, ◌∙◌, subst, ap₂, append_assoc, append-nil, arith, length-append, take-append-drop, take_at, drop_at}
 use mathlib.Core.List.Memᴰ
 use mathlib.Core.List.{Memᴰ}
-use lib.ListN.{length-map, length-replicate}
-use lib.Seq.{take-length, drop-length}
+use lib.ListN.{length-map}
 use Rattle.octets.specs.Bytes.{Bytes}
-use Rattle.octets.specs.Masks.{withBit}
 use Rattle.octets.specs.Words.{word_bytes, word_at}
 use Rattle.octets.specs.Writes.{putWord}
 use Rattle.octets.proofs.Numbers.{length-word-bytes}
 use Rattle.octets.proofs.Moves.{tail-lent, tail-back}
-use Rattle.places.specs.Places.{places}
 use Rattle.record.specs.Layout.{recordSize}
 use Rattle.record.specs.Formed as R
 use Rattle.items.specs.Layout.{hashSize}
 use Rattle.models.specs.Models.{counts}
-use Rattle.models.specs.Summary.{summarySize}
 use Rattle.models.proofs.Sets.{cited-length}
-use Rattle.held.specs.After.{After, after}
+use Rattle.held.specs.After.{after}
 use Rattle.held.specs.Limits.{maxEngine}
 use Rattle.held.proofs.Framing.{mid-put, word_small}
 use Rattle.held.proofs.Signatures.{record-length, with-small}
 use Rattle.shown.specs.Fix.{Fix}
 use Rattle.tracked.specs.Layout as L
-use Rattle.tracked.specs.Held.{HeldTransmission}
 use Rattle.tracked.specs.Bytes.{recordIn, fixIn, fixBytes, transmissionIn, transmissionBytes}
 use Rattle.tracked.specs.Parts.{heldPlaces}
 use Rattle.tracked.proofs.Holding.{held-are}
@@ -34,7 +29,6 @@ use Rattle.arrange.specs.Blocks.{blocks, blockTable}
 use Rattle.merge.specs.Merged.{Step, number_of, merged}
 use Rattle.merge.specs.Searching.{Steady, Ready}
 use Rattle.stored.specs.Layout.{transmissionCountAt, contestedAt, transmissionsAt}
-use Rattle.stored.specs.Track.{refused, done}
 use Rattle.stored.specs.Memory.{convictedIn, summaryCount, transmissionCount, contestedIn, summaryTable, transmissionTable, summariesIn, transmissionPlaces, decode, encode, commit}
 use Rattle.stored.proofs.Frames.{frame, read-contested, set-transmission-count, put-contested, frame-transmissions-back}
 use Rattle.stored.proofs.Opened.{Opened, summaries-length, summaries-are, summary-bytes-length, framed, filled, block-parts, block-sound, block-canonical, transmissions-length}
@@ -43,6 +37,10 @@ use Rattle.recheck.proofs.Rearranging.{all-signed}
 use Rattle.track.specs.Track.{fixFrom, stepped, takeCited}
 use Rattle.track.specs.Steps.{reportedFix}
 use Rattle.track.proofs.Merging.{merged-few}
+
+pub decoded-summaries : (m : List ℕ) → (decode m).summaries ≡ summariesIn m
+unfolding decode
+decoded-summaries m = refl
 
 -- ---- the bytes of the fix
 
@@ -147,8 +145,3 @@ module _ (m : List ℕ) (o : Opened m) (b : Bytes m) (e : ℕ) (r : List ℕ) (h
           ∙ ap (putWord 8 contestedAt y) (set-transmission-count (convictedIn m) (summaryCount m) (transmissionCount m) (contestedIn m) (summaryTable m) table n)
           ∙ put-contested (convictedIn m) (summaryCount m) n (contestedIn m) (summaryTable m) table y
           ∙ left_is y n (ap₂ (λ (u v : ℕ). (u + v) % 2 ^ 64) contested-same (ek ∙ ap (λ (s : Step). s.entered) step_is)) (en ∙ ap (λ (s : Step). length s.left) step_is))
-
--- a record that does not count
-pub not-counted : (m : List ℕ) (e : ℕ) (r : List ℕ) → counts (summariesIn m) r ≡ false → after 7 m ≡ commit m (takeCited e r (decode m))
-unfolding decode
-not-counted m e r c = rw c refl

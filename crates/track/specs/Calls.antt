@@ -1,4 +1,4 @@
--- The calls of a track (document 01, 'Answers and refusals, operation by operation'), and the track that a call leaves.
+-- The calls of a track (docs/REFERENCE.md, 'Operations'), and the track that a call leaves.
 use Rattle.std.specs.Prelude.{ℕ, List, [], ◌∷◌}
 use Rattle.stored.specs.Track.{Track, Outcome, refused, done}
 use Rattle.stored.specs.Memory.{on_memory}
@@ -15,7 +15,7 @@ act (report e r) = trackReport e r
 act (summary e model spec inputs) = trackSummary e model spec inputs
 act (conviction e) = trackConviction e
 
--- "A refusal returns its number and changes no lent byte."
+-- a refusal leaves the track as it is
 abbrev pub leftBy : Track → Outcome → Track
 leftBy s (refused n) = s
 leftBy s (done n t) = t

@@ -1,5 +1,5 @@
--- What is claimed of every track in memory and of every call on it (document 01, 'The track and the session'). Bytes are what a memory has. proofs/Kept,
--- proofs/Counted and proofs/Ordered have a theorem of each of these types.
+-- What is claimed of every track in memory and of every call on it (docs/REFERENCE.md, 'Track and listing'). Bytes are what a memory has. The contracts of
+-- src/claims.rt name it; the proofs are in proofs/Kept, proofs/Counted and proofs/Ordered.
 use Rattle.std.specs.Prelude.{◌≡◌, ℕ, ◌+◌, ◌%◌, ◌^◌, ◌≤◌, true, false, List, length}
 use mathlib.Core.List.{Memᴰ}
 use Rattle.octets.specs.Bytes.{Bytes}
@@ -35,7 +35,7 @@ MalformedLeaves = (f : Track → Outcome) (m : List ℕ) → wellFormed m ≡ fa
 
 -- ---- the contested count
 
--- "contested u64 (counted modulo 2^64)": a report that is not refused adds the fixes that entered a list of refused
+-- the count is modulo 2^64: a report that is not refused adds the fixes that entered a list of refused
 abbrev pub ReportCounts : Type 0
 ReportCounts = (e : ℕ) (r : List ℕ) (s t : Track) (n : ℕ) → act (report e r) s ≡ done n t
     → t.contested ≡ (s.contested + (merged (fixFrom e r s) s.transmissions).entered) % 2 ^ 64

@@ -1,4 +1,4 @@
--- The fix that a track serves (document 01, 'Positions to check': "a track taking S, M, L serves L"; the Rust's `current`).
+-- The fix that a track serves (docs/REFERENCE.md, 'Track and listing'; the Rust's `current`): the first fix of the last transmission.
 use Rattle.std.specs.Prelude.{List, take}
 use mathlib.Core.List.{flat_map}
 use Rattle.ranges.specs.Lists.{last_of}

@@ -1,5 +1,5 @@
--- What the operations of a track do to it (document 01, 'Answers and refusals, operation by operation' and 'The track and the session'; the Rust's
--- `model`, `convict`, `recheck` and what stands above `merge`).
+-- What the operations of a track do to it (docs/REFERENCE.md, 'Operations' and 'Track and listing'; the Rust's `model`,
+-- `convict`, `recheck` and what stands above `merge`).
 use Rattle.std.specs.Prelude.{ℕ, ◌+◌, ◌%◌, ◌^◌, Bool, true, false, cond, not, ◌&&◌, ◌||◌, List, length, take, drop, ◌==◌, nat_le, nat_lt}
 use Rattle.octets.specs.Masks.{bit, withBit}
 use Rattle.places.specs.Places.{holds, putPlace}
@@ -22,17 +22,17 @@ use Rattle.recheck.specs.Recheck.{recheck, strikeEngine}
 abbrev pub fixFrom : ℕ → List ℕ → Track → Fix
 fixFrom e r s = record { identity = identityOf s.summaries r; recordBytes = r; inputs = citedInputs s.summaries r; signers = withBit 0 e }
 
--- "contested u64 (counted modulo 2^64)"
+-- `contested` is counted modulo 2^64
 abbrev pub stepped : Step → Track → Track
 stepped x s = record { convicted = s.convicted; contested = (s.contested + x.entered) % 2 ^ 64; summaries = s.summaries; transmissions = x.left }
 
--- a record none of whose models is missing: "7: a cited model is disputed or of another spec. Else Changed, Contested, Duplicate or Dropped."
+-- a record none of whose models is missing: 7 where a cited model is disputed or of another spec, else Changed, Contested, Duplicate or Dropped
 abbrev pub takeCited : ℕ → List ℕ → Track → Outcome
 takeCited e r s =
     let x = merged (fixFrom e r s) s.transmissions in
     cond (counts s.summaries r) (done (number_of x.answer) (stepped x s)) (refused 7)
 
--- "2; 3; 4; 6: a cited model has no summary"
+-- 2, 3 or 4; 6 where a cited model has no summary
 abbrev pub trackReport : ℕ → List ℕ → Track → Outcome
 trackReport e r s =
     cond (nat_lt maxEngine e) (refused 2)
@@ -51,18 +51,18 @@ isDisputed disputed = true
 abbrev pub becomesDisputed : ℕ → List (List ℕ) → List (List ℕ) → Bool
 becomesDisputed model before now = not (isDisputed (state_of model before)) && isDisputed (state_of model now)
 
--- "one a pair": the later takes the place of the earlier. "A model changed by its only signer isn't disputed, so the Rust doesn't recheck".
+-- there is one for each pair, so the later takes the place of the earlier. A model that its only signer changes is not disputed, and then nothing is checked again.
 abbrev pub putSummary : ℕ → List ℕ → Track → Track
 putSummary model p s =
     let ss = putPlace pairSize (λ v. drop pairSize p) (take pairSize p) s.summaries in
     cond (becomesDisputed model s.summaries ss) (recheck (withSummaries ss s)) (withSummaries ss s)
 
--- "5: this engine and model are new and 256 pairs are held. Else 0."
+-- 5 where this engine and model are new and 256 pairs are held, else 0
 abbrev pub holdPair : ℕ → List ℕ → Track → Outcome
 holdPair model p s =
     cond (not (holds pairSize (take pairSize p) s.summaries) && nat_le maxSummaries (length s.summaries)) (refused 5) (done 0 (putSummary model p s))
 
--- "2; 9; 4"
+-- 2, 9 or 4
 abbrev pub trackSummary : ℕ → ℕ → ℕ → List ℕ → Track → Outcome
 trackSummary e model spec inputs s =
     cond (nat_lt maxEngine e) (refused 2)
@@ -71,6 +71,6 @@ trackSummary e model spec inputs s =
 
 -- ---- conviction
 
--- "2. Else 0."; "a repeated conviction" rechecks too
+-- 2, else 0; a repeated conviction checks the fixes again too
 abbrev pub trackConviction : ℕ → Track → Outcome
 trackConviction e s = cond (nat_lt maxEngine e) (refused 2) (done 0 (recheck (strikeEngine e s)))

@@ -4,20 +4,21 @@ ghost use Rattle.held.specs.After.{after};
 ghost use Rattle.stored.specs.Memory.{on_memory};
 ghost use Rattle.track.specs.Track.{trackConviction};
 
-use held::layout::MAX_ENGINE;
+use held::engines::Engine;
 use recheck::strikes;
 use stored::formed;
 
 // Convicts an engine. A repeated conviction checks the fixes again too.
+#[tactic(auto, unfolding(stored::specs::Memory::on_memory))]
 pub fn conviction(memory: &mut [u8], engine: u32) -> u32
     ensures { after result memory.new ≡ on_memory (trackConviction engine) memory.old }
 {
     if !formed::well_formed(memory) {
         return 1;
     }
-    if MAX_ENGINE < engine {
+    let Some(engine) = Engine::new(engine) else {
         return 2;
-    }
+    };
     strikes::convict(memory, engine);
     0
 }

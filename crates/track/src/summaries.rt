@@ -1,41 +1,36 @@
 // A summary into a track.
-ghost use Rattle.std.specs.Prelude.{◌≡◌, ◌*◌, ◌≤◌, true, not, ◌&&◌, length};
-ghost use Rattle.places.specs.Places.{places};
-ghost use Rattle.models.specs.Summary.{summarySize};
+ghost use Rattle.std.specs.Prelude.{◌≡◌, true, not, ◌&&◌};
+ghost use Rattle.models.specs.Answers.{listed};
 ghost use Rattle.models.specs.Models.{state_of};
 ghost use Rattle.held.specs.After.{after};
 ghost use Rattle.held.specs.Summaries.{summaryFormed};
-ghost use Rattle.stored.specs.Memory.{convictedIn, summariesIn, wellFormed, decode, commit, on_memory};
+ghost use Rattle.stored.specs.Memory.{wellFormed, decode, commit, on_memory};
 ghost use Rattle.track.specs.Track.{isDisputed, holdPair, trackSummary};
 
-use held::layout::MAX_ENGINE;
-use models::states::ModelState;
+use crate::{held_summaries, is_convicted};
+use held::engines::Engine;
+use models::layout::{INPUTS_SIZE, SUMMARY_SIZE};
+use models::states::{ModelState, state};
+use models::summaries::Summaries;
 use recheck::rechecks;
-use stored::{formed, layout};
+use stored::formed;
 
 // Whether a model's summaries are disputed.
-fn is_disputed(table: &[u8], n: usize, model: u8) -> bool
-    requires { n * summarySize ≤ length table.now }
-    ensures { result ≡ isDisputed (state_of model (places summarySize n table.now)) }
+fn is_disputed(all: Summaries, model: u8) -> bool
+    ensures { result ≡ isDisputed (state_of model (listed all.entry)) }
 {
-    match models::states::state(table, n, model) {
-        ModelState::Missing => false,
-        ModelState::Agreed(_) => false,
+    match state(all, model) {
         ModelState::Disputed => true,
+        ModelState::Missing | ModelState::Agreed(_) => false,
     }
 }
 
 // Whether a model's summaries in a track are disputed.
 fn disputed_in(memory: &[u8], model: u8) -> bool
     requires { wellFormed memory.now ≡ true }
-    ensures { result ≡ isDisputed (state_of model (summariesIn memory.now)) }
+    ensures { result ≡ isDisputed (state_of model (decode memory.now).summaries) }
 {
-    let n = octets::words::u16_at(memory, layout::SUMMARY_COUNT_AT) as usize;
-    is_disputed(
-        &memory[layout::SUMMARIES_AT..layout::TRANSMISSIONS_AT],
-        n,
-        model,
-    )
+    is_disputed(held_summaries(memory), model)
 }
 
 // Whether summaries that were disputed or not have become so.
@@ -49,8 +44,9 @@ fn becomes_disputed(was: bool, disputed_now: bool) -> bool
 }
 
 // Puts a summary in, and checks the fixes again if its model is disputed now and was not.
-fn hold(memory: &mut [u8], model: u8, p: &[u8]) -> u32
-    requires { (wellFormed memory.old ≡ true) × (length p.now ≡ summarySize) × (summaryFormed (convictedIn memory.old) p.now ≡ true) }
+fn hold(memory: &mut [u8], model: u8, p: &[u8; SUMMARY_SIZE]) -> u32
+    requires track { wellFormed memory.old ≡ true }
+    requires formed { summaryFormed (decode memory.old).convicted p.now ≡ true }
     ensures { after result memory.new ≡ commit memory.old (holdPair model p.now (decode memory.old)) }
 {
     let was = disputed_in(memory, model);
@@ -66,24 +62,28 @@ fn hold(memory: &mut [u8], model: u8, p: &[u8]) -> u32
 }
 
 // Takes a summary of a model from an engine.
+#[tactic(auto, unfolding(stored::specs::Memory::on_memory))]
 pub fn summary(memory: &mut [u8], engine: u32, model: u32, spec: u16, inputs: &[u8]) -> u32
     ensures { after result memory.new ≡ on_memory (trackSummary engine model spec inputs.now) memory.old }
 {
     if !formed::well_formed(memory) {
         return 1;
     }
-    if MAX_ENGINE < engine {
+    let Some(engine) = Engine::new(engine) else {
         return 2;
-    }
+    };
     if (record::layout::MAX_MODEL as u32) < model {
         return 9;
     }
-    if inputs.len() != models::layout::INPUTS_SIZE {
+    let Ok(inputs) = <&[u8; INPUTS_SIZE]>::try_from(inputs) else {
         return 9;
-    }
-    if octets::masks::has_u32(octets::words::u32_at(memory, layout::CONVICTED_AT), engine) {
+    };
+    if is_convicted(memory, engine) {
         return 4;
     }
-    let p = held::summaries::new_summary(engine as u8, model as u8, spec, inputs);
-    hold(memory, model as u8, &p)
+    hold(
+        memory,
+        model as u8,
+        &held::summaries::new_summary(engine, model as u8, spec, inputs),
+    )
 }

@@ -1,14 +1,13 @@
 -- Where the fixes that a transmission holds lie in its bytes, and what they hold.
 use Prim.Native.Nat.{ℕ, zero, suc, ◌+◌, ◌*◌, ◌-◌, ◌≤◌, ◌<◌}
 use mathlib.Core.Path.{◌≡◌, refl, sym, ap, ap₂, ◌∙◌}
-use mathlib.Core.Bool.{Bool, true, cond}
+use mathlib.Core.Bool.{Bool, true}
 use mathlib.Core.List.{List, [], ◌∷◌, ◌++◌, map, map-append}
 use native.Mathlib.Omega.{arith}
 use lib.Dec.{ltb}
 use lib.ListN.{length, get_or, take, drop, length-append, length-map, get_or-append, get_or-map}
 use lib.Seq.{drop-drop, take-take, get_or-append-add}
 use borrow.Author.Tests.{ltb-true, ltb-false}
-use Rattle.octets.specs.Words.{word}
 use Rattle.places.specs.Places.{allPlaces}
 use Rattle.places.proofs.Tables.{length-places}
 use Rattle.places.proofs.Walks.{place_of, part_of, part_in}

@@ -1,13 +1,13 @@
 -- Which identities of a transmission's held fixes are known: none, where nothing was worked out; the same, where only signers changed; the first, once it was put.
-use Prim.Native.Nat.{ℕ, zero, suc, ◌+◌, ◌*◌, ◌≤◌, ◌<◌}
-use mathlib.Core.Path.{◌≡◌, refl, sym, ap, ◌∙◌}
-use mathlib.Core.List.{List, [], ◌∷◌, ◌++◌}
+use Prim.Native.Nat.{ℕ, ◌≤◌, ◌<◌}
+use mathlib.Core.Path.{◌≡◌, refl, sym, ◌∙◌}
+use mathlib.Core.List.{List, [], ◌∷◌}
 use native.Mathlib.Omega.{arith}
-use lib.ListN.{length, get_or, take, drop, set, replicate, length-replicate}
+use lib.ListN.{length, get_or, set, replicate, length-replicate}
 use lib.Seq.{take_at}
 use Rattle.items.specs.Layout.{hashSize}
-use Rattle.text.specs.Buffer.{Put}
-use Rattle.text.proofs.Writing.{put_whole, put-length}
+use Rattle.octets.specs.Put.{Put}
+use Rattle.octets.proofs.Puts.{put_whole}
 use Rattle.tracked.specs.Bytes.{identityIn}
 use Rattle.tracked.specs.Parts.{heldPlaces, heldCount}
 use Rattle.tracked.specs.Known.{identitiesAt, knownSize, knownCount, knownIdentity, Knows}

@@ -1,5 +1,5 @@
--- The bytes of a transmission in a track (document 01, 'The track and the session'), the transmission that bytes hold, and which bytes hold one.
-use Rattle.std.specs.Prelude.{ℕ, ◌*◌, Bool, ◌&&◌, List, ◌∷◌, ◌++◌, map, leb, eqb, length, take, drop, get_or}
+-- The bytes of a transmission in a track (docs/REFERENCE.md, 'Layouts'), the transmission that bytes hold, and which bytes hold one.
+use Rattle.std.specs.Prelude.{ℕ, ◌*◌, Bool, ◌&&◌, List, ◌∷◌, ◌++◌, map, leb, length, take, drop, get_or}
 use Rattle.octets.specs.Words.{word_at, word_bytes}
 use Rattle.octets.specs.Runs.{allZero}
 use Rattle.places.specs.Places.{places, table_of, allPlaces}
@@ -10,7 +10,7 @@ use Rattle.shown.specs.Fix.{Fix}
 use Rattle.tracked.specs.Layout as L
 use Rattle.tracked.specs.Held.{RefusedFix, HeldTransmission}
 
--- ---- a fix: "record, signers, model inputs it was checked under"
+-- ---- a fix: a record, its signers, the model inputs that it was checked under
 
 abbrev pub recordIn : List ℕ → List ℕ
 recordIn b = take recordSize b
@@ -31,7 +31,7 @@ fixIn b = record { identity = identityIn b; recordBytes = recordIn b; inputs = i
 abbrev pub fixBytes : Fix → List ℕ
 fixBytes f = f.recordBytes ++ (word_bytes 4 f.signers ++ f.inputs)
 
--- ---- a refused fix: "a fix, the kept identity, chi-square f64"
+-- ---- a refused fix: a fix, the identity that is kept, the bits of the chi-square of the two
 
 abbrev pub refusedIn : List ℕ → RefusedFix
 refusedIn b = record { fix = fixIn b; against = take hashSize (drop L.againstAt b); chi2 = word_at 8 L.chi2At b }
@@ -70,11 +70,11 @@ transmissionBytes t =
 
 -- ---- which bytes hold one
 
--- n places of w bytes each that pass a test, and zeros behind them: "unused bytes keep the register's rules"
+-- n places of w bytes each that pass a test, and zeros behind them, as in a register
 abbrev pub filledBy : (List ℕ → Bool) → ℕ → ℕ → List ℕ → Bool
 filledBy test w n t = allPlaces test (places w n t) && allZero (drop (n * w) t)
 
--- "fix count u8 (1 to 5), refused count u8 (0 to 4)"; every fix passes a test
+-- one to five fixes stand, at most four are refused, and every fix passes a test
 unfoldable pub transmissionFormed : (List ℕ → Bool) → List ℕ → Bool
 transmissionFormed test b =
     leb 1 (fixCount b)

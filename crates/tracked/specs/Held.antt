@@ -1,4 +1,4 @@
--- A transmission as a track holds it (document 01, 'The track and the session'; the Rust's `Transmission`).
+-- A transmission as a track holds it (docs/REFERENCE.md, 'Track and listing'; the Rust's `Transmission`).
 use Rattle.std.specs.Prelude.{ℕ, Bool, List, ◌++◌, map}
 use Rattle.octets.specs.Order.{same}
 use Rattle.ranges.specs.Lists.{any_of}

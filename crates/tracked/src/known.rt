@@ -36,7 +36,7 @@ pub fn learn_first(b: &[u8], s: &mut [u8])
     if 0 < count(s) {
         return;
     }
-    let id = crate::identity(crate::held(b, 0));
+    let id = crate::held(b, 0).identity();
     s[0] = 1;
-    text::put_bytes(s, layout::IDENTITIES_AT, &id);
+    octets::runs::put_bytes(s, layout::IDENTITIES_AT, &id.0);
 }

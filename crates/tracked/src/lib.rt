@@ -1,56 +1,94 @@
 // One transmission of a track, in 2,484 lent bytes: the fixes that stand, the best first, and the refused.
 #![tactic(auto)]
 
-ghost use Rattle.std.specs.Prelude.{◌≡◌, true, [], ◌+◌, ◌<◌, ◌≤◌, length, take, drop, get_or};
+ghost use Rattle.std.specs.Prelude.{◌≡◌, ℕ, true, [], ◌+◌, ◌<◌, ◌≤◌, length, take, drop, get_or};
 ghost use Rattle.std.specs.Int.Bits.{bit_or};
 ghost use Rattle.octets.specs.Words.{word_at};
 ghost use Rattle.octets.specs.Writes.{putWord};
 ghost use Rattle.ranges.specs.Lists.{any_of};
-ghost use Rattle.record.specs.Layout.{recordSize};
 ghost use Rattle.record.specs.Formed.{wellFormed};
 ghost use Rattle.items.specs.Layout.{hashSize};
 ghost use Rattle.tracked.specs.Layout as L;
 ghost use Rattle.tracked.specs.Bytes as B;
 ghost use Rattle.tracked.specs.Parts as P;
 
-use items::layout::HASH_SIZE;
+use models::hashes::{HASH_SIZE, Identity, Inputs};
+use models::identities;
+use record::Record;
 use record::layout::{MESSAGE_LENGTH_AT, MODEL_COUNT_AT, RECORD_SIZE, TAGS_AT, USED_AT};
 
 pub mod known;
 pub mod layout;
 
-// The record of a fix.
-pub fn record_of(f: &[u8]) -> &[u8]
-    requires { L.fixSize ≤ length f.now }
-    ensures { (result.now ≡ B.recordIn f.now) × (length result.now ≡ recordSize) }
-{
-    &f[0..RECORD_SIZE]
+// A fix, as it lies in a track: a record, the engines that signed it, and the model inputs that it was checked under. Whoever has one
+// knows that its record is one.
+#[derive(Clone, Copy)]
+pub struct Fix<'a> {
+    pub bytes: &'a [u8],
+    ghost size: { length bytes.now ≡ L.fixSize },
+    ghost formed: { wellFormed (B.recordIn bytes.now) ≡ true },
+    ghost octets: { (i : ℕ) → get_or bytes.now i 0 < 256 },
 }
 
-// The engines that signed a fix.
-pub fn signers(f: &[u8]) -> u32
-    requires { L.fixSize ≤ length f.now }
-    ensures { result ≡ B.signersIn f.now }
-{
-    octets::words::u32_at(f, layout::SIGNERS_AT)
-}
+impl<'a> Fix<'a> {
+    // The fix in these bytes, which are known to be one.
+    pub fn of(bytes: &'a [u8]) -> Fix<'a>
+        requires { (length bytes.now ≡ L.fixSize) × (wellFormed (B.recordIn bytes.now) ≡ true) }
+        ensures { result.bytes.now ≡ bytes.now }
+    {
+        Fix { bytes }
+    }
 
-// The model inputs that a fix was checked under.
-pub fn inputs(f: &[u8]) -> &[u8]
-    requires { L.fixSize ≤ length f.now }
-    ensures { (result.now ≡ B.inputsIn f.now) × (length result.now ≡ hashSize) }
-{
-    &f[layout::INPUTS_AT..layout::FIX_SIZE]
-}
+    // The record.
+    pub fn record(self) -> Record<'a>
+        ensures { result.bytes.now ≡ B.recordIn self.entry.bytes.now }
+    {
+        let bytes = self.bytes;
+        Record::of(&bytes[0..RECORD_SIZE])
+    }
 
-// The identity of a fix.
-pub fn identity(f: &[u8]) -> [u8; HASH_SIZE]
-    requires in_bounds { L.fixSize ≤ length f.now }
-    requires f_value { wellFormed (B.recordIn f.now) ≡ true }
-    ensures { result ≡ B.identityIn f.now }
-{
-    let set = models::identities::set_hash(record_of(f));
-    models::identities::identity(&set, inputs(f))
+    // The engines that signed it.
+    pub fn signers(self) -> u32
+        ensures { result ≡ B.signersIn self.entry.bytes.now }
+    {
+        octets::words::u32_at(self.bytes, layout::SIGNERS_AT)
+    }
+
+    // The model inputs that it was checked under.
+    pub fn inputs(self) -> &'a [u8]
+        ensures value { result.now ≡ B.inputsIn self.entry.bytes.now }
+        ensures size { length result.now ≡ hashSize }
+    {
+        let bytes = self.bytes;
+        &bytes[layout::INPUTS_AT..layout::FIX_SIZE]
+    }
+
+    // The identity.
+    pub fn identity(self) -> Identity
+        ensures { result.0 ≡ B.identityIn self.entry.bytes.now }
+    {
+        let mut inputs = [0u8; HASH_SIZE];
+        inputs.copy_from_slice(self.inputs());
+        identities::identity(&identities::set_hash(self.record()), &Inputs(inputs))
+    }
+
+    // Whether the other has the same message, tags and model inputs. Then the two have one identity, and nothing need be hashed.
+    pub fn has_set_of(self, other: Fix<'a>) -> bool
+        ensures { result ≡ P.sameSet self.entry.bytes.now other.entry.bytes.now }
+    {
+        let a = self.bytes;
+        let b = other.bytes;
+        if !octets::order::equal(
+            &a[MESSAGE_LENGTH_AT..USED_AT],
+            &b[MESSAGE_LENGTH_AT..USED_AT],
+        ) {
+            return false;
+        }
+        if !octets::order::equal(&a[TAGS_AT..MODEL_COUNT_AT], &b[TAGS_AT..MODEL_COUNT_AT]) {
+            return false;
+        }
+        octets::order::equal(self.inputs(), other.inputs())
+    }
 }
 
 // How many fixes stand.
@@ -113,48 +151,28 @@ pub fn place_of(b: &[u8], k: u8) -> usize
 }
 
 // The held fix k.
-pub fn held(b: &[u8], k: u8) -> &[u8]
+pub fn held(b: &[u8], k: u8) -> Fix
     requires sound { P.Sound b.now }
     requires k_bound { k < P.heldCount b.now }
-    ensures { (result.now ≡ get_or (P.heldPlaces b.now) k []) × (length result.now ≡ L.fixSize) × (wellFormed (B.recordIn result.now) ≡ true) }
+    ensures { result.bytes.now ≡ get_or (P.heldPlaces b.now) k [] }
 {
     let a = place_of(b, k);
     let e = a + layout::FIX_SIZE;
-    &b[a..e]
+    Fix::of(&b[a..e])
 }
 
 // Whether some fix that is held is tied to a record.
-pub fn ties(b: &[u8], r: &[u8]) -> bool
-    requires sound { P.Sound b.now }
-    requires r_value { wellFormed r.now ≡ true }
-    ensures { result ≡ any_of (P.tiesTo r.now) (P.heldPlaces b.now) }
+pub fn ties(b: &[u8], r: Record) -> bool
+    requires { P.Sound b.now }
+    ensures { result ≡ any_of (P.tiesTo r.entry.bytes.now) (P.heldPlaces b.now) }
 {
     let n = held_count(b);
-    let mut k: u8 = 0;
-    while k < n {
-        if record::relations::tied(record_of(held(b, k)), r) {
+    for k in 0..n {
+        if held(b, k).record().is_tied_to(r) {
             return true;
         }
-        k += 1;
     }
     false
-}
-
-// Whether two fixes have the same message, tags and model inputs. Then they have one identity, and nothing need be hashed.
-pub fn same_set(a: &[u8], b: &[u8]) -> bool
-    requires { (length a.now ≡ L.fixSize) × (length b.now ≡ L.fixSize) }
-    ensures { result ≡ P.sameSet a.now b.now }
-{
-    if !octets::order::equal(
-        &a[MESSAGE_LENGTH_AT..USED_AT],
-        &b[MESSAGE_LENGTH_AT..USED_AT],
-    ) {
-        return false;
-    }
-    if !octets::order::equal(&a[TAGS_AT..MODEL_COUNT_AT], &b[TAGS_AT..MODEL_COUNT_AT]) {
-        return false;
-    }
-    octets::order::equal(inputs(a), inputs(b))
 }
 
 // Adds signers to the held fix k.

@@ -3,7 +3,7 @@ use mathlib.Core.Path.{◌≡◌, ap, ◌∙◌}
 use mathlib.Core.List.{List, [], ◌∷◌, ◌++◌}
 use native.Mathlib.Omega.{arith}
 use lib.ListN.{length, take, drop}
-use Rattle.text.proofs.Writing.{put_whole}
+use Rattle.octets.proofs.Puts.{put_whole}
 use Rattle.tracked.specs.Known.{knownSize}
 use Rattle.arrange.specs.Blocks.{blocks, blockTable, arrangedBlocks, Filled, Known}
 use Rattle.arrange.proofs.Admitting.{appended}
@@ -12,20 +12,20 @@ use Rattle.arrange.proofs.append.Goals as goal
 
 pub arrange-requires : goal.arrange-requires
 arrange-requires c =
-    let t : List ℕ = c.put_bytes.new.out in
+    let t : List ℕ = c.put_bytes.new.to in
     let put-behind : (blocks (c.args.n + 1) t ≡ blocks c.args.n c.args.t.now ++ (c.args.b.now ∷ [])) × Filled t (c.args.n + 1) = let f = c.requires.0 in
     appended c.args.t.now t c.args.b.now c.args.n f c.requires.2 c.requires.1 (put_whole c.put_bytes.ensures (omega (arith, f.few, f.size, c.requires.1, c.requires.2.size))) in
-    let known_behind : Known t c.put_bytes-2.new.out (c.args.n + 1) = let k = c.args.known.now in
+    let known_behind : Known t c.put_bytes-2.new.to (c.args.n + 1) = let k = c.args.known.now in
     let x = c.args.s.now in
     let at = c.args.n * knownSize in
     let y = c.requires.4 in
     let e = put_whole c.put_bytes-2.ensures (omega (arith, c.requires.3.size, c.requires.1, y.size)) ∙ ap (λ (w : ℕ). take at k ++ (x ++ drop (at + w) k)) y.size in
-    known-appended c.requires.3 c.requires.0.few t c.put_bytes-2.new.out c.args.b.now x y put-behind.0 e c.put_bytes-2.auto.out in
+    known-appended c.requires.3 c.requires.0.few t c.put_bytes-2.new.to c.args.b.now x y put-behind.0 e c.put_bytes-2.auto.to in
     (put-behind.1, known_behind)
 
 pub returns : goal.returns
 returns c =
-    let t : List ℕ = c.put_bytes.new.out in
+    let t : List ℕ = c.put_bytes.new.to in
     let put-behind : (blocks (c.args.n + 1) t ≡ blocks c.args.n c.args.t.now ++ (c.args.b.now ∷ [])) × Filled t (c.args.n + 1) = let f = c.requires.0 in
     appended c.args.t.now t c.args.b.now c.args.n f c.requires.2 c.requires.1 (put_whole c.put_bytes.ensures (omega (arith, f.few, f.size, c.requires.1, c.requires.2.size))) in
     let e = put-behind.0 in

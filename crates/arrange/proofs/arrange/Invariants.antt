@@ -1,4 +1,3 @@
-use Prim.Native.Nat.{◌-◌, ◌≤◌}
 use mathlib.Core.Path.{◌≡◌}
 use lib.ListN.{length}
 use Rattle.arrange.specs.Blocks.{blockTable, Known}
@@ -6,7 +5,4 @@ use Rattle.arrange.proofs.Settling.{half}
 use Rattle.arrange.proofs.arrange.Given as goal
 
 abbrev pub invariant-loop-i : goal.invariant-loop-i
-invariant-loop-i l = (l.i ≤ l.n) × (l.m ≡ length (half l.initial.t l.n l.i)) × (l.t ≡ blockTable (half l.initial.t l.n l.i)) × Known l.t l.known l.m
-
-abbrev pub decreases-loop-i : goal.decreases-loop-i
-decreases-loop-i l = l.i
+invariant-loop-i l = (l.m ≡ length (half l.initial.t l.n l.i)) × (l.t ≡ blockTable (half l.initial.t l.n l.i)) × Known l.t l.known l.m

@@ -15,4 +15,4 @@ returns c =
     let e : take (a + w - a) (drop a t) ≡ take w (drop a t) = ap (λ (k : ℕ). take k (drop a t)) (width w a) in
     let n : length (take (a + w - a) (drop a t)) ≡ w = ap length e ∙ taken w a t c.requires.1 in
     let z = length-replicate {A = ℕ} transmissionSize 0 in
-    ap (λ (k : ℕ). take k c.put_bytes.new.out) (sym n) ∙ put_front c.put_bytes.ensures (omega (arith, n, z, c.requires.0)) ∙ e
+    ap (λ (k : ℕ). take k c.put_bytes.new.to) (sym n) ∙ put_front c.put_bytes.ensures (omega (arith, n, z, c.requires.0)) ∙ e

@@ -1,4 +1,4 @@
-use Prim.Native.Nat.{ℕ, ◌+◌, ◌-◌, ◌≤◌}
+use Prim.Native.Nat.{ℕ, ◌+◌}
 use mathlib.Core.Path.{◌≡◌}
 use mathlib.Core.Bool.{Bool}
 use mathlib.Core.List.{List, []}
@@ -11,7 +11,4 @@ abbrev pub older-than : List ℕ → ℕ → ℕ → List ℕ → Bool
 older-than t n i b = olderBlock b (get_or (blocks n t) i [])
 
 abbrev pub invariant-loop-j : goal.invariant-loop-j
-invariant-loop-j l = (l.i + 1 ≤ l.j) × (l.j ≤ l.n) × (l.i + 1 + leading (older-than l.t l.n l.i) (drop (l.i + 1) (blocks l.n l.t)) ≡ l.j + leading (older-than l.t l.n l.i) (drop l.j (blocks l.n l.t))) × Known l.t l.known l.n
-
-abbrev pub decreases-loop-j : goal.decreases-loop-j
-decreases-loop-j l = l.n - l.j
+invariant-loop-j l = (l.i + 1 + leading (older-than l.t l.n l.i) (drop (l.i + 1) (blocks l.n l.t)) ≡ l.j + leading (older-than l.t l.n l.i) (drop l.j (blocks l.n l.t))) × Known l.t l.known l.n

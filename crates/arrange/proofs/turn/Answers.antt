@@ -4,7 +4,7 @@ use mathlib.Core.List.{List, ◌++◌}
 use native.Mathlib.Omega.{arith}
 use lib.ListN.{length, take, drop}
 use Rattle.items.proofs.Pairing.{taken}
-use Rattle.text.proofs.Writing.{put_whole}
+use Rattle.octets.proofs.Puts.{put_whole}
 use Rattle.arrange.proofs.Moving.{put-behind, moved_length}
 use Rattle.arrange.proofs.turn.Goals as goal
 

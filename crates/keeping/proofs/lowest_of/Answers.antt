@@ -10,7 +10,6 @@ use Rattle.keeping.proofs.lowest_of.Goals as goal
 
 pub loop-j-init : goal.loop-j-init
 loop-j-init c = (
-  omega arith,
   record { size = refl; few = omega arith },
   sym (lowest-none c.args.s.now c.args.refusals.list c.args.refusals.count c.args.refusals.count (omega arith) (omega (arith, c.requires.list_len.0, c.requires.list_len.1))),
 )
@@ -19,9 +18,9 @@ pub insert-l-requires : goal.insert-l-requires
 insert-l-requires c =
     let long : c.args.refusals.count ≤ length c.args.refusals.list = omega (arith, c.requires.list_len.0, c.requires.list_len.1) in
     let i = c.loop-j.invariant in record {
-      sized = i.1;
+      sized = i.0;
       all_lie = (
-        lowest-lies c.args.s.now c.args.refusals.list c.args.refusals.count c.loop-j.l c.loop-j.j i.1 long i.2 c.requires.all_lie,
+        lowest-lies c.args.s.now c.args.refusals.list c.args.refusals.count c.loop-j.l c.loop-j.j i.0 long i.1 c.requires.all_lie,
         c.requires.all_lie (c.loop-j.j - 1) (omega arith),
       );
     }
@@ -31,9 +30,8 @@ loop-j-preserved c =
     let long : c.args.refusals.count ≤ length c.args.refusals.list = omega (arith, c.requires.list_len.0, c.requires.list_len.1) in
     let i = c.loop-j.invariant in
     let e = c.insert-l.ensures in (
-      omega arith,
       e.0,
       e.1
-          ∙ ap (λ m. take maxRefused (insert (lowerRefusal c.args.s.now) (get_or c.args.refusals.list (c.loop-j.j - 1) unread) m)) i.2
-          ∙ lowest-turn c.args.s.now c.args.refusals.list c.args.refusals.count c.loop-j.j (omega arith) i.0 long,
+          ∙ ap (λ m. take maxRefused (insert (lowerRefusal c.args.s.now) (get_or c.args.refusals.list (c.loop-j.j - 1) unread) m)) i.1
+          ∙ lowest-turn c.args.s.now c.args.refusals.list c.args.refusals.count c.loop-j.j (omega arith) (omega arith) long,
     )

@@ -1,11 +1,7 @@
-use Prim.Native.Nat.{◌-◌, ◌≤◌}
 use mathlib.Core.Path.{◌≡◌}
 use Rattle.keeping.specs.Working.{Sized, lowestIn}
 use Rattle.keeping.proofs.Lowering.{lowestFrom}
 use Rattle.keeping.proofs.lowest_of.Given as goal
 
 abbrev pub invariant-loop-j : goal.invariant-loop-j
-invariant-loop-j l = (l.j ≤ l.initial.j) × Sized l.l × (lowestIn l.l ≡ lowestFrom l.s l.refused l.initial.j l.j)
-
-abbrev pub decreases-loop-j : goal.decreases-loop-j
-decreases-loop-j l = l.j
+invariant-loop-j l = Sized l.l × (lowestIn l.l ≡ lowestFrom l.s l.refused l.count l.j)

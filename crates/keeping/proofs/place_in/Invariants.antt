@@ -1,4 +1,4 @@
-use Prim.Native.Nat.{◌-◌, ◌≤◌}
+use Prim.Native.Nat.{◌-◌}
 use mathlib.Core.Path.{◌≡◌}
 use mathlib.Core.Bool.{not}
 use lib.ListN.{get_or}
@@ -7,8 +7,5 @@ use Rattle.keeping.specs.Working.{lowerRefusal, unread}
 use Rattle.keeping.proofs.place_in.Given as goal
 
 abbrev pub invariant-loop-i : goal.invariant-loop-i
-invariant-loop-i l = (l.i ≤ l.count)
-    × (first (λ k. not (lowerRefusal l.s (get_or l.list k unread) l.x)) 0 l.count ≡ first (λ k. not (lowerRefusal l.s (get_or l.list k unread) l.x)) l.i (l.count - l.i))
-
-abbrev pub decreases-loop-i : goal.decreases-loop-i
-decreases-loop-i l = l.count - l.i
+invariant-loop-i l =
+    first (λ k. not (lowerRefusal l.s (get_or l.list k unread) l.x)) 0 l.count ≡ first (λ k. not (lowerRefusal l.s (get_or l.list k unread) l.x)) l.i (l.count - l.i)

@@ -1,4 +1,4 @@
-use Prim.Native.Nat.{◌-◌, ◌≤◌, ◌<◌}
+use Prim.Native.Nat.{◌≤◌, ◌<◌}
 use mathlib.Core.Path.{◌∙◌}
 use native.Mathlib.Omega.{arith}
 use lib.ListN.{length, length-set}
@@ -10,10 +10,10 @@ pub loop-i-preserved : goal.loop-i-preserved
 loop-i-preserved c =
     let l = c.loop-i in
     let h : l.i < length l.list = omega arith in
-    (omega arith, length-set l.list l.i l.carried ∙ l.invariant.1, push-turn l.list l.i l.carried unread h ∙ l.invariant.2)
+    (length-set l.list l.i l.carried ∙ l.invariant.0, push-turn l.list l.i l.carried unread h ∙ l.invariant.1)
 
 pub returns : goal.returns
 returns c =
     let l = c.loop-i in
     let h : length l.list ≤ l.i = omega arith in
-    push-end l.list l.i l.carried h ∙ l.invariant.2
+    push-end l.list l.i l.carried h ∙ l.invariant.1

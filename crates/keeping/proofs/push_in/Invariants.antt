@@ -1,4 +1,3 @@
-use Prim.Native.Nat.{◌-◌, ◌≤◌}
 use mathlib.Core.Path.{◌≡◌}
 use mathlib.Core.List.{◌++◌}
 use lib.ListN.{length, take, drop}
@@ -7,7 +6,4 @@ use Rattle.keeping.specs.Working.{pushed}
 use Rattle.keeping.proofs.push_in.Given as goal
 
 abbrev pub invariant-loop-i : goal.invariant-loop-i
-invariant-loop-i l = (l.i ≤ maxRefused) × (length l.list ≡ maxRefused) × (take l.i l.list ++ pushed l.carried (drop l.i l.list) ≡ take l.at l.initial.list ++ pushed l.initial.carried (drop l.at l.initial.list))
-
-abbrev pub decreases-loop-i : goal.decreases-loop-i
-decreases-loop-i l = maxRefused - l.i
+invariant-loop-i l = (length l.list ≡ maxRefused) × (take l.i l.list ++ pushed l.carried (drop l.i l.list) ≡ take l.at l.initial.list ++ pushed l.initial.carried (drop l.at l.initial.list))

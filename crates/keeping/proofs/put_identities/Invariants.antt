@@ -1,15 +1,12 @@
-use Prim.Native.Nat.{◌-◌, ◌*◌, ◌+◌, ◌≤◌}
+use Prim.Native.Nat.{◌*◌, ◌+◌}
 use mathlib.Core.Path.{◌≡◌}
 use mathlib.Core.List.{map}
 use lib.ListN.{take}
 use Rattle.places.specs.Places.{flat}
-use Rattle.text.specs.Buffer.{Put}
+use Rattle.octets.specs.Put.{Put}
 use Rattle.items.specs.Layout.{hashSize}
 use Rattle.items.specs.Items.{itemIdentity}
 use Rattle.keeping.proofs.put_identities.Given as goal
 
 abbrev pub invariant-loop-i : goal.invariant-loop-i
-invariant-loop-i l = (l.i ≤ l.count) × (l.a ≡ l.at + l.i * hashSize) × Put l.initial.t l.at (flat (map (itemIdentity l.s) (take l.i l.list))) l.a l.t
-
-abbrev pub decreases-loop-i : goal.decreases-loop-i
-decreases-loop-i l = l.count - l.i
+invariant-loop-i l = (l.a ≡ l.at + l.i * hashSize) × Put l.initial.t l.at (flat (map (itemIdentity l.s) (take l.i l.list))) l.a l.t

@@ -1,11 +1,11 @@
-use Prim.Native.Nat.{ℕ, ◌-◌, ◌*◌, ◌≤◌, ◌<◌}
+use Prim.Native.Nat.{ℕ, ◌*◌, ◌≤◌, ◌<◌}
 use mathlib.Core.Path.{◌≡◌, ap, ◌∙◌}
 use mathlib.Core.List.{map}
 use native.Mathlib.Omega.{arith}
 use lib.ListN.{length, take, replicate}
 use lib.Seq.{length-take-le}
 use Rattle.places.specs.Places.{flat}
-use Rattle.text.proofs.Writing.{put-put, put_as, put-none}
+use Rattle.octets.proofs.Puts.{put-put, put_as, put-none}
 use Rattle.tracked.specs.Layout.{maxStanding, fixSize}
 use Rattle.tracked.specs.Bytes.{fixBytes}
 use Rattle.keeping.specs.Working.{itemFix}
@@ -14,16 +14,15 @@ use Rattle.keeping.proofs.write_fixes.Goals as goal
 
 pub loop-i-init : goal.loop-i-init
 unfolding flat
-loop-i-init c = (omega arith, omega arith, put-none _ _)
+loop-i-init c = (omega arith, put-none _ _)
 
 pub loop-i-preserved : goal.loop-i-preserved
 loop-i-preserved c =
     let in_list : c.args.count ≤ length c.args.list.now = c.requires.count_bound.1 in
     let p = c.put_fix-at.ensures in
     let h : c.loop-i.i < length c.args.list.now = omega (arith, in_list) in (
-      omega arith,
       omega (arith, p.0),
-      put_as (flat-more fixBytes (itemFix c.args.s.now c.args.g.now) c.args.list.now c.loop-i.i 0 h) (put-put c.loop-i.invariant.2 p.1),
+      put_as (flat-more fixBytes (itemFix c.args.s.now c.args.g.now) c.args.list.now c.loop-i.i 0 h) (put-put c.loop-i.invariant.1 p.1),
     )
 
 pub returns : goal.returns
@@ -33,5 +32,5 @@ returns c =
     let e : c.loop-i.i ≡ c.args.count = omega arith in
     let ps = map fixBytes (map (itemFix c.args.s.now c.args.g.now) (take c.args.count c.args.list.now)) in
     let n : length ps ≡ c.args.count = map-length fixBytes (itemFix c.args.s.now c.args.g.now) (take c.args.count c.args.list.now) ∙ length-take-le c.args.count c.args.list.now in_list in
-    let p = rw e at c.loop-i.invariant.2 in
-    put-table fixSize maxStanding ps p zeros (omega (arith, p.next, c.loop-i.invariant.1)) (omega (arith, c.requires.count_bound.0))
+    let p = rw e at c.loop-i.invariant.1 in
+    put-table fixSize maxStanding ps p zeros (omega (arith, p.next, c.loop-i.invariant.0)) (omega (arith, c.requires.count_bound.0))

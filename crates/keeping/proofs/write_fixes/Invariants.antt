@@ -1,16 +1,13 @@
-use Prim.Native.Nat.{◌-◌, ◌*◌, ◌≤◌}
+use Prim.Native.Nat.{◌*◌}
 use mathlib.Core.Path.{◌≡◌}
 use mathlib.Core.List.{map}
 use lib.ListN.{take}
 use Rattle.places.specs.Places.{flat}
-use Rattle.text.specs.Buffer.{Put}
+use Rattle.octets.specs.Put.{Put}
 use Rattle.tracked.specs.Layout.{fixSize}
 use Rattle.tracked.specs.Bytes.{fixBytes}
 use Rattle.keeping.specs.Working.{itemFix}
 use Rattle.keeping.proofs.write_fixes.Given as goal
 
 abbrev pub invariant-loop-i : goal.invariant-loop-i
-invariant-loop-i l = (l.i ≤ l.count) × (l.at ≡ l.i * fixSize) × Put l.initial.t 0 (flat (map fixBytes (map (itemFix l.s l.g) (take l.i l.list)))) l.at l.t
-
-abbrev pub decreases-loop-i : goal.decreases-loop-i
-decreases-loop-i l = l.count - l.i
+invariant-loop-i l = (l.at ≡ l.i * fixSize) × Put l.initial.t 0 (flat (map fixBytes (map (itemFix l.s l.g) (take l.i l.list)))) l.at l.t

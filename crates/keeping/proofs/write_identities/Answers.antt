@@ -3,7 +3,7 @@ use mathlib.Core.Path.{◌≡◌, ◌∙◌}
 use mathlib.Core.List.{List}
 use native.Mathlib.Omega.{arith}
 use lib.ListN.{length, get_or, set, length-set}
-use Rattle.text.proofs.Writing.{put-length}
+use Rattle.octets.proofs.Puts.{put-length}
 use Rattle.tracked.specs.Known.{knownSize}
 use Rattle.keeping.specs.declared.Kept.{Kept}
 use Rattle.keeping.specs.Working.{Lies, Keeps}

@@ -1,13 +1,12 @@
 use mathlib.Core.Path.{refl}
 use native.Mathlib.Omega.{arith}
 use Rattle.octets.proofs.Numbers.{all-bytes}
-use Rattle.text.proofs.Writing.{put_whole}
+use Rattle.octets.proofs.Puts.{put_whole}
 use Rattle.merge.proofs.Single.{single-put}
-use borrow.Author.Rules.{rules}
 use Rattle.merge.proofs.alone.Goals as goal
 
 pub returns : goal.returns
 returns c =
-    let f = c.args.f.now in
-    let b = all-bytes f (search rules) in
-    single-put _ f _ b c.requires refl (put_whole c.put_bytes.ensures (omega (arith, c.requires)))
+    let f = c.args.f.bytes.now in
+    let b = all-bytes f c.args.f.octets in
+    single-put _ f _ b c.args.f.size refl (put_whole c.put_bytes.ensures (omega (arith, c.args.f.size)))

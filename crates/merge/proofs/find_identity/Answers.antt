@@ -1,6 +1,5 @@
-use Prim.Native.Nat.{ℕ, ◌+◌, ◌-◌}
+use Prim.Native.Nat.{ℕ, ◌+◌, ◌-◌, ◌*◌}
 use mathlib.Core.Path.{◌≡◌, refl, sym, ap, ◌∙◌}
-use mathlib.Core.Bool.{false}
 use mathlib.Core.List.{List, []}
 use native.Mathlib.Omega.{arith}
 use lib.ListN.{get_or, take, drop}
@@ -18,25 +17,27 @@ use Rattle.merge.proofs.find_identity.Goals as goal
 
 pub loop-k-init : goal.loop-k-init
 unfolding any_of
-loop-k-init c = (omega arith, refl, refl)
+loop-k-init c = refl
 
 pub returns-then-equal : goal.returns-then-equal
 returns-then-equal c =
-    let asked : c.equal.result ≡ isIdentity c.args.id.now (get_or (places hashSize c.args.n c.args.ids.now) c.loop-k.k []) = let e : take (c.loop-k.at + hashSize - c.loop-k.at) (drop c.loop-k.at c.args.ids.now) ≡ get_or (places hashSize c.args.n c.args.ids.now) c.loop-k.k []
-    = ap (λ (x : ℕ). take x (drop c.loop-k.at c.args.ids.now)) (width hashSize c.loop-k.at) ∙ ap (λ (x : ℕ). take hashSize (drop x c.args.ids.now)) c.loop-k.invariant.1 ∙ sym (place_of hashSize c.args.n c.loop-k.k c.args.ids.now c.loop-k-test.true) in
-    c.equal.ensures ∙ ap (λ (x : List ℕ). same x c.args.id.now) e in
+    let asked : c.equal.result ≡ isIdentity c.args.id.now.0 (get_or (places hashSize c.args.n c.args.ids.now) c.loop-k.k []) = let at : ℕ = c.loop-k.k * hashSize in
+    let e : take (at + hashSize - at) (drop at c.args.ids.now) ≡ get_or (places hashSize c.args.n c.args.ids.now) c.loop-k.k []
+    = ap (λ (x : ℕ). take x (drop at c.args.ids.now)) (width hashSize at) ∙ sym (place_of hashSize c.args.n c.loop-k.k c.args.ids.now c.loop-k-test.true) in
+    c.equal.ensures ∙ ap (λ (x : List ℕ). same x c.args.id.now.0) e in
     let e : c.loop-k.k - 0 ≡ c.loop-k.k = omega arith in
-    (omega arith, rw (length-places hashSize c.args.n c.args.ids.now) c.loop-k-test.true, rw e c.loop-k.invariant.2, sym asked ∙ c.if-equal.true)
+    (omega arith, rw (length-places hashSize c.args.n c.args.ids.now) c.loop-k-test.true, rw e c.loop-k.invariant, sym asked ∙ c.if-equal.true)
 
 pub loop-k-preserved : goal.loop-k-preserved
 loop-k-preserved c =
-    let asked : c.equal.result ≡ isIdentity c.args.id.now (get_or (places hashSize c.args.n c.args.ids.now) c.loop-k.k []) = let e : take (c.loop-k.at + hashSize - c.loop-k.at) (drop c.loop-k.at c.args.ids.now) ≡ get_or (places hashSize c.args.n c.args.ids.now) c.loop-k.k []
-    = ap (λ (x : ℕ). take x (drop c.loop-k.at c.args.ids.now)) (width hashSize c.loop-k.at) ∙ ap (λ (x : ℕ). take hashSize (drop x c.args.ids.now)) c.loop-k.invariant.1 ∙ sym (place_of hashSize c.args.n c.loop-k.k c.args.ids.now c.loop-k-test.true) in
-    c.equal.ensures ∙ ap (λ (x : List ℕ). same x c.args.id.now) e in
+    let asked : c.equal.result ≡ isIdentity c.args.id.now.0 (get_or (places hashSize c.args.n c.args.ids.now) c.loop-k.k []) = let at : ℕ = c.loop-k.k * hashSize in
+    let e : take (at + hashSize - at) (drop at c.args.ids.now) ≡ get_or (places hashSize c.args.n c.args.ids.now) c.loop-k.k []
+    = ap (λ (x : ℕ). take x (drop at c.args.ids.now)) (width hashSize at) ∙ sym (place_of hashSize c.args.n c.loop-k.k c.args.ids.now c.loop-k-test.true) in
+    c.equal.ensures ∙ ap (λ (x : List ℕ). same x c.args.id.now.0) e in
     let v = c.loop-k.invariant in
-    (omega (arith, c.loop-k-test.true), omega (arith, v.1), any-more (isIdentity c.args.id.now) (places hashSize c.args.n c.args.ids.now) c.loop-k.k [] (rw (length-places hashSize c.args.n c.args.ids.now) c.loop-k-test.true) v.2 (sym asked ∙ c.if-equal.false))
+    any-more (isIdentity c.args.id.now.0) (places hashSize c.args.n c.args.ids.now) c.loop-k.k [] (rw (length-places hashSize c.args.n c.args.ids.now) c.loop-k-test.true) v (sym asked ∙ c.if-equal.false)
 
 pub returns : goal.returns
 returns c =
     let ps = places hashSize c.args.n c.args.ids.now in
-    ap (any_of (isIdentity c.args.id.now)) (sym (take_all c.loop-k.k ps (rw (length-places hashSize c.args.n c.args.ids.now) (omega (arith, c.loop-k-test.false))))) ∙ c.loop-k.invariant.2
+    ap (any_of (isIdentity c.args.id.now.0)) (sym (take_all c.loop-k.k ps (rw (length-places hashSize c.args.n c.args.ids.now) (omega (arith, c.loop-k-test.false))))) ∙ c.loop-k.invariant

@@ -1,4 +1,3 @@
-use Prim.Native.Nat.{◌*◌, ◌-◌, ◌≤◌}
 use mathlib.Core.Path.{◌≡◌}
 use mathlib.Core.Bool.{false}
 use lib.ListN.{take}
@@ -9,7 +8,4 @@ use Rattle.merge.specs.Searching.{isIdentity}
 use Rattle.merge.proofs.find_identity.Given as goal
 
 abbrev pub invariant-loop-k : goal.invariant-loop-k
-invariant-loop-k l = (l.k ≤ l.n) × (l.at ≡ l.k * hashSize) × (any_of (isIdentity l.id) (take l.k (places hashSize l.n l.ids)) ≡ false)
-
-abbrev pub decreases-loop-k : goal.decreases-loop-k
-decreases-loop-k l = l.n - l.k
+invariant-loop-k l = any_of (isIdentity l.id.0) (take l.k (places hashSize l.n l.ids)) ≡ false

@@ -1,6 +1,5 @@
-use Prim.Native.Nat.{ℕ, ◌-◌, ◌<◌}
+use Prim.Native.Nat.{ℕ, ◌<◌}
 use mathlib.Core.Path.{◌≡◌, refl, sym, ap, ◌∙◌}
-use mathlib.Core.Bool.{false}
 use mathlib.Core.List.{List, []}
 use native.Mathlib.Omega.{arith}
 use lib.ListN.{length, get_or}
@@ -14,19 +13,19 @@ use Rattle.merge.proofs.find_set.Goals as goal
 
 pub loop-k-init : goal.loop-k-init
 unfolding any_of
-loop-k-init c = (c.held_count-n.ensures, omega arith, refl)
+loop-k-init c = refl
 
 pub loop-k-preserved : goal.loop-k-preserved
 loop-k-preserved c =
     let k : ℕ = c.loop-k.k in
     let hs : List (List ℕ) = heldPlaces c.args.b.now in
-    let among : k < length hs = rw (held-length c.args.b.now) (omega (arith, c.loop-k-test.true, c.loop-k.invariant.0)) in
-    let asked : c.same_set.result ≡ hasSet c.args.f.now (get_or hs k []) = c.same_set.ensures ∙ ap (λ (x : List ℕ). sameSet x c.args.f.now) c.held.ensures.0 in
+    let among : k < length hs = rw (held-length c.args.b.now) (omega (arith, c.loop-k-test.true, c.held_count-n.ensures)) in
+    let asked : c.has_set_of.result ≡ hasSet c.args.f.bytes.now (get_or hs k []) = c.has_set_of.ensures ∙ ap (λ (x : List ℕ). sameSet x c.args.f.bytes.now) c.held.ensures in
     let v = c.loop-k.invariant in
-    (v.0, omega (arith, c.loop-k-test.true), any-more (hasSet c.args.f.now) hs k [] among v.2 (sym asked ∙ c.if-same_set.false))
+    any-more (hasSet c.args.f.bytes.now) hs k [] among v (sym asked ∙ c.if-has_set_of.false)
 
 pub returns : goal.returns
 returns c =
     let b = c.args.b.now in
-    let f = c.args.f.now in
-    ap (any_of (hasSet f)) (sym (take_all c.loop-k.k (heldPlaces b) (rw (held-length b) (omega (arith, c.loop-k-test.false, c.loop-k.invariant.0))))) ∙ c.loop-k.invariant.2
+    let f = c.args.f.bytes.now in
+    ap (any_of (hasSet f)) (sym (take_all c.loop-k.k (heldPlaces b) (rw (held-length b) (omega (arith, c.loop-k-test.false, c.held_count-n.ensures))))) ∙ c.loop-k.invariant

@@ -1,4 +1,3 @@
-use Prim.Native.Nat.{◌-◌, ◌≤◌}
 use mathlib.Core.Path.{◌≡◌}
 use mathlib.Core.Bool.{false}
 use mathlib.Core.List.{map}
@@ -10,7 +9,4 @@ use Rattle.merge.specs.Searching.{isIdentity}
 use Rattle.merge.proofs.first_identified.Given as goal
 
 abbrev pub invariant-loop-i : goal.invariant-loop-i
-invariant-loop-i l = (l.i ≤ l.k) × (any_of (isIdentity (identityIn l.f)) (take l.i (map identityIn (heldPlaces l.b))) ≡ false)
-
-abbrev pub decreases-loop-i : goal.decreases-loop-i
-decreases-loop-i l = l.k - l.i
+invariant-loop-i l = any_of (isIdentity (identityIn l.f.bytes.now)) (take l.i (map identityIn (heldPlaces l.b))) ≡ false

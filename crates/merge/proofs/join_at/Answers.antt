@@ -57,13 +57,13 @@ join_block-joint-requires c =
     let counted : length bs ≡ c.args.n = count-is c.args.t.now c.args.n c.requires.ready.filled in
     let below : c.args.i < c.args.n = rw counted at c.requires.ties.0 in
     let lent : take (c.args.i * transmissionSize + transmissionSize - c.args.i * transmissionSize) (drop (c.args.i * transmissionSize) c.args.t.now) ≡ b = ap (λ (k : ℕ). take k (drop (c.args.i * transmissionSize) c.args.t.now)) (width transmissionSize (c.args.i * transmissionSize)) ∙ block_at c.args.t.now c.args.n c.requires.ready.filled c.args.i below in
-    record { steady = rw lent (c.requires.ready.steady b (at_in [] bs c.args.i c.requires.ties.0), nothing_known b); f_len = c.requires.f_len }
+    rw lent (c.requires.ready.steady b (at_in [] bs c.args.i c.requires.ties.0), nothing_known b)
 
 pub returns-in_default : goal.returns-in_default
 returns-in_default c =
     let bs : List (List ℕ) = blocks c.args.n c.args.t.now in
     let b : List ℕ = get_or bs c.args.i [] in
-    let f : List ℕ = c.args.f.now in
+    let f : List ℕ = c.args.f.bytes.now in
     let counted : length bs ≡ c.args.n = count-is c.args.t.now c.args.n c.requires.ready.filled in
     let below : c.args.i < c.args.n = rw counted at c.requires.ties.0 in
     let lent : take (c.args.i * transmissionSize + transmissionSize - c.args.i * transmissionSize) (drop (c.args.i * transmissionSize) c.args.t.now) ≡ b = ap (λ (k : ℕ). take k (drop (c.args.i * transmissionSize) c.args.t.now)) (width transmissionSize (c.args.i * transmissionSize)) ∙ block_at c.args.t.now c.args.n c.requires.ready.filled c.args.i below in
@@ -87,7 +87,7 @@ pub rearrange-count-requires : goal.rearrange-count-requires
 rearrange-count-requires c =
     let bs : List (List ℕ) = blocks c.args.n c.args.t.now in
     let b : List ℕ = get_or bs c.args.i [] in
-    let f : List ℕ = c.args.f.now in
+    let f : List ℕ = c.args.f.bytes.now in
     let counted : length bs ≡ c.args.n = count-is c.args.t.now c.args.n c.requires.ready.filled in
     let few : length bs ≤ maxTransmissions = rw counted c.requires.ready.filled.few in
     let below : c.args.i < c.args.n = rw counted at c.requires.ties.0 in
@@ -100,11 +100,11 @@ rearrange-count-requires c =
     let put : put_mid (c.args.i * transmissionSize) (c.args.i * transmissionSize + transmissionSize - c.args.i * transmissionSize) c.args.t.now x ≡ blockTable (set bs c.args.i x) = block-put bs c.args.t.now x c.args.i (all-wide bs c.requires.ready.filled.sound) c.requires.ready.filled.is c.requires.ties.0 x-size in
     let b-bytes : Bytes b = let a = c.args.i * transmissionSize in
     subst Bytes lent (bytes_take (a + transmissionSize - a) (drop a c.args.t.now) (bytes_drop a c.args.t.now (all-bytes c.args.t.now (search rules)))) in
-    let f-bytes : Bytes f = all-bytes f (search rules) in
+    let f-bytes : Bytes f = all-bytes f c.args.f.octets in
     let again : JointAs (fixIn f) (transmissionIn b) (Decided c.in-Decided.j) x = subst (λ r. JointAs (fixIn f) (transmissionIn b) r x) c.in-Decided.is joint in
     let there : (blocks c.args.n (put_mid (c.args.i * transmissionSize) (c.args.i * transmissionSize + transmissionSize - c.args.i * transmissionSize) c.args.t.now x) ≡ set bs c.args.i x)
     × Filled (put_mid (c.args.i * transmissionSize) (c.args.i * transmissionSize + transmissionSize - c.args.i * transmissionSize) c.args.t.now x) c.args.n = let z = c.requires.ties in
-    let u = u-sound f bs c.args.i z.0 z.1 z.2 z.3 c.requires.ready.steady b-bytes f-bytes c.requires.f_len.0 c.requires.f_len.1 few in
+    let u = u-sound f bs c.args.i z.0 z.1 z.2 z.3 c.requires.ready.steady b-bytes f-bytes c.args.f.size c.args.f.formed few in
     table_filled (set bs c.args.i x) _ c.args.n (set-sound bs c.args.i x c.requires.ready.filled.sound (subst Sound (sym again.1) u)) (sym (length-set bs c.args.i x ∙ counted)) c.requires.ready.filled.few put in
     let known-there : Knows (get_or (blocks c.args.n (put_mid (c.args.i * transmissionSize) (c.args.i * transmissionSize + transmissionSize - c.args.i * transmissionSize) c.args.t.now x)) c.args.i []) sheet = let e = ap (λ (l : List (List ℕ)). get_or l c.args.i []) there.0 ∙ get_or-set_same bs c.args.i x [] c.requires.ties.0 in
     rw e (subst (λ r. KnowsDecided r x sheet) c.in-Decided.is c.join_block-joint.ensures.knows_decided) in
@@ -114,7 +114,7 @@ pub returns : goal.returns
 returns c =
     let bs : List (List ℕ) = blocks c.args.n c.args.t.now in
     let b : List ℕ = get_or bs c.args.i [] in
-    let f : List ℕ = c.args.f.now in
+    let f : List ℕ = c.args.f.bytes.now in
     let counted : length bs ≡ c.args.n = count-is c.args.t.now c.args.n c.requires.ready.filled in
     let few : length bs ≤ maxTransmissions = rw counted c.requires.ready.filled.few in
     let below : c.args.i < c.args.n = rw counted at c.requires.ties.0 in
@@ -126,17 +126,17 @@ returns c =
     let put : put_mid (c.args.i * transmissionSize) (c.args.i * transmissionSize + transmissionSize - c.args.i * transmissionSize) c.args.t.now x ≡ blockTable (set bs c.args.i x) = block-put bs c.args.t.now x c.args.i (all-wide bs c.requires.ready.filled.sound) c.requires.ready.filled.is c.requires.ties.0 x-size in
     let b-bytes : Bytes b = let a = c.args.i * transmissionSize in
     subst Bytes lent (bytes_take (a + transmissionSize - a) (drop a c.args.t.now) (bytes_drop a c.args.t.now (all-bytes c.args.t.now (search rules)))) in
-    let f-bytes : Bytes f = all-bytes f (search rules) in
+    let f-bytes : Bytes f = all-bytes f c.args.f.octets in
     let again : JointAs (fixIn f) (transmissionIn b) (Decided c.in-Decided.j) x = subst (λ r. JointAs (fixIn f) (transmissionIn b) r x) c.in-Decided.is joint in
     let there : (blocks c.args.n (put_mid (c.args.i * transmissionSize) (c.args.i * transmissionSize + transmissionSize - c.args.i * transmissionSize) c.args.t.now x) ≡ set bs c.args.i x)
     × Filled (put_mid (c.args.i * transmissionSize) (c.args.i * transmissionSize + transmissionSize - c.args.i * transmissionSize) c.args.t.now x) c.args.n = let z = c.requires.ties in
-    let u = u-sound f bs c.args.i z.0 z.1 z.2 z.3 c.requires.ready.steady b-bytes f-bytes c.requires.f_len.0 c.requires.f_len.1 few in
+    let u = u-sound f bs c.args.i z.0 z.1 z.2 z.3 c.requires.ready.steady b-bytes f-bytes c.args.f.size c.args.f.formed few in
     table_filled (set bs c.args.i x) _ c.args.n (set-sound bs c.args.i x c.requires.ready.filled.sound (subst Sound (sym again.1) u)) (sym (length-set bs c.args.i x ∙ counted)) c.requires.ready.filled.few put in
     let z = c.requires.ties in
     let p = again in
     let g = withFix (fixIn f) (transmissionIn b) in
     let d = decided f bs c.args.i z.0 z.1 z.2 z.3 p.0 in
-    let e = ap arrangedBlocks (there.0 ∙ ap (set bs c.args.i) p.1) ∙ decided-bytes f bs c.args.i z.0 z.1 z.2 z.3 c.requires.ready.steady b-bytes f-bytes c.requires.f_len.0 c.requires.f_len.1 few in
+    let e = ap arrangedBlocks (there.0 ∙ ap (set bs c.args.i) p.1) ∙ decided-bytes f bs c.args.i z.0 z.1 z.2 z.3 c.requires.ready.steady b-bytes f-bytes c.args.f.size c.args.f.formed few in
     rw d (record {
       answer = c.answer_of.ensures ∙ ap answer_in p.2;
       entered = ap (λ (q : Joined). q.entered) p.2;

@@ -13,14 +13,14 @@ pub overflow_cast-k : goal.overflow_cast-k
 overflow_cast-k c =
     let b : List ℕ = c.args.b.now in
     let i : ℕ = c.in-At.k in
-    let found : First (hasSet c.args.f.now) (heldPlaces b) [] 0 (At i) = subst (First (hasSet c.args.f.now) (heldPlaces b) [] 0) c.in-At.is c.find_set-found.ensures in
+    let found : First (hasSet c.args.f.bytes.now) (heldPlaces b) [] 0 (At i) = subst (First (hasSet c.args.f.bytes.now) (heldPlaces b) [] 0) c.in-At.is c.find_set-found.ensures in
     let there : i < heldCount b = rw (held-length b) at found.1 in
-    omega (arith, there, c.requires.steady.0.sound.few, c.requires.steady.0.sound.few-refused)
+    omega (arith, there, c.requires.0.sound.few, c.requires.0.sound.few-refused)
 
 pub first_identified-i-requires : goal.first_identified-i-requires
 first_identified-i-requires c =
     let b : List ℕ = c.args.b.now in
     let i : ℕ = c.in-At.k in
-    let found : First (hasSet c.args.f.now) (heldPlaces b) [] 0 (At i) = subst (First (hasSet c.args.f.now) (heldPlaces b) [] 0) c.in-At.is c.find_set-found.ensures in
+    let found : First (hasSet c.args.f.bytes.now) (heldPlaces b) [] 0 (At i) = subst (First (hasSet c.args.f.bytes.now) (heldPlaces b) [] 0) c.in-At.is c.find_set-found.ensures in
     let there : i < heldCount b = rw (held-length b) at found.1 in
-    record { sound = (c.requires.steady.0.sound, there, set-identity b c.args.f.now c.requires.steady.0.sound i there found.3); f_len = c.requires.f_len }
+    (c.requires.0.sound, there, set-identity b c.args.f.bytes.now c.requires.0.sound i there found.3)

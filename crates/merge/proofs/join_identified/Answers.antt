@@ -16,33 +16,33 @@ use Rattle.merge.proofs.join_identified.Goals as goal
 pub returns-in_default : goal.returns-in_default
 returns-in_default c =
     let b : List ℕ = c.args.b.now in
-    let f : List ℕ = c.args.f.now in
+    let f : List ℕ = c.args.f.bytes.now in
     let ids : List ℕ = c.identities.new.ids in
-    let identified : c.identity-id.result ≡ identityIn f = c.identity-id.ensures in
+    let identified : c.identity-id.result.0 ≡ identityIn f = c.identity-id.ensures in
     let listed-there : Listed b ids = listed b ids _ c.identities.ensures in
-    let searched : First (isIdentity (identityIn f)) (map identityIn (heldPlaces b)) [] 0 c.find_identity-found.result = rw (sym identified, sym (ids-places b ids listed-there c.requires.steady.0.signed), sym c.held_count-n.ensures) c.find_identity-found.ensures in
-    let a = subst (First (isIdentity (identityIn c.args.f.now)) (map identityIn (heldPlaces c.args.b.now)) [] 0) c.in_default.is searched in
-    record { joint_as = (none-held c.args.b.now c.args.f.now a, c.join.ensures.0, c.join.ensures.1); knows_decided = c.join.ensures.2 }
+    let searched : First (isIdentity (identityIn f)) (map identityIn (heldPlaces b)) [] 0 c.find_identity-found.result = rw (sym identified, sym (ids-places b ids listed-there c.requires.0.signed), sym c.held_count-n.ensures) c.find_identity-found.ensures in
+    let a = subst (First (isIdentity (identityIn c.args.f.bytes.now)) (map identityIn (heldPlaces c.args.b.now)) [] 0) c.in_default.is searched in
+    record { joint_as = (none-held c.args.b.now c.args.f.bytes.now a, c.join.ensures.0, c.join.ensures.1); knows_decided = c.join.ensures.2 }
 
 pub overflow_cast-k : goal.overflow_cast-k
 overflow_cast-k c =
     let b : List ℕ = c.args.b.now in
-    let f : List ℕ = c.args.f.now in
+    let f : List ℕ = c.args.f.bytes.now in
     let ids : List ℕ = c.identities.new.ids in
-    let identified : c.identity-id.result ≡ identityIn f = c.identity-id.ensures in
+    let identified : c.identity-id.result.0 ≡ identityIn f = c.identity-id.ensures in
     let listed-there : Listed b ids = listed b ids _ c.identities.ensures in
-    let searched : First (isIdentity (identityIn f)) (map identityIn (heldPlaces b)) [] 0 c.find_identity-found.result = rw (sym identified, sym (ids-places b ids listed-there c.requires.steady.0.signed), sym c.held_count-n.ensures) c.find_identity-found.ensures in
+    let searched : First (isIdentity (identityIn f)) (map identityIn (heldPlaces b)) [] 0 c.find_identity-found.result = rw (sym identified, sym (ids-places b ids listed-there c.requires.0.signed), sym c.held_count-n.ensures) c.find_identity-found.ensures in
     let among : length (map identityIn (heldPlaces b)) ≡ heldCount b = length-map (heldPlaces b) identityIn ∙ held-length b in
     let found : First (isIdentity (identityIn f)) (map identityIn (heldPlaces b)) [] 0 (At c.in-At.k) = subst (First (isIdentity (identityIn f)) (map identityIn (heldPlaces b)) [] 0) c.in-At.is searched in
-    let f = found in omega (arith, f.1, among, c.requires.steady.0.sound.few, c.requires.steady.0.sound.few-refused)
+    let f = found in omega (arith, f.1, among, c.requires.0.sound.few, c.requires.0.sound.few-refused)
 
 pub sign_held-requires : goal.sign_held-requires
 sign_held-requires c =
     let b : List ℕ = c.args.b.now in
-    let f : List ℕ = c.args.f.now in
+    let f : List ℕ = c.args.f.bytes.now in
     let ids : List ℕ = c.identities.new.ids in
-    let identified : c.identity-id.result ≡ identityIn f = c.identity-id.ensures in
+    let identified : c.identity-id.result.0 ≡ identityIn f = c.identity-id.ensures in
     let listed-there : Listed b ids = listed b ids _ c.identities.ensures in
-    let searched : First (isIdentity (identityIn f)) (map identityIn (heldPlaces b)) [] 0 c.find_identity-found.result = rw (sym identified, sym (ids-places b ids listed-there c.requires.steady.0.signed), sym c.held_count-n.ensures) c.find_identity-found.ensures in
+    let searched : First (isIdentity (identityIn f)) (map identityIn (heldPlaces b)) [] 0 c.find_identity-found.result = rw (sym identified, sym (ids-places b ids listed-there c.requires.0.signed), sym c.held_count-n.ensures) c.find_identity-found.ensures in
     let found : First (isIdentity (identityIn f)) (map identityIn (heldPlaces b)) [] 0 (At c.in-At.k) = subst (First (isIdentity (identityIn f)) (map identityIn (heldPlaces b)) [] 0) c.in-At.is searched in
-    record { steady = (c.requires.steady.0, c.requires.f_len.0); first = found }
+    record { steady = c.requires.0; first = found }

@@ -15,8 +15,8 @@ use Rattle.merge.proofs.keeps.Goals as goal
 pub returns-then-keeps_set : goal.returns-then-keeps_set
 returns-then-keeps_set c =
     let bs = blocks c.args.n c.args.t.now in
-    let f = c.args.f.now in
+    let f = c.args.f.bytes.now in
     let r = any-in (keepsSet f) bs (sym c.keeps_set.ensures ∙ c.if-keeps_set.true) in
     let b = r.0 in
-    let w = held-formed b (c.requires.filled.0.sound b r.1) 0 (let k = c.requires.filled.1 b r.1 in omega (arith, k)) in
+    let w = held-formed b (c.requires.0.sound b r.1) 0 (let k = c.requires.1 b r.1 in omega (arith, k)) in
     sym (any-of (keepsIdentity (identityIn f)) bs b r.1 (ap (λ (x : List ℕ). same x (identityIn f)) (same-identity (firstHeld b) f w r.2) ∙ same_refl (identityIn f)))

@@ -16,4 +16,4 @@ returns c =
     let i = c.args.i in
     let y = c.keeps_first.new.s in
     let e = c.block.ensures.0 in
-    let k = c.keeps_first.ensures.knows in record { value = c.keeps_first.ensures.value ∙ ap (keepsIdentity c.args.id.now) e; still = rw (part-put knownSize (i * knownSize) m y) (learned m y i c.requires.sheets c.requires.among k.0.size c.args.t.now (rw e at k.0) k.1).0 }
+    let k = c.keeps_first.ensures.knows in record { value = c.keeps_first.ensures.value ∙ ap (keepsIdentity c.args.id.now.0) e; still = rw (part-put knownSize (i * knownSize) m y) (learned m y i c.requires.sheets c.requires.among k.0.size c.args.t.now (rw e at k.0) k.1).0 }

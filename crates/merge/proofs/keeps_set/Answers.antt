@@ -1,4 +1,4 @@
-use Prim.Native.Nat.{ℕ, ◌-◌, ◌<◌}
+use Prim.Native.Nat.{ℕ, ◌<◌}
 use mathlib.Core.Path.{◌≡◌, sym, ap, ◌∙◌}
 use mathlib.Core.List.{List, []}
 use native.Mathlib.Omega.{arith}
@@ -16,32 +16,31 @@ pub held-requires : goal.held-requires
 held-requires c =
     let bs : List (List ℕ) = blocks c.args.n c.args.t.now in
     let b : List ℕ = get_or bs c.loop-i.i [] in
-    let among : c.loop-i.i < length bs = rw (count-is c.args.t.now c.args.n c.requires.filled.0) c.loop-i-test.true in
-    let b-sound : Sound b = sound-at c.args.t.now c.args.n c.requires.filled.0 c.loop-i.i c.loop-i-test.true in
-    let b-some : 0 < heldCount b = let f = c.requires.filled.1 b (at_in [] bs c.loop-i.i among) in omega (arith, f) in
-    let block-is : c.block.result.now ≡ b = c.block.ensures.0 ∙ block_at c.args.t.now c.args.n c.requires.filled.0 c.loop-i.i c.loop-i-test.true in
+    let among : c.loop-i.i < length bs = rw (count-is c.args.t.now c.args.n c.requires.0) c.loop-i-test.true in
+    let b-sound : Sound b = sound-at c.args.t.now c.args.n c.requires.0 c.loop-i.i c.loop-i-test.true in
+    let b-some : 0 < heldCount b = let f = c.requires.1 b (at_in [] bs c.loop-i.i among) in omega (arith, f) in
+    let block-is : c.block.result.now ≡ b = c.block.ensures.0 ∙ block_at c.args.t.now c.args.n c.requires.0 c.loop-i.i c.loop-i-test.true in
     record { sound = rw block-is b-sound; k_bound = rw block-is b-some }
 
-pub returns-then-same_set : goal.returns-then-same_set
-returns-then-same_set c =
+pub returns-then-has_set_of : goal.returns-then-has_set_of
+returns-then-has_set_of c =
     let bs : List (List ℕ) = blocks c.args.n c.args.t.now in
     let b : List ℕ = get_or bs c.loop-i.i [] in
-    let among : c.loop-i.i < length bs = rw (count-is c.args.t.now c.args.n c.requires.filled.0) c.loop-i-test.true in
-    let block-is : c.block.result.now ≡ b = c.block.ensures.0 ∙ block_at c.args.t.now c.args.n c.requires.filled.0 c.loop-i.i c.loop-i-test.true in
-    let asked : c.same_set.result ≡ keepsSet c.args.f.now b = c.same_set.ensures ∙ ap (λ (x : List ℕ). sameSet x c.args.f.now) (c.held.ensures.0 ∙ ap firstHeld block-is) in
-    sym (c.loop-i.invariant.1 ∙ any_here (keepsSet c.args.f.now) bs c.loop-i.i [] among (sym asked ∙ c.if-same_set.true))
+    let among : c.loop-i.i < length bs = rw (count-is c.args.t.now c.args.n c.requires.0) c.loop-i-test.true in
+    let block-is : c.block.result.now ≡ b = c.block.ensures.0 ∙ block_at c.args.t.now c.args.n c.requires.0 c.loop-i.i c.loop-i-test.true in
+    let asked : c.has_set_of.result ≡ keepsSet c.args.f.bytes.now b = c.has_set_of.ensures ∙ ap (λ (x : List ℕ). sameSet x c.args.f.bytes.now) (c.held.ensures ∙ ap firstHeld block-is) in
+    sym (c.loop-i.invariant ∙ any_here (keepsSet c.args.f.bytes.now) bs c.loop-i.i [] among (sym asked ∙ c.if-has_set_of.true))
 
 pub loop-i-preserved : goal.loop-i-preserved
 loop-i-preserved c =
     let bs : List (List ℕ) = blocks c.args.n c.args.t.now in
     let b : List ℕ = get_or bs c.loop-i.i [] in
-    let among : c.loop-i.i < length bs = rw (count-is c.args.t.now c.args.n c.requires.filled.0) c.loop-i-test.true in
-    let block-is : c.block.result.now ≡ b = c.block.ensures.0 ∙ block_at c.args.t.now c.args.n c.requires.filled.0 c.loop-i.i c.loop-i-test.true in
-    let asked : c.same_set.result ≡ keepsSet c.args.f.now b = c.same_set.ensures ∙ ap (λ (x : List ℕ). sameSet x c.args.f.now) (c.held.ensures.0 ∙ ap firstHeld block-is) in
-    (omega (arith, c.loop-i-test.true), c.loop-i.invariant.1 ∙ any-on (keepsSet c.args.f.now) bs c.loop-i.i [] among (sym asked ∙ c.if-same_set.false))
+    let among : c.loop-i.i < length bs = rw (count-is c.args.t.now c.args.n c.requires.0) c.loop-i-test.true in
+    let block-is : c.block.result.now ≡ b = c.block.ensures.0 ∙ block_at c.args.t.now c.args.n c.requires.0 c.loop-i.i c.loop-i-test.true in
+    let asked : c.has_set_of.result ≡ keepsSet c.args.f.bytes.now b = c.has_set_of.ensures ∙ ap (λ (x : List ℕ). sameSet x c.args.f.bytes.now) (c.held.ensures ∙ ap firstHeld block-is) in
+    c.loop-i.invariant ∙ any-on (keepsSet c.args.f.bytes.now) bs c.loop-i.i [] among (sym asked ∙ c.if-has_set_of.false)
 
 pub returns : goal.returns
 returns c =
-    let bs : List (List ℕ) = blocks c.args.n c.args.t.now in
     let bs = blocks c.args.n c.args.t.now in
-    sym (c.loop-i.invariant.1 ∙ any-over (keepsSet c.args.f.now) bs c.loop-i.i (rw (count-is c.args.t.now c.args.n c.requires.filled.0) (omega (arith, c.loop-i-test.false))))
+    sym (c.loop-i.invariant ∙ any-over (keepsSet c.args.f.bytes.now) bs c.loop-i.i (rw (count-is c.args.t.now c.args.n c.requires.0) (omega (arith, c.loop-i-test.false))))

@@ -1,6 +1,5 @@
 use Prim.Native.Nat.{ℕ, ◌+◌, ◌-◌}
 use mathlib.Core.Path.{◌≡◌, refl, sym, ap, ◌∙◌}
-use mathlib.Core.Bool.{false}
 use mathlib.Core.List.{[]}
 use native.Mathlib.Omega.{arith}
 use lib.ListN.{get_or, drop, length-drop}
@@ -16,35 +15,35 @@ pub loop-i-init : goal.loop-i-init
 unfolding any_of
 loop-i-init c =
     let z : c.args.from - c.args.from ≡ 0 = omega arith in
-    (omega arith, c.requires.filled.1, rw z refl)
+    rw z refl
 
 pub ties-requires : goal.ties-requires
 ties-requires c =
-    let e = c.block.ensures.0 ∙ block_at c.args.t.now c.args.n c.requires.filled.0 c.loop-i.i c.loop-i-test.true in
-    record { sound = rw e (sound-at c.args.t.now c.args.n c.requires.filled.0 c.loop-i.i c.loop-i-test.true); r_value = c.requires.r_value }
+    let e = c.block.ensures.0 ∙ block_at c.args.t.now c.args.n c.requires.0 c.loop-i.i c.loop-i-test.true in
+    rw e (sound-at c.args.t.now c.args.n c.requires.0 c.loop-i.i c.loop-i-test.true)
 
 pub returns-then-ties : goal.returns-then-ties
 returns-then-ties c =
-    let asked : c.ties.result ≡ tiesBlock c.args.r.now (get_or (blocks c.args.n c.args.t.now) c.loop-i.i []) = c.ties.ensures ∙ ap (tiesBlock c.args.r.now) (c.block.ensures.0 ∙ block_at c.args.t.now c.args.n c.requires.filled.0 c.loop-i.i c.loop-i-test.true) in
-    (c.loop-i.invariant.0, rw (count-is c.args.t.now c.args.n c.requires.filled.0) c.loop-i-test.true, c.loop-i.invariant.2, sym asked ∙ c.if-ties.true)
+    let asked : c.ties.result ≡ tiesBlock c.args.r.bytes.now (get_or (blocks c.args.n c.args.t.now) c.loop-i.i []) = c.ties.ensures ∙ ap (tiesBlock c.args.r.bytes.now) (c.block.ensures.0 ∙ block_at c.args.t.now c.args.n c.requires.0 c.loop-i.i c.loop-i-test.true) in
+    (omega arith, rw (count-is c.args.t.now c.args.n c.requires.0) c.loop-i-test.true, c.loop-i.invariant, sym asked ∙ c.if-ties.true)
 
 pub loop-i-preserved : goal.loop-i-preserved
 loop-i-preserved c =
-    let asked : c.ties.result ≡ tiesBlock c.args.r.now (get_or (blocks c.args.n c.args.t.now) c.loop-i.i []) = c.ties.ensures ∙ ap (tiesBlock c.args.r.now) (c.block.ensures.0 ∙ block_at c.args.t.now c.args.n c.requires.filled.0 c.loop-i.i c.loop-i-test.true) in
+    let asked : c.ties.result ≡ tiesBlock c.args.r.bytes.now (get_or (blocks c.args.n c.args.t.now) c.loop-i.i []) = c.ties.ensures ∙ ap (tiesBlock c.args.r.bytes.now) (c.block.ensures.0 ∙ block_at c.args.t.now c.args.n c.requires.0 c.loop-i.i c.loop-i-test.true) in
     let v = c.loop-i.invariant in
     let k = c.loop-i.i in
     let from = c.args.from in
     let bs = blocks c.args.n c.args.t.now in
-    let q = count-is c.args.t.now c.args.n c.requires.filled.0 in
-    let z : from + (k - from) ≡ k = omega (arith, v.0) in
-    let y : k - from + 1 ≡ k + 1 - from = omega (arith, v.0) in
+    let q = count-is c.args.t.now c.args.n c.requires.0 in
+    let z : from + (k - from) ≡ k = omega arith in
+    let y : k - from + 1 ≡ k + 1 - from = omega arith in
     let e = get_or-drop from bs (k - from) [] ∙ ap (λ (x : ℕ). get_or bs x []) z in
-    let m = any-more (tiesBlock c.args.r.now) (drop from bs) (k - from) [] (rw (length-drop from bs, q) (omega (arith, v.0, c.loop-i-test.true))) v.2 (ap (tiesBlock c.args.r.now) e ∙ sym asked ∙ c.if-ties.false) in
-    (omega (arith, v.0), omega (arith, c.loop-i-test.true), rw y at m)
+    let m = any-more (tiesBlock c.args.r.bytes.now) (drop from bs) (k - from) [] (rw (length-drop from bs, q) (omega arith)) v (ap (tiesBlock c.args.r.bytes.now) e ∙ sym asked ∙ c.if-ties.false) in
+    rw y at m
 
 pub returns : goal.returns
 returns c =
     let v = c.loop-i.invariant in
     let bs = blocks c.args.n c.args.t.now in
-    let q = count-is c.args.t.now c.args.n c.requires.filled.0 in
-    ap (any_of (tiesBlock c.args.r.now)) (sym (take_all (c.loop-i.i - c.args.from) (drop c.args.from bs) (rw (length-drop c.args.from bs, q) (omega (arith, c.loop-i-test.false))))) ∙ v.2
+    let q = count-is c.args.t.now c.args.n c.requires.0 in
+    ap (any_of (tiesBlock c.args.r.bytes.now)) (sym (take_all (c.loop-i.i - c.args.from) (drop c.args.from bs) (rw (length-drop c.args.from bs, q) (omega (arith, c.loop-i-test.false))))) ∙ v

@@ -1,4 +1,4 @@
-use Prim.Native.Nat.{◌-◌, ◌≤◌}
+use Prim.Native.Nat.{◌-◌}
 use mathlib.Core.Path.{◌≡◌}
 use mathlib.Core.Bool.{false}
 use lib.ListN.{take, drop}
@@ -8,7 +8,4 @@ use Rattle.merge.specs.Searching.{tiesBlock}
 use Rattle.merge.proofs.next_tied.Given as goal
 
 abbrev pub invariant-loop-i : goal.invariant-loop-i
-invariant-loop-i l = (l.from ≤ l.i) × (l.i ≤ l.n) × (any_of (tiesBlock l.r) (take (l.i - l.from) (drop l.from (blocks l.n l.t))) ≡ false)
-
-abbrev pub decreases-loop-i : goal.decreases-loop-i
-decreases-loop-i l = l.n - l.i
+invariant-loop-i l = any_of (tiesBlock l.r.bytes.now) (take (l.i - l.from) (drop l.from (blocks l.n l.t))) ≡ false

@@ -16,42 +16,41 @@ use Rattle.arrange.proofs.Sheets.{none-known}
 use Rattle.merge.specs.Searching.{keepsIdentity}
 use Rattle.merge.proofs.Single.{single}
 use Rattle.merge.proofs.Opening.{opened-answer, opened-entered, opened-count, opened-bytes, single-sound, single-counts, admitted-is, admitted-sound, admitted-fixed, admitted-few, kept-is}
-use borrow.Author.Rules.{rules}
 use Rattle.merge.proofs.open.Goals as goal
 
 pub admit-count-requires : goal.admit-count-requires
 admit-count-requires c =
-    let f : List ℕ = c.args.f.now in
-    let f-bytes : Bytes f = all-bytes f (search rules) in
-    let y = c.requires.ready.filled in
+    let f : List ℕ = c.args.f.bytes.now in
+    let f-bytes : Bytes f = all-bytes f c.args.f.octets in
+    let y = c.requires.filled in
     rw c.alone-b.ensures
-    (y, single-sound f f-bytes c.requires.f_len.0 c.requires.f_len.1, single-counts f f-bytes c.requires.f_len.0 c.requires.f_len.1, none-known c.args.t.now c.args.n y.few, nothing_known (transmissionBytes (single f)))
+    (y, single-sound f f-bytes c.args.f.size c.args.f.formed, single-counts f f-bytes c.args.f.size c.args.f.formed, none-known c.args.t.now c.args.n y.few, nothing_known (transmissionBytes (single f)))
 
 pub keeps-requires : goal.keeps-requires
 keeps-requires c =
-    let f : List ℕ = c.args.f.now in
+    let f : List ℕ = c.args.f.bytes.now in
     let bs : List (List ℕ) = blocks c.args.n c.args.t.now in
-    let f-bytes : Bytes f = all-bytes f (search rules) in
+    let f-bytes : Bytes f = all-bytes f c.args.f.octets in
     let bs₁ : List (List ℕ) = admitted bs (transmissionBytes (single f)) in
     let count-there : c.admit-count.result ≡ length bs₁ = rw (sym c.alone-b.ensures) c.admit-count.ensures.value in
     let bytes-there : c.admit-count.new.t ≡ blockTable bs₁ = rw (sym c.alone-b.ensures) c.admit-count.ensures.t_after in
-    let there : (blocks c.admit-count.result c.admit-count.new.t ≡ bs₁) × Filled c.admit-count.new.t c.admit-count.result = table_filled bs₁ c.admit-count.new.t c.admit-count.result (admitted-sound f f-bytes c.requires.f_len.0 c.requires.f_len.1 bs c.requires.ready.steady) count-there
-    (rw count-there (admitted-few f f-bytes c.requires.f_len.0 c.requires.f_len.1 bs c.requires.ready.steady)) bytes-there in
-    record { filled = (there.1, rw there.0 (admitted-fixed f f-bytes c.requires.f_len.0 c.requires.f_len.1 bs c.requires.ready.steady), c.admit-count.ensures.known.0); f_len = c.requires.f_len }
+    let there : (blocks c.admit-count.result c.admit-count.new.t ≡ bs₁) × Filled c.admit-count.new.t c.admit-count.result = table_filled bs₁ c.admit-count.new.t c.admit-count.result (admitted-sound f f-bytes c.args.f.size c.args.f.formed bs c.requires.steady) count-there
+    (rw count-there (admitted-few f f-bytes c.args.f.size c.args.f.formed bs c.requires.steady)) bytes-there in
+    (there.1, rw there.0 (admitted-fixed f f-bytes c.args.f.size c.args.f.formed bs c.requires.steady), c.admit-count.ensures.known.0)
 
 pub returns-then-keeps : goal.returns-then-keeps
 returns-then-keeps c =
-    let f : List ℕ = c.args.f.now in
+    let f : List ℕ = c.args.f.bytes.now in
     let bs : List (List ℕ) = blocks c.args.n c.args.t.now in
-    let f-bytes : Bytes f = all-bytes f (search rules) in
+    let f-bytes : Bytes f = all-bytes f c.args.f.octets in
     let bs₁ : List (List ℕ) = admitted bs (transmissionBytes (single f)) in
     let count-there : c.admit-count.result ≡ length bs₁ = rw (sym c.alone-b.ensures) c.admit-count.ensures.value in
     let bytes-there : c.admit-count.new.t ≡ blockTable bs₁ = rw (sym c.alone-b.ensures) c.admit-count.ensures.t_after in
-    let there : (blocks c.admit-count.result c.admit-count.new.t ≡ bs₁) × Filled c.admit-count.new.t c.admit-count.result = table_filled bs₁ c.admit-count.new.t c.admit-count.result (admitted-sound f f-bytes c.requires.f_len.0 c.requires.f_len.1 bs c.requires.ready.steady) count-there
-    (rw count-there (admitted-few f f-bytes c.requires.f_len.0 c.requires.f_len.1 bs c.requires.ready.steady)) bytes-there in
-    let values-there : bs₁ ≡ map transmissionBytes (arranged (map transmissionIn bs ++ (normalized (fixIn f ∷ []) ∷ []))) = admitted-is f f-bytes c.requires.f_len.0 c.requires.f_len.1 bs c.requires.ready.steady in
+    let there : (blocks c.admit-count.result c.admit-count.new.t ≡ bs₁) × Filled c.admit-count.new.t c.admit-count.result = table_filled bs₁ c.admit-count.new.t c.admit-count.result (admitted-sound f f-bytes c.args.f.size c.args.f.formed bs c.requires.steady) count-there
+    (rw count-there (admitted-few f f-bytes c.args.f.size c.args.f.formed bs c.requires.steady)) bytes-there in
+    let values-there : bs₁ ≡ map transmissionBytes (arranged (map transmissionIn bs ++ (normalized (fixIn f ∷ []) ∷ []))) = admitted-is f f-bytes c.args.f.size c.args.f.formed bs c.requires.steady in
     let kept : c.keeps.result ≡ any_of (keepsIdentity (identityIn f)) bs₁ = c.keeps.ensures ∙ ap (any_of (keepsIdentity (identityIn f))) there.0 in
-    let e = sym (kept-is f f-bytes c.requires.f_len.0 c.requires.f_len.1 bs c.requires.ready.steady) ∙ sym kept ∙ c.if-keeps.true in
+    let e = sym (kept-is f f-bytes c.args.f.size c.args.f.formed bs c.requires.steady) ∙ sym kept ∙ c.if-keeps.true in
     record {
       answer = opened-answer _ _ true e;
       entered = opened-entered _ _;
@@ -61,17 +60,17 @@ returns-then-keeps c =
 
 pub returns : goal.returns
 returns c =
-    let f : List ℕ = c.args.f.now in
+    let f : List ℕ = c.args.f.bytes.now in
     let bs : List (List ℕ) = blocks c.args.n c.args.t.now in
-    let f-bytes : Bytes f = all-bytes f (search rules) in
+    let f-bytes : Bytes f = all-bytes f c.args.f.octets in
     let bs₁ : List (List ℕ) = admitted bs (transmissionBytes (single f)) in
     let count-there : c.admit-count.result ≡ length bs₁ = rw (sym c.alone-b.ensures) c.admit-count.ensures.value in
     let bytes-there : c.admit-count.new.t ≡ blockTable bs₁ = rw (sym c.alone-b.ensures) c.admit-count.ensures.t_after in
-    let there : (blocks c.admit-count.result c.admit-count.new.t ≡ bs₁) × Filled c.admit-count.new.t c.admit-count.result = table_filled bs₁ c.admit-count.new.t c.admit-count.result (admitted-sound f f-bytes c.requires.f_len.0 c.requires.f_len.1 bs c.requires.ready.steady) count-there
-    (rw count-there (admitted-few f f-bytes c.requires.f_len.0 c.requires.f_len.1 bs c.requires.ready.steady)) bytes-there in
-    let values-there : bs₁ ≡ map transmissionBytes (arranged (map transmissionIn bs ++ (normalized (fixIn f ∷ []) ∷ []))) = admitted-is f f-bytes c.requires.f_len.0 c.requires.f_len.1 bs c.requires.ready.steady in
+    let there : (blocks c.admit-count.result c.admit-count.new.t ≡ bs₁) × Filled c.admit-count.new.t c.admit-count.result = table_filled bs₁ c.admit-count.new.t c.admit-count.result (admitted-sound f f-bytes c.args.f.size c.args.f.formed bs c.requires.steady) count-there
+    (rw count-there (admitted-few f f-bytes c.args.f.size c.args.f.formed bs c.requires.steady)) bytes-there in
+    let values-there : bs₁ ≡ map transmissionBytes (arranged (map transmissionIn bs ++ (normalized (fixIn f ∷ []) ∷ []))) = admitted-is f f-bytes c.args.f.size c.args.f.formed bs c.requires.steady in
     let kept : c.keeps.result ≡ any_of (keepsIdentity (identityIn f)) bs₁ = c.keeps.ensures ∙ ap (any_of (keepsIdentity (identityIn f))) there.0 in
-    let e = sym (kept-is f f-bytes c.requires.f_len.0 c.requires.f_len.1 bs c.requires.ready.steady) ∙ sym kept ∙ c.if-keeps.false in
+    let e = sym (kept-is f f-bytes c.args.f.size c.args.f.formed bs c.requires.steady) ∙ sym kept ∙ c.if-keeps.false in
     record {
       answer = opened-answer _ _ false e;
       entered = opened-entered _ _;

@@ -3,7 +3,7 @@ use mathlib.Core.Path.{ap, ◌∙◌}
 use mathlib.Core.List.{List, ◌++◌}
 use native.Mathlib.Omega.{arith}
 use lib.ListN.{take, drop, replicate}
-use Rattle.text.proofs.Writing.{put_whole}
+use Rattle.octets.proofs.Puts.{put_whole}
 use Rattle.tracked.specs.Known.{knownSize}
 use Rattle.arrange.specs.Arranged.{maxTransmissions}
 use Rattle.merge.proofs.Sheets.{one_known}
@@ -19,4 +19,4 @@ arrange-requires c =
     let e =
     put_whole c.put_bytes.ensures (omega (arith, c.requires.0.few, c.requires.1, w))
     ∙ ap (λ (k : ℕ). take (i * knownSize) z ++ (y ++ drop (i * knownSize + k) z)) w in
-    (c.requires.0, one_known c.args.t.now y n i c.requires.0 c.requires.1 c.requires.2 c.put_bytes.new.out e c.put_bytes.auto.out)
+    (c.requires.0, one_known c.args.t.now y n i c.requires.0 c.requires.1 c.requires.2 c.put_bytes.new.to e c.put_bytes.auto.to)

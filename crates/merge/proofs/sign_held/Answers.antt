@@ -13,18 +13,18 @@ use Rattle.merge.proofs.sign_held.Goals as goal
 pub sign-requires : goal.sign-requires
 sign-requires c =
     let there : c.args.k < heldCount c.args.b.now = rw (identities-count c.args.b.now) at c.requires.first.1 in
-    record { sound = c.requires.steady.0.sound; k_bound = there }
+    record { sound = c.requires.steady.sound; k_bound = there }
 
 pub returns : goal.returns
 returns c =
     let there : c.args.k < heldCount c.args.b.now = rw (identities-count c.args.b.now) at c.requires.first.1 in
     let b = c.args.b.now in
-    let f = c.args.f.now in
+    let f = c.args.f.bytes.now in
     let k = c.args.k in
     let bytes = all-bytes b (search rules) in
     let p = first-held b f k there c.requires.first.2 c.requires.first.3 in (
-      some-held b bytes c.requires.steady.0 f k there p.0 p.1,
+      some-held b bytes c.requires.steady f k there p.0 p.1,
       c.sign.ensures
           ∙ ap (λ (x : ℕ). putWord 4 (heldPlace b k + signersAt) (bit_or (word_at 4 (heldPlace b k + signersAt) b) x) b) c.signers.ensures
-          ∙ signed-bytes b bytes c.requires.steady.0 f k there p.0 p.1,
+          ∙ signed-bytes b bytes c.requires.steady f k there p.0 p.1,
     )

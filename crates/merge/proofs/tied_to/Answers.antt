@@ -1,4 +1,4 @@
-use Prim.Native.Nat.{ℕ, ◌-◌}
+use Prim.Native.Nat.{ℕ}
 use mathlib.Core.Path.{◌≡◌, subst}
 use mathlib.Core.Bool.{Bool}
 use mathlib.Core.List.{List, []}
@@ -13,15 +13,15 @@ use Rattle.merge.proofs.tied_to.Goals as goal
 pub overflow_add-i : goal.overflow_add-i
 overflow_add-i c =
     let bs : List (List ℕ) = blocks c.args.n c.args.t.now in
-    let test : List ℕ → Bool = tiesBlock c.args.r.now in
-    let count : length bs ≡ c.args.n = count-is c.args.t.now c.args.n c.requires.filled in
+    let test : List ℕ → Bool = tiesBlock c.args.r.bytes.now in
+    let count : length bs ≡ c.args.n = count-is c.args.t.now c.args.n c.requires in
     let found : First test bs [] 0 (At c.in-At.i) = subst (First test bs [] 0) c.in-At.is c.next_tied-first.ensures in
-    let f = found in omega (arith, f.1, count, c.requires.filled.few)
+    let f = found in omega (arith, f.1, count, c.requires.few)
 
 pub next_tied-second-requires : goal.next_tied-second-requires
 next_tied-second-requires c =
     let bs : List (List ℕ) = blocks c.args.n c.args.t.now in
-    let test : List ℕ → Bool = tiesBlock c.args.r.now in
-    let count : length bs ≡ c.args.n = count-is c.args.t.now c.args.n c.requires.filled in
+    let test : List ℕ → Bool = tiesBlock c.args.r.bytes.now in
+    let count : length bs ≡ c.args.n = count-is c.args.t.now c.args.n c.requires in
     let found : First test bs [] 0 (At c.in-At.i) = subst (First test bs [] 0) c.in-At.is c.next_tied-first.ensures in
-    let f = found in record { filled = (c.requires.filled, omega (arith, f.1, count)); r_value = c.requires.r_value }
+    let f = found in (c.requires, omega (arith, f.1, count))

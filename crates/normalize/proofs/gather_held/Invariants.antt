@@ -5,8 +5,5 @@ use Rattle.normalize.specs.Working.{maxGathered, fixesIn, Laid, signedIn}
 use Rattle.normalize.proofs.gather_held.Given as goal
 
 abbrev pub invariant-loop-k : goal.invariant-loop-k
-invariant-loop-k l = (l.k ≤ l.to) × (l.m + (l.to - l.k) ≤ maxGathered) × Laid l.items l.signers l.m (fixesIn l.items l.signers l.m)
+invariant-loop-k l = (l.m + (l.to - l.k) ≤ maxGathered) × Laid l.items l.signers l.m (fixesIn l.items l.signers l.m)
     × (gatherAll (fixesIn l.items l.signers l.m) (signedIn l.b l.k l.to) ≡ gatherAll (fixesIn l.initial.items l.initial.signers l.n) (signedIn l.b l.from l.to))
-
-abbrev pub decreases-loop-k : goal.decreases-loop-k
-decreases-loop-k l = l.to - l.k

@@ -1,4 +1,4 @@
-use Prim.Native.Nat.{ℕ, ◌+◌, ◌-◌, ◌≤◌}
+use Prim.Native.Nat.{ℕ, ◌+◌, ◌≤◌}
 use mathlib.Core.Path.{◌≡◌, sym, ap, ap₂, ◌∙◌, subst}
 use mathlib.Core.List.{List, [], ◌∷◌}
 use native.Mathlib.Omega.{arith}
@@ -30,13 +30,12 @@ gather-m-requires c =
     let few : c.gather_held-n.result ≤ maxStanding = let a = all-few [] (signedIn b 0 (fixCount b)) in
     let w = signed-few b 0 (fixCount b) in
     omega (arith, first.count, c.requires.sound.0.few) in
-    let p = c.requires.f_len in
-    record { laid = laid-again first; n_bound = (omega (arith, few), p.0, p.1, p.2) }
+    record { laid = laid-again first; n_bound = (omega (arith, few), c.requires.identified) }
 
 pub gather_held-requires : goal.gather_held-requires
 gather_held-requires c =
     let b : List ℕ = c.args.b.now in
-    let f : Fix = fixIn c.args.f.now in
+    let f : Fix = fixIn c.args.f.bytes.now in
     let counted : c.fix_count-c.result ≡ fixCount b = c.fix_count-c.ensures in
     let counted-all : c.held_count-e.result ≡ heldCount b = c.held_count-e.ensures in
     let stood : List Fix = gatherAll [] (signedIn b 0 (fixCount b)) in
@@ -55,7 +54,7 @@ pub returns : goal.returns
 unfolding gatherAll
 returns c =
     let b : List ℕ = c.args.b.now in
-    let f : Fix = fixIn c.args.f.now in
+    let f : Fix = fixIn c.args.f.bytes.now in
     let counted : c.fix_count-c.result ≡ fixCount b = c.fix_count-c.ensures in
     let counted-all : c.held_count-e.result ≡ heldCount b = c.held_count-e.ensures in
     let stood : List Fix = gatherAll [] (signedIn b 0 (fixCount b)) in

@@ -1,11 +1,11 @@
-use Prim.Native.Nat.{ℕ, ◌-◌, ◌*◌, ◌+◌, ◌<◌}
+use Prim.Native.Nat.{ℕ, ◌*◌, ◌<◌}
 use mathlib.Core.Path.{◌≡◌, ap, ap₂, ◌∙◌}
 use mathlib.Core.List.{List, [], ◌++◌, map}
 use native.Mathlib.Omega.{arith}
 use lib.ListN.{length, drop, get_or}
 use lib.Seq.{take_all}
 use Rattle.places.specs.Places.{flat}
-use Rattle.text.proofs.Writing.{put-put, put_as, put-none}
+use Rattle.octets.proofs.Puts.{put-put, put_as, put-none}
 use Rattle.items.specs.Layout.{hashSize}
 use Rattle.tracked.specs.Parts.{heldPlaces, heldCount}
 use Rattle.tracked.proofs.Holding.{held-length}
@@ -16,7 +16,7 @@ use Rattle.normalize.proofs.identities.Goals as goal
 
 pub loop-k-init : goal.loop-k-init
 unfolding flat
-loop-k-init c = (omega arith, omega arith, put-none _ _)
+loop-k-init c = (omega arith, put-none _ _)
 
 pub loop-k-preserved : goal.loop-k-preserved
 loop-k-preserved c =
@@ -24,9 +24,8 @@ loop-k-preserved c =
     let counted : c.held_count-n.result ≡ heldCount b = c.held_count-n.ensures in
     let h : c.loop-k.k < length (heldPlaces b) = omega (arith, held-length b, counted) in
     let q = c.put_identity-at.ensures in (
-      omega arith,
       omega (arith, q.next, signed-width (get_or (heldPlaces b) c.loop-k.k [])),
-      put_as (flat-next signedIdentity (heldPlaces b) c.loop-k.k [] h) (put-put c.loop-k.invariant.2 q),
+      put_as (flat-next signedIdentity (heldPlaces b) c.loop-k.k [] h) (put-put c.loop-k.invariant.1 q),
     )
 
 pub returns : goal.returns
@@ -34,6 +33,6 @@ returns c =
     let b : List ℕ = c.args.b.now in
     let counted : c.held_count-n.result ≡ heldCount b = c.held_count-n.ensures in
     let e : c.loop-k.k ≡ heldCount b = omega (arith, counted) in
-    let a : c.loop-k.at ≡ heldCount b * hashSize = c.loop-k.invariant.1 ∙ ap (λ (k : ℕ). k * hashSize) e in
-    put_front c.loop-k.invariant.2 (omega (arith, c.requires.hash_size_in_bounds))
+    let a : c.loop-k.at ≡ heldCount b * hashSize = c.loop-k.invariant.0 ∙ ap (λ (k : ℕ). k * hashSize) e in
+    put_front c.loop-k.invariant.1 (omega (arith, c.requires.hash_size_in_bounds))
     ∙ ap₂ (λ (x : List (List ℕ)) (k : ℕ). flat (map signedIdentity x) ++ drop k c.args.ids.now) (take_all c.loop-k.k (heldPlaces b) (omega (arith, held-length b))) a

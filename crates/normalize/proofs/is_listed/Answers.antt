@@ -1,4 +1,3 @@
-use Prim.Native.Nat.{◌-◌}
 use mathlib.Core.Path.{◌≡◌, ap, ◌∙◌}
 use Rattle.octets.specs.Order.{same}
 use Rattle.ranges.proofs.Searches.{any-ret, any-go, any_out}

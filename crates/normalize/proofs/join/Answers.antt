@@ -1,4 +1,4 @@
-use Prim.Native.Nat.{ℕ, ◌+◌, ◌-◌, ◌*◌}
+use Prim.Native.Nat.{ℕ, ◌*◌}
 use mathlib.Core.Path.{◌≡◌, refl, sym, ap, ap₂, ◌∙◌, subst}
 use mathlib.Core.List.{List, ◌∷◌, ◌++◌, map}
 use native.Mathlib.Omega.{arith}
@@ -30,12 +30,12 @@ gather_with-n-requires c =
     let b : List ℕ = c.args.b.now in
     let sound : Sound b = c.requires.sound.0 in
     let l : length c.item_room-items.result ≡ maxGathered * itemSize = search rules in
-    record { laid = laid_none c.item_room-items.result (replicate maxGathered 0) l refl; sound = (c.requires.sound.0, c.requires.sound.3); f_len = c.requires.f_len }
+    record { laid = laid_none c.item_room-items.result (replicate maxGathered 0) l refl; sound = (c.requires.sound.0, c.requires.sound.3); identified = c.requires.identified }
 
 pub settle-kept-requires : goal.settle-kept-requires
 settle-kept-requires c =
     let b : List ℕ = c.args.b.now in
-    let f : Fix = fixIn c.args.f.now in
+    let f : Fix = fixIn c.args.f.bytes.now in
     let sound : Sound b = c.requires.sound.0 in
     let fs : List Fix = (transmissionIn b).fixes ++ (f ∷ map fixOf (transmissionIn b).refused) in
     let gathered : Laid c.gather_with-n.new.items c.gather_with-n.new.signers c.gather_with-n.result (distinct fs) = subst (λ (x : List Fix). Laid c.gather_with-n.new.items c.gather_with-n.new.signers c.gather_with-n.result (distinct x))
@@ -53,12 +53,11 @@ tell-requires c =
 pub returns : goal.returns
 returns c =
     let b : List ℕ = c.args.b.now in
-    let f : Fix = fixIn c.args.f.now in
+    let f : Fix = fixIn c.args.f.bytes.now in
     let ids : List ℕ = c.args.ids.now in
     let sound : Sound b = c.requires.sound.0 in
     let bytes : Bytes b = all-bytes b (search rules) in
-    let holdable : Holdable f = let p = c.requires.f_len in
-    holdable-in c.args.f.now (all-bytes c.args.f.now (search rules)) p.0 p.1 in
+    let holdable : Holdable f = holdable-in c.args.f.bytes.now (all-bytes c.args.f.bytes.now c.args.f.octets) c.args.f.size c.args.f.formed in
     let listed : Listed b ids = c.requires.sound.3 in
     let counted : c.fix_count-c.result ≡ fixCount b = c.fix_count-c.ensures in
     let counted-all : c.held_count-e.result ≡ heldCount b = c.held_count-e.ensures in
@@ -75,7 +74,7 @@ returns c =
     (subst (λ (x : HeldTransmission). Names sheet (map identityOf (heldIn x))) kept-is c.settle-kept.ensures.2) in (
       written,
       c.tell.ensures
-          ∙ ap (λ (x : List ℕ). told items c.settle-kept.result x ids c.fix_count-c.result c.held_count-e.result) c.requires.f_len.2
+          ∙ ap (λ (x : List ℕ). told items c.settle-kept.result x ids c.fix_count-c.result c.held_count-e.result) c.requires.identified
           ∙ ap₂ (told items c.settle-kept.result f.identity ids) counted counted-all
           ∙ told_is items c.gather_with-n.new.signers c.settle-kept.result b ids listed c.requires.sound.2 f c.requires.sound.1
           ∙ ap (did f (transmissionIn b)) is,

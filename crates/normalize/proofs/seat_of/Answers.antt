@@ -1,4 +1,3 @@
-use Prim.Native.Nat.{◌-◌}
 use mathlib.Core.Path.{◌≡◌, sym, ap, ◌∙◌}
 use native.Mathlib.Omega.{arith}
 use Rattle.octets.specs.Order.{same}
@@ -9,12 +8,14 @@ use Rattle.normalize.proofs.seat_of.Goals as goal
 pub returns-then-equal : goal.returns-then-equal
 returns-then-equal c =
     let here : c.equal.result ≡ identified c.args.items.now c.args.id.now c.loop-i.i = c.equal.ensures ∙ ap (λ x. same x c.args.id.now) c.hash_of.ensures.0 in
-    sym (c.loop-i.invariant.1 ∙ first-hit _ _ _ c.loop-i-test.true (sym here ∙ c.if-equal.true))
+    sym (c.loop-i.invariant ∙ first-hit _ _ _ c.loop-i-test.true (sym here ∙ c.if-equal.true))
 
 pub loop-i-preserved : goal.loop-i-preserved
 loop-i-preserved c =
     let here : c.equal.result ≡ identified c.args.items.now c.args.id.now c.loop-i.i = c.equal.ensures ∙ ap (λ x. same x c.args.id.now) c.hash_of.ensures.0 in
-    (omega arith, c.loop-i.invariant.1 ∙ first-miss _ _ _ c.loop-i-test.true (sym here ∙ c.if-equal.false))
+    c.loop-i.invariant ∙ first-miss _ _ _ c.loop-i-test.true (sym here ∙ c.if-equal.false)
 
 pub returns : goal.returns
-returns c = sym (c.loop-i.invariant.1 ∙ first-end _ _ _ c.loop-i-test.false)
+returns c =
+    let e : c.loop-i.i ≡ c.args.n = omega arith in
+    sym (c.loop-i.invariant ∙ first-end _ _ _ c.loop-i-test.false ∙ e)

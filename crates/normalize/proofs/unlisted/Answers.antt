@@ -1,4 +1,4 @@
-use Prim.Native.Nat.{ℕ, ◌-◌}
+use Prim.Native.Nat.{ℕ}
 use mathlib.Core.Path.{◌≡◌, sym, ap, ◌∙◌}
 use mathlib.Core.Bool.{Bool, not}
 use native.Mathlib.Omega.{arith}
@@ -14,7 +14,7 @@ loop-i-preserved-then-is_listed c =
     let new : ℕ → Bool = λ i. not (isListed c.args.ids.now c.args.k c.args.e (itemIdentity c.args.s.now i)) in
     let p = c.loop-i.invariant in
     let q = count-miss 0 c.args.list.now c.args.count c.loop-i.i new c.loop-i-test.true c.requires.count_in_bounds.0 (ap not (sym here ∙ c.if-is_listed.true)) in
-    (omega arith, omega (arith, p.1), omega (arith, p.2, q))
+    (omega (arith, p.0), omega (arith, p.1, q))
 
 pub loop-i-preserved : goal.loop-i-preserved
 loop-i-preserved c =
@@ -22,9 +22,9 @@ loop-i-preserved c =
     let new : ℕ → Bool = λ i. not (isListed c.args.ids.now c.args.k c.args.e (itemIdentity c.args.s.now i)) in
     let p = c.loop-i.invariant in
     let q = count-hit 0 c.args.list.now c.args.count c.loop-i.i new c.loop-i-test.true c.requires.count_in_bounds.0 (ap not (sym here ∙ c.if-is_listed.false)) in
-    (omega arith, omega (arith, p.1), omega (arith, p.2, q))
+    (omega (arith, p.0), omega (arith, p.1, q))
 
 pub returns : goal.returns
 returns c =
     let q = count_past 0 c.args.list.now c.args.count c.loop-i.i (λ i. not (isListed c.args.ids.now c.args.k c.args.e (itemIdentity c.args.s.now i))) c.loop-i-test.false in
-    omega (arith, c.loop-i.invariant.2, q)
+    omega (arith, c.loop-i.invariant.1, q)

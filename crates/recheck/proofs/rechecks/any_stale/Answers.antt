@@ -1,6 +1,5 @@
-use Prim.Native.Nat.{ℕ, ◌-◌, ◌<◌}
+use Prim.Native.Nat.{ℕ, ◌<◌}
 use mathlib.Core.Path.{◌≡◌, refl, sym, ap, ◌∙◌}
-use mathlib.Core.Bool.{true}
 use mathlib.Core.List.{List, [], map}
 use native.Mathlib.Omega.{arith}
 use lib.ListN.{length, drop, get_or}
@@ -12,7 +11,7 @@ use Rattle.tracked.specs.Bytes.{transmissionIn}
 use Rattle.stored.specs.Memory.{summaryCount, summaryTable, summariesIn, transmissionCount, transmissionPlaces}
 use Rattle.stored.specs.Steps.{block_at}
 use Rattle.stored.proofs.Changing.{any_here, any-later, any-past}
-use Rattle.stored.proofs.Opened.{Opened, opened, transmissions-length, at_place, place-room, sound-at}
+use Rattle.stored.proofs.Opened.{Opened, opened, placeAt, transmissions-length, at_place, place-room, sound-at}
 use Rattle.recheck.specs.Recheck.{hasStale}
 use Rattle.recheck.proofs.rechecks.any_stale.Invariants.{test}
 use Rattle.recheck.proofs.rechecks.any_stale.Goals as goal
@@ -30,7 +29,7 @@ has_stale-requires c =
     let n : ℕ = c.u16_at-n.result in
     let n-is : n ≡ summaryCount m = c.u16_at-n.ensures in
     let h = c.loop-i-test.true in
-    record { n_le_max_summaries = (rw n-is o.few-summaries, rw c.loop-i.invariant.0 (omega arith), rw c.loop-i.invariant.0 (place-room m o c.loop-i.i h)); sound = rw c.loop-i.invariant.0 (sound-at m o c.loop-i.i h) }
+    record { n_le_max_summaries = (rw n-is o.few-summaries, omega arith, place-room m o c.loop-i.i h); sound = sound-at m o c.loop-i.i h }
 
 pub returns-then-has_stale : goal.returns-then-has_stale
 returns-then-has_stale c =
@@ -38,11 +37,11 @@ returns-then-has_stale c =
     let o : Opened m = opened m c.requires in
     let n : ℕ = c.u16_at-n.result in
     let n-is : n ≡ summaryCount m = c.u16_at-n.ensures in
-    let whole : any_of (hasStale (summariesIn m)) (map transmissionIn (transmissionPlaces m)) ≡ any_of (test m) (drop c.loop-i.i (transmissionPlaces m)) = any-map transmissionIn (test m) (hasStale (summariesIn m)) (transmissionPlaces m) (λ b i. refl) ∙ c.loop-i.invariant.1 in
+    let whole : any_of (hasStale (summariesIn m)) (map transmissionIn (transmissionPlaces m)) ≡ any_of (test m) (drop c.loop-i.i (transmissionPlaces m)) = any-map transmissionIn (test m) (hasStale (summariesIn m)) (transmissionPlaces m) (λ b i. refl) ∙ c.loop-i.invariant in
     let among : c.loop-i.i < length (transmissionPlaces m) = rw (transmissions-length m o) c.loop-i-test.true in
     let told : c.has_stale.result ≡ test m (get_or (transmissionPlaces m) c.loop-i.i []) = c.has_stale.ensures
-    ∙ ap (λ (k : ℕ). hasStale (places summarySize k (summaryTable m)) (transmissionIn (block_at c.loop-i.at m))) n-is
-    ∙ ap (test m) (ap (λ (k : ℕ). block_at k m) c.loop-i.invariant.0 ∙ at_place (transmissionCount m) c.loop-i.i m c.loop-i-test.true) in
+    ∙ ap (λ (k : ℕ). hasStale (places summarySize k (summaryTable m)) (transmissionIn (block_at (placeAt c.loop-i.i) m))) n-is
+    ∙ ap (test m) (at_place (transmissionCount m) c.loop-i.i m c.loop-i-test.true) in
     sym (whole ∙ sym (any_here (test m) [] (transmissionPlaces m) c.loop-i.i among _ told c.if-has_stale.true))
 
 pub loop-i-preserved : goal.loop-i-preserved
@@ -53,13 +52,13 @@ loop-i-preserved c =
     let n-is : n ≡ summaryCount m = c.u16_at-n.ensures in
     let among : c.loop-i.i < length (transmissionPlaces m) = rw (transmissions-length m o) c.loop-i-test.true in
     let told : c.has_stale.result ≡ test m (get_or (transmissionPlaces m) c.loop-i.i []) = c.has_stale.ensures
-    ∙ ap (λ (k : ℕ). hasStale (places summarySize k (summaryTable m)) (transmissionIn (block_at c.loop-i.at m))) n-is
-    ∙ ap (test m) (ap (λ (k : ℕ). block_at k m) c.loop-i.invariant.0 ∙ at_place (transmissionCount m) c.loop-i.i m c.loop-i-test.true) in
-    (omega (arith, c.loop-i.invariant.0), c.loop-i.invariant.1 ∙ any-later (test m) [] (transmissionPlaces m) c.loop-i.i among _ told c.if-has_stale.false)
+    ∙ ap (λ (k : ℕ). hasStale (places summarySize k (summaryTable m)) (transmissionIn (block_at (placeAt c.loop-i.i) m))) n-is
+    ∙ ap (test m) (at_place (transmissionCount m) c.loop-i.i m c.loop-i-test.true) in
+    c.loop-i.invariant ∙ any-later (test m) [] (transmissionPlaces m) c.loop-i.i among _ told c.if-has_stale.false
 
 pub returns : goal.returns
 returns c =
     let m : List ℕ = c.args.memory.now in
     let o : Opened m = opened m c.requires in
-    let whole : any_of (hasStale (summariesIn m)) (map transmissionIn (transmissionPlaces m)) ≡ any_of (test m) (drop c.loop-i.i (transmissionPlaces m)) = any-map transmissionIn (test m) (hasStale (summariesIn m)) (transmissionPlaces m) (λ b i. refl) ∙ c.loop-i.invariant.1 in
+    let whole : any_of (hasStale (summariesIn m)) (map transmissionIn (transmissionPlaces m)) ≡ any_of (test m) (drop c.loop-i.i (transmissionPlaces m)) = any-map transmissionIn (test m) (hasStale (summariesIn m)) (transmissionPlaces m) (λ b i. refl) ∙ c.loop-i.invariant in
     sym (whole ∙ sym (any-past (test m) [] (transmissionPlaces m) c.loop-i.i (rw (transmissions-length m o) c.loop-i-test.false)))

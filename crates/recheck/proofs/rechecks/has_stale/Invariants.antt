@@ -1,4 +1,4 @@
-use Prim.Native.Nat.{ℕ, ◌-◌}
+use Prim.Native.Nat.{ℕ}
 use mathlib.Core.Path.{◌≡◌}
 use mathlib.Core.Bool.{Bool, not}
 use mathlib.Core.List.{List}
@@ -23,6 +23,3 @@ fixesAt m at = heldIn (transmissionIn (block_at at m))
 
 abbrev pub invariant-loop-k : goal.invariant-loop-k
 invariant-loop-k l = any_of (stale l.memory l.n) (fixesAt l.memory l.at) ≡ any_of (stale l.memory l.n) (drop l.k (fixesAt l.memory l.at))
-
-abbrev pub decreases-loop-k : goal.decreases-loop-k
-decreases-loop-k l = l.count - l.k

@@ -1,5 +1,5 @@
 use Prim.Native.Nat.{ℕ, ◌+◌, ◌*◌, ◌-◌, ◌≤◌, ◌<◌}
-use mathlib.Core.Path.{◌≡◌, refl, sym, ap, ap₂, ◌∙◌}
+use mathlib.Core.Path.{◌≡◌, refl, ap, ap₂, ◌∙◌}
 use mathlib.Core.List.{List, [], ◌++◌, Memᴰ}
 use native.Mathlib.Omega.{arith}
 use lib.ListN.{length, get_or, take, drop}
@@ -28,13 +28,13 @@ pub bounds-memory-6 : goal.bounds-memory-6
 bounds-memory-6 c = omega (arith, (opened c.args.memory.now c.requires.0).size)
 
 pub loop-i-init : goal.loop-i-init
-loop-i-init c = (refl, rewritten-none _ _ c.args.memory.now (transmissions-are c.args.memory.now (opened c.args.memory.now c.requires.0)), c.requires.1)
+loop-i-init c = (rewritten-none _ _ c.args.memory.now (transmissions-are c.args.memory.now (opened c.args.memory.now c.requires.0)), c.requires.1)
 
 pub slice_bounds-renew-end : goal.slice_bounds-renew-end
 slice_bounds-renew-end c =
     let m : List ℕ = c.args.memory.now in
     let o : Opened m = opened m c.requires.0 in
-    let sheets : length c.loop-i.known ≡ maxTransmissions * knownSize = c.loop-i.invariant.2.size in
+    let sheets : length c.loop-i.known ≡ maxTransmissions * knownSize = c.loop-i.invariant.1.size in
     let sheet-lies : c.loop-i.i * knownSize + knownSize ≤ length c.loop-i.known = rw sheets (omega (arith, c.loop-i-test.true, o.few)) in
     sheet-lies
 
@@ -45,19 +45,18 @@ renew-requires c =
     let bytes : Bytes m = all-bytes m (search rules) in
     let n-is : c.u16_at-n.result ≡ summaryCount m = c.u16_at-n.ensures in
     let wide-each : (b : List ℕ) → Memᴰ b (transmissionPlaces m) → length (standingBytes (summariesIn m) b) ≡ transmissionSize = λ b. λ i. standing-size m o b i bytes (summariesIn m) in
-    let size : length c.loop-i.memory ≡ trackSize = rewritten-size c.loop-i.invariant.1 (front-size m o) (transmissions-wide m o) (few-places m o) wide-each in
+    let size : length c.loop-i.memory ≡ trackSize = rewritten-size c.loop-i.invariant.0 (front-size m o) (transmissions-wide m o) (few-places m o) wide-each in
     let among : c.loop-i.i < length (transmissionPlaces m) = rw (transmissions-length m o) c.loop-i-test.true in
     let lies : placeAt c.loop-i.i + transmissionSize ≤ length c.loop-i.memory = rw size (omega (arith, c.loop-i-test.true, o.few)) in
     let one : Memᴰ (get_or (transmissionPlaces m) c.loop-i.i []) (transmissionPlaces m) = mem-at (transmissionPlaces m) c.loop-i.i [] among in
-    let at_place : block_at (placeAt c.loop-i.i) c.loop-i.memory ≡ get_or (transmissionPlaces m) c.loop-i.i [] = rewritten-block c.loop-i.invariant.1 (front-size m o) (transmissions-wide m o) (few-places m o) wide-each among in
-    let at_block : block_at c.loop-i.at c.loop-i.memory ≡ get_or (transmissionPlaces m) c.loop-i.i [] = ap (λ (k : ℕ). block_at k c.loop-i.memory) c.loop-i.invariant.0 ∙ at_place in
-    let knows : Knows (block_at (placeAt c.loop-i.i) c.loop-i.memory) (sheetAt c.loop-i.known c.loop-i.i) = known-block c.loop-i.memory c.loop-i.known (transmissionCount m) c.loop-i.invariant.2 c.loop-i.i c.loop-i-test.true in
+    let at_place : block_at (placeAt c.loop-i.i) c.loop-i.memory ≡ get_or (transmissionPlaces m) c.loop-i.i [] = rewritten-block c.loop-i.invariant.0 (front-size m o) (transmissions-wide m o) (few-places m o) wide-each among in
+    let knows : Knows (block_at (placeAt c.loop-i.i) c.loop-i.memory) (sheetAt c.loop-i.known c.loop-i.i) = known-block c.loop-i.memory c.loop-i.known (transmissionCount m) c.loop-i.invariant.1 c.loop-i.i c.loop-i-test.true in
     record {
-      n_le_max_summaries = (rw n-is o.few-summaries, rw c.loop-i.invariant.0 (omega arith), rw c.loop-i.invariant.0 lies);
+      n_le_max_summaries = (rw n-is o.few-summaries, omega arith, lies);
       sound = (
-        rw at_block (block-sound m o _ one),
-        rw at_block (all-signed m o _ one),
-        knows_same (ap (λ (k : ℕ). block_at k c.loop-i.memory) c.loop-i.invariant.0) (lent-sheet c.loop-i.known c.loop-i.i) knows,
+        rw at_place (block-sound m o _ one),
+        rw at_place (all-signed m o _ one),
+        knows_same refl (lent-sheet c.loop-i.known c.loop-i.i) knows,
       );
     }
 
@@ -68,27 +67,26 @@ loop-i-preserved c =
     let bytes : Bytes m = all-bytes m (search rules) in
     let n-is : c.u16_at-n.result ≡ summaryCount m = c.u16_at-n.ensures in
     let wide-each : (b : List ℕ) → Memᴰ b (transmissionPlaces m) → length (standingBytes (summariesIn m) b) ≡ transmissionSize = λ b. λ i. standing-size m o b i bytes (summariesIn m) in
-    let size : length c.loop-i.memory ≡ trackSize = rewritten-size c.loop-i.invariant.1 (front-size m o) (transmissions-wide m o) (few-places m o) wide-each in
+    let size : length c.loop-i.memory ≡ trackSize = rewritten-size c.loop-i.invariant.0 (front-size m o) (transmissions-wide m o) (few-places m o) wide-each in
     let among : c.loop-i.i < length (transmissionPlaces m) = rw (transmissions-length m o) c.loop-i-test.true in
     let lies : placeAt c.loop-i.i + transmissionSize ≤ length c.loop-i.memory = rw size (omega (arith, c.loop-i-test.true, o.few)) in
     let one : Memᴰ (get_or (transmissionPlaces m) c.loop-i.i []) (transmissionPlaces m) = mem-at (transmissionPlaces m) c.loop-i.i [] among in
-    let at_place : block_at (placeAt c.loop-i.i) c.loop-i.memory ≡ get_or (transmissionPlaces m) c.loop-i.i [] = rewritten-block c.loop-i.invariant.1 (front-size m o) (transmissions-wide m o) (few-places m o) wide-each among in
+    let at_place : block_at (placeAt c.loop-i.i) c.loop-i.memory ≡ get_or (transmissionPlaces m) c.loop-i.i [] = rewritten-block c.loop-i.invariant.0 (front-size m o) (transmissions-wide m o) (few-places m o) wide-each among in
     let told : c.renew.new.memory
     ≡ take (placeAt c.loop-i.i) c.loop-i.memory
     ++ (standingBytes (summariesIn m) (block_at (placeAt c.loop-i.i) c.loop-i.memory)
     ++ drop (placeAt c.loop-i.i + transmissionSize) c.loop-i.memory) = let x = c.loop-i.memory in
-    let t = front-summaries m x (rewritten-front c.loop-i.invariant.1 (front-size m o) (transmissions-wide m o) (few-places m o) wide-each) in
+    let t = front-summaries m x (rewritten-front c.loop-i.invariant.0 (front-size m o) (transmissions-wide m o) (few-places m o) wide-each) in
     c.renew.ensures.memory_after
-    ∙ ap₂ (λ (k : ℕ) (l : List ℕ). take c.loop-i.at x ++ (standingBytes (places summarySize k l) (block_at c.loop-i.at x) ++ drop (c.loop-i.at + transmissionSize) x)) n-is t
-    ∙ ap (λ (k : ℕ). take k x ++ (standingBytes (summariesIn m) (block_at k x) ++ drop (k + transmissionSize) x)) c.loop-i.invariant.0 in
+    ∙ ap₂ (λ (k : ℕ) (l : List ℕ). take (placeAt c.loop-i.i) x ++ (standingBytes (places summarySize k l) (block_at (placeAt c.loop-i.i) x) ++ drop (placeAt c.loop-i.i + transmissionSize) x)) n-is t in
     let m' : List ℕ = c.renew.new.memory in
     let only : OnlyAt (placeAt c.loop-i.i) transmissionSize c.loop-i.memory m' = put_only (placeAt c.loop-i.i) c.loop-i.memory (standingBytes (summariesIn m) (block_at (placeAt c.loop-i.i) c.loop-i.memory)) m'
     (ap (λ (x : List ℕ). length (standingBytes (summariesIn m) x)) at_place ∙ wide-each _ one) lies told in
     let told-sheet : (s' : List ℕ)
     → s' ≡ take (c.loop-i.i * knownSize) c.loop-i.known ++ (c.renew.new.s ++ drop (c.loop-i.i * knownSize + knownSize - c.loop-i.i * knownSize) (drop (c.loop-i.i * knownSize) c.loop-i.known))
-    → Known (transmissionTable m') s' (transmissionCount m) = λ s'. known-put c.loop-i.memory c.loop-i.known (transmissionCount m) c.loop-i.invariant.2 o.few c.loop-i.i c.loop-i-test.true m' c.renew.new.s s'
-    (placeAt c.loop-i.i) refl only (knows_same (ap (λ (k : ℕ). block_at k m') (sym c.loop-i.invariant.0)) refl c.renew.ensures.knows) in
-    (omega (arith, c.loop-i.invariant.0), rewritten-next c.loop-i.invariant.1 (front-size m o) (transmissions-wide m o) (few-places m o) wide-each among _ told, told-sheet _ refl)
+    → Known (transmissionTable m') s' (transmissionCount m) = λ s'. known-put c.loop-i.memory c.loop-i.known (transmissionCount m) c.loop-i.invariant.1 o.few c.loop-i.i c.loop-i-test.true m' c.renew.new.s s'
+    (placeAt c.loop-i.i) refl only (knows_same refl refl c.renew.ensures.knows) in
+    (rewritten-next c.loop-i.invariant.0 (front-size m o) (transmissions-wide m o) (few-places m o) wide-each among _ told, told-sheet _ refl)
 
 pub returns : goal.returns
 returns c =
@@ -96,4 +94,4 @@ returns c =
     let o : Opened m = opened m c.requires.0 in
     let bytes : Bytes m = all-bytes m (search rules) in
     let wide-each : (b : List ℕ) → Memᴰ b (transmissionPlaces m) → length (standingBytes (summariesIn m) b) ≡ transmissionSize = λ b. λ i. standing-size m o b i bytes (summariesIn m) in
-    record { memory_after = rewritten-all c.loop-i.invariant.1 (front-size m o) (transmissions-wide m o) (few-places m o) wide-each (rw (transmissions-length m o) c.loop-i-test.false); known = c.loop-i.invariant.2 }
+    record { memory_after = rewritten-all c.loop-i.invariant.0 (front-size m o) (transmissions-wide m o) (few-places m o) wide-each (rw (transmissions-length m o) c.loop-i-test.false); known = c.loop-i.invariant.1 }

@@ -1,4 +1,3 @@
-use Prim.Native.Nat.{◌-◌}
 use Rattle.places.specs.Places.{places}
 use Rattle.models.specs.Summary.{summarySize}
 use Rattle.tracked.specs.Layout.{transmissionSize}
@@ -10,6 +9,3 @@ use Rattle.recheck.proofs.rechecks.silence.Given as goal
 
 abbrev pub invariant-loop-k : goal.invariant-loop-k
 invariant-loop-k l = OnlyAt l.at transmissionSize l.initial.memory l.memory × Walked (silenced (places summarySize l.n (summaryTable l.initial.memory))) (block_at l.at l.initial.memory) (block_at l.at l.memory) l.k
-
-abbrev pub decreases-loop-k : goal.decreases-loop-k
-decreases-loop-k l = l.count - l.k

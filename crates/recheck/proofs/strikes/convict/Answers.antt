@@ -17,21 +17,20 @@ use Rattle.recheck.proofs.strikes.convict.Goals as goal
 pub strike-requires : goal.strike-requires
 strike-requires c =
     let m : List ℕ = c.args.memory.now in
-    let m = c.args.memory.now in
-    (c.requires.0, c.requires.1, none-known (transmissionTable m) (transmissionCount m) (opened m c.requires.0).few)
+    (c.requires, none-known (transmissionTable m) (transmissionCount m) (opened m c.requires).few)
 
 pub recheck_known-requires : goal.recheck_known-requires
 recheck_known-requires c =
     let m : List ℕ = c.args.memory.now in
     let bytes : Bytes m = all-bytes m (search rules) in
-    let struck : Track = strikeEngine c.args.engine (decode m) in
-    let valid : Valid struck = strike-valid (decode m) (decode-valid m (opened m c.requires.0) bytes) c.args.engine (omega (arith, c.requires.1)) in
+    let struck : Track = strikeEngine c.args.engine.number (decode m) in
+    let valid : Valid struck = strike-valid (decode m) (decode-valid m (opened m c.requires) bytes) c.args.engine.number (omega (arith, c.args.engine.small)) in
     (rw c.strike.ensures.memory_after (formed-encode struck valid), c.strike.ensures.known)
 
 pub returns : goal.returns
 returns c =
     let m : List ℕ = c.args.memory.now in
     let bytes : Bytes m = all-bytes m (search rules) in
-    let struck : Track = strikeEngine c.args.engine (decode m) in
-    let valid : Valid struck = strike-valid (decode m) (decode-valid m (opened m c.requires.0) bytes) c.args.engine (omega (arith, c.requires.1)) in
+    let struck : Track = strikeEngine c.args.engine.number (decode m) in
+    let valid : Valid struck = strike-valid (decode m) (decode-valid m (opened m c.requires) bytes) c.args.engine.number (omega (arith, c.args.engine.small)) in
     c.recheck_known.ensures ∙ ap (λ (l : List ℕ). encode (recheck (decode l))) c.strike.ensures.memory_after ∙ ap (λ (x : Track). encode (recheck x)) (decode-encode struck valid)

@@ -1,4 +1,4 @@
-use Prim.Native.Nat.{ℕ, ◌+◌, ◌-◌, ◌≤◌}
+use Prim.Native.Nat.{ℕ, ◌≤◌}
 use mathlib.Core.Path.{◌≡◌, refl, ap, ◌∙◌}
 use mathlib.Core.List.{List, ◌++◌}
 use native.Mathlib.Omega.{arith}
@@ -16,8 +16,8 @@ use Rattle.recheck.proofs.Stricken.{us, lent_length, summaries-left, struck, str
 use borrow.Author.Rules.{rules}
 use Rattle.recheck.proofs.strikes.strike.Goals as goal
 
-pub u32_at-convicted-requires : goal.u32_at-convicted-requires
-u32_at-convicted-requires c = omega (arith, (opened c.args.memory.now c.requires.0).size)
+pub u32_at-requires : goal.u32_at-requires
+u32_at-requires c = omega (arith, (opened c.args.memory.now c.requires.0).size)
 
 pub u16_at-n-requires : goal.u16_at-n-requires
 u16_at-n-requires c = omega (arith, (opened c.args.memory.now c.requires.0).size)
@@ -33,7 +33,7 @@ slice_bounds-strike_summaries-end c =
 pub strike_summaries-summaries-requires : goal.strike_summaries-summaries-requires
 strike_summaries-summaries-requires c =
     let m : List ℕ = c.args.memory.now in
-    let e : ℕ = c.args.engine in
+    let e : ℕ = c.args.engine.number in
     let o : Opened m = opened m c.requires.0 in
     let b : Bytes m = all-bytes m (search rules) in
     let n : ℕ = c.u16_at-n.result in
@@ -44,7 +44,7 @@ strike_summaries-summaries-requires c =
 pub overflow_cast-summaries : goal.overflow_cast-summaries
 overflow_cast-summaries c =
     let m : List ℕ = c.args.memory.now in
-    let e : ℕ = c.args.engine in
+    let e : ℕ = c.args.engine.number in
     let o : Opened m = opened m c.requires.0 in
     let b : Bytes m = all-bytes m (search rules) in
     let n : ℕ = c.u16_at-n.result in
@@ -56,7 +56,7 @@ overflow_cast-summaries c =
 pub overflow_cast-left : goal.overflow_cast-left
 overflow_cast-left c =
     let m : List ℕ = c.args.memory.now in
-    let e : ℕ = c.args.engine in
+    let e : ℕ = c.args.engine.number in
     let o : Opened m = opened m c.requires.0 in
     let b : Bytes m = all-bytes m (search rules) in
     let left-few : c.strike_transmissions-left.result ≤ maxTransmissions = rw c.strike_transmissions-left.ensures.value (arranged-at-most (us m o b e)) in
@@ -65,7 +65,7 @@ overflow_cast-left c =
 pub returns : goal.returns
 returns c =
     let m : List ℕ = c.args.memory.now in
-    let e : ℕ = c.args.engine in
+    let e : ℕ = c.args.engine.number in
     let o : Opened m = opened m c.requires.0 in
     let b : Bytes m = all-bytes m (search rules) in
     let n : ℕ = c.u16_at-n.result in
@@ -74,7 +74,7 @@ returns c =
     let m₂ : List ℕ = take summariesAt m₁ ++ (c.strike_summaries-summaries.new.t ++ drop summariesSize (drop summariesAt m₁)) in
     let p = c.put_header.ensures in record {
       memory_after = struck m o b e m₁ c.strike_transmissions-left.ensures.memory_after n n-is c.strike_summaries-summaries.result c.strike_summaries-summaries.new.t c.strike_summaries-summaries.ensures m₂ refl
-          c.with_u32.result c.strike_transmissions-left.result (c.with_u32.ensures ∙ ap (λ (x : ℕ). withBit x e) c.u32_at-convicted.ensures) c.strike_transmissions-left.ensures.value _ p;
+          c.with.result.0 c.strike_transmissions-left.result (c.with.ensures ∙ ap (λ (x : ℕ). withBit x e) c.u32_at.ensures) c.strike_transmissions-left.ensures.value _ p;
       known = struck-known m o b e m₁ c.strike_transmissions-left.ensures.memory_after n n-is c.strike_summaries-summaries.result c.strike_summaries-summaries.new.t c.strike_summaries-summaries.ensures m₂ refl
-          c.with_u32.result c.strike_transmissions-left.result _ p c.strike_transmissions-left.new.known c.strike_transmissions-left.ensures.known;
+          c.with.result.0 c.strike_transmissions-left.result _ p c.strike_transmissions-left.new.known c.strike_transmissions-left.ensures.known;
     }

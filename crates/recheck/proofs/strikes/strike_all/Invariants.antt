@@ -1,18 +1,11 @@
-use Prim.Native.Nat.{◌-◌}
-use mathlib.Core.Path.{◌≡◌}
 use lib.ListN.{take}
 use Rattle.arrange.specs.Blocks.{Known}
 use Rattle.stored.specs.Layout.{transmissionsAt}
 use Rattle.stored.specs.Memory.{transmissionCount, transmissionTable, transmissionPlaces}
-use Rattle.stored.proofs.Opened.{placeAt}
 use Rattle.recheck.specs.Steps.{withoutBytes}
 use Rattle.recheck.proofs.Rearranging.{Rewritten}
 use Rattle.recheck.proofs.strikes.strike_all.Given as goal
 
 abbrev pub invariant-loop-i : goal.invariant-loop-i
-invariant-loop-i l = (l.at ≡ placeAt l.i)
-    × Rewritten (withoutBytes l.engine) (take transmissionsAt l.initial.memory) (transmissionPlaces l.initial.memory) l.i l.memory
+invariant-loop-i l = Rewritten (withoutBytes l.engine.number) (take transmissionsAt l.initial.memory) (transmissionPlaces l.initial.memory) l.i l.memory
     × Known (transmissionTable l.memory) l.known (transmissionCount l.initial.memory)
-
-abbrev pub decreases-loop-i : goal.decreases-loop-i
-decreases-loop-i l = l.count - l.i

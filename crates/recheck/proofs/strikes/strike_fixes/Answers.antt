@@ -3,4 +3,4 @@ use Rattle.recheck.proofs.strikes.strike_fixes.Goals as goal
 
 pub normalize-requires : goal.normalize-requires
 normalize-requires c =
-    (c.unsign.ensures.sound, unsigned-known c.args.engine c.unsign.ensures c.requires.2)
+    (c.unsign.ensures.sound, unsigned-known c.args.engine.number c.unsign.ensures c.requires.1)

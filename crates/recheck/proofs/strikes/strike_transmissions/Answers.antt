@@ -1,4 +1,4 @@
-use Prim.Native.Nat.{ℕ, ◌+◌, ◌-◌, ◌≤◌}
+use Prim.Native.Nat.{ℕ, ◌≤◌}
 use mathlib.Core.Path.{◌≡◌, refl, ap, ◌∙◌}
 use mathlib.Core.List.{List, ◌++◌, map, Memᴰ}
 use native.Mathlib.Omega.{arith}
@@ -28,12 +28,12 @@ slice_bounds-arrange-count c =
     let m : List ℕ = c.args.memory.now in
     let o : Opened m = opened m c.requires.0 in
     let bytes : Bytes m = all-bytes m (search rules) in
-    let c' : ℕ = withBit (convictedIn m) c.args.engine in
-    let us : List HeldTransmission = S.us m o bytes c.args.engine in
-    let kept : (u : HeldTransmission) → Memᴰ u us → Kept c' u = S.us-kept m o bytes c.args.engine in
-    let few : length us ≤ maxTransmissions = S.us-few m o bytes c.args.engine in
+    let c' : ℕ = withBit (convictedIn m) c.args.engine.number in
+    let us : List HeldTransmission = S.us m o bytes c.args.engine.number in
+    let kept : (u : HeldTransmission) → Memᴰ u us → Kept c' u = S.us-kept m o bytes c.args.engine.number in
+    let few : length us ≤ maxTransmissions = S.us-few m o bytes c.args.engine.number in
     let y : List ℕ = c.strike_all.new.memory in
-    let y-is : y ≡ take transmissionsAt m ++ blockTable (map transmissionBytes us) = c.strike_all.ensures.memory_after ∙ ap (λ (l : List (List ℕ)). take transmissionsAt m ++ blockTable l) (S.us-bytes m o bytes c.args.engine) in
+    let y-is : y ≡ take transmissionsAt m ++ blockTable (map transmissionBytes us) = c.strike_all.ensures.memory_after ∙ ap (λ (l : List (List ℕ)). take transmissionsAt m ++ blockTable l) (S.us-bytes m o bytes c.args.engine.number) in
     let y-size : length y ≡ trackSize = arranging-size c' us kept few (take transmissionsAt m) y (front-size m o) y-is in
     omega (arith, y-size)
 
@@ -42,12 +42,12 @@ slice_bounds-arrange-start c =
     let m : List ℕ = c.args.memory.now in
     let o : Opened m = opened m c.requires.0 in
     let bytes : Bytes m = all-bytes m (search rules) in
-    let c' : ℕ = withBit (convictedIn m) c.args.engine in
-    let us : List HeldTransmission = S.us m o bytes c.args.engine in
-    let kept : (u : HeldTransmission) → Memᴰ u us → Kept c' u = S.us-kept m o bytes c.args.engine in
-    let few : length us ≤ maxTransmissions = S.us-few m o bytes c.args.engine in
+    let c' : ℕ = withBit (convictedIn m) c.args.engine.number in
+    let us : List HeldTransmission = S.us m o bytes c.args.engine.number in
+    let kept : (u : HeldTransmission) → Memᴰ u us → Kept c' u = S.us-kept m o bytes c.args.engine.number in
+    let few : length us ≤ maxTransmissions = S.us-few m o bytes c.args.engine.number in
     let y : List ℕ = c.strike_all.new.memory in
-    let y-is : y ≡ take transmissionsAt m ++ blockTable (map transmissionBytes us) = c.strike_all.ensures.memory_after ∙ ap (λ (l : List (List ℕ)). take transmissionsAt m ++ blockTable l) (S.us-bytes m o bytes c.args.engine) in
+    let y-is : y ≡ take transmissionsAt m ++ blockTable (map transmissionBytes us) = c.strike_all.ensures.memory_after ∙ ap (λ (l : List (List ℕ)). take transmissionsAt m ++ blockTable l) (S.us-bytes m o bytes c.args.engine.number) in
     let y-size : length y ≡ trackSize = arranging-size c' us kept few (take transmissionsAt m) y (front-size m o) y-is in
     omega (arith, y-size)
 
@@ -56,13 +56,13 @@ arrange-requires c =
     let m : List ℕ = c.args.memory.now in
     let o : Opened m = opened m c.requires.0 in
     let bytes : Bytes m = all-bytes m (search rules) in
-    let c' : ℕ = withBit (convictedIn m) c.args.engine in
-    let us : List HeldTransmission = S.us m o bytes c.args.engine in
-    let kept : (u : HeldTransmission) → Memᴰ u us → Kept c' u = S.us-kept m o bytes c.args.engine in
-    let few : length us ≤ maxTransmissions = S.us-few m o bytes c.args.engine in
-    let count : transmissionCount m ≡ length us = S.us-count m o bytes c.args.engine in
+    let c' : ℕ = withBit (convictedIn m) c.args.engine.number in
+    let us : List HeldTransmission = S.us m o bytes c.args.engine.number in
+    let kept : (u : HeldTransmission) → Memᴰ u us → Kept c' u = S.us-kept m o bytes c.args.engine.number in
+    let few : length us ≤ maxTransmissions = S.us-few m o bytes c.args.engine.number in
+    let count : transmissionCount m ≡ length us = S.us-count m o bytes c.args.engine.number in
     let y : List ℕ = c.strike_all.new.memory in
-    let y-is : y ≡ take transmissionsAt m ++ blockTable (map transmissionBytes us) = c.strike_all.ensures.memory_after ∙ ap (λ (l : List (List ℕ)). take transmissionsAt m ++ blockTable l) (S.us-bytes m o bytes c.args.engine) in (
+    let y-is : y ≡ take transmissionsAt m ++ blockTable (map transmissionBytes us) = c.strike_all.ensures.memory_after ∙ ap (λ (l : List (List ℕ)). take transmissionsAt m ++ blockTable l) (S.us-bytes m o bytes c.args.engine.number) in (
       lent-filled c' us kept few (take transmissionsAt m) y (front-size m o) y-is (transmissionCount m) count,
       tail-known y c.strike_all.new.known (transmissionCount m) c.strike_all.ensures.known,
     )
@@ -72,12 +72,12 @@ returns c =
     let m : List ℕ = c.args.memory.now in
     let o : Opened m = opened m c.requires.0 in
     let bytes : Bytes m = all-bytes m (search rules) in
-    let c' : ℕ = withBit (convictedIn m) c.args.engine in
-    let us : List HeldTransmission = S.us m o bytes c.args.engine in
-    let kept : (u : HeldTransmission) → Memᴰ u us → Kept c' u = S.us-kept m o bytes c.args.engine in
-    let few : length us ≤ maxTransmissions = S.us-few m o bytes c.args.engine in
-    let count : transmissionCount m ≡ length us = S.us-count m o bytes c.args.engine in
+    let c' : ℕ = withBit (convictedIn m) c.args.engine.number in
+    let us : List HeldTransmission = S.us m o bytes c.args.engine.number in
+    let kept : (u : HeldTransmission) → Memᴰ u us → Kept c' u = S.us-kept m o bytes c.args.engine.number in
+    let few : length us ≤ maxTransmissions = S.us-few m o bytes c.args.engine.number in
+    let count : transmissionCount m ≡ length us = S.us-count m o bytes c.args.engine.number in
     let y : List ℕ = c.strike_all.new.memory in
-    let y-is : y ≡ take transmissionsAt m ++ blockTable (map transmissionBytes us) = c.strike_all.ensures.memory_after ∙ ap (λ (l : List (List ℕ)). take transmissionsAt m ++ blockTable l) (S.us-bytes m o bytes c.args.engine) in
+    let y-is : y ≡ take transmissionsAt m ++ blockTable (map transmissionBytes us) = c.strike_all.ensures.memory_after ∙ ap (λ (l : List (List ℕ)). take transmissionsAt m ++ blockTable l) (S.us-bytes m o bytes c.args.engine.number) in
     let y-size : length y ≡ trackSize = arranging-size c' us kept few (take transmissionsAt m) y (front-size m o) y-is in
     record { value = left_is c' us kept few (take transmissionsAt m) y (front-size m o) y-is (transmissionCount m) count c.arrange.result c.arrange.new.t (c.arrange.ensures.value, c.arrange.ensures.t_after); memory_after = arranged_is c' us kept few (take transmissionsAt m) y (front-size m o) y-is (transmissionCount m) count c.arrange.result c.arrange.new.t (c.arrange.ensures.value, c.arrange.ensures.t_after) _ refl; known = back-known y c.arrange.new.t c.arrange.new.known _ c.arrange.result (omega (arith, y-size)) refl c.arrange.ensures.known }

@@ -1,10 +1,6 @@
-use Prim.Native.Nat.{◌-◌}
 use Rattle.stored.proofs.Resigning.{Walked}
 use Rattle.recheck.specs.Recheck.{unsigned}
 use Rattle.recheck.proofs.strikes.unsign.Given as goal
 
 abbrev pub invariant-loop-k : goal.invariant-loop-k
-invariant-loop-k l = Walked (unsigned l.engine) l.initial.b l.b l.k
-
-abbrev pub decreases-loop-k : goal.decreases-loop-k
-decreases-loop-k l = l.n - l.k
+invariant-loop-k l = Walked (unsigned l.engine.number) l.initial.b l.b l.k

@@ -34,12 +34,12 @@ module _ (test : List ℕ → Bool) (b : List ℕ) where
 
 pub returns-then-n-lt1 : goal.returns-then-n-lt1
 returns-then-n-lt1 c =
-    sym (no-fix (beginFormed c.args.convicted) c.args.b.now (rw c.fix_count-n.ensures at c.if-n-lt1.true))
+    sym (no-fix (beginFormed c.args.convicted.0) c.args.b.now (rw c.fix_count-n.ensures at c.if-n-lt1.true))
 
 pub returns-then-n-gt-MAX_STANDING : goal.returns-then-n-gt-MAX_STANDING
 returns-then-n-gt-MAX_STANDING c =
     let f = c.fix_count-n.ensures in
-    sym (many (beginFormed c.args.convicted) c.args.b.now (rw f at c.if-n-lt1.false) (rw f at c.if-n-gt-MAX_STANDING.true))
+    sym (many (beginFormed c.args.convicted.0) c.args.b.now (rw f at c.if-n-lt1.false) (rw f at c.if-n-gt-MAX_STANDING.true))
 
 pub returns-then-k-gt-MAX_REFUSED : goal.returns-then-k-gt-MAX_REFUSED
 returns-then-k-gt-MAX_REFUSED c =
@@ -48,7 +48,7 @@ returns-then-k-gt-MAX_REFUSED c =
     let n-is : n ≡ fixCount b = c.fix_count-n.ensures in
     let some : 1 ≤ fixCount b = rw n-is at c.if-n-lt1.false in
     let few : fixCount b ≤ maxStanding = rw n-is at c.if-n-gt-MAX_STANDING.false in
-    sym (many-refused (beginFormed c.args.convicted) b some few (rw c.refused_count-k.ensures at c.if-k-gt-MAX_REFUSED.true))
+    sym (many-refused (beginFormed c.args.convicted.0) b some few (rw c.refused_count-k.ensures at c.if-k-gt-MAX_REFUSED.true))
 
 pub returns-then-not-filled : goal.returns-then-not-filled
 returns-then-not-filled c =
@@ -60,7 +60,7 @@ returns-then-not-filled c =
     let k : ℕ = c.refused_count-k.result in
     let rest : List ℕ = take (length b - refusedAt) (drop refusedAt b) in
     let is-formed : (test : List ℕ → Bool) → transmissionFormed test b ≡ (filledBy test fixSize n (fixTable b) && filledBy test refusedSize k rest) = λ test. by-tables test b some few n k rest n-is c.refused_count-k.ensures (tail-lent b refusedAt) c.if-k-gt-MAX_REFUSED.false in
-    sym (is-formed (beginFormed c.args.convicted) ∙ rw (sym c.filled.ensures ∙ c.if-not-filled.true) refl)
+    sym (is-formed (beginFormed c.args.convicted.0) ∙ rw (sym c.filled.ensures ∙ c.if-not-filled.true) refl)
 
 pub returns : goal.returns
 returns c =
@@ -72,4 +72,4 @@ returns c =
     let k : ℕ = c.refused_count-k.result in
     let rest : List ℕ = take (length b - refusedAt) (drop refusedAt b) in
     let is-formed : (test : List ℕ → Bool) → transmissionFormed test b ≡ (filledBy test fixSize n (fixTable b) && filledBy test refusedSize k rest) = λ test. by-tables test b some few n k rest n-is c.refused_count-k.ensures (tail-lent b refusedAt) c.if-k-gt-MAX_REFUSED.false in
-    c.filled-2.ensures ∙ sym (is-formed (beginFormed c.args.convicted) ∙ rw (sym c.filled.ensures ∙ c.if-not-filled.false) refl)
+    c.filled-2.ensures ∙ sym (is-formed (beginFormed c.args.convicted.0) ∙ rw (sym c.filled.ensures ∙ c.if-not-filled.false) refl)

@@ -1,25 +1,24 @@
-use Rattle.std.proofs.Common.{◌≡◌, ℕ, true, List, sym, ◌∙◌}
+-- A conviction leaves the track without the engine, with its fixes checked again.
+use Prim.Native.Nat.{ℕ, ◌<◌}
+use mathlib.Core.Path.{◌≡◌, sym, ap, ◌∙◌}
+use mathlib.Core.Bool.{true}
+use mathlib.Core.List.{List}
+use native.Mathlib.Omega.{arith}
+use borrow.Author.Tests.{le-ltb, ltb-true}
 use Rattle.held.specs.After.{after}
-use Rattle.stored.specs.Memory.{wellFormed, decode, on_memory}
+use Rattle.held.specs.Limits.{maxEngine}
+use Rattle.stored.specs.Memory.{wellFormed, decode, encode, on_memory}
 use Rattle.recheck.specs.Recheck.{recheck, strikeEngine}
 use Rattle.track.specs.Track.{trackConviction}
-use Rattle.track.proofs.Answers.{no-track, refuses, leaves, conviction-2, conviction-0}
 use Rattle.track.proofs.convictions.conviction.Goals as goal
 
-pub returns-then-not-well_formed : goal.returns-then-not-well_formed
-returns-then-not-well_formed c = no-track (trackConviction c.args.engine) c.args.memory.now (sym c.well_formed-2.ensures ∙ c.if-not-well_formed.true)
-
-pub returns-then-engine-gt-MAX_ENGINE : goal.returns-then-engine-gt-MAX_ENGINE
-returns-then-engine-gt-MAX_ENGINE c =
-    let m : List ℕ = c.args.memory.now in
-    let e : ℕ = c.args.engine in
-    let is-track : wellFormed m ≡ true = sym c.well_formed-2.ensures ∙ c.if-not-well_formed.false in
-    refuses (trackConviction e) m is-track 2 (conviction-2 e (decode m) c.if-engine-gt-MAX_ENGINE.true)
+convicted-0 : (m x : List ℕ) (e : ℕ) → wellFormed m ≡ true → e < 32 → x ≡ encode (recheck (strikeEngine e (decode m))) → after 0 x ≡ on_memory (trackConviction e) m
+unfolding on_memory
+convicted-0 m x e t h q = rw (t, le-ltb maxEngine e (omega arith)) (ap (after 0) q)
 
 pub returns : goal.returns
 returns c =
     let m : List ℕ = c.args.memory.now in
-    let e : ℕ = c.args.engine in
-    let is-track : wellFormed m ≡ true = sym c.well_formed-2.ensures ∙ c.if-not-well_formed.false in
-    let convicted : after 0 c.convict.new.memory ≡ on_memory (trackConviction e) m = leaves (trackConviction e) m is-track 0 (recheck (strikeEngine e (decode m))) (conviction-0 e (decode m) c.if-engine-gt-MAX_ENGINE.false) c.convict.new.memory c.convict.ensures in
-    convicted
+    let left = c.convict.ensures in
+    convicted-0 m _ c.args.engine (sym c.well_formed-2.ensures ∙ c.if-not-well_formed.false) (ltb-true c.args.engine 32 (sym c.in-Some.ensures.small))
+    (left ∙ ap (λ (e : ℕ). encode (recheck (strikeEngine e (decode m)))) c.in-Some.ensures.same)

@@ -6,26 +6,25 @@ use Rattle.models.specs.Models.{state_of}
 use Rattle.held.specs.After.{after}
 use Rattle.held.specs.Summaries.{summaryFormed}
 use Rattle.stored.specs.Track.{Track}
-use Rattle.stored.specs.Memory.{convictedIn, summariesIn, wellFormed, decode, encode, commit}
+use Rattle.stored.specs.Memory.{wellFormed, decode, encode, commit}
 use Rattle.stored.specs.Steps.{withPair, put_pair}
 use Rattle.stored.proofs.Opened.{opened}
-use Rattle.stored.proofs.Valid.{Valid, decode-valid, formed-encode, decode-encode, summaries-back}
+use Rattle.stored.proofs.Valid.{Valid, decode-valid, formed-encode, decode-encode}
 use Rattle.stored.proofs.Pairs.{pair-valid}
 use Rattle.recheck.specs.Recheck.{recheck}
 use Rattle.track.specs.Track.{isDisputed, becomesDisputed}
-use Rattle.track.proofs.Answers.{decoded-convicted, decoded-summaries}
 use Rattle.track.proofs.Holding.{pair-room, pair_left, pair-plain, pair-rechecked}
 use Rattle.track.proofs.summaries.hold.Goals as goal
 
 -- a summary p was put into the track m, which is x then
 module _ (m p x : List ℕ) (a model : ℕ) (bytes : Bytes m) (is : wellFormed m ≡ true) (wide : length p ≡ summarySize)
-    (formed : summaryFormed (convictedIn m) p ≡ true) (put : after a x ≡ commit m (put_pair p (decode m))) (z : a ≡ 0) where
+    (formed : summaryFormed (decode m).convicted p ≡ true) (put : after a x ≡ commit m (put_pair p (decode m))) (z : a ≡ 0) where
   abbrev t : Track
   t = withPair p (decode m)
 
   valid : Valid t
   valid =
-      pair-valid p wide (decode m) (decode-valid m (opened m is) bytes) (ap (λ (k : ℕ). summaryFormed k p) (decoded-convicted m) ∙ formed)
+      pair-valid p wide (decode m) (decode-valid m (opened m is) bytes) formed
       (pair-room m model p a x put z)
 
   stored : x ≡ encode t
@@ -34,15 +33,15 @@ module _ (m p x : List ℕ) (a model : ℕ) (bytes : Bytes m) (is : wellFormed m
   is-track : wellFormed x ≡ true
   is-track = ap wellFormed stored ∙ formed-encode t valid
 
-  held : summariesIn x ≡ t.summaries
-  held = ap summariesIn stored ∙ summaries-back t valid
+  held : (decode x).summaries ≡ t.summaries
+  held = ap (λ (l : List ℕ). (decode l).summaries) stored ∙ ap (λ (u : Track). u.summaries) (decode-encode t valid)
 
   -- whether the model is disputed now, and was not
-  becomes : (w v b : Bool) → w ≡ isDisputed (state_of model (summariesIn m)) → v ≡ isDisputed (state_of model (summariesIn x)) → b ≡ (not w && v)
+  becomes : (w v b : Bool) → w ≡ isDisputed (state_of model (decode m).summaries) → v ≡ isDisputed (state_of model (decode x).summaries) → b ≡ (not w && v)
       → b ≡ becomesDisputed model (decode m).summaries t.summaries
   becomes w v b e f g =
       g
-      ∙ ap₂ (λ (u y : Bool). not u && y) (e ∙ ap (λ (ss : List (List ℕ)). isDisputed (state_of model ss)) (sym (decoded-summaries m)))
+      ∙ ap₂ (λ (u y : Bool). not u && y) e
       (f ∙ ap (λ (ss : List (List ℕ)). isDisputed (state_of model ss)) held)
 
   rechecked : (y : List ℕ) → y ≡ encode (recheck (decode x)) → y ≡ encode (recheck t)
@@ -50,33 +49,37 @@ module _ (m p x : List ℕ) (a model : ℕ) (bytes : Bytes m) (is : wellFormed m
 
 pub disputed_in-requires : goal.disputed_in-requires
 disputed_in-requires c =
+    let wide : length c.args.p.now ≡ summarySize = search rules in
     let m = c.args.memory.now in
-    is-track m c.args.p.now c.put_pair-a.new.memory c.put_pair-a.result c.args.model (all-bytes m (search rules)) c.requires.0 c.requires.1 c.requires.2 c.put_pair-a.ensures c.if-a-ne0.false
+    is-track m c.args.p.now c.put_pair-a.new.memory c.put_pair-a.result c.args.model (all-bytes m (search rules)) c.requires.track wide c.requires.formed c.put_pair-a.ensures c.if-a-ne0.false
 
 pub returns-then-not-becomes_disputed : goal.returns-then-not-becomes_disputed
 returns-then-not-becomes_disputed c =
+    let wide : length c.args.p.now ≡ summarySize = search rules in
     let m = c.args.memory.now in
     let p = c.args.p.now in
     let x = c.put_pair-a.new.memory in
     let a = c.put_pair-a.result in
-    let told = becomes m p x a c.args.model (all-bytes m (search rules)) c.requires.0 c.requires.1 c.requires.2 c.put_pair-a.ensures c.if-a-ne0.false
+    let told = becomes m p x a c.args.model (all-bytes m (search rules)) c.requires.track wide c.requires.formed c.put_pair-a.ensures c.if-a-ne0.false
     _ _ _ c.disputed_in-was.ensures c.disputed_in.ensures c.becomes_disputed.ensures in
     pair-plain m c.args.model p a x c.put_pair-a.ensures c.if-a-ne0.false (sym told ∙ c.if-not-becomes_disputed.true)
 
 pub recheck-requires : goal.recheck-requires
 recheck-requires c =
+    let wide : length c.args.p.now ≡ summarySize = search rules in
     let m = c.args.memory.now in
-    is-track m c.args.p.now c.put_pair-a.new.memory c.put_pair-a.result c.args.model (all-bytes m (search rules)) c.requires.0 c.requires.1 c.requires.2 c.put_pair-a.ensures c.if-a-ne0.false
+    is-track m c.args.p.now c.put_pair-a.new.memory c.put_pair-a.result c.args.model (all-bytes m (search rules)) c.requires.track wide c.requires.formed c.put_pair-a.ensures c.if-a-ne0.false
 
 pub returns : goal.returns
 returns c =
+    let wide : length c.args.p.now ≡ summarySize = search rules in
     let m = c.args.memory.now in
     let p = c.args.p.now in
     let x = c.put_pair-a.new.memory in
     let a = c.put_pair-a.result in
     let h = c.if-a-ne0.false in
     let bytes : Bytes m = all-bytes m (search rules) in
-    let told = becomes m p x a c.args.model bytes c.requires.0 c.requires.1 c.requires.2 c.put_pair-a.ensures h
+    let told = becomes m p x a c.args.model bytes c.requires.track wide c.requires.formed c.put_pair-a.ensures h
     _ _ _ c.disputed_in-was.ensures c.disputed_in.ensures c.becomes_disputed.ensures in
     pair-rechecked m c.args.model p a x c.put_pair-a.ensures h (sym told ∙ c.if-not-becomes_disputed.false) _
-    (rechecked m p x a c.args.model bytes c.requires.0 c.requires.1 c.requires.2 c.put_pair-a.ensures h _ c.recheck.ensures)
+    (rechecked m p x a c.args.model bytes c.requires.track wide c.requires.formed c.put_pair-a.ensures h _ c.recheck.ensures)

@@ -2,7 +2,7 @@ use mathlib.Core.Path.{ap₂, ◌∙◌}
 use Rattle.octets.specs.Order.{same}
 use Rattle.ranges.proofs.Bools.{ret-f, ret-t}
 use Rattle.tracked.specs.Parts.{sameSet}
-use Rattle.tracked.proofs.same_set.Goals as goal
+use Rattle.tracked.proofs.Fix.has_set_of.Goals as goal
 
 pub returns-then-not-equal : goal.returns-then-not-equal
 unfolding sameSet
@@ -18,4 +18,4 @@ unfolding sameSet
 returns c =
     ret-t _ _ _ _ c.equal.ensures c.if-not-equal.false
     (ret-t _ _ _ _ c.equal-2.ensures c.if-not-equal-2.false
-    (c.equal-3.ensures ∙ ap₂ same c.inputs.ensures.0 c.inputs-2.ensures.0))
+    (c.equal-3.ensures ∙ ap₂ same c.inputs.ensures.value c.inputs-2.ensures.value))
