@@ -6,7 +6,7 @@ use mathlib.Core.List.{List, [], ◌∷◌, flat_map, Memᴰ}
 use native.Mathlib.Omega.{arith}
 use native.Mathlib.Nat.{pow-suc, div-lt_iff_lt-mul, suc-mul, mul-le-mul_right}
 use borrow.Author.Tests.{ltb-true, ltb-false}
-use lib.Dec.{ltb}
+use lib.Dec.{ltb, eqb}
 use lib.IntN.{ℤ, pos, negsuc, neg_ℤ}
 use lib.ListN.{length, length-append, length-map}
 use Rattle.ranges.proofs.Bools.{by}
@@ -18,8 +18,8 @@ use Rattle.text.specs.Heights.{metres, roundedMetres}
 use Rattle.text.proofs.Shapes.{digits-one}
 use Rattle.text.proofs.Readback.{digits-width, hex-width}
 use Rattle.places.proofs.Tables.{length-places}
-use Rattle.record.specs.Layout.{heightAt, maxTags}
-use Rattle.record.specs.Fields.{time, latitude, longitude, hasHeight, used, weight}
+use Rattle.record.specs.Layout.{heightFlagAt, heightAt, maxTags}
+use Rattle.record.specs.Fields.{time, latitude, longitude, byte_at, used, weight}
 use Rattle.tracked.specs.Layout.{fixSize, refusedSize, maxStanding, maxRefused}
 use Rattle.tracked.specs.Held.{HeldTransmission}
 use Rattle.tracked.specs.Bytes.{fixIn, refusedIn, fixCount, refusedCount, fixTable, refusedTable, fixPlaces, refusedPlaces, transmissionIn}
@@ -27,7 +27,7 @@ use Rattle.tracked.specs.Parts.{Sound}
 use Rattle.arithmetic.specs.Bits.{storedChiSquare}
 use Rattle.arithmetic.specs.declared.standing.ChiSquare.{ChiSquare}
 use Rattle.drawing.proofs.Widths.{chi-square-width}
-use Rattle.drawing.specs.Lines.{header, whereWhen, heightText, fixText, line, refusedLine}
+use Rattle.drawing.specs.Lines.{header, whereWhen, metresText, heightText, fixText, line, refusedLine}
 use Rattle.drawing.specs.Text.{rankedText}
 use Rattle.arrange.specs.Arranged.{maxTransmissions}
 use Rattle.stored.specs.Track.{Track}
@@ -85,10 +85,10 @@ module _ (r : List ℕ) where
       simp length-append (omega arith)
 
   height-width : length (heightText r) ≤ 16
-  unfolding heightText ascii
+  unfolding heightText metresText ascii
   height-width =
       let q = metres-width (word_at 4 heightAt r) in
-      by (hasHeight r) (λ e. rw e (omega arith)) (λ e. rw e (omega arith))
+      by (eqb (byte_at heightFlagAt r) 1) (λ e. rw e (omega arith)) (λ e. rw e (omega arith))
 
   fix-width : (role : List ℕ) (s : ℕ) → length (fixText role r s) ≤ 106 + length role
   unfolding fixText ascii

@@ -1,39 +1,25 @@
--- Lines and transmissions one after another, as loops write them, and where the fixes lie whose lines they are.
-use Prim.Native.Nat.{ℕ, zero, suc, ◌+◌, ◌*◌, ◌≤◌, ◌<◌}
-use mathlib.Core.Path.{◌≡◌, refl, sym, ap, ap₂, ◌∙◌}
+-- Transmissions one after another, as a loop writes them, and where the fixes are held whose lines they are.
+use Prim.Native.Nat.{ℕ, zero, suc, ◌+◌, ◌*◌, ◌<◌}
+use mathlib.Core.Path.{◌≡◌, sym, ap, ap₂, ◌∙◌}
 use mathlib.Core.List.{List, [], ◌∷◌, ◌++◌, map, flat_map, append_assoc, append-nil}
 use native.Mathlib.Omega.{arith}
 use native.Mathlib.Nat.{add-zero}
 use native.Mathlib.Numerals.{add-one}
-use lib.ListN.{length, get_or, take, drop, length-map}
-use lib.Seq.{take-suc, drop-drop}
-use Rattle.text.specs.Buffer.{Put}
-use Rattle.text.proofs.Writing.{put_whole}
-use Rattle.held.specs.After.{after, writeText}
+use lib.ListN.{length, get_or, take, drop, length-map, get_or-map, get_or-append}
+use Rattle.std.proofs.lemmas.List.{get_or-append-add}
+use lib.Seq.{drop-drop}
 use Rattle.places.proofs.Tables.{length-places}
-use Rattle.places.proofs.Walks.{place_of, part_of}
+use Rattle.places.proofs.Walks.{place_of}
 use Rattle.tracked.specs.Layout as L
-use Rattle.tracked.specs.Bytes.{fixIn, refusedIn, fixCount, refusedCount, fixTable, refusedTable, fixPlaces, refusedPlaces, transmissionIn}
-use Rattle.tracked.specs.Parts.{fixPlace, refusedPlace}
-use Rattle.drawing.specs.Lines.{header}
+use Rattle.tracked.specs.Bytes.{recordIn, signersIn, fixIn, refusedIn, fixCount, refusedCount, fixTable, refusedTable, fixPlaces, refusedPlaces, transmissionIn}
+use Rattle.tracked.specs.Parts.{heldPlaces, refusedPlace}
+use Rattle.tracked.proofs.Holding.{fix-of-more}
+use Rattle.octets.specs.Words.{word_at}
+use Rattle.arithmetic.specs.Bits.{storedChiSquare}
+use Rattle.shown.specs.Fix.{Fix}
+use Rattle.drawing.specs.Lines.{header, refusedLine}
 use Rattle.drawing.specs.Text.{rankedText}
 use Rattle.listing.specs.Listing.{refusedText, heldText, heldFrom}
-
--- ---- lines
-
-module _ {A B : Type 0} (g : B → List ℕ) (h : A → B) where
-  texts-append : (xs ys : List A) → flat_map g (map h (xs ++ ys)) ≡ flat_map g (map h xs) ++ flat_map g (map h ys)
-  unfolding flat_map
-  texts-append [] ys = refl
-  texts-append (x ∷ xs) ys = ap (λ (l : List ℕ). g (h x) ++ l) (texts-append xs ys) ∙ sym (append_assoc (g (h x)) (flat_map g (map h xs)) (flat_map g (map h ys)))
-
-  -- a turn of the loop that writes them
-  pub texts-more : (l : List A) (i : ℕ) (d : A) → i < length l → flat_map g (map h (take i l)) ++ g (h (get_or l i d)) ≡ flat_map g (map h (take (i + 1) l))
-  unfolding flat_map
-  texts-more l i d p =
-      ap (λ (x : List ℕ). flat_map g (map h (take i l)) ++ x) (sym (append-nil (g (h (get_or l i d)))))
-      ∙ sym (texts-append (take i l) (get_or l i d ∷ []))
-      ∙ ap (λ (k : List A). flat_map g (map h k)) (sym (take-suc l i d p) ∙ ap (λ (k : ℕ). take k l) (sym (add-one i)))
 
 -- ---- transmissions
 
@@ -67,12 +53,34 @@ held-is number b =
     (sym (length-map (fixPlaces b) fixIn ∙ length-places L.fixSize (fixCount b) (fixTable b)))
     (sym (length-map (refusedPlaces b) refusedIn ∙ length-places L.refusedSize (refusedCount b) (refusedTable b)))
 
--- ---- where the fixes lie
+-- ---- the fixes, as they are held
 
-pub fix-lies : (b : List ℕ) (k : ℕ) → k < fixCount b → fixCount b ≤ L.maxStanding → take L.fixSize (drop (fixPlace k) b) ≡ get_or (fixPlaces b) k []
-fix-lies b k h f = sym (part_of L.fixSize (k * L.fixSize) L.fixesSize L.fixesAt b (omega arith)) ∙ sym (place_of L.fixSize (fixCount b) k (fixTable b) h)
+pub fixes-length : (b : List ℕ) → length (map fixIn (fixPlaces b)) ≡ fixCount b
+fixes-length b = length-map (fixPlaces b) fixIn ∙ length-places L.fixSize (fixCount b) (fixTable b)
 
-pub refused-lies : (b : List ℕ) (k : ℕ) → k < refusedCount b → take L.refusedSize (drop (refusedPlace k) b) ≡ get_or (refusedPlaces b) k []
+pub refused-length : (b : List ℕ) → length (map refusedIn (refusedPlaces b)) ≡ refusedCount b
+refused-length b = length-map (refusedPlaces b) refusedIn ∙ length-places L.refusedSize (refusedCount b) (refusedTable b)
+
+-- one that stands
+pub fix_at : (b : List ℕ) (k : ℕ) → k < fixCount b → get_or (map fixIn (fixPlaces b)) k (fixIn []) ≡ fixIn (get_or (heldPlaces b) k [])
+fix_at b k h =
+    get_or-map fixIn (fixPlaces b) k []
+    ∙ ap fixIn (sym (get_or-append (fixPlaces b) (map (take L.fixSize) (refusedPlaces b)) [] k (rw (length-places L.fixSize (fixCount b) (fixTable b)) h)))
+
+-- a refused one, which is held behind them
+refused_fix : (b : List ℕ) (k : ℕ) → fixIn (get_or (heldPlaces b) (fixCount b + k) []) ≡ fixIn (get_or (refusedPlaces b) k [])
+refused_fix b k =
+    ap (λ (i : ℕ). fixIn (get_or (heldPlaces b) (i + k) [])) (sym (length-places L.fixSize (fixCount b) (fixTable b)))
+    ∙ ap fixIn (get_or-append-add (fixPlaces b) (map (take L.fixSize) (refusedPlaces b)) k [] ∙ get_or-map (take L.fixSize) (refusedPlaces b) k [])
+    ∙ fix-of-more (get_or (refusedPlaces b) k [])
+
+refused-lies : (b : List ℕ) (k : ℕ) → k < refusedCount b → take L.refusedSize (drop (refusedPlace k) b) ≡ get_or (refusedPlaces b) k []
 refused-lies b k h = ap (take L.refusedSize) (sym (drop-drop (k * L.refusedSize) L.refusedAt b)) ∙ sym (place_of L.refusedSize (refusedCount b) k (refusedTable b) h)
 
--- --
+-- its line, from what the code reads: n fixes stand, p is the held fix, q the bytes of the refused one
+pub refusal-line : (b : List ℕ) (k : ℕ) → k < refusedCount b → (n : ℕ) (p q r : List ℕ) (s bits : ℕ) → n ≡ fixCount b → p ≡ get_or (heldPlaces b) (n + k) [] → r ≡ recordIn p → s ≡ signersIn p
+    → q ≡ take L.refusedSize (drop (refusedPlace k) b) → bits ≡ word_at 8 L.chi2At q → refusedLine r s (storedChiSquare bits) ≡ refusedText (refusedIn (get_or (refusedPlaces b) k []))
+refusal-line b k h n p q r s bits n-is p-is r-is s-is q-is bits-are =
+    let held = ap fixIn (p-is ∙ ap (λ (i : ℕ). get_or (heldPlaces b) (i + k) []) n-is) ∙ refused_fix b k in
+    ap₂ (λ (x : List ℕ) (y : ℕ). refusedLine x y (storedChiSquare bits)) r-is s-is
+    ∙ ap₂ (λ (f : Fix) (y : ℕ). refusedLine f.recordBytes f.signers (storedChiSquare y)) held (bits-are ∙ ap (word_at 8 L.chi2At) (q-is ∙ refused-lies b k h))

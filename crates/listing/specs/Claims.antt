@@ -1,5 +1,5 @@
--- What is claimed of the length of a listing (document 01, 'The track and the session') and of the text of a stored chi-square (document 02, A.7). proofs/Lengths
--- and proofs/Stored have a theorem of each of these types.
+-- What is claimed of the length of a listing and of the text of a stored chi-square (docs/REFERENCE.md, 'Track and listing'). The contracts of src/claims.rt name it;
+-- the proofs are in proofs/Lengths and proofs/Stored.
 use Rattle.std.specs.Prelude.{ℕ, ◌+◌, ◌*◌, ◌≤◌, ◌≡◌, true, ◌↔◌, List, length}
 use Rattle.octets.specs.Ascii.{ascii}
 use Rattle.arithmetic.specs.Bits.{storedChiSquare}

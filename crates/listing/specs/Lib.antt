@@ -1,4 +1,3 @@
--- The text of a track (Listing) and what is claimed of its length (Claims); how much room it takes (Widths).
+-- The text of a track (Listing) and what is claimed of its length (Claims).
 pub mod Listing
 pub mod Claims
-pub mod Widths

@@ -1,4 +1,4 @@
--- The text of a track (document 01, 'The track and the session'): "A listing is a line `contested=N`, then board lines in the track's order with `dominated=0`."
+-- The text of a track (docs/REFERENCE.md, 'Track and listing'): a line `contested=N`, then the transmissions in the track's order as on a board, with `dominated=0`.
 use Rattle.std.specs.Prelude.{ℕ, suc, cond, ltb, length}
 use mathlib.Core.List.{List, [], ◌∷◌, ◌++◌, flat_map}
 use Rattle.octets.specs.Ascii.{ascii}
@@ -11,8 +11,7 @@ use Rattle.drawing.specs.Text.{rankedText, boardSize}
 use Rattle.stored.specs.Track.{Track}
 use Rattle.stored.specs.Memory.{wellFormed, decode}
 
--- `chi2=none` where the bits of the infinity are stored (document 02, A.7); "a NaN chi-square, wherever it is stored or written, is 7ff8000000000000", so any
--- other bits are written as those of the number that they are
+-- `chi2=none` where the bits of the infinity are stored; any other bits are written as those of the number that they are, 7ff8000000000000 for every NaN
 abbrev pub refusedText : RefusedFix → List ℕ
 refusedText x = refusedLine x.fix.recordBytes x.fix.signers (storedChiSquare x.chi2)
 
@@ -26,14 +25,14 @@ unfoldable pub heldFrom : ℕ → List HeldTransmission → List ℕ
 heldFrom number [] = []
 heldFrom number (t ∷ ts) = heldText number t ++ heldFrom (suc number) ts
 
--- "a line `contested=N`"
+-- how many fixes entered a list of refused
 unfoldable pub contestedLine : ℕ → List ℕ
 contestedLine n = ascii "contested=" ++ (decimal n ++ ascii "\n")
 
 unfoldable pub listingOf : Track → List ℕ
 listingOf s = contestedLine s.contested ++ heldFrom 1 s.transmissions
 
--- "Track listing. 1; 10. Else as the board": its length; bytes past it are untouched
+-- 1 for bytes that are no track, 10 for an output that is too small; else the text and its length, and bytes past it are untouched
 unfoldable pub listTrack : List ℕ → List ℕ → After (List ℕ)
 listTrack m out =
     cond (wellFormed m) (cond (ltb (length out) boardSize) (after 10 out) (writeText (listingOf (decode m)) out)) (after 1 out)

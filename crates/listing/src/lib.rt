@@ -1,123 +1,115 @@
 // The listing of a track: its transmissions in their order, as the lines of a board.
 #![tactic(auto)]
 
-ghost use Rattle.std.specs.Prelude.{◌≡◌, true, ◌+◌, ◌*◌, ◌<◌, ◌≤◌, length, get_or};
+ghost use Rattle.std.specs.Prelude.{◌≡◌, true, ◌<◌, ◌≤◌, length, get_or};
 ghost use mathlib.Core.List.{[], map, flat_map};
-ghost use Rattle.text.specs.Buffer.{Put};
+ghost use Rattle.octets.specs.Put.{Put};
+ghost use Rattle.text.specs.Texts.{append};
 ghost use Rattle.held.specs.After.{after};
-ghost use Rattle.tracked.specs.Bytes.{fixIn, refusedIn, fixCount, refusedCount, fixPlaces, refusedPlaces, transmissionIn};
+ghost use Rattle.tracked.specs.Bytes.{fixIn, refusedIn, refusedCount, fixPlaces, refusedPlaces, transmissionIn};
 ghost use Rattle.tracked.specs.Parts.{Sound};
 ghost use Rattle.arrange.specs.Blocks.{blocks, Filled};
 ghost use Rattle.drawing.specs.Text.{rankedText, boardSize};
-ghost use Rattle.drawing.specs.Widths.{refusedWidth};
 ghost use Rattle.stored.specs.Memory.{wellFormed, decode};
 ghost use Rattle.listing.specs.Listing as T;
-ghost use Rattle.listing.specs.Widths.{contestedWidth, heldWidth};
 
+use drawing::Role;
+use stored::layout::{CONTESTED_AT, TRANSMISSION_COUNT_AT, TRANSMISSIONS_AT};
+use text::Text;
 use tracked::layout::CHI2_AT;
+
+pub mod claims;
 
 // The least output that a listing is written to: as for a board, and every listing fits.
 const LISTING_SIZE: usize = 16384;
 
 // The lines of the fixes that stand.
-fn put_standing(out: &mut [u8], at: usize, b: &[u8]) -> usize
-    requires sound { Sound b.now }
-    requires refused_width_in_bounds { at + fixCount b.now * refusedWidth ≤ length out.old }
-    ensures { (result ≤ at + fixCount b.now * refusedWidth) × Put out.old at (flat_map rankedText (map fixIn (fixPlaces b.now))) result out.new }
+fn push_standing(out: &mut Text, b: &[u8])
+    requires { Sound b.now }
+    ensures { out.new ≡ append out.old (flat_map rankedText (map fixIn (fixPlaces b.now))) }
 {
     let n = tracked::fix_count(b);
-    let mut a = at;
-    let mut k: u8 = 0;
-    while k < n {
-        let f = tracked::fix_at(b, k);
-        a = drawing::lines::put_line(
-            out,
-            a,
-            b"ranked",
-            tracked::record_of(f),
-            tracked::signers(f),
-        );
-        k += 1;
+    for k in 0..n {
+        let fix = tracked::held(b, k);
+        drawing::push_line(out, Role::Ranked, fix.record(), fix.signers());
     }
-    a
 }
 
-// The line of the refused fix k.
-fn put_refusal(out: &mut [u8], at: usize, b: &[u8], k: u8) -> usize
+// The line of the refused fix k, which is held behind those that stand.
+fn push_refusal(out: &mut Text, b: &[u8], k: u8)
     requires sound { Sound b.now }
     requires k_bound { k < refusedCount b.now }
-    requires refused_width_in_bounds { at + refusedWidth ≤ length out.old }
-    ensures { (result ≤ at + refusedWidth) × Put out.old at (T.refusedText (refusedIn (get_or (refusedPlaces b.now) k []))) result out.new }
+    ensures { out.new ≡ append out.old (T.refusedText (refusedIn (get_or (refusedPlaces b.now) k []))) }
 {
-    let p = tracked::refused_at(b, k);
-    let chi2 = arithmetic::stored_chi_square(octets::words::u64_at(p, CHI2_AT));
-    drawing::lines::put_refused(out, at, tracked::record_of(p), tracked::signers(p), chi2)
+    let fix = tracked::held(b, tracked::fix_count(b) + k);
+    let bits = octets::words::u64_at(tracked::refused_at(b, k), CHI2_AT);
+    drawing::push_refused(
+        out,
+        fix.record(),
+        fix.signers(),
+        arithmetic::stored_chi_square(bits),
+    );
 }
 
 // The lines of the refused fixes.
-fn put_refusals(out: &mut [u8], at: usize, b: &[u8]) -> usize
-    requires sound { Sound b.now }
-    requires refused_width_in_bounds { at + refusedCount b.now * refusedWidth ≤ length out.old }
-    ensures { (result ≤ at + refusedCount b.now * refusedWidth) × Put out.old at (flat_map T.refusedText (map refusedIn (refusedPlaces b.now))) result out.new }
+fn push_refusals(out: &mut Text, b: &[u8])
+    requires { Sound b.now }
+    ensures { out.new ≡ append out.old (flat_map T.refusedText (map refusedIn (refusedPlaces b.now))) }
 {
     let n = tracked::refused_count(b);
-    let mut a = at;
-    let mut k: u8 = 0;
-    while k < n {
-        a = put_refusal(out, a, b, k);
-        k += 1;
+    for k in 0..n {
+        push_refusal(out, b, k);
     }
-    a
 }
 
 // The header and the lines of a transmission.
-fn put_held(out: &mut [u8], at: usize, number: u8, b: &[u8]) -> usize
-    requires sound { Sound b.now }
-    requires held_width_in_bounds { at + heldWidth ≤ length out.old }
-    ensures { (result ≤ at + heldWidth) × Put out.old at (T.heldText number (transmissionIn b.now)) result out.new }
+fn push_held(out: &mut Text, number: u64, b: &[u8])
+    requires { Sound b.now }
+    ensures { out.new ≡ append out.old (T.heldText number (transmissionIn b.now)) }
 {
-    let fixes = tracked::fix_count(b);
-    let refused = tracked::refused_count(b);
-    let a = drawing::lines::put_header(out, at, number as u64, fixes as u64, 0, refused as u64);
-    let e = put_standing(out, a, b);
-    put_refusals(out, e, b)
+    let fixes = tracked::fix_count(b) as usize;
+    let refused = tracked::refused_count(b) as usize;
+    drawing::push_header(out, number, fixes, 0, refused);
+    push_standing(out, b);
+    push_refusals(out, b);
 }
 
 // Transmissions one after another, numbered from 1.
-fn put_all(out: &mut [u8], at: usize, t: &[u8], n: u8) -> usize
-    requires filled { Filled t.now n }
-    requires held_width_in_bounds { at + n * heldWidth ≤ length out.old }
-    ensures { (result ≤ at + n * heldWidth) × Put out.old at (T.heldFrom 1 (map transmissionIn (blocks n t.now))) result out.new }
+fn push_all(out: &mut Text, t: &[u8], n: u8)
+    requires { Filled t.now n }
+    ensures { out.new ≡ append out.old (T.heldFrom 1 (map transmissionIn (blocks n t.now))) }
 {
-    let mut a = at;
-    let mut i: u8 = 0;
-    while i < n {
-        a = put_held(out, a, i + 1, arrange::block(t, i as usize));
-        i += 1;
+    for i in 0..n {
+        push_held(out, i as u64 + 1, arrange::block(t, i as usize));
     }
-    a
 }
 
 // How many fixes entered a list of refused.
-fn put_contested(out: &mut [u8], contested: u64) -> usize
-    requires { contestedWidth ≤ length out.old }
-    ensures { (result ≤ contestedWidth) × Put out.old 0 (T.contestedLine contested) result out.new }
+fn push_contested(out: &mut Text, contested: u64)
+    ensures { out.new ≡ append out.old (T.contestedLine contested) }
 {
-    let a = text::put_bytes(out, 0, b"contested=");
-    let b = text::put_u64(out, a, contested);
-    text::put_bytes(out, b, b"\n")
+    out.push_field("contested=", &contested);
+    out.push_str("\n");
+}
+
+fn push_listing(out: &mut Text, memory: &[u8])
+    requires { wellFormed memory.now ≡ true }
+    ensures { out.new ≡ append out.old (T.listingOf (decode memory.now)) }
+{
+    push_contested(out, octets::words::u64_at(memory, CONTESTED_AT));
+    let n = memory[TRANSMISSION_COUNT_AT];
+    push_all(out, &memory[TRANSMISSIONS_AT..], n);
 }
 
 // Writes the listing of a track.
 fn write(memory: &[u8], out: &mut [u8]) -> usize
     requires memory_value { wellFormed memory.now ≡ true }
     requires board_size_in_bounds { boardSize ≤ length out.old }
-    ensures { (result ≤ boardSize) × Put out.old 0 (T.listingOf (decode memory.now)) result out.new }
+    ensures { Put out.old 0 (T.listingOf (decode memory.now)) result out.new }
 {
-    let contested = octets::words::u64_at(memory, stored::layout::CONTESTED_AT);
-    let n = memory[stored::layout::TRANSMISSION_COUNT_AT];
-    let a = put_contested(out, contested);
-    put_all(out, a, &memory[stored::layout::TRANSMISSIONS_AT..], n)
+    let mut text = Text::new(out);
+    push_listing(&mut text, memory);
+    text.len()
 }
 
 // The listing of a track: 1 or 10, or its length.

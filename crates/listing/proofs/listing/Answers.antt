@@ -6,6 +6,7 @@ use native.Mathlib.Omega.{arith}
 use borrow.Author.Tests.{lt-ltb, le-ltb}
 use Rattle.stored.specs.Memory.{wellFormed}
 use Rattle.listing.specs.Listing.{listTrack}
+use Rattle.listing.proofs.Lengths.{listing-length, length-numbers}
 use Rattle.held.proofs.Writing.{put_written}
 use Rattle.listing.proofs.listing.Goals as goal
 
@@ -20,11 +21,17 @@ returns-then-out-lt-LISTING_SIZE c =
     let formed : wellFormed m ≡ true = sym c.well_formed-2.ensures ∙ c.if-not-well_formed.false in
     rw (formed, lt-ltb _ _ c.if-out-lt-LISTING_SIZE.true) refl
 
+pub overflow_cast-result : goal.overflow_cast-result
+overflow_cast-result c =
+    let m : List ℕ = c.args.memory.now in
+    let l = listing-length m (sym c.well_formed-2.ensures ∙ c.if-not-well_formed.false) in
+    omega (arith, l.1, length-numbers.1, c.write.ensures.next)
+
 pub returns : goal.returns
 unfolding listTrack
 returns c =
     let m : List ℕ = c.args.memory.now in
     let formed : wellFormed m ≡ true = sym c.well_formed-2.ensures ∙ c.if-not-well_formed.false in
     let s = c.if-out-lt-LISTING_SIZE.false in
-    let p = c.write.ensures in
-    rw (formed, le-ltb _ _ s) (put_written _ _ _ _ p.1 (omega (arith, p.0, p.1.next, s)))
+    let l = listing-length m formed in
+    rw (formed, le-ltb _ _ s) (put_written _ _ _ _ c.write.ensures (omega (arith, l.1, length-numbers.1, s)))
