@@ -16,7 +16,7 @@ REFUSAL = 12
 
 
 def digits(measured, bits):
-    """Document 02, A.7: no number where none was measured."""
+    """No number where none was measured."""
     assert measured or bits == 0
     return f"{bits:016x}" if measured else "none"
 

@@ -13,8 +13,8 @@ use lib.Seq.{sets, sets-eq, set_comm, take_at, drop_at}
 use Rattle.octets.specs.Words.{word_bytes}
 use Rattle.octets.specs.Writes.{putWord}
 use Rattle.octets.proofs.Numbers.{length-word-bytes}
-use Rattle.text.specs.Buffer.{Put}
-use Rattle.text.proofs.Writing.{put-put, put_one, put_as, put_whole}
+use Rattle.octets.specs.Put.{Put}
+use Rattle.octets.proofs.Puts.{put-put, put_one, put_as, put_whole}
 use Rattle.arithmetic.specs.declared.standing.ChiSquare.{ChiSquare}
 use Rattle.arithmetic.specs.declared.standing.ChiSquare.TheVariants.{Measured, Unmeasured}
 use Rattle.items.specs.Layout.{maxItems}

@@ -1,6 +1,6 @@
--- The bytes of a decision (document 01, 'Decide'): what is ranked, dominated and refused, in the layout of `Layout`. The unused places of each list are
+-- The bytes of a decision: what is ranked, dominated and refused, in the layout of `Layout`. The unused places of each list are
 -- zero: of the indices as they are in the decision, and of the refusals as is said here.
-use Rattle.std.specs.Prelude.{Bool, cond, List, [], ◌∷◌, ◌++◌, ℕ, ◌-◌, ◌*◌, eqb, length, take, replicate}
+use Rattle.std.specs.Prelude.{cond, List, [], ◌∷◌, ◌++◌, ℕ, ◌-◌, ◌*◌, eqb, length, take, replicate}
 use Rattle.std.specs.Float.{binary64}
 use Rattle.std.specs.Float.Ieee.{to_bits}
 use Rattle.octets.specs.Words.{word_bytes}
@@ -17,7 +17,7 @@ use Rattle.answers.specs.Layout.{refusalSize}
 abbrev pub indicesBytes : Indices → List ℕ
 indicesBytes x = x.count ∷ x.list
 
--- Document 02, A.7: "No number where none was measured". Whether there is a chi-square, and its bits with their lowest byte first, which are all zero where
+-- Whether there is a chi-square, and its bits with their lowest byte first, which are all zero where
 -- there is none.
 unfoldable pub chiSquareBytes : ChiSquare → List ℕ
 chiSquareBytes (Measured x) = 1 ∷ word_bytes 8 (to_bits binary64 x)
@@ -39,6 +39,6 @@ refusalsBytes x = x.count ∷ (countedBytes x ++ replicate (maxItems * refusalSi
 unfoldable pub answerBytes : Decision → List ℕ
 answerBytes d = indicesBytes d.ranked ++ (indicesBytes d.dominated ++ refusalsBytes d.refusals)
 
--- what is answered, and what the array holds then: the decision, or what was found there ("A refusal returns its number and changes no lent byte")
+-- what is answered, and what the array holds then: the decision, or what was found there, since a refusal changes no lent byte
 unfoldable pub handOut : Decision → List ℕ → After (List ℕ)
 handOut d found = cond (eqb d.answer 0) (after 0 (answerBytes d)) (after d.answer found)

@@ -6,10 +6,9 @@
 
 ghost use Rattle.std.specs.Prelude.{◌≡◌, false, ◌∷◌, map, ◌+◌, ◌*◌, ◌≤◌, length, replicate};
 ghost use Rattle.octets.specs.Words.{word_bytes};
-ghost use Rattle.text.specs.Buffer.{Put};
-ghost use Rattle.arithmetic.specs.Stages.{preparedSize};
+ghost use Rattle.octets.specs.Put.{Put};
 ghost use Rattle.items.specs.Layout.{itemSize, maxItems};
-ghost use Rattle.items.specs.Pairs.{stride, Prepared};
+ghost use Rattle.items.specs.Pairs.{stride, AllPrepared};
 ghost use Rattle.decision.specs.Working.{few, Settled};
 ghost use Rattle.decision.specs.Answer.{bad, outcome, refusal, decision, decided};
 ghost use Rattle.held.specs.After.{after};
@@ -18,8 +17,8 @@ ghost use Rattle.answers.specs.Offsets.{indicesSize, refusalsSize, answerSize, l
 ghost use Rattle.answers.specs.Answer.{indicesBytes, chiSquareBytes, refusalBytes, answerBytes, handOut};
 ghost use Rattle.answers.specs.Offsets.{listBytes};
 
-use arithmetic::standing::ChiSquare;
-use decision::{Finding, Indices, Refusal};
+use arithmetic::standing::{ChiSquare, Prepared, UNPREPARED};
+use decision::{Indices, Refusal};
 use items::layout::{ITEM_SIZE, MAX_ITEMS};
 use rule::Marks;
 
@@ -32,14 +31,14 @@ const CHI_SQUARE_SIZE: usize = 1 + 8;
 // The refused, the kept, whether it is superseded, and the chi-square.
 pub const REFUSAL_SIZE: usize = 3 + CHI_SQUARE_SIZE;
 
+// A count and room for a refusal of each item.
 pub const REFUSALS_SIZE: usize = 1 + MAX_ITEMS * REFUSAL_SIZE;
 
+// The ranked, the dominated and the refusals.
 pub const ANSWER_SIZE: usize = INDICES_SIZE + INDICES_SIZE + REFUSALS_SIZE;
 
 // Up to this many items have tables that cost less to clear than those for `decision::FEW`.
 const LEAST: usize = 4;
-
-const LEAST_NUMBERS: usize = LEAST * arithmetic::PREPARED;
 
 const LEAST_CODES: usize = LEAST * MAX_ITEMS;
 
@@ -54,7 +53,7 @@ fn put_indices(out: &mut [u8], at: usize, x: Indices) -> usize
 {
     let list = x.list;
     out[at] = x.count;
-    text::put_bytes(out, at + 1, &list)
+    octets::runs::put_bytes(out, at + 1, &list)
 }
 
 // Whether there is a chi-square, and its bits.
@@ -95,35 +94,32 @@ fn put_refusals(
     at: usize,
     s: &[u8],
     n: u8,
-    table: &[f64],
+    table: &[Prepared],
     codes: &[u8],
     m: Marks,
 ) -> usize
     requires refusals_size_in_bounds { at + refusalsSize ≤ length out.old }
-    requires prepared { Prepared s.now table.now n × Settled s.now n codes.now m }
+    requires prepared { AllPrepared s.now table.now n × Settled s.now n codes.now m }
     ensures { (result ≤ at + refusalsSize) × Put out.old at (listBytes (map refusal (outcome s.now).refused)) result out.new }
 {
     let mut next = at + 1;
     let mut count: u8 = 0;
-    let mut i: u8 = 0;
-    while i < n {
+    for i in 0..n {
         let found = decision::settled::refusal(s, n, table, codes, m, i);
-        let Finding::Refused(x) = found else {
-            i += 1;
+        let Some(x) = found else {
             continue;
         };
         next = put_refusal(out, next, x);
         count += 1;
-        i += 1;
     }
     out[at] = count;
     next
 }
 
 // The three parts, one after another, into zeros, so that what is not used is zero.
-fn put_parts(out: &mut [u8], s: &[u8], n: u8, table: &[f64], codes: &[u8], m: Marks)
+fn put_parts(out: &mut [u8], s: &[u8], n: u8, table: &[Prepared], codes: &[u8], m: Marks)
     requires out_value { out.old ≡ replicate answerSize 0 }
-    requires prepared { Prepared s.now table.now n × Settled s.now n codes.now m }
+    requires prepared { AllPrepared s.now table.now n × Settled s.now n codes.now m }
     ensures { out.new ≡ answerBytes (decision (outcome s.now)) }
 {
     let second = put_indices(out, 0, decision::settled::ranked(s, n, codes, m));
@@ -132,8 +128,8 @@ fn put_parts(out: &mut [u8], s: &[u8], n: u8, table: &[f64], codes: &[u8], m: Ma
 }
 
 // Decides in the lent tables.
-fn put_in(out: &mut [u8], s: &[u8], n: u8, table: &mut [f64], codes: &mut [u8])
-    requires { (out.old ≡ replicate answerSize 0) × (bad s.now ≡ false) × (length s.now ≡ n * itemSize) × (n * preparedSize ≤ length table.old) × (n * stride ≤ length codes.old) }
+fn put_in(out: &mut [u8], s: &[u8], n: u8, table: &mut [Prepared], codes: &mut [u8])
+    requires { (out.old ≡ replicate answerSize 0) × (bad s.now ≡ false) × (length s.now ≡ n * itemSize) × (n ≤ length table.old) × (n * stride ≤ length codes.old) }
     ensures { out.new ≡ answerBytes (decision (outcome s.now)) }
 {
     let m = decision::settled::settle(s, n, table, codes);
@@ -144,7 +140,7 @@ fn put_least(out: &mut [u8], s: &[u8], n: u8)
     requires { (out.old ≡ replicate answerSize 0) × (bad s.now ≡ false) × (length s.now ≡ n * itemSize) × (n ≤ least) }
     ensures { out.new ≡ answerBytes (decision (outcome s.now)) }
 {
-    let mut table = [0.0; LEAST_NUMBERS];
+    let mut table = [UNPREPARED; LEAST];
     let mut codes = [0u8; LEAST_CODES];
     put_in(out, s, n, &mut table, &mut codes);
 }
@@ -153,7 +149,7 @@ fn put_few(out: &mut [u8], s: &[u8], n: u8)
     requires { (out.old ≡ replicate answerSize 0) × (bad s.now ≡ false) × (length s.now ≡ n * itemSize) × (n ≤ few) }
     ensures { out.new ≡ answerBytes (decision (outcome s.now)) }
 {
-    let mut table = [0.0; decision::FEW_NUMBERS];
+    let mut table = [UNPREPARED; decision::FEW];
     let mut codes = [0u8; decision::FEW_CODES];
     put_in(out, s, n, &mut table, &mut codes);
 }
@@ -162,7 +158,7 @@ fn put_many(out: &mut [u8], s: &[u8], n: u8)
     requires { (out.old ≡ replicate answerSize 0) × (bad s.now ≡ false) × (length s.now ≡ n * itemSize) × (n ≤ maxItems) }
     ensures { out.new ≡ answerBytes (decision (outcome s.now)) }
 {
-    let mut table = [0.0; decision::MANY_NUMBERS];
+    let mut table = [UNPREPARED; MAX_ITEMS];
     let mut codes = [0u8; decision::MANY_CODES];
     put_in(out, s, n, &mut table, &mut codes);
 }

@@ -69,19 +69,17 @@ fn claim(s: &[u8], at: usize) -> Claimed
 {
     let lat = octets::words::i32_at(s, at);
     let lon = octets::words::i32_at(s, at + 4);
-    let has_height = s[at + 8] != 0;
-    let height = octets::words::i32_at(s, at + 9);
+    let height = (s[at + 8] != 0).then_some(octets::words::i32_at(s, at + 9));
     let covariance = covariance(s, at + 13);
     Claimed {
         lat,
         lon,
-        has_height,
         height,
         covariance,
     }
 }
 
-// The bits of the chi-square and of its limit. Document 01 leaves a zero's sign free: a sum with zero has none.
+// The bits of the chi-square and of its limit. A zero's sign is left free: a sum with zero has none.
 fn show_measure(rt: &impl Print, m: Measure) -> io::Result<()> {
     show_bits(rt, floats::to_bits(m.chi2 + 0.0))?;
     show_bits(rt, floats::to_bits(m.limit))

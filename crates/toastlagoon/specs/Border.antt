@@ -1,6 +1,5 @@
--- What a fix claims (document 01, 'Agreement'), of its numbers one by one, and what is handed out of how two stand.
-use Rattle.std.specs.Prelude.{Bool, ℤ, Float}
-use Rattle.std.proofs.Math.Option.{Option, none, some}
+-- What a fix claims, of its numbers one by one, and what is handed out of how two stand.
+use Rattle.std.specs.Prelude.{Bool, ℤ, Float, Option, Some, None, if◌then◌else◌}
 use Rattle.geometry.specs.declared.linalg.Covariance.{Covariance}
 use Rattle.arithmetic.specs.declared.standing.Claimed.{Claimed}
 use Rattle.arithmetic.specs.declared.standing.Measure.{Measure}
@@ -12,12 +11,13 @@ abbrev pub covarianceFrom : Float → Float → Float → Float → Float → Fl
 covarianceFrom xx xy xz yy yz zz = record { xx = xx; xy = xy; xz = xz; yy = yy; yz = yz; zz = zz }
 
 abbrev pub claimFrom : ℤ → ℤ → Bool → ℤ → Float → Float → Float → Float → Float → Float → Claimed
-claimFrom lat lon high height xx xy xz yy yz zz = record { lat = lat; lon = lon; has_height = high; height = height; covariance = covarianceFrom xx xy xz yy yz zz }
+claimFrom lat lon high height xx xy xz yy yz zz =
+    record { lat = lat; lon = lon; height = if high then Some height else None; covariance = covarianceFrom xx xy xz yy yz zz }
 
--- Document 02, A.7: "No number where none was measured". What the two lent numbers hold then: what was measured, or what was found there.
+-- Where nothing was measured there is no number. What the two lent numbers hold then: what was measured, or what was found there.
 unfoldable pub measureOr : Measure → Option Measure → Measure
-measureOr found none = found
-measureOr found (some m) = m
+measureOr found None = found
+measureOr found (Some m) = m
 
 -- what is answered of an agreement, and what the two lent numbers hold then
 unfoldable pub agreementOut : Agreement → Measure → After Measure

@@ -86,14 +86,13 @@ fn claim(
     Claimed {
         lat,
         lon,
-        has_height,
-        height,
+        height: has_height.then_some(height),
         covariance,
     }
 }
 
 fn put_measure(m: Measure, chi2: &mut f64, limit: &mut f64)
-    ensures { record { chi2 = chi2.exit.now; limit = limit.new } ≡ m }
+    ensures { record { chi2 = chi2.new; limit = limit.new } ≡ m }
 {
     *chi2 = m.chi2;
     *limit = m.limit;
@@ -101,7 +100,7 @@ fn put_measure(m: Measure, chi2: &mut f64, limit: &mut f64)
 
 // The two numbers are written where they were measured, and stay as they are where they were not.
 fn put_agreement(g: Agreement, chi2: &mut f64, limit: &mut f64) -> u32
-    ensures { after result (record { chi2 = chi2.exit.now; limit = limit.new }) ≡ agreementOut g (record { chi2 = chi2.entry.now; limit = limit.old }) }
+    ensures { after result (record { chi2 = chi2.new; limit = limit.new }) ≡ agreementOut g (record { chi2 = chi2.old; limit = limit.old }) }
 {
     match g {
         Agreement::Inside(m) => {
@@ -143,9 +142,9 @@ pub extern "C" fn tl_agreement(
     chi2: &mut f64,
     limit: &mut f64,
 ) -> u32
-    ensures { after result (record { chi2 = chi2.exit.now; limit = limit.new })
+    ensures { after result (record { chi2 = chi2.new; limit = limit.new })
         ≡ agreementOut (agreementOf (claimFrom lat lon has_height height xx xy xz yy yz zz) (claimFrom lat2 lon2 has_height2 height2 xx2 xy2 xz2 yy2 yz2 zz2))
-        (record { chi2 = chi2.entry.now; limit = limit.old }) }
+        (record { chi2 = chi2.old; limit = limit.old }) }
 {
     let smaller = claim(lat, lon, has_height, height, xx, xy, xz, yy, yz, zz);
     let larger = claim(
