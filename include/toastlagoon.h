@@ -1,9 +1,9 @@
 /* Toastlagoon's functions for C, C++ and whatever calls like C. The library is target/staticlib/libtoastlagoon.a, made by
- * `build library`, for x86-64; `package` makes a shared one of it. It allocates nothing, keeps nothing between calls, and
+ * `build library`, for x86-64-v2 (a processor with POPCNT and SSE4.1, as all since 2009 are); `package` makes a shared one of it. It allocates nothing, keeps nothing between calls, and
  * of other libraries needs only the C library's memcpy, memmove and memset.
  *
- * Every function takes any bytes and any numbers and is proved to answer what documents 01 and 02 say of them
- * (crates/toastlagoon/src/lib.rt has the contracts, docs/REFERENCE.md says the same in words, docs/OPERATION.md how to run it). What
+ * Every function takes any bytes and any numbers and is proved to answer what docs/REFERENCE.md says of them
+ * (crates/toastlagoon/src/lib.rt has the contracts, docs/OPERATION.md says how to run it). What
  * the caller owes is what C cannot say:
  *
  * - Memory. A slice is two arguments, a pointer and a length in bytes, and that many bytes can be read there (and written, where it is
@@ -12,7 +12,7 @@
  *   the same call is given. Nothing needs to be aligned.
  * - A bool is 0 or 1.
  * - The floating-point environment that a thread begins with: rounding to nearest, no flush to zero and no denormals as zero (MXCSR
- *   1f80 but for its flags), no exception unmasked. Another changes chi-squares, and so which fixes are refused.
+ *   1f80 but for its flags), no exception unmasked. Another changes chi-squares, and so which fixes are refused, and the answer of tl_horizontal_sigma.
  * - Stack: 48 KB for tl_decide, 112 KB for tl_board and each function of a track, 144 KB for tl_register_preview, 4 KB for each other
  *   function (a KB is 1,024 bytes). bench/stack measures it; seen were 27 KB for a decision, 100 KB for a board, 130 KB for a preview,
  *   which has a copy of the register there, 50 KB for a call on a track and 1 KB for the others.
