@@ -129,7 +129,7 @@ fn agreement(random: &mut Random) {
             black_box(oracle::agreement(black_box(a), black_box(b)));
         }
     };
-    line("agreement", "the Rust, with the sine of 01", 256.0, binding::AGREEMENT, &mut ours, &mut theirs);
+    line("agreement", "the Rust, with our sine", 256.0, binding::AGREEMENT, &mut ours, &mut theirs);
     #[cfg(real_libm)]
     {
         let mut real = || {

@@ -252,7 +252,7 @@ fn answered(call: &Call, told: Answer) -> &'static str {
         (Call::Summary { .. }, Answer::Number(9)) => "summary answered 9",
         (Call::Convict { .. }, Answer::Number(0)) => "conviction answered 0",
         (Call::Convict { .. }, Answer::Number(2)) => "conviction answered 2",
-        _ => "answered what 01 does not name",
+        _ => "answered what the specification does not name",
     }
 }
 

@@ -249,7 +249,7 @@ fn ties(f: &mut Findings) {
     f.see("R-07 {1,2} once more", format!("{} {}", again.answers[3], again.transmissions()), "Changed 4");
     let late = Record { time: one.time + 2_000_000_001, ..both.clone() };
     let joined = f.reports(&[one.clone(), late]);
-    f.see("A.5 {1}, and {1,2} 2,000,000,001 ns later", joined.told(), "Changed,Changed contested=0 [{1,2}@0]");
+    f.see("limit of a link: {1}, and {1,2} 2,000,000,001 ns later", joined.told(), "Changed,Changed contested=0 [{1,2}@0]");
     let mut many = vec![one, two];
     many.extend(std::iter::repeat_n(both.clone(), 10));
     let many = f.reports(&many);
@@ -395,9 +395,9 @@ fn outcomes(f: &mut Findings) {
         ("diag(1e-320), 1e-7 degree away", here(flat(1e-320)), there(1), "unmeasurable"),
         ("diag(100), 5400e-7 degree away", here(flat(100.0)), there(5400), "outside"),
     ] {
-        f.see(&format!("A.7 {what}"), bare(outcome(&smaller, &larger)).to_string(), expected);
+        f.see(&format!("unmeasurable: {what}"), bare(outcome(&smaller, &larger)).to_string(), expected);
         if let Some(ours) = binding::outcome(&smaller, &larger) {
-            f.see(&format!("A.7 {what}, the library"), ours.map_or_else(|words| words, |o| bare(o).to_string()), expected);
+            f.see(&format!("unmeasurable: {what}, the library"), ours.map_or_else(|words| words, |o| bare(o).to_string()), expected);
         }
     }
 }

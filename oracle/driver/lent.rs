@@ -1,5 +1,5 @@
-//! Calls on tracks that nobody reached. The bytes are made at random, well-formed by document 01's rules and by no others, and the Rust's
-//! merge is built from them. And tracks with one byte changed, which are refused exactly where 01's rules are broken.
+//! Calls on tracks that nobody reached. The bytes are made at random, well-formed by the specification's rules and by no others, and the Rust's
+//! merge is built from them. And tracks with one byte changed, which are refused exactly where the specification's rules are broken.
 
 use crate::calls::{Call, Growing, inputs};
 use crate::cases::{self, Counts, Seen};
@@ -228,7 +228,7 @@ fn run(lent: &Lent, calls: &[Call], both: &mut Both, counts: &mut Counts) -> Res
             *counts.entry("contested passed 2^64").or_default() += 1;
         }
         if !formed(&both.after) {
-            return Err(format!("call {n}: the Rust's state breaks 01's rules"));
+            return Err(format!("call {n}: the Rust's state breaks the specification's rules"));
         }
     }
     both.listing(counts)
@@ -291,7 +291,7 @@ fn refuses(bytes: &[u8], call: &Call) -> bool {
     told == 1 && memory == bytes && binding::track::listing(bytes, &mut out) == 1 && out.iter().all(|&b| b == 7)
 }
 
-/// One byte changed: refused with 1 exactly where 01's rules are broken. What is still a track is called as any other.
+/// One byte changed: refused with 1 exactly where the specification's rules are broken. What is still a track is called as any other.
 fn damaged(random: &mut Random, bytes: &mut [u8], call: &Call, both: &mut Both, counts: &mut Counts) -> Result<(), String> {
     let at = place(random, bytes);
     bytes[at] = if random.one_in(2) { bytes[at] ^ (1 << random.below(8)) } else { random.next() as u8 };
@@ -300,7 +300,7 @@ fn damaged(random: &mut Random, bytes: &mut [u8], call: &Call, both: &mut Both, 
     *counts.entry(if whole { "a byte changed: still a track" } else { "a byte changed: no track, answered 1" }).or_default() += 1;
     let Some(rust) = Track::read(bytes) else {
         let ok = !binding::TRACK || refuses(bytes, call);
-        return if ok { Ok(()) } else { Err(format!("byte {at} changed: not well-formed by 01, and not refused with 1")) };
+        return if ok { Ok(()) } else { Err(format!("byte {at} changed: not well-formed, and not refused with 1")) };
     };
     both.begin(rust, bytes);
     both.call(call).map_err(|words| format!("byte {at} changed: {words}"))?;

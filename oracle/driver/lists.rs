@@ -135,7 +135,7 @@ pub fn list(random: &mut Random) -> Vec<u8> {
     bytes
 }
 
-/// Makes one of the faults that 01's 8 speaks of, or something near it that is none.
+/// Makes one of the faults that refusal 8 is for, or something near it that is none.
 fn spoil(random: &mut Random, bytes: &mut Vec<u8>) {
     let n = bytes.len() / SIZE;
     match random.below(4) {

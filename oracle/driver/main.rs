@@ -39,7 +39,7 @@ fn print(title: &str, counts: &Counts) {
     }
 }
 
-/// A chi-square's bits, with one zero (01 leaves a zero's sign free).
+/// A chi-square's bits, with one zero (a zero's sign is free).
 fn same(a: f64, b: f64) -> bool {
     oracle::bits(a + 0.0) == oracle::bits(b + 0.0)
 }
@@ -189,7 +189,7 @@ fn compare_root(random: &mut Random, times: u64) {
     for i in 0..times {
         let x = if i % 2 == 0 { f64::from_bits(random.next()) } else { claims::pattern(random) };
         let (theirs, ours) = (x.sqrt(), binding::root(x).unwrap());
-        // A zero's sign is free in 01, but is compared here: the root of -0.0 is -0.0.
+        // A zero's sign is free, but is compared here: the root of -0.0 is -0.0.
         if oracle::bits(theirs) != oracle::bits(ours) {
             different(
                 "root",

@@ -1,4 +1,4 @@
-//! Where nothing was measured (document 02, A.7): what it came from, how it was written, and which cases of it came up.
+//! Where nothing was measured: what it came from, how it was written, and which cases of it came up.
 
 use crate::kinds;
 use oracle::Claim;

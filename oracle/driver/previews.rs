@@ -1,4 +1,4 @@
-//! Previews of a conviction (document 02, A.1): the library's beside the peer's, and beside the library's own conviction and board on
+//! Previews of a conviction: the library's beside the peer's, and beside the library's own conviction and board on
 //! a copy; and which kinds of them came up.
 
 use crate::random::Random;

@@ -79,7 +79,7 @@ fn chosen(random: &mut Random) -> (Vec<Vec<Call>>, BTreeMap<&'static str, usize>
     (lists, kept)
 }
 
-/// Position 9 of document 01: S in M in L, of which S and L disagree, as S M L and as L S M.
+/// S in M in L, of which S and L disagree, as S M L and as L S M.
 fn nested() -> [Vec<Call>; 2] {
     let fix = |tags: u64| Record {
         time: 1000,

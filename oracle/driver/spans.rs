@@ -1,4 +1,4 @@
-//! Times around the limit of a link (document 02, A.5), and which cases of it came up.
+//! Times around the limit of a link, and which cases of it came up.
 
 use crate::random::Random;
 use peer::board::{LINK_SPAN, Spans};

@@ -89,7 +89,7 @@ fn run(calls: &[Call], both: &mut Both, counts: &mut Counts) -> Result<(), Strin
             both.listing(counts).map_err(|words| format!("after call {n}: {words}"))?;
         }
     }
-    if formed(&both.after) { Ok(()) } else { Err("the Rust's state breaks 01's rules".to_string()) }
+    if formed(&both.after) { Ok(()) } else { Err("the Rust's state breaks the specification's rules".to_string()) }
 }
 
 pub fn compare(random: &mut Random, lists: u64) {

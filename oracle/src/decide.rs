@@ -1,4 +1,4 @@
-//! `standing::decide` over document 01's items.
+//! `standing::decide` over the specification's items.
 //!
 //! An item has 297 bytes: a record (222), model inputs (32), identity (32), standing u64, consistent, preferred (zero or not) and
 //! verified (1 passed, 2 failed, else unjudged).
@@ -110,7 +110,7 @@ pub struct Decision {
     pub refusals: Vec<Refusal>,
 }
 
-/// The items, or nothing where 01 refuses with 8.
+/// The items, or nothing where 8 refuses.
 pub fn items(bytes: &[u8]) -> Option<Vec<Item>> {
     if !bytes.len().is_multiple_of(SIZE) || bytes.len() / SIZE > MOST {
         return None;
@@ -149,7 +149,7 @@ pub fn decided(candidates: &[Candidate]) -> Decision {
     plain!(solver::standing::decide(candidates))
 }
 
-/// The Rust's decision; nothing where 01 refuses with 8.
+/// The Rust's decision; nothing where 8 refuses.
 pub fn decide(bytes: &[u8]) -> Option<Decision> {
     Some(decided(&candidates(bytes)?))
 }

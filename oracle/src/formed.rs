@@ -1,4 +1,4 @@
-//! Document 01's rules for a track's bytes ('The track and the session'; places, signers and unused bytes as in 'The register').
+//! The specification's rules for a track's bytes (docs/REFERENCE.md, 'Layouts').
 
 use crate::Record;
 use crate::track::{

@@ -1,4 +1,4 @@
-//! The oracle: the Rust's agreement, decide and track behind the layouts of document 01.
+//! The oracle: the Rust's agreement, decide and track behind the layouts of the specification.
 
 pub mod decide;
 pub mod formed;
@@ -12,7 +12,7 @@ pub use record::Record;
 
 use tally_wire::EnuCovariance;
 
-/// What a fix claims, as 01 has it.
+/// What a fix claims, as the specification has it.
 #[derive(Clone, Copy, Debug, PartialEq)]
 pub struct Claim {
     pub lat: i32,
@@ -21,7 +21,7 @@ pub struct Claim {
     pub covariance: [f64; 6],
 }
 
-/// The bits of a chi-square; each NaN is 7ff8000000000000 (01, Agreement).
+/// The bits of a chi-square; each NaN is 7ff8000000000000.
 pub fn bits(x: f64) -> u64 {
     if x.is_nan() { 0x7ff8_0000_0000_0000 } else { x.to_bits() }
 }

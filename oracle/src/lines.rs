@@ -1,8 +1,8 @@
-//! The lines of document 01's board, which a listing has too.
+//! The lines of the specification's board, which a listing has too.
 
 use crate::measured::digits;
 
-/// The nearest whole metre, and the even one of two equally near (document 02, A.4), by the standard library's rounding. The quotient is
+/// The nearest whole metre, and the even one of two equally near, by the standard library's rounding. The quotient is
 /// a half where the height is an exact half, and every other height is a thousandth of a metre or more from one, far more than it is off.
 pub fn metres(height: i32) -> i64 {
     (f64::from(height) / 1000.0).round_ties_even() as i64
@@ -25,7 +25,7 @@ pub fn line(role: &str, said: &Said) -> String {
     format!("role={role} time={time} lat={lat} lon={lon} height={height} weight={weight} signers={signers:08x}")
 }
 
-/// A refused fix's line without its end: its chi-square comes last, or `none` where none was measured (document 02, A.7).
+/// A refused fix's line without its end: its chi-square comes last, or `none` where none was measured.
 pub fn refused(said: &Said, chi2: Option<u64>) -> String {
     format!("{} chi2={}", line("refused", said), digits(chi2))
 }

@@ -1,4 +1,4 @@
-//! Document 02, A.7: no number where none was measured. The Rust has an infinite chi-square there, and so have a track's bytes.
+//! No number where none was measured. The Rust has an infinite chi-square there, and so have a track's bytes.
 
 use crate::{Claim, agreement, bits};
 
@@ -15,7 +15,7 @@ pub enum Outcome {
     Unmeasurable,
 }
 
-/// What the Rust's agreement comes to. A chi-square of zero has no sign here, since 01 leaves it free.
+/// What the Rust's agreement comes to. A chi-square of zero has no sign here, since it is free.
 pub fn outcome(smaller: &Claim, larger: &Claim) -> Outcome {
     let (chi2, limit) = agreement(smaller, larger);
     match (measured(chi2 + 0.0), limit.to_bits()) {

@@ -1,4 +1,4 @@
-//! The 222-byte record of document 01.
+//! The 222-byte record of the specification.
 
 use crate::Claim;
 

@@ -1,4 +1,4 @@
-//! The Rust's merge of one aircraft behind document 01's track: its calls, its refusals, its 29,104 bytes.
+//! The Rust's merge of one aircraft behind the specification's track: its calls, its refusals, its 29,104 bytes.
 
 use crate::lines::{self, Said};
 use crate::measured::measured;
@@ -31,7 +31,7 @@ pub enum Answer {
 }
 
 impl Answer {
-    /// As the library answers; 01 gives the last four no number.
+    /// As the library answers; the last four numbers are ours.
     pub fn number(self) -> u32 {
         match self {
             Self::Number(n) => n.into(),
@@ -166,7 +166,7 @@ impl Track {
         self.transmissions().iter().map(|one| (one.fixes.len(), one.refused.len())).collect()
     }
 
-    /// All that is held, in 01's layout.
+    /// All that is held, in the specification's layout.
     pub fn bytes(&self) -> Vec<u8> {
         let mut out = vec![0u8; SIZE];
         self.write(&mut out);
@@ -201,7 +201,7 @@ impl Track {
         Some(Self(Merge::holding(&faulted, &summaries, contested, blocks.map(read_transmission).collect())))
     }
 
-    /// 01's listing: a line `contested=N`, then board lines in the track's order with `dominated=0`.
+    /// the specification's listing: a line `contested=N`, then board lines in the track's order with `dominated=0`.
     pub fn listing(&self) -> String {
         let mut out = format!("contested={}\n", self.contested());
         for (n, one) in self.transmissions().iter().enumerate() {

@@ -1,4 +1,4 @@
-//! Stands where the Rust's `libm` stood: document 01's sine and cosine. The papers have no `libm`, so both sides of the
+//! Stands where the Rust's `libm` stood: the specification's sine and cosine. There is no `libm` here, so both sides of the
 //! comparison use this; what the real one would change is counted beside it.
 
 /// What `f64::to_radians` multiplies by: the f64 nearest pi / 180.
@@ -45,7 +45,7 @@ fn series(u: f64, coefficients: &[f64; 9]) -> f64 {
     sum
 }
 
-/// The sine and cosine of v, in 1e-7 degree, as document 01 says.
+/// The sine and cosine of v, in 1e-7 degree, as the specification says.
 pub fn sincos_units(v: i64) -> (f64, f64) {
     let q = (v + 450_000_000).div_euclid(900_000_000);
     let r = v - 900_000_000 * q;

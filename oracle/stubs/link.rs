@@ -1,4 +1,4 @@
-//! Takes the place of the merge crate's module `link`, which the papers do not have. A module sees what its parents keep private,
+//! Takes the place of the merge crate's module `link`, which is not to be had. A module sees what its parents keep private,
 //! so this is how the oracle calls `Merge::check`, `merge`, `model` and `convict`, and reads all that a merge holds.
 
 use crate::*;
@@ -6,11 +6,11 @@ use crate::*;
 /// What a reported fix came to.
 #[derive(Clone, Copy, Debug, PartialEq, Eq)]
 pub enum Told {
-    /// The engine is convicted (01's 4).
+    /// The engine is convicted (refusal 4).
     Faulted,
-    /// A cited model has no summary (01's 6, in the place of the Rust's waiting).
+    /// A cited model has no summary (refusal 6, in the place of the Rust's waiting).
     Missing,
-    /// A cited model is disputed or of another spec (01's 7).
+    /// A cited model is disputed or of another spec (refusal 7).
     Failed,
     Changed,
     Contested,

@@ -1,4 +1,4 @@
-//! Document 01: the caller has checked the message's address, and `altitude_ft` is left out. So each message names aircraft 0
+//! The caller has checked the message's address, and `altitude_ft` is left out. So each message names aircraft 0
 //! and has no altitude.
 
 pub enum AltitudeKind {

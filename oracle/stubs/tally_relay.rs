@@ -1,4 +1,4 @@
-//! Stands where the relay's bounded table stood: a map that never evicts (document 01, the track).
+//! Stands where the relay's bounded table stood: a map that never evicts.
 
 pub mod bounded {
     use std::collections::BTreeMap;

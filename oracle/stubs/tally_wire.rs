@@ -1,4 +1,4 @@
-//! Stands where the Rust's `tally_wire` stood, which the papers do not have: document 01's stand-ins, and the records that the
+//! Stands where the Rust's `tally_wire` stood, which is not to be had: the specification's stand-ins, and the records that the
 //! merge reads, without signatures. Engines and models are numbers; a model's number is the first byte of its id.
 
 pub mod batch {
@@ -11,7 +11,7 @@ pub type PublicKey = u32;
 pub type TransmitTime = u64;
 pub type ReceptionTag = u64;
 
-/// Six f64 (01: "The six f64 stand in for `EnuCovariance`").
+/// Six f64 in the place of `EnuCovariance`.
 #[derive(Clone, Copy, Debug, PartialEq)]
 pub struct EnuCovariance {
     pub xx: f64,
@@ -56,7 +56,7 @@ impl TaggedSet {
         &self.tags
     }
 
-    /// 01: "Subset" means the same message, all tags contained, and fewer tags.
+    /// A subset has the same message and fewer tags, each of them the other's.
     pub fn relation(&self, other: &Self) -> Relation {
         if self.message != other.message {
             return Relation::Incomparable;
@@ -94,7 +94,7 @@ pub mod products {
     use super::{TaggedSet, batch::Hash};
     use blake2::blake2s256;
 
-    /// 01's stand-in: over the length byte, the message, the tag count byte and that many tags, little-endian.
+    /// the specification's stand-in: over the length byte, the message, the tag count byte and that many tags, little-endian.
     pub fn set_hash(set: &TaggedSet) -> Hash {
         let mut bytes = vec![set.message().len() as u8];
         bytes.extend_from_slice(set.message());

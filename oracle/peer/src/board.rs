@@ -7,7 +7,7 @@ use oracle::{Record, blake2s256};
 
 pub const ROOM: usize = 16_384;
 const SHOWN: usize = 8;
-/// How much the times of two that link may differ, in nanoseconds (document 02, A.5).
+/// How much the times of two that link may differ, in nanoseconds.
 pub const LINK_SPAN: u64 = 2_000_000_000;
 
 /// A representative: the first record, by bytes, of its identity.
@@ -208,7 +208,7 @@ pub fn board(memory: &[u8], out: &mut [u8]) -> usize {
     }
 }
 
-/// Preview of a conviction (document 02, A.1): the board of what the conviction would leave. It is refused as the conviction is, then
+/// Preview of a conviction: the board of what the conviction would leave. It is refused as the conviction is, then
 /// as the board is: 1, 2, 10, or the length of what was written.
 pub fn preview(memory: &[u8], engine: u32, out: &mut [u8]) -> usize {
     match struck(memory, engine) {

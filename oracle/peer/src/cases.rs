@@ -63,7 +63,7 @@ pub fn convict(engine: u32) -> String {
     format!("op=convict\nengine={engine}\n")
 }
 
-/// 01's own example.
+/// The specification's own example.
 pub fn worked() -> String {
     let first = Report {
         engine: 1,

@@ -1,5 +1,5 @@
-//! A second writing of document 01's register, board and session and of 02's preview, in plain Rust, to compare with. It was made from
-//! 01, and from 02 where that changes or adds something. The decision on a board is the Rust's own (`standing::decide`), by way of the
+//! A second writing of the specification's register, board, session and preview, in plain Rust, to compare with. It was made from
+//! the text of the specification. The decision on a board is the Rust's own (`standing::decide`), by way of the
 //! oracle.
 
 pub mod board;

@@ -5,7 +5,7 @@ use crate::register::{self, Register};
 
 const MOST: usize = 65_536;
 
-/// What is printed in place of a board without bytes (document 02, A.14).
+/// What is printed in place of a board without bytes.
 const QUIET: &str = "transmissions=0\n";
 
 /// An operation, read and not yet done.
@@ -114,7 +114,7 @@ fn operation(lines: &mut Lines) -> Result<Operation, Bad> {
     }
 }
 
-/// Document 02, A.14: an empty file has none.
+/// An empty file has none.
 fn operations(input: &[u8]) -> Result<Vec<Operation>, Bad> {
     let mut lines = Lines { rest: input, due: 1 };
     let mut all = Vec::new();

@@ -1,4 +1,4 @@
-//! What the peer must do on the sessions that document 01, or a reading of it, settles; and on 02's previews.
+//! What the peer must do on the sessions that the specification, or a reading of it, settles; and on previews.
 
 use crate::board;
 use crate::cases::*;
@@ -74,7 +74,7 @@ fn a_fix_tied_to_two_transmissions_joins_them() {
     assert!(board_of(&apart).contains("transmission=2 "));
 }
 
-/// Document 02, A.5.
+/// The limit of a link.
 #[test]
 fn times_to_the_nanosecond() {
     let board = |small: u64, large: u64| board_of(&apart(small, large).map(|r| r.text()).concat());
@@ -140,7 +140,7 @@ fn a_dispute_settled_by_a_conviction() {
     assert!(of("settled").contains("role=ranked"));
 }
 
-/// Document 02, A.14.
+/// Sessions without operations, and without a board.
 #[test]
 fn a_quiet_aircraft() {
     let all = cases();
@@ -241,7 +241,7 @@ fn chi2s(board: &str) -> Vec<String> {
     board.lines().filter_map(|line| Some(line.split_once(" chi2=")?.1.to_string())).collect()
 }
 
-/// Document 02, A.7: the sum is not finite, though there is a factor. At the fix's own place it is zero, and agrees.
+/// The sum is not finite, though there is a factor. At the fix's own place it is zero, and agrees.
 #[test]
 fn no_number_where_none_was_measured() {
     let [here, same, away] = unmeasurable();
@@ -312,7 +312,7 @@ fn preview_of(input: &str, engine: u32) -> String {
     String::from_utf8(out[..length].to_vec()).expect("text")
 }
 
-/// Document 02, A.1: refused as the conviction is, then as the board is. The register has a board, so that something could be written.
+/// Refused as the conviction is, then as the board is. The register has a board, so that something could be written.
 #[test]
 fn refusals_of_a_preview() {
     let shown = register_after(worked().as_bytes()).expect("good lines");
@@ -411,7 +411,7 @@ fn a_preview_is_the_board_after_the_conviction() {
     assert!(tried >= 20 * 32, "{tried}");
 }
 
-/// Document 02, A.4.
+/// Exact halves of a metre.
 #[test]
 fn whole_metres() {
     for (height, whole) in [
