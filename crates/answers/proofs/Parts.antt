@@ -11,26 +11,26 @@ use lib.Ieee.{Float, binary64, to_bits}
 use lib.ListN.{length, take, drop, set, length-set, length-append, length-replicate, length-take, replicate}
 use lib.Seq.{sets, sets-eq, set_comm, take_at, drop_at}
 use Rattle.octets.specs.Words.{word_bytes}
-use Rattle.octets.specs.Writes.{putWord}
+use Rattle.octets.specs.Writes.{put_word}
 use Rattle.octets.proofs.Numbers.{length-word-bytes}
 use Rattle.octets.specs.Put.{Put}
 use Rattle.octets.proofs.Puts.{put-put, put_one, put_as, put_whole}
 use Rattle.arithmetic.specs.declared.standing.ChiSquare.{ChiSquare}
 use Rattle.arithmetic.specs.declared.standing.ChiSquare.TheVariants.{Measured, Unmeasured}
-use Rattle.items.specs.Layout.{maxItems}
+use Rattle.items.specs.Layout.{max_items}
 use Rattle.rule.specs.Outcome.{Outcome}
 use Rattle.decision.specs.declared.Refusal.{Refusal}
 use Rattle.decision.specs.declared.Refusals.{Refusals}
 use Rattle.decision.specs.declared.Indices.{Indices}
 use Rattle.decision.specs.declared.Decision.{Decision}
-use Rattle.decision.specs.Answer.{indices, refusal, noRefusal, refusals, decision}
+use Rattle.decision.specs.Answer.{indices, refusal, no_refusal, refusals, decision}
 use Rattle.decision.specs.Working.{plainly}
-use Rattle.answers.specs.Layout.{chiSquareSize, refusalSize}
-use Rattle.answers.specs.Offsets.{indicesSize, refusalsSize, ranked_at, dominatedAt, refusalsAt, answerSize, listBytes}
-use Rattle.answers.specs.Answer.{indicesBytes, chiSquareBytes, refusalBytes, eachBytes, countedBytes, refusalsBytes, answerBytes}
+use Rattle.answers.specs.Layout.{chi_square_size, refusal_size}
+use Rattle.answers.specs.Offsets.{indices_size, refusals_size, ranked_at, dominated_at, refusals_at, answer_size, list_bytes}
+use Rattle.answers.specs.Answer.{indices_bytes, chi_square_bytes, refusal_bytes, each_bytes, counted_bytes, refusals_bytes, answer_bytes}
 
 -- a number put at a place is a text of its bytes
-pub word-put : (n at x : ℕ) (s : List ℕ) → at + n ≤ length s → Put s at (word_bytes n x) (at + n) (putWord n at x s)
+pub word-put : (n at x : ℕ) (s : List ℕ) → at + n ≤ length s → Put s at (word_bytes n x) (at + n) (put_word n at x s)
 word-put n at x s h =
     let l = length-word-bytes n x in
     record {
@@ -51,34 +51,34 @@ flag true = refl
 flag false = refl
 
 -- a byte before a number that is put after it
-pub measured-put : (l : List ℕ) (at b x : ℕ) → at + chiSquareSize ≤ length l → Put l at (b ∷ word_bytes 8 x) (at + chiSquareSize) (putWord 8 (at + 1) x (set l at b))
+pub measured-put : (l : List ℕ) (at b x : ℕ) → at + chi_square_size ≤ length l → Put l at (b ∷ word_bytes 8 x) (at + chi_square_size) (put_word 8 (at + 1) x (set l at b))
 measured-put l at b x h =
     let n = length-word-bytes 8 x in
     let p = put-put (put_one l at b) (word-put 8 (at + 1) x (set l at b) (simp length-set (omega arith))) in
     record { next = omega arith; bytes = p.bytes }
 
 -- a byte and bits that were written are those of a chi-square, a number or none
-pub number_put : {l l' : List ℕ} {at r b n : ℕ} {c : ChiSquare} {x : Float} → Put l at (b ∷ word_bytes 8 n) r l' → c ≡ Measured x → b ≡ 1 → n ≡ to_bits binary64 x → Put l at (chiSquareBytes c) r l'
-unfolding chiSquareBytes
-number_put p e f g = put_as (ap₂ (λ (b n : ℕ). b ∷ word_bytes 8 n) f g ∙ sym (ap chiSquareBytes e)) p
+pub number_put : {l l' : List ℕ} {at r b n : ℕ} {c : ChiSquare} {x : Float} → Put l at (b ∷ word_bytes 8 n) r l' → c ≡ Measured x → b ≡ 1 → n ≡ to_bits binary64 x → Put l at (chi_square_bytes c) r l'
+unfolding chi_square_bytes
+number_put p e f g = put_as (ap₂ (λ (b n : ℕ). b ∷ word_bytes 8 n) f g ∙ sym (ap chi_square_bytes e)) p
 
-pub none-put : {l l' : List ℕ} {at r b n : ℕ} {c : ChiSquare} → Put l at (b ∷ word_bytes 8 n) r l' → c ≡ Unmeasured → b ≡ 0 → n ≡ 0 → Put l at (chiSquareBytes c) r l'
-unfolding chiSquareBytes
-none-put p e f g = put_as (ap₂ (λ (b n : ℕ). b ∷ word_bytes 8 n) f g ∙ sym (ap chiSquareBytes e)) p
+pub none-put : {l l' : List ℕ} {at r b n : ℕ} {c : ChiSquare} → Put l at (b ∷ word_bytes 8 n) r l' → c ≡ Unmeasured → b ≡ 0 → n ≡ 0 → Put l at (chi_square_bytes c) r l'
+unfolding chi_square_bytes
+none-put p e f g = put_as (ap₂ (λ (b n : ℕ). b ∷ word_bytes 8 n) f g ∙ sym (ap chi_square_bytes e)) p
 
-length-chi-square : (c : ChiSquare) → length (chiSquareBytes c) ≡ chiSquareSize
-unfolding chiSquareBytes
+length-chi-square : (c : ChiSquare) → length (chi_square_bytes c) ≡ chi_square_size
+unfolding chi_square_bytes
 length-chi-square (Measured x) = rw (length-word-bytes 8) refl
 length-chi-square Unmeasured = rw (length-word-bytes 8) refl
 
-pub length-refusal : (x : Refusal) → length (refusalBytes x) ≡ refusalSize
+pub length-refusal : (x : Refusal) → length (refusal_bytes x) ≡ refusal_size
 length-refusal x = rw (length-chi-square x.chi2) refl
 
 -- a refusal's three bytes, and its chi-square after them
 pub refusal-put : (l : List ℕ) (at : ℕ) (x : Refusal) {r : ℕ} {l' : List ℕ}
-    → Put (set (set (set l at x.refused) (at + 1) x.kept) (at + 2) (bool_byte x.superseded)) (at + 3) (chiSquareBytes x.chi2) r l' → Put l at (refusalBytes x) r l'
+    → Put (set (set (set l at x.refused) (at + 1) x.kept) (at + 2) (bool_byte x.superseded)) (at + 3) (chi_square_bytes x.chi2) r l' → Put l at (refusal_bytes x) r l'
 refusal-put l at x p =
-    put_as (ap (λ (b : ℕ). x.refused ∷ x.kept ∷ b ∷ chiSquareBytes x.chi2) (flag x.superseded))
+    put_as (ap (λ (b : ℕ). x.refused ∷ x.kept ∷ b ∷ chi_square_bytes x.chi2) (flag x.superseded))
     (put-put (three-put l at x.refused x.kept (bool_byte x.superseded)) p)
 
 drop-zeros : (k n : ℕ) → drop k (replicate {A = ℕ} n 0) ≡ replicate (n - k) 0
@@ -100,20 +100,20 @@ put-zeros n {l₁} {l₂} {l₃} {t} {u} {v} {r₁} {r₂} {r₃} p q r h =
     ∙ append_assoc t (u ++ v) (replicate (n - r₃) 0)
     ∙ ap (λ (d : List ℕ). t ++ d) (append_assoc u v (replicate (n - r₃) 0))
 
-each_append : (l k : List Refusal) → eachBytes (l ++ k) ≡ eachBytes l ++ eachBytes k
-unfolding eachBytes
+each_append : (l k : List Refusal) → each_bytes (l ++ k) ≡ each_bytes l ++ each_bytes k
+unfolding each_bytes
 each_append [] k = refl
-each_append (x ∷ l) k = ap (λ (t : List ℕ). refusalBytes x ++ t) (each_append l k) ∙ sym (append_assoc (refusalBytes x) (eachBytes l) (eachBytes k))
+each_append (x ∷ l) k = ap (λ (t : List ℕ). refusal_bytes x ++ t) (each_append l k) ∙ sym (append_assoc (refusal_bytes x) (each_bytes l) (each_bytes k))
 
-pub length-each : (l : List Refusal) → length (eachBytes l) ≡ length l * refusalSize
-unfolding eachBytes
+pub length-each : (l : List Refusal) → length (each_bytes l) ≡ length l * refusal_size
+unfolding each_bytes
 length-each [] = refl
-length-each (x ∷ l) = length-append (refusalBytes x) (eachBytes l) ∙ rw (length-refusal x, length-each l) (omega arith)
+length-each (x ∷ l) = length-append (refusal_bytes x) (each_bytes l) ∙ rw (length-refusal x, length-each l) (omega arith)
 
 -- one refusal more
-pub each_more : (l : List Refusal) (x : Refusal) → eachBytes l ++ refusalBytes x ≡ eachBytes (l ++ (x ∷ []))
-unfolding eachBytes
-each_more l x = sym (each_append l (x ∷ []) ∙ ap (λ (t : List ℕ). eachBytes l ++ t) (append-nil (refusalBytes x)))
+pub each_more : (l : List Refusal) (x : Refusal) → each_bytes l ++ refusal_bytes x ≡ each_bytes (l ++ (x ∷ []))
+unfolding each_bytes
+each_more l x = sym (each_append l (x ∷ []) ∙ ap (λ (t : List ℕ). each_bytes l ++ t) (append-nil (refusal_bytes x)))
 
 -- ---- a byte before a text that was written
 
@@ -132,74 +132,74 @@ put-before {l} {l'} {at} {r} {t} b p =
 
 -- ---- the bytes of a decision that was made
 
-all-counted : (l : List Refusal) → countedBytes (refusals l) ≡ eachBytes l
+all-counted : (l : List Refusal) → counted_bytes (refusals l) ≡ each_bytes l
 unfolding refusals
-all-counted l = ap eachBytes (take_at l (replicate (maxItems - length l) noRefusal) (length l) refl)
+all-counted l = ap each_bytes (take_at l (replicate (max_items - length l) no_refusal) (length l) refl)
 
 -- its three parts, and zeros after them
-answer-of : (o : Outcome ℕ ChiSquare) (k : ℕ) → k ≡ maxItems * refusalSize - length (eachBytes (map refusal o.refused))
-    → indicesBytes (indices o.ranked) ++ (indicesBytes (indices o.dominated) ++ (listBytes (map refusal o.refused) ++ replicate k 0)) ≡ answerBytes (decision o)
-unfolding answerBytes decision refusals
+answer-of : (o : Outcome ℕ ChiSquare) (k : ℕ) → k ≡ max_items * refusal_size - length (each_bytes (map refusal o.refused))
+    → indices_bytes (indices o.ranked) ++ (indices_bytes (indices o.dominated) ++ (list_bytes (map refusal o.refused) ++ replicate k 0)) ≡ answer_bytes (decision o)
+unfolding answer_bytes decision refusals
 answer-of o k e =
     let l = map refusal o.refused in
-    ap (λ (t : List ℕ). indicesBytes (indices o.ranked) ++ (indicesBytes (indices o.dominated) ++ (length l ∷ t)))
-    (ap (λ (j : ℕ). eachBytes l ++ replicate j 0) e ∙ ap (λ (t : List ℕ). t ++ replicate (maxItems * refusalSize - length t) 0) (sym (all-counted l)))
+    ap (λ (t : List ℕ). indices_bytes (indices o.ranked) ++ (indices_bytes (indices o.dominated) ++ (length l ∷ t)))
+    (ap (λ (j : ℕ). each_bytes l ++ replicate j 0) e ∙ ap (λ (t : List ℕ). t ++ replicate (max_items * refusal_size - length t) 0) (sym (all-counted l)))
 
 -- as they are written into zeros one after another
-pub answer-put : (o : Outcome ℕ ChiSquare) {z l₁ l₂ l₃ : List ℕ} {a b : Indices} {r₁ r₂ r₃ : ℕ} → z ≡ replicate answerSize 0 → a ≡ indices o.ranked → b ≡ indices o.dominated
-    → Put z 0 (indicesBytes a) r₁ l₁ → Put l₁ r₁ (indicesBytes b) r₂ l₂ → Put l₂ r₂ (listBytes (map refusal o.refused)) r₃ l₃ → r₂ ≡ refusalsAt → r₃ ≤ answerSize → l₃ ≡ answerBytes (decision o)
+pub answer-put : (o : Outcome ℕ ChiSquare) {z l₁ l₂ l₃ : List ℕ} {a b : Indices} {r₁ r₂ r₃ : ℕ} → z ≡ replicate answer_size 0 → a ≡ indices o.ranked → b ≡ indices o.dominated
+    → Put z 0 (indices_bytes a) r₁ l₁ → Put l₁ r₁ (indices_bytes b) r₂ l₂ → Put l₂ r₂ (list_bytes (map refusal o.refused)) r₃ l₃ → r₂ ≡ refusals_at → r₃ ≤ answer_size → l₃ ≡ answer_bytes (decision o)
 answer-put o {z} {l₁} {l₂} {l₃} {a} {b} {r₁} {r₂} {r₃} e f g p q r h k =
     let n = r.next in
-    put-zeros answerSize (subst (λ (t : List ℕ). Put t 0 (indicesBytes a) r₁ l₁) e p) q r k
-    ∙ ap₂ (λ (x y : Indices). indicesBytes x ++ (indicesBytes y ++ (listBytes (map refusal o.refused) ++ replicate (answerSize - r₃) 0))) f g
-    ∙ answer-of o (answerSize - r₃) (omega arith)
+    put-zeros answer_size (subst (λ (t : List ℕ). Put t 0 (indices_bytes a) r₁ l₁) e p) q r k
+    ∙ ap₂ (λ (x y : Indices). indices_bytes x ++ (indices_bytes y ++ (list_bytes (map refusal o.refused) ++ replicate (answer_size - r₃) 0))) f g
+    ∙ answer-of o (answer_size - r₃) (omega arith)
 
 -- of one item, or of none, all is zero but the count of the ranked
-pub answer-alone : (n : ℕ) → set (replicate answerSize 0) 0 n ≡ answerBytes (plainly 0 n)
-unfolding answerBytes plainly indices refusals eachBytes
+pub answer-alone : (n : ℕ) → set (replicate answer_size 0) 0 n ≡ answer_bytes (plainly 0 n)
+unfolding answer_bytes plainly indices refusals each_bytes
 answer-alone n = refl
 
 -- they fit
-pub counted-fits : (l : List Refusal) (n : ℕ) → length (eachBytes (take n l)) ≤ length l * refusalSize
+pub counted-fits : (l : List Refusal) (n : ℕ) → length (each_bytes (take n l)) ≤ length l * refusal_size
 counted-fits l n = omega (arith, length-each (take n l), length-take n l)
 
 -- ---- where each part stands, in a decision whose lists have room for all items, as each has that `decide` returns
 
 pub record Roomy (d : Decision) : Type 0 where
-  pub ranked : length d.ranked.list ≡ maxItems
-  pub dominated : length d.dominated.list ≡ maxItems
-  pub refusals : length d.refusals.list ≡ maxItems
+  pub ranked : length d.ranked.list ≡ max_items
+  pub dominated : length d.dominated.list ≡ max_items
+  pub refusals : length d.refusals.list ≡ max_items
 
-refusals-long : (x : Refusals) → length x.list ≡ maxItems → length (refusalsBytes x) ≡ refusalsSize
+refusals-long : (x : Refusals) → length x.list ≡ max_items → length (refusals_bytes x) ≡ refusals_size
 refusals-long x h =
     let f = counted-fits x.list x.count in
-    let n = maxItems * refusalSize - length (countedBytes x) in
-    let e : length (countedBytes x ++ replicate n 0) ≡ length (countedBytes x) + n = length-append (countedBytes x) (replicate n 0) ∙ ap (λ (k : ℕ). length (countedBytes x) + k) (length-replicate n 0) in
+    let n = max_items * refusal_size - length (counted_bytes x) in
+    let e : length (counted_bytes x ++ replicate n 0) ≡ length (counted_bytes x) + n = length-append (counted_bytes x) (replicate n 0) ∙ ap (λ (k : ℕ). length (counted_bytes x) + k) (length-replicate n 0) in
     omega arith
 
-pub answer-long : (d : Decision) → Roomy d → length (answerBytes d) ≡ answerSize
-unfolding answerBytes
+pub answer-long : (d : Decision) → Roomy d → length (answer_bytes d) ≡ answer_size
+unfolding answer_bytes
 answer-long d r =
     let a = r.ranked in
     let b = r.dominated in
     let c = refusals-long d.refusals r.refusals in
-    omega (arith, length-append (indicesBytes d.ranked) (indicesBytes d.dominated ++ refusalsBytes d.refusals), length-append (indicesBytes d.dominated) (refusalsBytes d.refusals))
+    omega (arith, length-append (indices_bytes d.ranked) (indices_bytes d.dominated ++ refusals_bytes d.refusals), length-append (indices_bytes d.dominated) (refusals_bytes d.refusals))
 
-pub ranked-stands : (d : Decision) → Roomy d → take indicesSize (drop ranked_at (answerBytes d)) ≡ indicesBytes d.ranked
-unfolding answerBytes
-ranked-stands d r = take_at (indicesBytes d.ranked) (indicesBytes d.dominated ++ refusalsBytes d.refusals) indicesSize (ap suc r.ranked)
+pub ranked-stands : (d : Decision) → Roomy d → take indices_size (drop ranked_at (answer_bytes d)) ≡ indices_bytes d.ranked
+unfolding answer_bytes
+ranked-stands d r = take_at (indices_bytes d.ranked) (indices_bytes d.dominated ++ refusals_bytes d.refusals) indices_size (ap suc r.ranked)
 
-pub dominated-stands : (d : Decision) → Roomy d → take indicesSize (drop dominatedAt (answerBytes d)) ≡ indicesBytes d.dominated
-unfolding answerBytes
+pub dominated-stands : (d : Decision) → Roomy d → take indices_size (drop dominated_at (answer_bytes d)) ≡ indices_bytes d.dominated
+unfolding answer_bytes
 dominated-stands d r =
-    ap (take indicesSize) (drop_at (indicesBytes d.ranked) (indicesBytes d.dominated ++ refusalsBytes d.refusals) dominatedAt (ap suc r.ranked))
-    ∙ take_at (indicesBytes d.dominated) (refusalsBytes d.refusals) indicesSize (ap suc r.dominated)
+    ap (take indices_size) (drop_at (indices_bytes d.ranked) (indices_bytes d.dominated ++ refusals_bytes d.refusals) dominated_at (ap suc r.ranked))
+    ∙ take_at (indices_bytes d.dominated) (refusals_bytes d.refusals) indices_size (ap suc r.dominated)
 
-pub refusals-stand : (d : Decision) → Roomy d → drop refusalsAt (answerBytes d) ≡ refusalsBytes d.refusals
-unfolding answerBytes
+pub refusals-stand : (d : Decision) → Roomy d → drop refusals_at (answer_bytes d) ≡ refusals_bytes d.refusals
+unfolding answer_bytes
 refusals-stand d r =
-    let a = indicesBytes d.ranked in
-    let b = indicesBytes d.dominated in
+    let a = indices_bytes d.ranked in
+    let b = indices_bytes d.dominated in
     let p = r.ranked in
     let q = r.dominated in
-    ap (drop refusalsAt) (sym (append_assoc a b (refusalsBytes d.refusals))) ∙ drop_at (a ++ b) (refusalsBytes d.refusals) refusalsAt (omega (arith, length-append a b))
+    ap (drop refusals_at) (sym (append_assoc a b (refusals_bytes d.refusals))) ∙ drop_at (a ++ b) (refusals_bytes d.refusals) refusals_at (omega (arith, length-append a b))

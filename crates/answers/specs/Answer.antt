@@ -6,39 +6,39 @@ use Rattle.std.specs.Float.Ieee.{to_bits}
 use Rattle.octets.specs.Words.{word_bytes}
 use Rattle.arithmetic.specs.declared.standing.ChiSquare.{ChiSquare}
 use Rattle.arithmetic.specs.declared.standing.ChiSquare.TheVariants.{Measured, Unmeasured}
-use Rattle.items.specs.Layout.{maxItems}
+use Rattle.items.specs.Layout.{max_items}
 use Rattle.decision.specs.declared.Refusal.{Refusal}
 use Rattle.decision.specs.declared.Refusals.{Refusals}
 use Rattle.decision.specs.declared.Indices.{Indices}
 use Rattle.decision.specs.declared.Decision.{Decision}
 use Rattle.held.specs.After.{After, after}
-use Rattle.answers.specs.Layout.{refusalSize}
+use Rattle.answers.specs.Layout.{refusal_size}
 
-abbrev pub indicesBytes : Indices → List ℕ
-indicesBytes x = x.count ∷ x.list
+abbrev pub indices_bytes : Indices → List ℕ
+indices_bytes x = x.count ∷ x.list
 
 -- Whether there is a chi-square, and its bits with their lowest byte first, which are all zero where
 -- there is none.
-unfoldable pub chiSquareBytes : ChiSquare → List ℕ
-chiSquareBytes (Measured x) = 1 ∷ word_bytes 8 (to_bits binary64 x)
-chiSquareBytes Unmeasured = 0 ∷ word_bytes 8 0
+unfoldable pub chi_square_bytes : ChiSquare → List ℕ
+chi_square_bytes (Measured x) = 1 ∷ word_bytes 8 (to_bits binary64 x)
+chi_square_bytes Unmeasured = 0 ∷ word_bytes 8 0
 
-abbrev pub refusalBytes : Refusal → List ℕ
-refusalBytes x = x.refused ∷ x.kept ∷ cond x.superseded 1 0 ∷ chiSquareBytes x.chi2
+abbrev pub refusal_bytes : Refusal → List ℕ
+refusal_bytes x = x.refused ∷ x.kept ∷ cond x.superseded 1 0 ∷ chi_square_bytes x.chi2
 
-unfoldable pub eachBytes : List Refusal → List ℕ
-eachBytes [] = []
-eachBytes (x ∷ xs) = refusalBytes x ++ eachBytes xs
+unfoldable pub each_bytes : List Refusal → List ℕ
+each_bytes [] = []
+each_bytes (x ∷ xs) = refusal_bytes x ++ each_bytes xs
 
-abbrev pub countedBytes : Refusals → List ℕ
-countedBytes x = eachBytes (take x.count x.list)
+abbrev pub counted_bytes : Refusals → List ℕ
+counted_bytes x = each_bytes (take x.count x.list)
 
-abbrev pub refusalsBytes : Refusals → List ℕ
-refusalsBytes x = x.count ∷ (countedBytes x ++ replicate (maxItems * refusalSize - length (countedBytes x)) 0)
+abbrev pub refusals_bytes : Refusals → List ℕ
+refusals_bytes x = x.count ∷ (counted_bytes x ++ replicate (max_items * refusal_size - length (counted_bytes x)) 0)
 
-unfoldable pub answerBytes : Decision → List ℕ
-answerBytes d = indicesBytes d.ranked ++ (indicesBytes d.dominated ++ refusalsBytes d.refusals)
+unfoldable pub answer_bytes : Decision → List ℕ
+answer_bytes d = indices_bytes d.ranked ++ (indices_bytes d.dominated ++ refusals_bytes d.refusals)
 
 -- what is answered, and what the array holds then: the decision, or what was found there, since a refusal changes no lent byte
-unfoldable pub handOut : Decision → List ℕ → After (List ℕ)
-handOut d found = cond (eqb d.answer 0) (after 0 (answerBytes d)) (after d.answer found)
+unfoldable pub hand_out : Decision → List ℕ → After (List ℕ)
+hand_out d found = cond (eqb d.answer 0) (after 0 (answer_bytes d)) (after d.answer found)

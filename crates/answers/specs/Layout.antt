@@ -2,9 +2,9 @@
 use Rattle.std.specs.Prelude.{ℕ, ◌+◌}
 
 -- whether there is a chi-square, and its bits
-abbrev pub chiSquareSize : ℕ
-chiSquareSize = 1 + 8
+abbrev pub chi_square_size : ℕ
+chi_square_size = 1 + 8
 
 -- the refused, the kept, whether it is superseded, and the chi-square
-abbrev pub refusalSize : ℕ
-refusalSize = 3 + chiSquareSize
+abbrev pub refusal_size : ℕ
+refusal_size = 3 + chi_square_size

@@ -1,33 +1,33 @@
 -- No claim rests on these definitions: they say where each list begins in the bytes of a decision, how long they are, and what is written of the refusals. include/toastlagoon.h and
 -- oracle/driver/binding.rs have the same.
 use Rattle.std.specs.Prelude.{ℕ, ◌+◌, ◌*◌, List, ◌∷◌, length}
-use Rattle.items.specs.Layout.{maxItems}
+use Rattle.items.specs.Layout.{max_items}
 use Rattle.decision.specs.declared.Refusal.{Refusal}
-use Rattle.answers.specs.Layout.{refusalSize}
-use Rattle.answers.specs.Answer.{eachBytes}
+use Rattle.answers.specs.Layout.{refusal_size}
+use Rattle.answers.specs.Answer.{each_bytes}
 
 -- a count, and an index for each item
-abbrev pub indicesSize : ℕ
-indicesSize = 1 + maxItems
+abbrev pub indices_size : ℕ
+indices_size = 1 + max_items
 
-abbrev pub refusalsSize : ℕ
-refusalsSize = 1 + maxItems * refusalSize
+abbrev pub refusals_size : ℕ
+refusals_size = 1 + max_items * refusal_size
 
 abbrev pub ranked_at : ℕ
 ranked_at = 0
 
-abbrev pub dominatedAt : ℕ
-dominatedAt = ranked_at + indicesSize
+abbrev pub dominated_at : ℕ
+dominated_at = ranked_at + indices_size
 
-abbrev pub refusalsAt : ℕ
-refusalsAt = dominatedAt + indicesSize
+abbrev pub refusals_at : ℕ
+refusals_at = dominated_at + indices_size
 
-abbrev pub answerSize : ℕ
-answerSize = refusalsAt + refusalsSize
+abbrev pub answer_size : ℕ
+answer_size = refusals_at + refusals_size
 
 -- refusals with their count before them, and nothing after them
-abbrev pub listBytes : List Refusal → List ℕ
-listBytes l = length l ∷ eachBytes l
+abbrev pub list_bytes : List Refusal → List ℕ
+list_bytes l = length l ∷ each_bytes l
 
 -- how many items have the least tables
 abbrev pub least : ℕ

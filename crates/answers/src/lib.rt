@@ -7,15 +7,15 @@
 ghost use Rattle.std.specs.Prelude.{◌≡◌, false, ◌∷◌, map, ◌+◌, ◌*◌, ◌≤◌, length, replicate};
 ghost use Rattle.octets.specs.Words.{word_bytes};
 ghost use Rattle.octets.specs.Put.{Put};
-ghost use Rattle.items.specs.Layout.{itemSize, maxItems};
+ghost use Rattle.items.specs.Layout.{item_size, max_items};
 ghost use Rattle.items.specs.Pairs.{stride, AllPrepared};
 ghost use Rattle.decision.specs.Working.{few, Settled};
 ghost use Rattle.decision.specs.Answer.{bad, outcome, refusal, decision, decided};
 ghost use Rattle.held.specs.After.{after};
-ghost use Rattle.answers.specs.Layout.{chiSquareSize, refusalSize};
-ghost use Rattle.answers.specs.Offsets.{indicesSize, refusalsSize, answerSize, least};
-ghost use Rattle.answers.specs.Answer.{indicesBytes, chiSquareBytes, refusalBytes, answerBytes, handOut};
-ghost use Rattle.answers.specs.Offsets.{listBytes};
+ghost use Rattle.answers.specs.Layout.{chi_square_size, refusal_size};
+ghost use Rattle.answers.specs.Offsets.{indices_size, refusals_size, answer_size, least};
+ghost use Rattle.answers.specs.Answer.{indices_bytes, chi_square_bytes, refusal_bytes, answer_bytes, hand_out};
+ghost use Rattle.answers.specs.Offsets.{list_bytes};
 
 use arithmetic::standing::{ChiSquare, Prepared, UNPREPARED};
 use decision::{Indices, Refusal};
@@ -48,8 +48,8 @@ const DECIDED: u32 = 0;
 const BAD_ITEMS: u32 = 8;
 
 fn put_indices(out: &mut [u8], at: usize, x: Indices) -> usize
-    requires { at + indicesSize ≤ length out.old }
-    ensures { (result ≡ at + indicesSize) × Put out.old at (indicesBytes x) result out.new }
+    requires { at + indices_size ≤ length out.old }
+    ensures { (result ≡ at + indices_size) × Put out.old at (indices_bytes x) result out.new }
 {
     let list = x.list;
     out[at] = x.count;
@@ -58,7 +58,7 @@ fn put_indices(out: &mut [u8], at: usize, x: Indices) -> usize
 
 // Whether there is a chi-square, and its bits.
 fn put_measured(out: &mut [u8], at: usize, measured: u8, bits: u64) -> usize
-    requires { at + chiSquareSize ≤ length out.old }
+    requires { at + chi_square_size ≤ length out.old }
     ensures { Put out.old at (measured ∷ word_bytes 8 bits) result out.new }
 {
     out[at] = measured;
@@ -68,8 +68,8 @@ fn put_measured(out: &mut [u8], at: usize, measured: u8, bits: u64) -> usize
 
 // No number where none was measured.
 fn put_chi_square(out: &mut [u8], at: usize, c: ChiSquare) -> usize
-    requires { at + chiSquareSize ≤ length out.old }
-    ensures { Put out.old at (chiSquareBytes c) result out.new }
+    requires { at + chi_square_size ≤ length out.old }
+    ensures { Put out.old at (chi_square_bytes c) result out.new }
 {
     match c {
         ChiSquare::Measured(x) => put_measured(out, at, 1, floats::to_bits(x)),
@@ -78,8 +78,8 @@ fn put_chi_square(out: &mut [u8], at: usize, c: ChiSquare) -> usize
 }
 
 fn put_refusal(out: &mut [u8], at: usize, x: Refusal) -> usize
-    requires { at + refusalSize ≤ length out.old }
-    ensures { Put out.old at (refusalBytes x) result out.new }
+    requires { at + refusal_size ≤ length out.old }
+    ensures { Put out.old at (refusal_bytes x) result out.new }
 {
     out[at] = x.refused;
     out[at + 1] = x.kept;
@@ -98,9 +98,9 @@ fn put_refusals(
     codes: &[u8],
     m: Marks,
 ) -> usize
-    requires refusals_size_in_bounds { at + refusalsSize ≤ length out.old }
+    requires refusals_size_in_bounds { at + refusals_size ≤ length out.old }
     requires prepared { AllPrepared s.now table.now n × Settled s.now n codes.now m }
-    ensures { (result ≤ at + refusalsSize) × Put out.old at (listBytes (map refusal (outcome s.now).refused)) result out.new }
+    ensures { (result ≤ at + refusals_size) × Put out.old at (list_bytes (map refusal (outcome s.now).refused)) result out.new }
 {
     let mut next = at + 1;
     let mut count: u8 = 0;
@@ -118,9 +118,9 @@ fn put_refusals(
 
 // The three parts, one after another, into zeros, so that what is not used is zero.
 fn put_parts(out: &mut [u8], s: &[u8], n: u8, table: &[Prepared], codes: &[u8], m: Marks)
-    requires out_value { out.old ≡ replicate answerSize 0 }
+    requires out_value { out.old ≡ replicate answer_size 0 }
     requires prepared { AllPrepared s.now table.now n × Settled s.now n codes.now m }
-    ensures { out.new ≡ answerBytes (decision (outcome s.now)) }
+    ensures { out.new ≡ answer_bytes (decision (outcome s.now)) }
 {
     let second = put_indices(out, 0, decision::settled::ranked(s, n, codes, m));
     let third = put_indices(out, second, decision::settled::dominated(s, n, codes, m));
@@ -129,16 +129,16 @@ fn put_parts(out: &mut [u8], s: &[u8], n: u8, table: &[Prepared], codes: &[u8], 
 
 // Decides in the lent tables.
 fn put_in(out: &mut [u8], s: &[u8], n: u8, table: &mut [Prepared], codes: &mut [u8])
-    requires { (out.old ≡ replicate answerSize 0) × (bad s.now ≡ false) × (length s.now ≡ n * itemSize) × (n ≤ length table.old) × (n * stride ≤ length codes.old) }
-    ensures { out.new ≡ answerBytes (decision (outcome s.now)) }
+    requires { (out.old ≡ replicate answer_size 0) × (bad s.now ≡ false) × (length s.now ≡ n * item_size) × (n ≤ length table.old) × (n * stride ≤ length codes.old) }
+    ensures { out.new ≡ answer_bytes (decision (outcome s.now)) }
 {
     let m = decision::settled::settle(s, n, table, codes);
     put_parts(out, s, n, table, codes, m);
 }
 
 fn put_least(out: &mut [u8], s: &[u8], n: u8)
-    requires { (out.old ≡ replicate answerSize 0) × (bad s.now ≡ false) × (length s.now ≡ n * itemSize) × (n ≤ least) }
-    ensures { out.new ≡ answerBytes (decision (outcome s.now)) }
+    requires { (out.old ≡ replicate answer_size 0) × (bad s.now ≡ false) × (length s.now ≡ n * item_size) × (n ≤ least) }
+    ensures { out.new ≡ answer_bytes (decision (outcome s.now)) }
 {
     let mut table = [UNPREPARED; LEAST];
     let mut codes = [0u8; LEAST_CODES];
@@ -146,8 +146,8 @@ fn put_least(out: &mut [u8], s: &[u8], n: u8)
 }
 
 fn put_few(out: &mut [u8], s: &[u8], n: u8)
-    requires { (out.old ≡ replicate answerSize 0) × (bad s.now ≡ false) × (length s.now ≡ n * itemSize) × (n ≤ few) }
-    ensures { out.new ≡ answerBytes (decision (outcome s.now)) }
+    requires { (out.old ≡ replicate answer_size 0) × (bad s.now ≡ false) × (length s.now ≡ n * item_size) × (n ≤ few) }
+    ensures { out.new ≡ answer_bytes (decision (outcome s.now)) }
 {
     let mut table = [UNPREPARED; decision::FEW];
     let mut codes = [0u8; decision::FEW_CODES];
@@ -155,8 +155,8 @@ fn put_few(out: &mut [u8], s: &[u8], n: u8)
 }
 
 fn put_many(out: &mut [u8], s: &[u8], n: u8)
-    requires { (out.old ≡ replicate answerSize 0) × (bad s.now ≡ false) × (length s.now ≡ n * itemSize) × (n ≤ maxItems) }
-    ensures { out.new ≡ answerBytes (decision (outcome s.now)) }
+    requires { (out.old ≡ replicate answer_size 0) × (bad s.now ≡ false) × (length s.now ≡ n * item_size) × (n ≤ max_items) }
+    ensures { out.new ≡ answer_bytes (decision (outcome s.now)) }
 {
     let mut table = [UNPREPARED; MAX_ITEMS];
     let mut codes = [0u8; decision::MANY_CODES];
@@ -165,7 +165,7 @@ fn put_many(out: &mut [u8], s: &[u8], n: u8)
 
 // Decides items in bytes. The array is written where something is decided, and stays as it is on a refusal.
 pub fn decide(s: &[u8], out: &mut [u8; ANSWER_SIZE]) -> u32
-    ensures { after result out.new ≡ handOut (decided s.now) out.old }
+    ensures { after result out.new ≡ hand_out (decided s.now) out.old }
 {
     if decision::is_bad(s) {
         return BAD_ITEMS;

@@ -11,13 +11,13 @@ use lib.Ieee.{Float, nan, inf, fin, binary64, is_nan, le, lt, of_bits, to_bits, 
 use lib.Ieee.Scale.{finite}
 use lib.Ieee.Fits.{add-fits}
 use lib.Ieee.Bits.{of_bits-to_bits, to_bits-lt}
-use Rattle.geometry.specs.Numbers.{◌⊗◌, fromDecimal, notAbove}
-use Rattle.geometry.specs.Linalg.{item, less, rowsBelow, columns, choleskyOf, solveOf, plus}
+use Rattle.geometry.specs.Numbers.{◌⊗◌, from_decimal, not_above}
+use Rattle.geometry.specs.Linalg.{item, less, rows_below, columns, cholesky_of, solve_of, plus}
 use Rattle.geometry.proofs.Comparing.{at-most-not-above}
-use Rattle.arithmetic.specs.Agree.{limitOf, rows_of, matrixOf, sumUnder, finitely, lengthUnder, chiSquareOf, differenceOf, threeOf, outcomeOf, agreementOf, agreesOf, chiSquareIn, measureIn}
-use Rattle.arithmetic.specs.Bits.{infinity, storedBits, storedChiSquare}
-use Rattle.arithmetic.specs.Before.{lengthBefore, chiSquareBefore, finiteOr, agreementBefore, agreedBefore}
-use Rattle.arithmetic.specs.Claims.{factorUnder, sumWith, NothingMeasured, refused, overflows, FiniteNumbers, InsideExactlyWhen, OutsideExactlyWhen, UnmeasurableExactlyWhen, ElseTheSum, UnmeasurableWasInfinite, NumbersAsBefore, AgreesAsBefore, BitsAsBefore, StoredReadBack}
+use Rattle.arithmetic.specs.Agree.{limit_of, rows_of, matrix_of, sum_under, finitely, length_under, chi_square_of, difference_of, three_of, outcome_of, agreement_of, agrees_of, chi_square_in, measure_in}
+use Rattle.arithmetic.specs.Bits.{infinity, stored_bits, stored_chi_square}
+use Rattle.arithmetic.specs.Before.{length_before, chi_square_before, finite_or, agreement_before, agreed_before}
+use Rattle.arithmetic.specs.Claims.{factor_under, sum_with, NothingMeasured, refused, overflows, FiniteNumbers, InsideExactlyWhen, OutsideExactlyWhen, UnmeasurableExactlyWhen, ElseTheSum, UnmeasurableWasInfinite, NumbersAsBefore, AgreesAsBefore, BitsAsBefore, StoredReadBack}
 use Rattle.geometry.specs.declared.linalg.Covariance.{Covariance}
 use Rattle.arithmetic.specs.declared.standing.Claimed.{Claimed}
 use Rattle.arithmetic.specs.declared.standing.Measure.{Measure}
@@ -41,8 +41,8 @@ finite-no-nan nan e = absurd (true≢false (sym e))
 finite-no-nan (inf s) e = refl
 finite-no-nan (fin s m d) e = refl
 
-limit-no-nan : (three : Bool) → is_nan (limitOf three) ≡ false
-unfolding limitOf fromDecimal round is_nan
+limit-no-nan : (three : Bool) → is_nan (limit_of three) ≡ false
+unfolding limit_of from_decimal round is_nan
 limit-no-nan true = refl
 limit-no-nan false = refl
 
@@ -51,40 +51,40 @@ module _ (limit x : Float) where
   abbrev numbers : Measure
   numbers = record { chi2 = x; limit = limit }
 
-  inside : le x limit ≡ true → outcomeOf limit (Measured x) ≡ Inside numbers
-  unfolding outcomeOf
+  inside : le x limit ≡ true → outcome_of limit (Measured x) ≡ Inside numbers
+  unfolding outcome_of
   inside e = rw e
 
-  outside : le x limit ≡ false → outcomeOf limit (Measured x) ≡ Outside numbers
-  unfolding outcomeOf
+  outside : le x limit ≡ false → outcome_of limit (Measured x) ≡ Outside numbers
+  unfolding outcome_of
   outside e = rw e
 
-  measured-out : measureIn (outcomeOf limit (Measured x)) ≡ Some numbers
-  unfolding measureIn
+  measured-out : measure_in (outcome_of limit (Measured x)) ≡ Some numbers
+  unfolding measure_in
   measured-out = by (le x limit) (λ e. rw (inside e)) (λ e. rw (outside e))
 
-  agrees-out : agreesOf (outcomeOf limit (Measured x)) ≡ le x limit
-  unfolding agreesOf
+  agrees-out : agrees_of (outcome_of limit (Measured x)) ≡ le x limit
+  unfolding agrees_of
   agrees-out = by (le x limit) (λ e. rw (inside e, e)) (λ e. rw (outside e, e))
 
-  bits_out : storedBits (chiSquareIn (outcomeOf limit (Measured x))) ≡ to_bits binary64 x
-  unfolding chiSquareIn storedBits
+  bits_out : stored_bits (chi_square_in (outcome_of limit (Measured x))) ≡ to_bits binary64 x
+  unfolding chi_square_in stored_bits
   bits_out = by (le x limit) (λ e. rw (inside e)) (λ e. rw (outside e))
 
-  chi-out : chiSquareIn (outcomeOf limit (Measured x)) ≡ Measured x
-  unfolding chiSquareIn
+  chi-out : chi_square_in (outcome_of limit (Measured x)) ≡ Measured x
+  unfolding chi_square_in
   chi-out = by (le x limit) (λ e. rw (inside e)) (λ e. rw (outside e))
 
-  not-unmeasurable : outcomeOf limit (Measured x) ≡ Unmeasurable → ⊥
-  unfolding measureIn
+  not-unmeasurable : outcome_of limit (Measured x) ≡ Unmeasurable → ⊥
+  unfolding measure_in
   not-unmeasurable e =
-      let f : measureIn (outcomeOf limit (Measured x)) ≡ None = ap measureIn e in
+      let f : measure_in (outcome_of limit (Measured x)) ≡ None = ap measure_in e in
       never (sym f ∙ measured-out)
 
 -- by its cases, an outcome that has these numbers is inside them or outside
 module _ (limit : Float) (m : Measure) where
-  inside-at-most : (o : ChiSquare) → outcomeOf limit o ≡ Inside m → le m.chi2 m.limit ≡ true
-  unfolding outcomeOf
+  inside-at-most : (o : ChiSquare) → outcome_of limit o ≡ Inside m → le m.chi2 m.limit ≡ true
+  unfolding outcome_of
   inside-at-most Unmeasured e = cc
   inside-at-most (Measured x) e =
       by (le x limit)
@@ -96,8 +96,8 @@ module _ (limit : Float) (m : Measure) where
       let f : Outside (numbers limit x) ≡ Inside m = sym (outside limit x t) ∙ e in
       cc)
 
-  outside-not-at-most : (o : ChiSquare) → outcomeOf limit o ≡ Outside m → le m.chi2 m.limit ≡ false
-  unfolding outcomeOf
+  outside-not-at-most : (o : ChiSquare) → outcome_of limit o ≡ Outside m → le m.chi2 m.limit ≡ false
+  unfolding outcome_of
   outside-not-at-most Unmeasured e = cc
   outside-not-at-most (Measured x) e =
       by (le x limit)
@@ -109,18 +109,18 @@ module _ (limit : Float) (m : Measure) where
       let g : numbers limit x ≡ m = cc in
       subst (λ (n : Measure). le n.chi2 n.limit ≡ false) g t)
 
-  same_numbers : (x : Float) → measureIn (outcomeOf limit (Measured x)) ≡ Some m → numbers limit x ≡ m
+  same_numbers : (x : Float) → measure_in (outcome_of limit (Measured x)) ≡ Some m → numbers limit x ≡ m
   same_numbers x e = some_inj (sym (measured-out limit x) ∙ e)
 
-  inside-if : (o : ChiSquare) → measureIn (outcomeOf limit o) ≡ Some m → le m.chi2 m.limit ≡ true → outcomeOf limit o ≡ Inside m
-  unfolding outcomeOf measureIn
+  inside-if : (o : ChiSquare) → measure_in (outcome_of limit o) ≡ Some m → le m.chi2 m.limit ≡ true → outcome_of limit o ≡ Inside m
+  unfolding outcome_of measure_in
   inside-if Unmeasured e t = cc
   inside-if (Measured x) e t =
       let g = same_numbers x e in
       inside limit x (subst (λ (n : Measure). le n.chi2 n.limit ≡ true) (sym g) t) ∙ ap (λ (n : Measure). Inside n) g
 
-  outside-if : (o : ChiSquare) → measureIn (outcomeOf limit o) ≡ Some m → le m.chi2 m.limit ≡ false → outcomeOf limit o ≡ Outside m
-  unfolding outcomeOf measureIn
+  outside-if : (o : ChiSquare) → measure_in (outcome_of limit o) ≡ Some m → le m.chi2 m.limit ≡ false → outcome_of limit o ≡ Outside m
+  unfolding outcome_of measure_in
   outside-if Unmeasured e t = cc
   outside-if (Measured x) e t =
       let g = same_numbers x e in
@@ -132,67 +132,67 @@ plus-fits : (p : ℕ → Float) (k : ℕ) → T (fits binary64 (plus p (suc k)))
 unfolding plus
 plus-fits p k = add-fits binary64 (plus p k) (p (suc k))
 
-sum_fits : (three : Bool) (enu factor : List Float) → T (fits binary64 (sumUnder (rows_of three) enu factor))
-unfolding sumUnder
-sum_fits true enu factor = plus-fits (λ at. item enu at ⊗ item (solveOf 3 factor enu) at) 1
-sum_fits false enu factor = plus-fits (λ at. item enu at ⊗ item (solveOf 2 factor enu) at) 0
+sum_fits : (three : Bool) (enu factor : List Float) → T (fits binary64 (sum_under (rows_of three) enu factor))
+unfolding sum_under
+sum_fits true enu factor = plus-fits (λ at. item enu at ⊗ item (solve_of 3 factor enu) at) 1
+sum_fits false enu factor = plus-fits (λ at. item enu at ⊗ item (solve_of 2 factor enu) at) 0
 
 module _ (smaller larger : Claimed) where
   abbrev three : Bool
-  three = threeOf smaller larger
+  three = three_of smaller larger
 
   abbrev out : Agreement
-  out = agreementOf smaller larger
+  out = agreement_of smaller larger
 
   -- there is nothing, or a sum that is finite
   ways : (A : Type 0) → (NothingMeasured smaller larger → A)
-      → ((factor : List Float) → factorUnder smaller larger ≡ Some factor → finite (sumWith smaller larger factor) ≡ true → A) → A
-  ways A n m = go (factorUnder smaller larger) refl
+      → ((factor : List Float) → factor_under smaller larger ≡ Some factor → finite (sum_with smaller larger factor) ≡ true → A) → A
+  ways A n m = go (factor_under smaller larger) refl
     where
-      go : (o : Option (List Float)) → factorUnder smaller larger ≡ o → A
+      go : (o : Option (List Float)) → factor_under smaller larger ≡ o → A
       go None e = n (refused e)
-      go (Some f) e = by (finite (sumWith smaller larger f)) (λ t. m f e t) (λ t. n (overflows f e t))
+      go (Some f) e = by (finite (sum_with smaller larger f)) (λ t. m f e t) (λ t. n (overflows f e t))
 
   pub nothing : NothingMeasured smaller larger → out ≡ Unmeasurable
-  unfolding agreementOf chiSquareOf lengthUnder finitely outcomeOf
+  unfolding agreement_of chi_square_of length_under finitely outcome_of
   nothing (refused e) = rw e
   nothing (overflows factor e f) = rw (e, f)
 
-  nothing-before : NothingMeasured smaller larger → (agreementBefore smaller larger).chi2 ≡ inf false
-  unfolding agreementBefore chiSquareBefore lengthBefore finiteOr
+  nothing-before : NothingMeasured smaller larger → (agreement_before smaller larger).chi2 ≡ inf false
+  unfolding agreement_before chi_square_before length_before finite_or
   nothing-before (refused e) = rw e
   nothing-before (overflows factor e f) = rw (e, f)
 
-  module _ (factor : List Float) (e : factorUnder smaller larger ≡ Some factor) (f : finite (sumWith smaller larger factor) ≡ true) where
+  module _ (factor : List Float) (e : factor_under smaller larger ≡ Some factor) (f : finite (sum_with smaller larger factor) ≡ true) where
     abbrev sum : Float
-    sum = sumWith smaller larger factor
+    sum = sum_with smaller larger factor
 
-    summed : out ≡ outcomeOf (limitOf three) (Measured sum)
-    unfolding agreementOf chiSquareOf lengthUnder finitely
+    summed : out ≡ outcome_of (limit_of three) (Measured sum)
+    unfolding agreement_of chi_square_of length_under finitely
     summed = rw (e, f)
 
-    summed-before : agreementBefore smaller larger ≡ numbers (limitOf three) sum
-    unfolding agreementBefore chiSquareBefore lengthBefore finiteOr
+    summed-before : agreement_before smaller larger ≡ numbers (limit_of three) sum
+    unfolding agreement_before chi_square_before length_before finite_or
     summed-before = rw (e, f)
 
-    measured-sum : measureIn out ≡ Some (numbers (limitOf three) sum)
-    measured-sum = ap measureIn summed ∙ measured-out (limitOf three) sum
+    measured-sum : measure_in out ≡ Some (numbers (limit_of three) sum)
+    measured-sum = ap measure_in summed ∙ measured-out (limit_of three) sum
 
-    is_sum : (m : Measure) → measureIn out ≡ Some m → numbers (limitOf three) sum ≡ m
+    is_sum : (m : Measure) → measure_in out ≡ Some m → numbers (limit_of three) sum ≡ m
     is_sum m g = some_inj (sym measured-sum ∙ g)
 
-  nothing_said : (m : Measure) → NothingMeasured smaller larger → measureIn out ≡ Some m → ⊥
-  unfolding measureIn
+  nothing_said : (m : Measure) → NothingMeasured smaller larger → measure_in out ≡ Some m → ⊥
+  unfolding measure_in
   nothing_said m n g =
-      never (sym (ap measureIn (nothing n)) ∙ g)
+      never (sym (ap measure_in (nothing n)) ∙ g)
 
-inside-measured : {a : Agreement} (m : Measure) → a ≡ Inside m → measureIn a ≡ Some m
-unfolding measureIn
-inside-measured m e = ap measureIn e
+inside-measured : {a : Agreement} (m : Measure) → a ≡ Inside m → measure_in a ≡ Some m
+unfolding measure_in
+inside-measured m e = ap measure_in e
 
-outside-measured : {a : Agreement} (m : Measure) → a ≡ Outside m → measureIn a ≡ Some m
-unfolding measureIn
-outside-measured m e = ap measureIn e
+outside-measured : {a : Agreement} (m : Measure) → a ≡ Outside m → measure_in a ≡ Some m
+unfolding measure_in
+outside-measured m e = ap measure_in e
 
 -- a number is above its limit exactly where it is not at most the limit
 above : (m : Measure) → is_nan m.chi2 ≡ false → is_nan m.limit ≡ false → le m.chi2 m.limit ≡ not (lt m.limit m.chi2)
@@ -210,22 +210,22 @@ finite-numbers smaller larger m g =
     (finite-no-nan m.chi2 number, number)
 
 pub inside-exactly-when : InsideExactlyWhen
-unfolding agreementOf
+unfolding agreement_of
 inside-exactly-when smaller larger m =
-    let three = threeOf smaller larger in
-    let o = chiSquareOf three smaller.covariance (differenceOf smaller larger) in (
-      λ e. (inside-measured m e, inside-at-most (limitOf three) m o e),
-      λ p. inside-if (limitOf three) m o p.0 p.1,
+    let three = three_of smaller larger in
+    let o = chi_square_of three smaller.covariance (difference_of smaller larger) in (
+      λ e. (inside-measured m e, inside-at-most (limit_of three) m o e),
+      λ p. inside-if (limit_of three) m o p.0 p.1,
     )
 
 -- the limit of what is measured is one of the two
-limit-said : (smaller larger : Claimed) (m : Measure) → measureIn (agreementOf smaller larger) ≡ Some m → is_nan m.limit ≡ false
+limit-said : (smaller larger : Claimed) (m : Measure) → measure_in (agreement_of smaller larger) ≡ Some m → is_nan m.limit ≡ false
 limit-said smaller larger m g =
     ways smaller larger (is_nan m.limit ≡ false)
     (λ n. absurd (nothing_said smaller larger m n g))
-    (λ factor e f. subst (λ (x : Measure). is_nan x.limit ≡ false) (is_sum smaller larger factor e f m g) (limit-no-nan (threeOf smaller larger)))
+    (λ factor e f. subst (λ (x : Measure). is_nan x.limit ≡ false) (is_sum smaller larger factor e f m g) (limit-no-nan (three_of smaller larger)))
 
-module _ (smaller larger : Claimed) (m : Measure) (g : measureIn (agreementOf smaller larger) ≡ Some m) where
+module _ (smaller larger : Claimed) (m : Measure) (g : measure_in (agreement_of smaller larger) ≡ Some m) where
   apart : le m.chi2 m.limit ≡ not (lt m.limit m.chi2)
   apart = above m (finite-numbers smaller larger m g).0 (limit-said smaller larger m g)
 
@@ -236,21 +236,21 @@ module _ (smaller larger : Claimed) (m : Measure) (g : measureIn (agreementOf sm
   not-at-most t = apart ∙ ap not t
 
 pub outside-exactly-when : OutsideExactlyWhen
-unfolding agreementOf
+unfolding agreement_of
 outside-exactly-when smaller larger m =
-    let three = threeOf smaller larger in
-    let o = chiSquareOf three smaller.covariance (differenceOf smaller larger) in (
+    let three = three_of smaller larger in
+    let o = chi_square_of three smaller.covariance (difference_of smaller larger) in (
       λ e.
           let g = outside-measured m e in
-          (g, is-above smaller larger m g (outside-not-at-most (limitOf three) m o e)),
-      λ p. outside-if (limitOf three) m o p.0 (not-at-most smaller larger m p.0 p.1),
+          (g, is-above smaller larger m g (outside-not-at-most (limit_of three) m o e)),
+      λ p. outside-if (limit_of three) m o p.0 (not-at-most smaller larger m p.0 p.1),
     )
 
 -- where there is a sum that is finite, it is measured
-measurable : (smaller larger : Claimed) (factor : List Float) → factorUnder smaller larger ≡ Some factor → finite (sumWith smaller larger factor) ≡ true
-    → agreementOf smaller larger ≡ Unmeasurable → ⊥
+measurable : (smaller larger : Claimed) (factor : List Float) → factor_under smaller larger ≡ Some factor → finite (sum_with smaller larger factor) ≡ true
+    → agreement_of smaller larger ≡ Unmeasurable → ⊥
 measurable smaller larger factor e f u =
-    not-unmeasurable (limitOf (threeOf smaller larger)) (sumWith smaller larger factor) (sym (summed smaller larger factor e f) ∙ u)
+    not-unmeasurable (limit_of (three_of smaller larger)) (sum_with smaller larger factor) (sym (summed smaller larger factor e f) ∙ u)
 
 pub unmeasurable-exactly-when : UnmeasurableExactlyWhen
 unmeasurable-exactly-when smaller larger = (
@@ -266,49 +266,49 @@ unmeasurable-was-infinite smaller larger = (
   λ u. ways smaller larger _ (nothing-before smaller larger) (λ factor e f. absurd (measurable smaller larger factor e f u)),
   λ i. ways smaller larger _ (nothing smaller larger)
       (λ factor e f.
-      let x : sumWith smaller larger factor ≡ inf false = sym (ap (λ (m : Measure). m.chi2) (summed-before smaller larger factor e f)) ∙ i in
+      let x : sum_with smaller larger factor ≡ inf false = sym (ap (λ (m : Measure). m.chi2) (summed-before smaller larger factor e f)) ∙ i in
       let g : finite (inf false) ≡ true = subst (λ (y : Float). finite y ≡ true) x f in
       absurd (true≢false (sym g))),
 )
 
 pub numbers-as-before : NumbersAsBefore
 numbers-as-before smaller larger m g =
-    ways smaller larger (agreementBefore smaller larger ≡ m)
+    ways smaller larger (agreement_before smaller larger ≡ m)
     (λ n. absurd (nothing_said smaller larger m n g))
     (λ factor e f. summed-before smaller larger factor e f ∙ is_sum smaller larger factor e f m g)
 
-above-limit : (three : Bool) → le (inf false) (limitOf three) ≡ false
-unfolding le limitOf fromDecimal round
+above-limit : (three : Bool) → le (inf false) (limit_of three) ≡ false
+unfolding le limit_of from_decimal round
 above-limit true = refl
 above-limit false = refl
 
-limit-before : (smaller larger : Claimed) → (agreementBefore smaller larger).limit ≡ limitOf (threeOf smaller larger)
-unfolding agreementBefore
+limit-before : (smaller larger : Claimed) → (agreement_before smaller larger).limit ≡ limit_of (three_of smaller larger)
+unfolding agreement_before
 limit-before smaller larger = refl
 
 pub agrees-as-before : AgreesAsBefore
-unfolding agreesOf agreedBefore
+unfolding agrees_of agreed_before
 agrees-as-before smaller larger =
     ways smaller larger _
-    (λ n. ap agreesOf (nothing smaller larger n) ∙ sym (rw (nothing-before smaller larger n, limit-before smaller larger) (above-limit (threeOf smaller larger))))
+    (λ n. ap agrees_of (nothing smaller larger n) ∙ sym (rw (nothing-before smaller larger n, limit-before smaller larger) (above-limit (three_of smaller larger))))
     (λ factor e f.
-    let limit = limitOf (threeOf smaller larger) in
-    let x = sumWith smaller larger factor in
-    ap agreesOf (summed smaller larger factor e f) ∙ agrees-out limit x ∙ sym (ap (λ (m : Measure). le m.chi2 m.limit) (summed-before smaller larger factor e f)))
+    let limit = limit_of (three_of smaller larger) in
+    let x = sum_with smaller larger factor in
+    ap agrees_of (summed smaller larger factor e f) ∙ agrees-out limit x ∙ sym (ap (λ (m : Measure). le m.chi2 m.limit) (summed-before smaller larger factor e f)))
 
 infinite-bits : to_bits binary64 (inf false) ≡ infinity
 unfolding to_bits
 infinite-bits = refl
 
 pub bits-as-before : BitsAsBefore
-unfolding chiSquareIn storedBits
+unfolding chi_square_in stored_bits
 bits-as-before smaller larger =
     ways smaller larger _
-    (λ n. ap (λ (a : Agreement). storedBits (chiSquareIn a)) (nothing smaller larger n) ∙ sym (ap (to_bits binary64) (nothing-before smaller larger n) ∙ infinite-bits))
+    (λ n. ap (λ (a : Agreement). stored_bits (chi_square_in a)) (nothing smaller larger n) ∙ sym (ap (to_bits binary64) (nothing-before smaller larger n) ∙ infinite-bits))
     (λ factor e f.
-    let limit = limitOf (threeOf smaller larger) in
-    let x = sumWith smaller larger factor in
-    ap (λ (a : Agreement). storedBits (chiSquareIn a)) (summed smaller larger factor e f)
+    let limit = limit_of (three_of smaller larger) in
+    let x = sum_with smaller larger factor in
+    ap (λ (a : Agreement). stored_bits (chi_square_in a)) (summed smaller larger factor e f)
     ∙ bits_out limit x
     ∙ sym (ap (λ (m : Measure). to_bits binary64 m.chi2) (summed-before smaller larger factor e f)))
 
@@ -320,41 +320,41 @@ finite-bits x w f e =
     let y : x ≡ inf false = sym (of_bits-to_bits binary64 x w) ∙ ap (of_bits binary64) e ∙ i in
     true≢false (sym (subst (λ (z : Float). finite z ≡ true) y f))
 
-read_number : (x : Float) → T (fits binary64 x) → finite x ≡ true → storedChiSquare (to_bits binary64 x) ≡ Measured x
-unfolding storedChiSquare
+read_number : (x : Float) → T (fits binary64 x) → finite x ≡ true → stored_chi_square (to_bits binary64 x) ≡ Measured x
+unfolding stored_chi_square
 read_number x w f = rw (ne_eqb (to_bits binary64 x) infinity (finite-bits x w f), of_bits-to_bits binary64 x w)
 
-pub read-infinity : storedChiSquare infinity ≡ Unmeasured
-unfolding storedChiSquare
+pub read-infinity : stored_chi_square infinity ≡ Unmeasured
+unfolding stored_chi_square
 read-infinity = refl
 
 pub stored-read-back : StoredReadBack
-unfolding chiSquareIn storedBits
+unfolding chi_square_in stored_bits
 stored-read-back smaller larger =
     ways smaller larger _
     (λ n. rw (nothing smaller larger n) read-infinity)
     (λ factor e f.
-    let limit = limitOf (threeOf smaller larger) in
-    let x = sumWith smaller larger factor in
-    let w = sum_fits (threeOf smaller larger) (differenceOf smaller larger) factor in
+    let limit = limit_of (three_of smaller larger) in
+    let x = sum_with smaller larger factor in
+    let w = sum_fits (three_of smaller larger) (difference_of smaller larger) factor in
     rw (summed smaller larger factor e f, bits_out limit x, chi-out limit x) (read_number x w f))
 
 -- what is stored has 64 bits
-pub stored-bounded : (smaller larger : Claimed) → storedBits (chiSquareIn (agreementOf smaller larger)) < 2 ^ 64
-unfolding chiSquareIn storedBits
+pub stored-bounded : (smaller larger : Claimed) → stored_bits (chi_square_in (agreement_of smaller larger)) < 2 ^ 64
+unfolding chi_square_in stored_bits
 stored-bounded smaller larger =
     ways smaller larger _
     (λ n. rw (nothing smaller larger n) (omega arith))
     (λ factor e f.
-    let x = sumWith smaller larger factor in
-    rw (summed smaller larger factor e f, bits_out (limitOf (threeOf smaller larger)) x)
-    (to_bits-lt binary64 x (sum_fits (threeOf smaller larger) (differenceOf smaller larger) factor)))
+    let x = sum_with smaller larger factor in
+    rw (summed smaller larger factor e f, bits_out (limit_of (three_of smaller larger)) x)
+    (to_bits-lt binary64 x (sum_fits (three_of smaller larger) (difference_of smaller larger) factor)))
 
 -- a covariance whose first entry is a NaN, zero or negative is refused
-first-none : (three : Bool) (c : Covariance) → notAbove c.xx ≡ true → choleskyOf (rows_of three) (matrixOf three c) ≡ None
-unfolding choleskyOf columns less rowsBelow matrixOf
+first-none : (three : Bool) (c : Covariance) → not_above c.xx ≡ true → cholesky_of (rows_of three) (matrix_of three c) ≡ None
+unfolding cholesky_of columns less rows_below matrix_of
 first-none true c e = rw e
 first-none false c e = rw e
 
-pub refused-first : (smaller larger : Claimed) → notAbove smaller.covariance.xx ≡ true → agreementOf smaller larger ≡ Unmeasurable
-refused-first smaller larger e = nothing smaller larger (refused (first-none (threeOf smaller larger) smaller.covariance e))
+pub refused-first : (smaller larger : Claimed) → not_above smaller.covariance.xx ≡ true → agreement_of smaller larger ≡ Unmeasurable
+refused-first smaller larger e = nothing smaller larger (refused (first-none (three_of smaller larger) smaller.covariance e))

@@ -4,25 +4,25 @@ use mathlib.Core.Bool.{true, false}
 use lib.Ieee.{Float, nan, lt, mul, of_int, round}
 use Rattle.floats.specs.Root.{root}
 use Rattle.floats.proofs.Ieee754.{root-zero}
-use Rattle.geometry.specs.Numbers.{◌⊕◌, ◌⊗◌, whole, fromDecimal}
-use Rattle.arithmetic.specs.Agree.{sigmaOf}
+use Rattle.geometry.specs.Numbers.{◌⊕◌, ◌⊗◌, whole, from_decimal}
+use Rattle.arithmetic.specs.Agree.{sigma_of}
 use Rattle.geometry.specs.declared.linalg.Covariance.{Covariance}
 
-pub high-root : (c : Covariance) → lt (whole 0) (fromDecimal 5 1 ⊗ (c.xx ⊕ c.yy)) ≡ true → root (fromDecimal 5 1 ⊗ (c.xx ⊕ c.yy)) ≡ sigmaOf c
-unfolding sigmaOf
+pub high-root : (c : Covariance) → lt (whole 0) (from_decimal 5 1 ⊗ (c.xx ⊕ c.yy)) ≡ true → root (from_decimal 5 1 ⊗ (c.xx ⊕ c.yy)) ≡ sigma_of c
+unfolding sigma_of
 high-root c e = rw e
 
-pub low-root : (c : Covariance) → lt (whole 0) (fromDecimal 5 1 ⊗ (c.xx ⊕ c.yy)) ≡ false → root (whole 0) ≡ sigmaOf c
-unfolding sigmaOf
+pub low-root : (c : Covariance) → lt (whole 0) (from_decimal 5 1 ⊗ (c.xx ⊕ c.yy)) ≡ false → root (whole 0) ≡ sigma_of c
+unfolding sigma_of
 low-root c e = rw e
 
-pub low-sigma : (c : Covariance) → lt (whole 0) (fromDecimal 5 1 ⊗ (c.xx ⊕ c.yy)) ≡ false → sigmaOf c ≡ whole 0
-unfolding sigmaOf of_int
+pub low-sigma : (c : Covariance) → lt (whole 0) (from_decimal 5 1 ⊗ (c.xx ⊕ c.yy)) ≡ false → sigma_of c ≡ whole 0
+unfolding sigma_of of_int
 low-sigma c e = rw e (root-zero false)
 
-half-nan : lt (whole 0) (fromDecimal 5 1 ⊗ nan) ≡ false
-unfolding fromDecimal round of_int mul lt
+half-nan : lt (whole 0) (from_decimal 5 1 ⊗ nan) ≡ false
+unfolding from_decimal round of_int mul lt
 half-nan = refl
 
-pub nan-sigma : (c : Covariance) → c.xx ⊕ c.yy ≡ nan → sigmaOf c ≡ whole 0
-nan-sigma c e = low-sigma c (ap (λ (x : Float). lt (whole 0) (fromDecimal 5 1 ⊗ x)) e ∙ half-nan)
+pub nan-sigma : (c : Covariance) → c.xx ⊕ c.yy ≡ nan → sigma_of c ≡ whole 0
+nan-sigma c e = low-sigma c (ap (λ (x : Float). lt (whole 0) (from_decimal 5 1 ⊗ x)) e ∙ half-nan)

@@ -5,12 +5,12 @@ use mathlib.Core.List.{List, [], ◌∷◌}
 use Rattle.std.specs.Prelude.{Option, Some, None, is_some}
 use lib.Ieee.{Float}
 use Rattle.floats.specs.Root.{root}
-use Rattle.geometry.specs.Numbers.{◌⊖◌, ◌⊗◌, ◌⊘◌, notAbove}
-use Rattle.geometry.specs.Geodesy.{toEcef}
-use Rattle.geometry.specs.Linalg.{less, rowsBelow, columns, choleskyOf, forwards, forward, backwards, backward, solveOf, plus}
-use Rattle.arithmetic.specs.Agree.{limitOf, geodeticOf, matrixOf, sumUnder, lengthUnder, chiSquareOf, differenceOf, outcomeOf, agreementOf}
-use Rattle.geometry.specs.Factors.{factorOf, factorOfTwo, factorOfThree, flatLength, fullLength}
-use Rattle.arithmetic.specs.Stages.{measuredOf, enuOf, parts_of, judgedOf, comparedOf}
+use Rattle.geometry.specs.Numbers.{◌⊖◌, ◌⊗◌, ◌⊘◌, not_above}
+use Rattle.geometry.specs.Geodesy.{to_ecef}
+use Rattle.geometry.specs.Linalg.{less, rows_below, columns, cholesky_of, forwards, forward, backwards, backward, solve_of, plus}
+use Rattle.arithmetic.specs.Agree.{limit_of, geodetic_of, matrix_of, sum_under, length_under, chi_square_of, difference_of, outcome_of, agreement_of}
+use Rattle.geometry.specs.Factors.{factor_of, factor_of_two, factor_of_three, flat_length, full_length}
+use Rattle.arithmetic.specs.Stages.{measured_of, enu_of, parts_of, judged_of, compared_of}
 use Rattle.geometry.specs.declared.geodesy.Vec3.{Vec3}
 use Rattle.geometry.specs.declared.linalg.Factor.{Factor}
 use Rattle.geometry.specs.declared.linalg.Factor.TheVariants.{Flat, Full}
@@ -36,18 +36,18 @@ module _ (c : Covariance) where
   abbrev d2 : Float
   d2 = c.zz ⊖ l20 ⊗ l20 ⊖ l21 ⊗ l21
 
-  cases : (A : Type 0) → (notAbove c.xx ≡ true → A) → (notAbove c.xx ≡ false → notAbove d1 ≡ true → A)
-      → (notAbove c.xx ≡ false → notAbove d1 ≡ false → notAbove d2 ≡ true → A)
-      → (notAbove c.xx ≡ false → notAbove d1 ≡ false → notAbove d2 ≡ false → A) → A
-  cases A f g h k = by (notAbove c.xx) f (λ x. by (notAbove d1) (g x) (λ y. by (notAbove d2) (h x y) (k x y)))
+  cases : (A : Type 0) → (not_above c.xx ≡ true → A) → (not_above c.xx ≡ false → not_above d1 ≡ true → A)
+      → (not_above c.xx ≡ false → not_above d1 ≡ false → not_above d2 ≡ true → A)
+      → (not_above c.xx ≡ false → not_above d1 ≡ false → not_above d2 ≡ false → A) → A
+  cases A f g h k = by (not_above c.xx) f (λ x. by (not_above d1) (g x) (λ y. by (not_above d2) (h x y) (k x y)))
 
   -- the case of a factor says what Cholesky gives for two rows, and for three
-  pub two_is : factorOfTwo (factorOf c) ≡ choleskyOf 2 (matrixOf false c)
-  unfolding matrixOf choleskyOf columns rowsBelow less factorOf
+  pub two_is : factor_of_two (factor_of c) ≡ cholesky_of 2 (matrix_of false c)
+  unfolding matrix_of cholesky_of columns rows_below less factor_of
   two_is = cases _ (λ x. rw x) (λ x y. rw (x, y)) (λ x y z. rw (x, y, z)) (λ x y z. rw (x, y, z))
 
-  pub three-is : factorOfThree (factorOf c) ≡ choleskyOf 3 (matrixOf true c)
-  unfolding matrixOf choleskyOf columns rowsBelow less factorOf
+  pub three-is : factor_of_three (factor_of c) ≡ cholesky_of 3 (matrix_of true c)
+  unfolding matrix_of cholesky_of columns rows_below less factor_of
   three-is = cases _ (λ x. rw x) (λ x y. rw (x, y)) (λ x y z. rw (x, y, z)) (λ x y z. rw (x, y, z))
 
 -- a difference as a list
@@ -55,31 +55,31 @@ abbrev numbers : Vec3 → List Float
 numbers v = v.x ∷ v.y ∷ v.z ∷ []
 
 -- what is measured by it is what is measured by the factor that it has
-two-under : (f : Option Factor) (v : Vec3) → outcomeOf (limitOf false) (lengthUnder 2 (numbers v) (factorOfTwo f)) ≡ measuredOf false f v
-unfolding outcomeOf lengthUnder sumUnder solveOf forward forwards backward backwards less plus measuredOf flatLength
+two-under : (f : Option Factor) (v : Vec3) → outcome_of (limit_of false) (length_under 2 (numbers v) (factor_of_two f)) ≡ measured_of false f v
+unfolding outcome_of length_under sum_under solve_of forward forwards backward backwards less plus measured_of flat_length
 two-under None v = refl
 two-under (Some (Flat r)) v = refl
 two-under (Some (Full r t)) v = refl
 
-three-under : (f : Option Factor) (v : Vec3) → outcomeOf (limitOf true) (lengthUnder 3 (numbers v) (factorOfThree f)) ≡ measuredOf true f v
-unfolding outcomeOf lengthUnder sumUnder solveOf forward forwards backward backwards less plus measuredOf fullLength
+three-under : (f : Option Factor) (v : Vec3) → outcome_of (limit_of true) (length_under 3 (numbers v) (factor_of_three f)) ≡ measured_of true f v
+unfolding outcome_of length_under sum_under solve_of forward forwards backward backwards less plus measured_of full_length
 three-under None v = refl
 three-under (Some (Flat r)) v = refl
 three-under (Some (Full r t)) v = refl
 
 pub measured-is : (three : Bool) (c : Covariance) (v : Vec3)
-    → outcomeOf (limitOf three) (chiSquareOf three c (numbers v)) ≡ measuredOf three (factorOf c) v
-unfolding chiSquareOf
-measured-is true c v = ap (λ (l : Option (List Float)). outcomeOf (limitOf true) (lengthUnder 3 (numbers v) l)) (sym (three-is c)) ∙ three-under (factorOf c) v
-measured-is false c v = ap (λ (l : Option (List Float)). outcomeOf (limitOf false) (lengthUnder 2 (numbers v) l)) (sym (two_is c)) ∙ two-under (factorOf c) v
+    → outcome_of (limit_of three) (chi_square_of three c (numbers v)) ≡ measured_of three (factor_of c) v
+unfolding chi_square_of
+measured-is true c v = ap (λ (l : Option (List Float)). outcome_of (limit_of true) (length_under 3 (numbers v) l)) (sym (three-is c)) ∙ three-under (factor_of c) v
+measured-is false c v = ap (λ (l : Option (List Float)). outcome_of (limit_of false) (length_under 2 (numbers v) l)) (sym (two_is c)) ∙ two-under (factor_of c) v
 
 -- ---- the two stages
 
-pub judged-is : (a b : Claimed) → judgedOf (parts_of a) (toEcef (geodeticOf b)) (is_some b.height) ≡ agreementOf a b
-unfolding judgedOf parts_of enuOf agreementOf differenceOf
+pub judged-is : (a b : Claimed) → judged_of (parts_of a) (to_ecef (geodetic_of b)) (is_some b.height) ≡ agreement_of a b
+unfolding judged_of parts_of enu_of agreement_of difference_of
 judged-is a b = rw (← measured-is)
 
 -- a comparison of two prepared fixes is the agreement of their claims
-pub staged : (smaller larger : Claimed) → comparedOf (parts_of smaller) (parts_of larger) ≡ agreementOf smaller larger
+pub staged : (smaller larger : Claimed) → compared_of (parts_of smaller) (parts_of larger) ≡ agreement_of smaller larger
 unfolding parts_of
 staged smaller larger = judged-is smaller larger

@@ -9,10 +9,10 @@ use Rattle.arithmetic.specs.declared.standing.ChiSquare.TheVariants.{Measured, U
 abbrev pub infinity : ℕ
 infinity = 0x7ff0_0000_0000_0000
 
-unfoldable pub storedBits : ChiSquare → ℕ
-storedBits (Measured x) = to_bits binary64 x
-storedBits Unmeasured = infinity
+unfoldable pub stored_bits : ChiSquare → ℕ
+stored_bits (Measured x) = to_bits binary64 x
+stored_bits Unmeasured = infinity
 
 -- what any stored bits say
-unfoldable pub storedChiSquare : ℕ → ChiSquare
-storedChiSquare bits = cond (eqb bits infinity) Unmeasured (Measured (of_bits binary64 bits))
+unfoldable pub stored_chi_square : ℕ → ChiSquare
+stored_chi_square bits = cond (eqb bits infinity) Unmeasured (Measured (of_bits binary64 bits))

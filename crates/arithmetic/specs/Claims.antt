@@ -4,13 +4,13 @@ use Rattle.std.specs.Prelude.{◌≡◌, true, false, ◌↔◌, List, ◌+◌, 
 use Rattle.std.specs.Float.{inf, binary64}
 use Rattle.std.specs.Float.Ieee.{of_bits, to_bits, is_nan, le, lt}
 use Rattle.std.specs.Float.Ieee.Scale.{finite}
-use Rattle.geometry.specs.Numbers.{whole, fromDecimal}
-use Rattle.geometry.specs.Formula.{formulaSincos}
+use Rattle.geometry.specs.Numbers.{whole, from_decimal}
+use Rattle.geometry.specs.Formula.{formula_sincos}
 use Rattle.geometry.specs.Claims.{InI32}
-use Rattle.geometry.specs.Linalg.{choleskyOf}
-use Rattle.arithmetic.specs.Agree.{limitOf, geodeticOf, rows_of, matrixOf, sumUnder, differenceOf, threeOf, outcomeOf, agreementOf, agreesOf, chiSquareIn, measureIn}
-use Rattle.arithmetic.specs.Bits.{storedBits, storedChiSquare}
-use Rattle.arithmetic.specs.Before.{agreementBefore, agreedBefore}
+use Rattle.geometry.specs.Linalg.{cholesky_of}
+use Rattle.arithmetic.specs.Agree.{limit_of, geodetic_of, rows_of, matrix_of, sum_under, difference_of, three_of, outcome_of, agreement_of, agrees_of, chi_square_in, measure_in}
+use Rattle.arithmetic.specs.Bits.{stored_bits, stored_chi_square}
+use Rattle.arithmetic.specs.Before.{agreement_before, agreed_before}
 use Rattle.geometry.specs.declared.linalg.Covariance.{Covariance}
 use Rattle.arithmetic.specs.declared.standing.Claimed.{Claimed}
 use Rattle.arithmetic.specs.declared.standing.Measure.{Measure}
@@ -23,63 +23,63 @@ use Rattle.arithmetic.specs.declared.standing.ChiSquare.TheVariants.{Measured}
 abbrev pub FiniteNumbers : Type 0
 FiniteNumbers =
     (smaller larger : Claimed) (m : Measure)
-    → measureIn (agreementOf smaller larger) ≡ Some m
+    → measure_in (agreement_of smaller larger) ≡ Some m
     → (is_nan m.chi2 ≡ false) × (finite m.chi2 ≡ true)
 
 -- inside is exactly 'at most the limit', and outside 'above the limit'
 abbrev pub InsideExactlyWhen : Type 0
 InsideExactlyWhen =
     (smaller larger : Claimed) (m : Measure)
-    → (agreementOf smaller larger ≡ Inside m) ↔ ((measureIn (agreementOf smaller larger) ≡ Some m) × (le m.chi2 m.limit ≡ true))
+    → (agreement_of smaller larger ≡ Inside m) ↔ ((measure_in (agreement_of smaller larger) ≡ Some m) × (le m.chi2 m.limit ≡ true))
 
 abbrev pub OutsideExactlyWhen : Type 0
 OutsideExactlyWhen =
     (smaller larger : Claimed) (m : Measure)
-    → (agreementOf smaller larger ≡ Outside m) ↔ ((measureIn (agreementOf smaller larger) ≡ Some m) × (lt m.limit m.chi2 ≡ true))
+    → (agreement_of smaller larger ≡ Outside m) ↔ ((measure_in (agreement_of smaller larger) ≡ Some m) × (lt m.limit m.chi2 ≡ true))
 
--- the factor that `agreementOf` solves with, and the sum that it gets
-abbrev pub factorUnder : Claimed → Claimed → Option (List Float)
-factorUnder smaller larger = choleskyOf (rows_of (threeOf smaller larger)) (matrixOf (threeOf smaller larger) smaller.covariance)
+-- the factor that `agreement_of` solves with, and the sum that it gets
+abbrev pub factor_under : Claimed → Claimed → Option (List Float)
+factor_under smaller larger = cholesky_of (rows_of (three_of smaller larger)) (matrix_of (three_of smaller larger) smaller.covariance)
 
-abbrev pub sumWith : Claimed → Claimed → List Float → Float
-sumWith smaller larger factor = sumUnder (rows_of (threeOf smaller larger)) (differenceOf smaller larger) factor
+abbrev pub sum_with : Claimed → Claimed → List Float → Float
+sum_with smaller larger factor = sum_under (rows_of (three_of smaller larger)) (difference_of smaller larger) factor
 
 -- Cholesky refuses the smaller fix's covariance, or the sum is a NaN or an infinity.
 pub data NothingMeasured (smaller larger : Claimed) : Type 0 where
-  refused : factorUnder smaller larger ≡ None → NothingMeasured smaller larger
-  overflows : (factor : List Float) → factorUnder smaller larger ≡ Some factor → finite (sumWith smaller larger factor) ≡ false → NothingMeasured smaller larger
+  refused : factor_under smaller larger ≡ None → NothingMeasured smaller larger
+  overflows : (factor : List Float) → factor_under smaller larger ≡ Some factor → finite (sum_with smaller larger factor) ≡ false → NothingMeasured smaller larger
 
 -- it is unmeasurable exactly where there is nothing to measure with, and the number is the sum elsewhere
 abbrev pub UnmeasurableExactlyWhen : Type 0
-UnmeasurableExactlyWhen = (smaller larger : Claimed) → (agreementOf smaller larger ≡ Unmeasurable) ↔ NothingMeasured smaller larger
+UnmeasurableExactlyWhen = (smaller larger : Claimed) → (agreement_of smaller larger ≡ Unmeasurable) ↔ NothingMeasured smaller larger
 
 abbrev pub ElseTheSum : Type 0
 ElseTheSum =
     (smaller larger : Claimed) (factor : List Float)
-    → factorUnder smaller larger ≡ Some factor
-    → finite (sumWith smaller larger factor) ≡ true
-    → measureIn (agreementOf smaller larger) ≡ Some (record { chi2 = sumWith smaller larger factor; limit = limitOf (threeOf smaller larger) })
+    → factor_under smaller larger ≡ Some factor
+    → finite (sum_with smaller larger factor) ≡ true
+    → measure_in (agreement_of smaller larger) ≡ Some (record { chi2 = sum_with smaller larger factor; limit = limit_of (three_of smaller larger) })
 
 -- ---- against agreement as it was before
 
 -- unmeasurable is each case that gave positive infinity before, and no other
 abbrev pub UnmeasurableWasInfinite : Type 0
-UnmeasurableWasInfinite = (smaller larger : Claimed) → (agreementOf smaller larger ≡ Unmeasurable) ↔ ((agreementBefore smaller larger).chi2 ≡ inf false)
+UnmeasurableWasInfinite = (smaller larger : Claimed) → (agreement_of smaller larger ≡ Unmeasurable) ↔ ((agreement_before smaller larger).chi2 ≡ inf false)
 
 -- inside and outside have the numbers of before
 abbrev pub NumbersAsBefore : Type 0
-NumbersAsBefore = (smaller larger : Claimed) (m : Measure) → measureIn (agreementOf smaller larger) ≡ Some m → agreementBefore smaller larger ≡ m
+NumbersAsBefore = (smaller larger : Claimed) (m : Measure) → measure_in (agreement_of smaller larger) ≡ Some m → agreement_before smaller larger ≡ m
 
 -- and what agrees is what agreed
 abbrev pub AgreesAsBefore : Type 0
-AgreesAsBefore = (smaller larger : Claimed) → agreesOf (agreementOf smaller larger) ≡ agreedBefore (agreementBefore smaller larger)
+AgreesAsBefore = (smaller larger : Claimed) → agrees_of (agreement_of smaller larger) ≡ agreed_before (agreement_before smaller larger)
 
 -- a track's bytes still hold infinity there: what is stored is the bits of before, and is read back as it was
 abbrev pub BitsAsBefore : Type 0
-BitsAsBefore = (smaller larger : Claimed) → storedBits (chiSquareIn (agreementOf smaller larger)) ≡ to_bits binary64 (agreementBefore smaller larger).chi2
+BitsAsBefore = (smaller larger : Claimed) → stored_bits (chi_square_in (agreement_of smaller larger)) ≡ to_bits binary64 (agreement_before smaller larger).chi2
 
 abbrev pub StoredReadBack : Type 0
-StoredReadBack = (smaller larger : Claimed) → storedChiSquare (storedBits (chiSquareIn (agreementOf smaller larger))) ≡ chiSquareIn (agreementOf smaller larger)
+StoredReadBack = (smaller larger : Claimed) → stored_chi_square (stored_bits (chi_square_in (agreement_of smaller larger))) ≡ chi_square_in (agreement_of smaller larger)
 
 -- ---- the position
 
@@ -89,7 +89,7 @@ PlacedByFormula =
     (claim : Claimed)
     → InI32 claim.lat
     → InI32 claim.lon
-    → ((geodeticOf claim).lat ≡ formulaSincos claim.lat) × ((geodeticOf claim).lon ≡ formulaSincos claim.lon)
+    → ((geodetic_of claim).lat ≡ formula_sincos claim.lat) × ((geodetic_of claim).lon ≡ formula_sincos claim.lon)
 
 -- ---- the limit, and a covariance of zeros
 
@@ -98,24 +98,24 @@ abbrev pub next : Float → Float
 next x = of_bits binary64 (to_bits binary64 x + 1)
 
 -- a chi-square with both heights
-abbrev pub withHeights : Float → Measure
-withHeights chi2 = record { chi2 = chi2; limit = limitOf true }
+abbrev pub with_heights : Float → Measure
+with_heights chi2 = record { chi2 = chi2; limit = limit_of true }
 
 -- 1: a chi-square of 16.266 with both heights is inside and agrees, and the next f64 is outside and does not
 abbrev pub Position1 : Type 0
 Position1 =
-    let edge = fromDecimal 16_266 3 in
-    (outcomeOf (limitOf true) (Measured edge) ≡ Inside (withHeights edge))
-    × (agreesOf (Inside (withHeights edge)) ≡ true)
-    × (outcomeOf (limitOf true) (Measured (next edge)) ≡ Outside (withHeights (next edge)))
-    × (agreesOf (Outside (withHeights (next edge))) ≡ false)
+    let edge = from_decimal 16_266 3 in
+    (outcome_of (limit_of true) (Measured edge) ≡ Inside (with_heights edge))
+    × (agrees_of (Inside (with_heights edge)) ≡ true)
+    × (outcome_of (limit_of true) (Measured (next edge)) ≡ Outside (with_heights (next edge)))
+    × (agrees_of (Outside (with_heights (next edge))) ≡ false)
 
-abbrev pub zeroCovariance : Covariance
-zeroCovariance = record { xx = whole 0; xy = whole 0; xz = whole 0; yy = whole 0; yz = whole 0; zz = whole 0 }
+abbrev pub zero_covariance : Covariance
+zero_covariance = record { xx = whole 0; xy = whole 0; xz = whole 0; yy = whole 0; yz = whole 0; zz = whole 0 }
 
 -- 2: a fix whose covariance is zero is unmeasurable against every fix, so at its own position too, with heights and without, and disagrees
 abbrev pub Position2 : Type 0
 Position2 =
     (smaller larger : Claimed)
-    → smaller.covariance ≡ zeroCovariance
-    → (agreementOf smaller larger ≡ Unmeasurable) × (agreesOf (agreementOf smaller larger) ≡ false)
+    → smaller.covariance ≡ zero_covariance
+    → (agreement_of smaller larger ≡ Unmeasurable) × (agrees_of (agreement_of smaller larger) ≡ false)

@@ -1,9 +1,9 @@
 -- No claim rests on these definitions: they say how agreement is worked out in two stages, what depends on one fix alone, and the comparison of two prepared
--- fixes. `staged`, in proofs/Staged.antt, says that the two together are `agreementOf`.
+-- fixes. `staged`, in proofs/Staged.antt, says that the two together are `agreement_of`.
 use Rattle.std.specs.Prelude.{Bool, true, false, cond, ◌&&◌, Float, Option, Some, None, is_some}
-use Rattle.geometry.specs.Geodesy.{toEcef, enuBasis, subOf, dotOf}
-use Rattle.geometry.specs.Factors.{factorOf, flatLength, fullLength}
-use Rattle.arithmetic.specs.Agree.{geodeticOf, finitely, outcomeOf, limitOf}
+use Rattle.geometry.specs.Geodesy.{to_ecef, enu_basis, sub_of, dot_of}
+use Rattle.geometry.specs.Factors.{factor_of, flat_length, full_length}
+use Rattle.arithmetic.specs.Agree.{geodetic_of, finitely, outcome_of, limit_of}
 use Rattle.geometry.specs.declared.geodesy.Vec3.{Vec3}
 use Rattle.geometry.specs.declared.geodesy.Basis.{Basis}
 use Rattle.geometry.specs.declared.linalg.Factor.{Factor}
@@ -14,35 +14,35 @@ use Rattle.arithmetic.specs.declared.standing.Agreement.{Agreement}
 use Rattle.arithmetic.specs.declared.standing.Agreement.TheVariants.{Unmeasurable}
 
 -- the outcome of a sum, with both heights and without
-abbrev pub withLimit : Bool → Float → Agreement
-withLimit three chi2 = outcomeOf (limitOf three) (finitely chi2)
+abbrev pub with_limit : Bool → Float → Agreement
+with_limit three chi2 = outcome_of (limit_of three) (finitely chi2)
 
 -- by the factor for three rows where both fixes have a height, else by that for two; nothing is measured without it
-unfoldable pub measuredOf : Bool → Option Factor → Vec3 → Agreement
-measuredOf three None v = Unmeasurable
-measuredOf three (Some (Flat r)) v = cond three Unmeasurable (withLimit false (flatLength r v))
-measuredOf three (Some (Full r t)) v = cond three (withLimit true (fullLength r t v)) (withLimit false (flatLength r v))
+unfoldable pub measured_of : Bool → Option Factor → Vec3 → Agreement
+measured_of three None v = Unmeasurable
+measured_of three (Some (Flat r)) v = cond three Unmeasurable (with_limit false (flat_length r v))
+measured_of three (Some (Full r t)) v = cond three (with_limit true (full_length r t v)) (with_limit false (flat_length r v))
 
 -- a difference in east, north and up
-unfoldable pub enuOf : Basis → Vec3 → Vec3
-enuOf basis d = record { x = dotOf basis.east d; y = dotOf basis.north d; z = dotOf basis.up d }
+unfoldable pub enu_of : Basis → Vec3 → Vec3
+enu_of basis d = record { x = dot_of basis.east d; y = dot_of basis.north d; z = dot_of basis.up d }
 
 -- the first stage, as a struct
 unfoldable pub parts_of : Claimed → Prepared
 parts_of claim =
-    let position = geodeticOf claim in
+    let position = geodetic_of claim in
     record {
-      ecef = toEcef position;
-      basis = enuBasis position;
-      factor = factorOf claim.covariance;
+      ecef = to_ecef position;
+      basis = enu_basis position;
+      factor = factor_of claim.covariance;
       has_height = is_some claim.height;
     }
 
 -- the second stage: the larger fix's position and whether it has a height
-unfoldable pub judgedOf : Prepared → Vec3 → Bool → Agreement
-judgedOf from to high =
-    measuredOf (from.has_height && high) from.factor (enuOf from.basis (subOf to from.ecef))
+unfoldable pub judged_of : Prepared → Vec3 → Bool → Agreement
+judged_of from to high =
+    measured_of (from.has_height && high) from.factor (enu_of from.basis (sub_of to from.ecef))
 
 -- the second stage on two prepared fixes
-abbrev pub comparedOf : Prepared → Prepared → Agreement
-comparedOf smaller larger = judgedOf smaller larger.ecef larger.has_height
+abbrev pub compared_of : Prepared → Prepared → Agreement
+compared_of smaller larger = judged_of smaller larger.ecef larger.has_height

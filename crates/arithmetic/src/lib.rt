@@ -3,10 +3,10 @@
 #![tactic(auto)]
 
 ghost use Rattle.std.specs.Prelude.{◌≡◌};
-ghost use Rattle.arithmetic.specs.Agree.{agreementOf, agreesOf, chiSquareIn, sigmaOf};
-ghost use Rattle.arithmetic.specs.Bits.{storedBits, storedChiSquare};
+ghost use Rattle.arithmetic.specs.Agree.{agreement_of, agrees_of, chi_square_in, sigma_of};
+ghost use Rattle.arithmetic.specs.Bits.{stored_bits, stored_chi_square};
 ghost use Rattle.arithmetic.specs.declared.standing.Claimed.{Claimed as Claim};
-ghost use Rattle.arithmetic.specs.Stages.{parts_of, comparedOf};
+ghost use Rattle.arithmetic.specs.Stages.{parts_of, compared_of};
 
 pub mod claims;
 mod stages;
@@ -17,7 +17,7 @@ use standing::{Agreement, ChiSquare, Claimed, Prepared};
 
 // How a larger fix stands to a smaller one.
 pub fn agreement(smaller: Claimed, larger: Claimed) -> Agreement
-    ensures { result ≡ agreementOf smaller larger }
+    ensures { result ≡ agreement_of smaller larger }
 {
     // The larger fix's place waits for nothing of the smaller's factor, whose roots wait for one another: it is worked out first.
     let to = geometry::geodesy::to_ecef(stages::geodetic(larger));
@@ -27,7 +27,7 @@ pub fn agreement(smaller: Claimed, larger: Claimed) -> Agreement
 
 // Whether that is agreement: what is unmeasurable disagrees.
 pub fn agrees(a: Agreement) -> bool
-    ensures { result ≡ agreesOf a }
+    ensures { result ≡ agrees_of a }
 {
     match a {
         Agreement::Inside(_) => true,
@@ -38,7 +38,7 @@ pub fn agrees(a: Agreement) -> bool
 
 // The chi-square of an agreement, where there is one.
 pub fn chi_square(a: Agreement) -> ChiSquare
-    ensures { result ≡ chiSquareIn a }
+    ensures { result ≡ chi_square_in a }
 {
     match a {
         Agreement::Inside(m) => ChiSquare::Measured(m.chi2),
@@ -49,7 +49,7 @@ pub fn chi_square(a: Agreement) -> ChiSquare
 
 // A chi-square in 64 bits: the infinity stands where there is no number.
 pub fn stored_bits(c: ChiSquare) -> u64
-    ensures { result ≡ storedBits c }
+    ensures { result ≡ stored_bits c }
 {
     match c {
         ChiSquare::Measured(x) => floats::to_bits(x),
@@ -59,7 +59,7 @@ pub fn stored_bits(c: ChiSquare) -> u64
 
 // What any stored bits say.
 pub fn stored_chi_square(bits: u64) -> ChiSquare
-    ensures { result ≡ storedChiSquare bits }
+    ensures { result ≡ stored_chi_square bits }
 {
     if bits == floats::INFINITY {
         return ChiSquare::Unmeasured;
@@ -69,7 +69,7 @@ pub fn stored_chi_square(bits: u64) -> ChiSquare
 
 // The horizontal deviation of a covariance, in metres: the root of the mean of its variances east and north, 0 where that is a NaN or below 0.
 pub fn horizontal_sigma_m(c: Covariance) -> f64
-    ensures { result ≡ sigmaOf c }
+    ensures { result ≡ sigma_of c }
 {
     let mean = 0.5 * (c.xx + c.yy);
     if mean > 0.0 {
@@ -93,8 +93,8 @@ pub fn prepare(claim: Claimed) -> Prepared
 
 // The agreement of two prepared fixes, with no root and no sine or cosine: that of the claims that they were prepared from.
 pub fn compare(smaller: &Prepared, larger: &Prepared) -> Agreement
-    ensures compared { result ≡ comparedOf smaller.now larger.now }
-    ensures agreement { (a b : Claim) → smaller.now ≡ parts_of a → larger.now ≡ parts_of b → result ≡ agreementOf a b }
+    ensures compared { result ≡ compared_of smaller.now larger.now }
+    ensures agreement { (a b : Claim) → smaller.now ≡ parts_of a → larger.now ≡ parts_of b → result ≡ agreement_of a b }
 {
     stages::judged(smaller, larger.ecef, larger.has_height)
 }

@@ -1,9 +1,9 @@
 // What depends on one fix alone, and the comparison of two prepared fixes.
 ghost use Rattle.std.specs.Prelude.{◌≡◌, true, false, Some};
 ghost use Rattle.std.specs.Float.Ieee.Scale.{finite};
-ghost use Rattle.arithmetic.specs.Agree.{metresOf, geodeticOf, finitely, outcomeOf};
+ghost use Rattle.arithmetic.specs.Agree.{metres_of, geodetic_of, finitely, outcome_of};
 ghost use Rattle.geometry.specs.declared.linalg.Factor.TheVariants.{Flat, Full};
-ghost use Rattle.arithmetic.specs.Stages.{enuOf, withLimit, measuredOf, judgedOf};
+ghost use Rattle.arithmetic.specs.Stages.{enu_of, with_limit, measured_of, judged_of};
 
 use crate::standing::{Agreement, Claimed, Measure, Prepared};
 use geometry::geodesy::{Basis, Geodetic, Vec3};
@@ -11,14 +11,14 @@ use geometry::linalg::{Factor, ThirdRow, TwoRows};
 
 // A height that is absent counts as 0.
 fn metres(height: Option<i32>) -> f64
-    ensures { result ≡ metresOf height }
+    ensures { result ≡ metres_of height }
 {
     height.unwrap_or(0) as f64 / 1000.0
 }
 
 // Where a fix claims to be.
 pub fn geodetic(claim: Claimed) -> Geodetic
-    ensures { result ≡ geodeticOf claim }
+    ensures { result ≡ geodetic_of claim }
 {
     let lat = geometry::angles::sincos(claim.lat);
     let lon = geometry::angles::sincos(claim.lon);
@@ -28,7 +28,7 @@ pub fn geodetic(claim: Claimed) -> Geodetic
 
 // The difference d in east, north and up.
 fn enu(basis: Basis, d: Vec3) -> Vec3
-    ensures { result ≡ enuOf basis d }
+    ensures { result ≡ enu_of basis d }
 {
     let x = geometry::geodesy::dot(basis.east, d);
     let y = geometry::geodesy::dot(basis.north, d);
@@ -47,7 +47,7 @@ fn is_finite(x: f64) -> bool
 
 // The outcome of a sum under a limit. A sum that is not finite measures nothing.
 fn outcome(chi2: f64, limit: f64) -> Agreement
-    ensures { result ≡ outcomeOf limit (finitely chi2) }
+    ensures { result ≡ outcome_of limit (finitely chi2) }
 {
     if !is_finite(chi2) {
         return Agreement::Unmeasurable;
@@ -61,20 +61,20 @@ fn outcome(chi2: f64, limit: f64) -> Agreement
 
 // With both heights, and without.
 fn of_three(chi2: f64) -> Agreement
-    ensures { result ≡ withLimit true chi2 }
+    ensures { result ≡ with_limit true chi2 }
 {
     outcome(chi2, crate::standing::AGREE_CHI2)
 }
 
 fn of_two(chi2: f64) -> Agreement
-    ensures { result ≡ withLimit false chi2 }
+    ensures { result ≡ with_limit false chi2 }
 {
     outcome(chi2, crate::standing::AGREE_CHI2_2D)
 }
 
 // By the factor for three rows where both fixes have a height, else by that for two; without it nothing is measured.
 fn measured_flat(three: bool, rows: TwoRows, v: Vec3) -> Agreement
-    ensures { result ≡ measuredOf three (Some (Flat rows)) v }
+    ensures { result ≡ measured_of three (Some (Flat rows)) v }
 {
     if three {
         return Agreement::Unmeasurable;
@@ -83,7 +83,7 @@ fn measured_flat(three: bool, rows: TwoRows, v: Vec3) -> Agreement
 }
 
 fn measured_full(three: bool, rows: TwoRows, third: ThirdRow, v: Vec3) -> Agreement
-    ensures { result ≡ measuredOf three (Some (Full rows third)) v }
+    ensures { result ≡ measured_of three (Some (Full rows third)) v }
 {
     if three {
         return of_three(geometry::linalg::full_length(rows, third, v));
@@ -92,7 +92,7 @@ fn measured_full(three: bool, rows: TwoRows, third: ThirdRow, v: Vec3) -> Agreem
 }
 
 fn measured(three: bool, f: Factor, v: Vec3) -> Agreement
-    ensures { result ≡ measuredOf three (Some f) v }
+    ensures { result ≡ measured_of three (Some f) v }
 {
     match f {
         Factor::Flat(rows) => measured_flat(three, rows, v),
@@ -102,7 +102,7 @@ fn measured(three: bool, f: Factor, v: Vec3) -> Agreement
 
 // How a larger fix at `to`, with a height or without, stands to a prepared one.
 pub fn judged(from: &Prepared, to: Vec3, high: bool) -> Agreement
-    ensures { result ≡ judgedOf from.now to high }
+    ensures { result ≡ judged_of from.now to high }
 {
     let Some(factor) = from.factor else {
         return Agreement::Unmeasurable;

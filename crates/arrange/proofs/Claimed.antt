@@ -11,11 +11,11 @@ use Rattle.ranges.proofs.Bools.{by, or}
 use Rattle.ranges.proofs.Lists.{filter-in, filter_same, sort-in, sort-perm}
 use Rattle.ranges.proofs.Orders.{perm-length}
 use Rattle.shown.specs.Fix.{Fix}
-use Rattle.shown.specs.Ages.{older, olderFirst}
+use Rattle.shown.specs.Ages.{older, older_first}
 use Rattle.shown.proofs.Ages.{older-irrefl, older-trans, older-past}
 use Rattle.shown.specs.Items.{at}
 use Rattle.tracked.specs.Held.{HeldTransmission}
-use Rattle.arrange.specs.Arranged.{maxTransmissions, is_some, hasFix, olderThan, arranged}
+use Rattle.arrange.specs.Arranged.{max_transmissions, is_some, has_fix, older_than, arranged}
 use Rattle.arrange.specs.Claims.{InOrder, none, next, ArrangedInOrder, alike, Forgotten, LatestLeft, FewAllLeft, OrderStays}
 use Rattle.arrange.proofs.Settling.{drop-in}
 use Rattle.arrange.proofs.Stable as S
@@ -26,33 +26,33 @@ use Rattle.arrange.proofs.Stable.{Weak, Ordered, sort-agree, sort-ordered, sort-
 abbrev kept : HeldTransmission → Fix
 kept t = at t.fixes 0
 
-abbrev keptOlder : HeldTransmission → HeldTransmission → Bool
-keptOlder t u = older (kept t) (kept u)
+abbrev kept_older : HeldTransmission → HeldTransmission → Bool
+kept_older t u = older (kept t) (kept u)
 
-weak : Weak keptOlder
+weak : Weak kept_older
 weak = record {
   irrefl = λ t. older-irrefl (kept t);
   trans = λ t u v. older-trans (kept t) (kept u) (kept v);
   past = λ t u v. older-past (kept t) (kept u) (kept v);
 }
 
-agree : (t u : HeldTransmission) → hasFix t ≡ true → hasFix u ≡ true → olderThan t u ≡ keptOlder t u
+agree : (t u : HeldTransmission) → has_fix t ≡ true → has_fix u ≡ true → older_than t u ≡ kept_older t u
 agree t u p q = go t.fixes u.fixes p q
   where
-    go : (fs gs : List Fix) → is_some fs ≡ true → is_some gs ≡ true → olderFirst fs gs ≡ older (at fs 0) (at gs 0)
+    go : (fs gs : List Fix) → is_some fs ≡ true → is_some gs ≡ true → older_first fs gs ≡ older (at fs 0) (at gs 0)
     go [] gs p q = absurd (false≢true p)
     go (f ∷ fs) [] p q = absurd (false≢true q)
     go (f ∷ fs) (g ∷ gs) p q = refl
 
 abbrev AllFixed : List HeldTransmission → Type 0
-AllFixed l = (t : HeldTransmission) → Memᴰ t l → hasFix t ≡ true
+AllFixed l = (t : HeldTransmission) → Memᴰ t l → has_fix t ≡ true
 
 less : {t : HeldTransmission} {l : List HeldTransmission} → AllFixed (t ∷ l) → AllFixed l
 less h u m = h u (Memᴰ.tail m)
 
 -- ---- in order
 
-to-order : (l : List HeldTransmission) → AllFixed l → Ordered keptOlder weak l → InOrder l
+to-order : (l : List HeldTransmission) → AllFixed l → Ordered kept_older weak l → InOrder l
 to-order [] h S.none = none
 to-order (t ∷ l) h (S.next f w) =
     let p = h t (Memᴰ.head refl) in
@@ -62,7 +62,7 @@ pub all-fixed : {l : List HeldTransmission} → InOrder l → AllFixed l
 all-fixed none t m = absurd (Memᴰ.not-nil m)
 all-fixed (next p f w) t m = or (Memᴰ.cases_cons m) (λ e. rw e p) (λ k. all-fixed w t k)
 
-from-order : (l : List HeldTransmission) → InOrder l → Ordered keptOlder weak l
+from-order : (l : List HeldTransmission) → InOrder l → Ordered kept_older weak l
 from-order [] none = S.none
 from-order (t ∷ l) (next p f w) = S.next (λ u m. sym (agree u t (all-fixed w u m) p) ∙ f u m) (from-order l w)
 
@@ -72,7 +72,7 @@ drop-order (suc n) [] w = w
 drop-order (suc n) (t ∷ l) (next p f w) = drop-order n l w
 
 -- none of the first is younger than one of those behind them
-parted : (n : ℕ) (l : List HeldTransmission) → InOrder l → (t u : HeldTransmission) → Memᴰ t (take n l) → Memᴰ u (drop n l) → olderThan u t ≡ false
+parted : (n : ℕ) (l : List HeldTransmission) → InOrder l → (t u : HeldTransmission) → Memᴰ t (take n l) → Memᴰ u (drop n l) → older_than u t ≡ false
 parted zero l w t u m k = absurd (Memᴰ.not-nil m)
 parted (suc n) [] w t u m k = absurd (Memᴰ.not-nil m)
 parted (suc n) (x ∷ l) (next p f w) t u m k = or (Memᴰ.cases_cons m) (λ e. rw e (f u (drop-in l n u k))) (λ j. parted n l w t u j k)
@@ -81,58 +81,58 @@ parted (suc n) (x ∷ l) (next p f w) t u m k = or (Memᴰ.cases_cons m) (λ e. 
 
 module _ (ts : List HeldTransmission) where
   abbrev fixed : List HeldTransmission
-  fixed = filter hasFix ts
+  fixed = filter has_fix ts
 
   fixed-all : AllFixed fixed
-  fixed-all t m = (filter-in hasFix ts t m).1
+  fixed-all t m = (filter-in has_fix ts t m).1
 
   abbrev sorted : List HeldTransmission
-  sorted = sort olderThan fixed
+  sorted = sort older_than fixed
 
   sorted_all : AllFixed sorted
-  sorted_all t m = fixed-all t (sort-in olderThan fixed t m)
+  sorted_all t m = fixed-all t (sort-in older_than fixed t m)
 
-  sorted-is : sorted ≡ sort keptOlder fixed
-  sorted-is = sort-agree olderThan keptOlder fixed (λ t u m n. agree t u (fixed-all t m) (fixed-all u n))
+  sorted-is : sorted ≡ sort kept_older fixed
+  sorted-is = sort-agree older_than kept_older fixed (λ t u m n. agree t u (fixed-all t m) (fixed-all u n))
 
   sorted-order : InOrder sorted
-  sorted-order = to-order sorted sorted_all (subst (Ordered keptOlder weak) (sym sorted-is) (sort-ordered keptOlder weak fixed))
+  sorted-order = to-order sorted sorted_all (subst (Ordered kept_older weak) (sym sorted-is) (sort-ordered kept_older weak fixed))
 
   abbrev beyond : ℕ
-  beyond = length sorted - maxTransmissions
+  beyond = length sorted - max_transmissions
 
   left_is : take beyond sorted ++ arranged ts ≡ sorted
   unfolding arranged
   left_is = take-append-drop beyond sorted
 
   -- where t has no fix, none is like it
-  alike_is : (t : HeldTransmission) (l : List HeldTransmission) → hasFix t ≡ true → AllFixed l → filter (alike t) l ≡ filter (equal keptOlder weak t) l
-  alike_is t l h f = filter_same (alike t) (equal keptOlder weak t) l (λ u m. rw (agree t u h (f u m), agree u t (f u m) h) refl)
+  alike_is : (t : HeldTransmission) (l : List HeldTransmission) → has_fix t ≡ true → AllFixed l → filter (alike t) l ≡ filter (equal kept_older weak t) l
+  alike_is t l h f = filter_same (alike t) (equal kept_older weak t) l (λ u m. rw (agree t u h (f u m), agree u t (f u m) h) refl)
 
-  alike-none : (t : HeldTransmission) (l : List HeldTransmission) → hasFix t ≡ false → filter (alike t) l ≡ []
+  alike-none : (t : HeldTransmission) (l : List HeldTransmission) → has_fix t ≡ false → filter (alike t) l ≡ []
   unfolding filter
   alike-none t [] h = refl
   alike-none t (u ∷ l) h = rw (nobody t.fixes u.fixes h) (alike-none t l h)
     where
-      nobody : (fs gs : List Fix) → is_some fs ≡ false → (not (olderFirst fs gs) && not (olderFirst gs fs)) ≡ false
+      nobody : (fs gs : List Fix) → is_some fs ≡ false → (not (older_first fs gs) && not (older_first gs fs)) ≡ false
       nobody [] gs h = refl
       nobody (f ∷ fs) gs h = absurd (false≢true (sym h))
 
   stays : (t : HeldTransmission) → filter (alike t) sorted ≡ filter (alike t) fixed
   stays t =
-      by (hasFix t)
+      by (has_fix t)
       (λ h.
       alike_is t sorted h sorted_all
-      ∙ ap (filter (equal keptOlder weak t)) sorted-is
-      ∙ sort-stable keptOlder weak t fixed
+      ∙ ap (filter (equal kept_older weak t)) sorted-is
+      ∙ sort-stable kept_older weak t fixed
       ∙ sym (alike_is t fixed h fixed-all))
       (λ h. alike-none t sorted h ∙ sym (alike-none t fixed h))
 
   forgotten : Forgotten ts
   forgotten = record {
     these = take beyond sorted;
-    all_there = rw left_is (sort-perm olderThan fixed);
-    no-younger = unfold arranged in parted beyond sorted sorted-order;
+    all_there = rw left_is (sort-perm older_than fixed);
+    no_younger = unfold arranged in parted beyond sorted sorted-order;
     stable = λ t. ap (filter (alike t)) left_is ∙ stays t;
   }
 
@@ -140,29 +140,29 @@ pub arranged-in-order : ArrangedInOrder
 unfolding arranged
 arranged-in-order ts = drop-order (beyond ts) (sorted ts) (sorted-order ts)
 
-count_left : (ts : List HeldTransmission) → length (arranged ts) ≡ min maxTransmissions (length (filter hasFix ts))
+count_left : (ts : List HeldTransmission) → length (arranged ts) ≡ min max_transmissions (length (filter has_fix ts))
 unfolding arranged
 count_left ts =
-    let e = perm-length (sort-perm olderThan (fixed ts)) in
+    let e = perm-length (sort-perm older_than (fixed ts)) in
     let d = length-drop (beyond ts) (sorted ts) in
     omega arith
 
 pub latest-left : LatestLeft
 latest-left ts = (forgotten ts, count_left ts)
 
-few-sorted : (ts : List HeldTransmission) → length (filter hasFix ts) ≤ maxTransmissions → arranged ts ≡ sorted ts
+few-sorted : (ts : List HeldTransmission) → length (filter has_fix ts) ≤ max_transmissions → arranged ts ≡ sorted ts
 unfolding arranged
 few-sorted ts h =
-    let e = perm-length (sort-perm olderThan (fixed ts)) in
+    let e = perm-length (sort-perm older_than (fixed ts)) in
     let z : beyond ts ≡ 0 = omega arith in
     ap (λ (n : ℕ). drop n (sorted ts)) z
 
 pub few-all-left : FewAllLeft
-few-all-left ts h = rw (few-sorted ts h) (sort-perm olderThan (fixed ts))
+few-all-left ts h = rw (few-sorted ts h) (sort-perm older_than (fixed ts))
 
 -- ---- what is in order
 
-order-fixed : (l : List HeldTransmission) → InOrder l → filter hasFix l ≡ l
+order-fixed : (l : List HeldTransmission) → InOrder l → filter has_fix l ≡ l
 unfolding filter
 order-fixed [] none = refl
 order-fixed (t ∷ l) (next p f w) = rw p (ap (λ (k : List HeldTransmission). t ∷ k) (order-fixed l w))
@@ -170,4 +170,4 @@ order-fixed (t ∷ l) (next p f w) = rw p (ap (λ (k : List HeldTransmission). t
 pub order-stays : OrderStays
 order-stays ts w h =
     let e = order-fixed ts w in
-    few-sorted ts (rw e h) ∙ sorted-is ts ∙ ap (sort keptOlder) e ∙ sort-same keptOlder weak ts (from-order ts w)
+    few-sorted ts (rw e h) ∙ sorted-is ts ∙ ap (sort kept_older) e ∙ sort-same kept_older weak ts (from-order ts w)

@@ -15,11 +15,11 @@ use Rattle.ranges.proofs.Orders.{perm-length}
 use Rattle.places.proofs.Tables.{wide, length-places, places-of-table, table-length}
 use Rattle.places.proofs.Walks.{place_of}
 use Rattle.shown.proofs.Indexed.{at_in}
-use Rattle.tracked.specs.Layout.{transmissionSize}
-use Rattle.tracked.specs.Bytes.{fixCount}
+use Rattle.tracked.specs.Layout.{transmission_size}
+use Rattle.tracked.specs.Bytes.{fix_count}
 use Rattle.tracked.specs.Parts.{Sound}
-use Rattle.arrange.specs.Arranged.{maxTransmissions}
-use Rattle.arrange.specs.Blocks.{blocks, blockTable, hasFixIn, olderBlock, arrangedBlocks, Filled, FixesFrom, leading, turnedBytes, removedBytes, turned, without, settled}
+use Rattle.arrange.specs.Arranged.{max_transmissions}
+use Rattle.arrange.specs.Blocks.{blocks, block_table, has_fix_in, older_block, arranged_blocks, Filled, FixesFrom, leading, turned_bytes, removed_bytes, turned, without, settled}
 use Rattle.arrange.proofs.Kept.{no-fix}
 use Rattle.arrange.proofs.Tables.{turn-table, remove-table}
 
@@ -57,18 +57,18 @@ insert-is before x (y ∷ l) = by (before y x) (λ t. rw t (ap (λ k. y ∷ k) (
 
 module _ (t : List ℕ) (n : ℕ) (f : Filled t n) where
   pub count-is : length (blocks n t) ≡ n
-  count-is = length-places transmissionSize n t
+  count-is = length-places transmission_size n t
 
-  pub within : (k : ℕ) → k < n → k * transmissionSize + transmissionSize ≤ length t
+  pub within : (k : ℕ) → k < n → k * transmission_size + transmission_size ≤ length t
   within k h = let a = f.few in let s = f.size in omega arith
 
-  pub block_at : (k : ℕ) → k < n → take transmissionSize (drop (k * transmissionSize) t) ≡ get_or (blocks n t) k []
-  block_at k h = sym (place_of transmissionSize n k t h)
+  pub block_at : (k : ℕ) → k < n → take transmission_size (drop (k * transmission_size) t) ≡ get_or (blocks n t) k []
+  block_at k h = sym (place_of transmission_size n k t h)
 
   pub sound-at : (k : ℕ) → k < n → Sound (get_or (blocks n t) k [])
   sound-at k h = f.sound (get_or (blocks n t) k []) (at_in [] (blocks n t) k (rw count-is h))
 
-  pub fixes-at : (i k : ℕ) → FixesFrom i (blocks n t) → i ≤ k → k < n → 1 ≤ fixCount (get_or (blocks n t) k [])
+  pub fixes-at : (i k : ℕ) → FixesFrom i (blocks n t) → i ≤ k → k < n → 1 ≤ fix_count (get_or (blocks n t) k [])
   fixes-at i k g l h =
       let e : i + (k - i) ≡ k = omega arith in
       let m = at_in [] (drop i (blocks n t)) (k - i) (rw (length-drop i (blocks n t), count-is) (omega arith)) in
@@ -79,7 +79,7 @@ positive zero g = absurd (g refl)
 positive (suc k) g = omega arith
 
 -- one more in front has a fix
-pub fixes-more : (bs : List (List ℕ)) (i : ℕ) → i < length bs → 1 ≤ fixCount (get_or bs i []) → FixesFrom (i + 1) bs → FixesFrom i bs
+pub fixes-more : (bs : List (List ℕ)) (i : ℕ) → i < length bs → 1 ≤ fix_count (get_or bs i []) → FixesFrom (i + 1) bs → FixesFrom i bs
 fixes-more bs i h p g b m =
     or (Memᴰ.cases_cons (rw (drop-cons bs i [] h) at m))
     (λ e. rw e p)
@@ -88,20 +88,20 @@ fixes-more bs i h p g b m =
 abbrev pub AllSound : List (List ℕ) → Type 0
 AllSound bs = (b : List ℕ) → Memᴰ b bs → Sound b
 
-pub all-wide : (bs : List (List ℕ)) → AllSound bs → wide transmissionSize bs
+pub all-wide : (bs : List (List ℕ)) → AllSound bs → wide transmission_size bs
 all-wide [] s = tt
 all-wide (b ∷ bs) s = ((s b (Memᴰ.head refl)).size, all-wide bs (λ x m. s x (Memᴰ.tail m)))
 
 -- the table of transmissions is one of transmissions
-pub table_filled : (bs : List (List ℕ)) (t : List ℕ) (m : ℕ) → AllSound bs → m ≡ length bs → m ≤ maxTransmissions → t ≡ blockTable bs → (blocks m t ≡ bs) × Filled t m
+pub table_filled : (bs : List (List ℕ)) (t : List ℕ) (m : ℕ) → AllSound bs → m ≡ length bs → m ≤ max_transmissions → t ≡ block_table bs → (blocks m t ≡ bs) × Filled t m
 table_filled bs t m s q f e =
     let w = all-wide bs s in
-    let g : blocks m t ≡ bs = rw (q, e) (places-of-table transmissionSize maxTransmissions bs w) in (
+    let g : blocks m t ≡ bs = rw (q, e) (places-of-table transmission_size max_transmissions bs w) in (
       g,
       record {
         few = f;
-        size = ap length e ∙ table-length transmissionSize maxTransmissions bs w (rw q at f);
-        is = e ∙ ap blockTable (sym g);
+        size = ap length e ∙ table-length transmission_size max_transmissions bs w (rw q at f);
+        is = e ∙ ap block_table (sym g);
         sound = rw g s;
       },
     )
@@ -116,30 +116,30 @@ module _ (bs : List (List ℕ)) (i : ℕ) (h : i < length bs) where
   behind = drop (i + 1) bs
 
   abbrev lead : ℕ
-  lead = leading (λ q. olderBlock q b) behind
+  lead = leading (λ q. older_block q b) behind
 
-  pub taken_out : hasFixIn b ≡ false → without i bs ≡ settled i bs
+  pub taken_out : has_fix_in b ≡ false → without i bs ≡ settled i bs
   unfolding settled
   taken_out e = rw e refl
 
-  pub turned-is : hasFixIn b ≡ true → turned i (i + 1 + lead) bs ≡ settled i bs
+  pub turned-is : has_fix_in b ≡ true → turned i (i + 1 + lead) bs ≡ settled i bs
   unfolding settled
   turned-is e =
       let a : i + 1 + lead - (i + 1) ≡ lead = omega arith in
-      rw (e, a, insert-is olderBlock b behind, sym (drop-drop lead (i + 1) bs)) refl
+      rw (e, a, insert-is older_block b behind, sym (drop-drop lead (i + 1) bs)) refl
 
-  pub stays : hasFixIn b ≡ true → lead ≡ 0 → bs ≡ settled i bs
+  pub stays : has_fix_in b ≡ true → lead ≡ 0 → bs ≡ settled i bs
   unfolding settled
-  stays e z = rw (e, insert-is olderBlock b behind, z, add-one i) (split_at bs i [] h)
+  stays e z = rw (e, insert-is older_block b behind, z, add-one i) (split_at bs i [] h)
 
   pub lead-few : i + 1 + lead ≤ length bs
-  lead-few = let l = leading-few (λ q. olderBlock q b) behind in let d = length-drop (i + 1) bs in omega (arith, l, d)
+  lead-few = let l = leading-few (λ q. older_block q b) behind in let d = length-drop (i + 1) bs in omega (arith, l, d)
 
-  pub settled-length-out : hasFixIn b ≡ false → length (settled i bs) ≡ length bs - 1
+  pub settled-length-out : has_fix_in b ≡ false → length (settled i bs) ≡ length bs - 1
   unfolding settled
   settled-length-out e = rw e (simp (length-append, length-take, length-drop) (omega arith))
 
-  pub settled-length : hasFixIn b ≡ true → length (settled i bs) ≡ length bs
+  pub settled-length : has_fix_in b ≡ true → length (settled i bs) ≡ length bs
   settled-length e = ap length (sym (turned-is e)) ∙ (let l = lead-few in simp (length-append, length-take, length-drop) (omega arith))
 
 -- ---- some of the members
@@ -170,39 +170,39 @@ without-count bs i h = simp (length-append, length-take, length-drop) (omega ari
 
 -- ---- its bytes
 
-module _ (bs : List (List ℕ)) (t : List ℕ) (n i : ℕ) (s : AllSound bs) (few : n ≤ maxTransmissions) (is : t ≡ blockTable bs) (q : length bs ≡ n) (h : i < n) where
+module _ (bs : List (List ℕ)) (t : List ℕ) (n i : ℕ) (s : AllSound bs) (few : n ≤ max_transmissions) (is : t ≡ block_table bs) (q : length bs ≡ n) (h : i < n) where
   pub among : i < length bs
   among = rw q h
 
-  pub removed-table : removedBytes (i * transmissionSize) transmissionSize (n * transmissionSize) t ≡ blockTable (without i bs)
-  removed-table = rw (is, sym q) (remove-table transmissionSize maxTransmissions bs (all-wide bs s) (rw q few) i among)
+  pub removed-table : removed_bytes (i * transmission_size) transmission_size (n * transmission_size) t ≡ block_table (without i bs)
+  removed-table = rw (is, sym q) (remove-table transmission_size max_transmissions bs (all-wide bs s) (rw q few) i among)
 
-  pub turned-table : (j : ℕ) → i < j → j ≤ n → (t' : List ℕ) → t' ≡ turnedBytes (i * transmissionSize) transmissionSize (j * transmissionSize) t
-      → (t' ≡ blockTable (turned i j bs)) × (blocks n t' ≡ turned i j bs)
+  pub turned-table : (j : ℕ) → i < j → j ≤ n → (t' : List ℕ) → t' ≡ turned_bytes (i * transmission_size) transmission_size (j * transmission_size) t
+      → (t' ≡ block_table (turned i j bs)) × (blocks n t' ≡ turned i j bs)
   turned-table j l m t' e =
-      let k : t' ≡ blockTable (turned i j bs) = e ∙ rw is (turn-table transmissionSize maxTransmissions bs (all-wide bs s) i j l (rw q m)) in
+      let k : t' ≡ block_table (turned i j bs) = e ∙ rw is (turn-table transmission_size max_transmissions bs (all-wide bs s) i j l (rw q m)) in
       let c : n ≡ length (turned i j bs) = sym (simp (length-append, length-take, length-drop, q) (omega (arith, l, m))) in
       (k, (table_filled (turned i j bs) t' n (turned-sound bs i j among s) c few k).0)
 
 -- one more in front of a list
-pub arranged-more : (p : List ℕ) (l : List (List ℕ)) → cond (hasFixIn p) (insert olderBlock p (arrangedBlocks l)) (arrangedBlocks l) ≡ arrangedBlocks (p ∷ l)
-unfolding arrangedBlocks sort filter
-arranged-more p l = by (hasFixIn p) (λ t. rw t refl) (λ t. rw t refl)
+pub arranged-more : (p : List ℕ) (l : List (List ℕ)) → cond (has_fix_in p) (insert older_block p (arranged_blocks l)) (arranged_blocks l) ≡ arranged_blocks (p ∷ l)
+unfolding arranged_blocks sort filter
+arranged-more p l = by (has_fix_in p) (λ t. rw t refl) (λ t. rw t refl)
 
-pub arranged-few : (l : List (List ℕ)) → length (arrangedBlocks l) ≤ length l
-unfolding arrangedBlocks
-arranged-few l = let a = perm-length (sort-perm olderBlock (filter hasFixIn l)) in let b = filter-few hasFixIn l in omega (arith, a, b)
+pub arranged-few : (l : List (List ℕ)) → length (arranged_blocks l) ≤ length l
+unfolding arranged_blocks
+arranged-few l = let a = perm-length (sort-perm older_block (filter has_fix_in l)) in let b = filter-few has_fix_in l in omega (arith, a, b)
 
 -- ---- all of them, from the last
 
 module _ (ps : List (List ℕ)) (s : AllSound ps) where
   -- the first i as they were, the others arranged
   abbrev pub partly : ℕ → List (List ℕ)
-  partly i = take i ps ++ arrangedBlocks (drop i ps)
+  partly i = take i ps ++ arranged_blocks (drop i ps)
 
-  pub arranged-in : (l : List (List ℕ)) (x : List ℕ) → Memᴰ x (arrangedBlocks l) → Memᴰ x l × (hasFixIn x ≡ true)
-  unfolding arrangedBlocks
-  arranged-in l x m = filter-in hasFixIn l x (sort-in olderBlock (filter hasFixIn l) x m)
+  pub arranged-in : (l : List (List ℕ)) (x : List ℕ) → Memᴰ x (arranged_blocks l) → Memᴰ x l × (has_fix_in x ≡ true)
+  unfolding arranged_blocks
+  arranged-in l x m = filter-in has_fix_in l x (sort-in older_block (filter has_fix_in l) x m)
 
   pub partly-sound : (i : ℕ) → AllSound (partly i)
   partly-sound i x m =
@@ -213,17 +213,17 @@ module _ (ps : List (List ℕ)) (s : AllSound ps) where
   front_length : (i : ℕ) → i ≤ length ps → length (take i ps) ≡ i
   front_length i h = length-take-le i ps h
 
-  pub partly-behind : (i : ℕ) → i ≤ length ps → drop i (partly i) ≡ arrangedBlocks (drop i ps)
-  partly-behind i h = drop_at (take i ps) (arrangedBlocks (drop i ps)) i (front_length i h)
+  pub partly-behind : (i : ℕ) → i ≤ length ps → drop i (partly i) ≡ arranged_blocks (drop i ps)
+  partly-behind i h = drop_at (take i ps) (arranged_blocks (drop i ps)) i (front_length i h)
 
   pub partly-fixes : (i : ℕ) → i ≤ length ps → FixesFrom i (partly i)
   partly-fixes i h x m =
       let r = (arranged-in (drop i ps) x (rw (partly-behind i h) at m)).1 in
-      positive (fixCount x) (λ z. clash r (no-fix x z))
+      positive (fix_count x) (λ z. clash r (no-fix x z))
 
   -- all as they were
   pub partly_none : partly (length ps) ≡ ps
-  unfolding arrangedBlocks sort filter
+  unfolding arranged_blocks sort filter
   partly_none = rw (nothing ps, take_all (length ps) ps (omega arith)) (append-nil ps)
     where
       nothing : (l : List (List ℕ)) → drop (length l) l ≡ []
@@ -237,11 +237,11 @@ module _ (ps : List (List ℕ)) (s : AllSound ps) where
 
     pub here : get_or (partly (i + 1)) i [] ≡ p
     here =
-        get_or-append (take (i + 1) ps) (arrangedBlocks (drop (i + 1) ps)) [] i (rw (front_length (i + 1) (omega arith)) (omega arith))
+        get_or-append (take (i + 1) ps) (arranged_blocks (drop (i + 1) ps)) [] i (rw (front_length (i + 1) (omega arith)) (omega arith))
         ∙ get_or-take (i + 1) ps i [] (omega arith)
 
     front : take i (partly (i + 1)) ≡ take i ps
-    front = rw (add-one i) (go ps i (arrangedBlocks (drop (suc i) ps)) h)
+    front = rw (add-one i) (go ps i (arranged_blocks (drop (suc i) ps)) h)
       where
         go : (l : List (List ℕ)) (k : ℕ) (r : List (List ℕ)) → k < length l → take k (take (suc k) l ++ r) ≡ take k l
         go [] k r g = absurd (omega arith)
@@ -250,22 +250,22 @@ module _ (ps : List (List ℕ)) (s : AllSound ps) where
 
     pub partly-step : settled i (partly (i + 1)) ≡ partly i
     unfolding settled
-    partly-step = rw (here, front, partly-behind (i + 1) (omega arith)) (ap (λ (l : List (List ℕ)). take i ps ++ l) (more ∙ ap arrangedBlocks (sym whole)))
+    partly-step = rw (here, front, partly-behind (i + 1) (omega arith)) (ap (λ (l : List (List ℕ)). take i ps ++ l) (more ∙ ap arranged_blocks (sym whole)))
       where
         whole : drop i ps ≡ p ∷ drop (i + 1) ps
         whole = rw (add-one i) (drop-cons ps i [] h)
 
-        more : cond (hasFixIn p) (insert olderBlock p (arrangedBlocks (drop (i + 1) ps))) (arrangedBlocks (drop (i + 1) ps)) ≡ arrangedBlocks (p ∷ drop (i + 1) ps)
+        more : cond (has_fix_in p) (insert older_block p (arranged_blocks (drop (i + 1) ps))) (arranged_blocks (drop (i + 1) ps)) ≡ arranged_blocks (p ∷ drop (i + 1) ps)
         more = arranged-more p (drop (i + 1) ps)
 
 -- ---- the loop: of the n transmissions of a table t₀ those from i on are arranged
 
 abbrev pub half : List ℕ → ℕ → ℕ → List (List ℕ)
-half t₀ n i = take i (blocks n t₀) ++ arrangedBlocks (drop i (blocks n t₀))
+half t₀ n i = take i (blocks n t₀) ++ arranged_blocks (drop i (blocks n t₀))
 
 pub half-none : (t₀ : List ℕ) (n : ℕ) → Filled t₀ n → half t₀ n n ≡ blocks n t₀
 half-none t₀ n f =
-    ap (λ (k : ℕ). take k (blocks n t₀) ++ arrangedBlocks (drop k (blocks n t₀))) (sym (length-places transmissionSize n t₀))
+    ap (λ (k : ℕ). take k (blocks n t₀) ++ arranged_blocks (drop k (blocks n t₀))) (sym (length-places transmission_size n t₀))
     ∙ partly_none (blocks n t₀) f.sound
 
 module _ (t₀ : List ℕ) (n : ℕ) (f : Filled t₀ n) (i : ℕ) (h : i ≤ n) where
@@ -278,7 +278,7 @@ module _ (t₀ : List ℕ) (n : ℕ) (f : Filled t₀ n) (i : ℕ) (h : i ≤ n)
   half-long : i ≤ length (half t₀ n i)
   half-long = rw (length-append, length-take-le i ps below) (omega arith)
 
-  half-few : length (half t₀ n i) ≤ maxTransmissions
+  half-few : length (half t₀ n i) ≤ max_transmissions
   half-few =
       let a = f.few in
       let b = arranged-few (drop i ps) in
@@ -288,14 +288,14 @@ module _ (t₀ : List ℕ) (n : ℕ) (f : Filled t₀ n) (i : ℕ) (h : i ≤ n)
       rw length-append (omega (arith, a, b, c, d, e, below))
 
   -- such a table is one of transmissions
-  pub half-ready : (t : List ℕ) (m : ℕ) → m ≡ length (half t₀ n i) → t ≡ blockTable (half t₀ n i)
+  pub half-ready : (t : List ℕ) (m : ℕ) → m ≡ length (half t₀ n i) → t ≡ block_table (half t₀ n i)
       → Filled t m × (i ≤ m) × FixesFrom i (blocks m t)
   half-ready t m q e =
       let r = table_filled (half t₀ n i) t m (partly-sound ps f.sound i) q (rw q half-few) e in
       (r.1, rw q half-long, rw r.0 (partly-fixes ps f.sound i below))
 
   -- one more is put in order
-  pub half_step : 0 < i → (t : List ℕ) (m : ℕ) → m ≡ length (half t₀ n i) → t ≡ blockTable (half t₀ n i) → settled (i - 1) (blocks m t) ≡ half t₀ n (i - 1)
+  pub half_step : 0 < i → (t : List ℕ) (m : ℕ) → m ≡ length (half t₀ n i) → t ≡ block_table (half t₀ n i) → settled (i - 1) (blocks m t) ≡ half t₀ n (i - 1)
   half_step p t m q e =
       let g = (table_filled (half t₀ n i) t m (partly-sound ps f.sound i) q (rw q half-few) e).0 in
       let k : i - 1 + 1 ≡ i = omega arith in

@@ -9,7 +9,7 @@ use lib.Seq.{take_at, drop_at, drop-drop, drop-cons, take_all}
 use Rattle.places.specs.Places.{flat, table_of}
 use Rattle.places.proofs.Tables.{wide, flat_append, flat-length, wide-take, wide-drop, wide_at}
 use Rattle.places.proofs.Walks.{step-at}
-use Rattle.arrange.specs.Blocks.{turnedBytes, removedBytes, turned, without}
+use Rattle.arrange.specs.Blocks.{turned_bytes, removed_bytes, turned, without}
 
 module _ (w : ℕ) (ps : List (List ℕ)) (h : wide w ps) (z : List ℕ) where
   -- the bytes in front of place k, and from it on
@@ -46,7 +46,7 @@ between i j w h =
     omega (arith, a, step-at i w (i * w) refl)
 
 -- place i put behind those up to j
-pub turn-flat : (w : ℕ) (ps : List (List ℕ)) → wide w ps → (z : List ℕ) (i j : ℕ) → i < j → j ≤ length ps → turnedBytes (i * w) w (j * w) (flat ps ++ z) ≡ flat (turned i j ps) ++ z
+pub turn-flat : (w : ℕ) (ps : List (List ℕ)) → wide w ps → (z : List ℕ) (i j : ℕ) → i < j → j ≤ length ps → turned_bytes (i * w) w (j * w) (flat ps ++ z) ≡ flat (turned i j ps) ++ z
 unfolding flat
 turn-flat w ps h z i j l m =
     let a = take i ps in
@@ -59,7 +59,7 @@ turn-flat w ps h z i j l m =
     ∙ ap (λ (x : List ℕ). flat a ++ x) (append_assoc (flat b) (c ++ flat d) z ∙ ap (λ (x : List ℕ). flat b ++ x) (append_assoc c (flat d) z))))
 
 -- place i taken out, and zeros behind the others
-pub remove-flat : (w : ℕ) (ps : List (List ℕ)) → wide w ps → (z : List ℕ) (i : ℕ) → i < length ps → removedBytes (i * w) w (length ps * w) (flat ps ++ z) ≡ flat (without i ps) ++ (replicate w 0 ++ z)
+pub remove-flat : (w : ℕ) (ps : List (List ℕ)) → wide w ps → (z : List ℕ) (i : ℕ) → i < length ps → removed_bytes (i * w) w (length ps * w) (flat ps ++ z) ≡ flat (without i ps) ++ (replicate w 0 ++ z)
 remove-flat w ps h z i l =
     let n = length ps in
     let a = take i ps in
@@ -86,12 +86,12 @@ more-zeros w c n h =
     ap (λ (k : ℕ). replicate k 0) (ap (λ (k : ℕ). k * w) g ∙ suc-mul (c - (n + 1)) w ∙ add_comm ((c - (n + 1)) * w) w)
     ∙ sym (replicate-append-replicate w ((c - (n + 1)) * w) 0)
 
-pub turn-table : (w cap : ℕ) (ps : List (List ℕ)) → wide w ps → (i j : ℕ) → i < j → j ≤ length ps → turnedBytes (i * w) w (j * w) (table_of w cap ps) ≡ table_of w cap (turned i j ps)
+pub turn-table : (w cap : ℕ) (ps : List (List ℕ)) → wide w ps → (i j : ℕ) → i < j → j ≤ length ps → turned_bytes (i * w) w (j * w) (table_of w cap ps) ≡ table_of w cap (turned i j ps)
 turn-table w cap ps h i j l m =
     let n : length (turned i j ps) ≡ length ps = simp (length-append, length-take, length-drop) (omega arith) in
     turn-flat w ps h (replicate ((cap - length ps) * w) 0) i j l m ∙ ap (λ (k : ℕ). flat (turned i j ps) ++ replicate ((cap - k) * w) 0) (sym n)
 
-pub remove-table : (w cap : ℕ) (ps : List (List ℕ)) → wide w ps → length ps ≤ cap → (i : ℕ) → i < length ps → removedBytes (i * w) w (length ps * w) (table_of w cap ps) ≡ table_of w cap (without i ps)
+pub remove-table : (w cap : ℕ) (ps : List (List ℕ)) → wide w ps → length ps ≤ cap → (i : ℕ) → i < length ps → removed_bytes (i * w) w (length ps * w) (table_of w cap ps) ≡ table_of w cap (without i ps)
 remove-table w cap ps h f i l =
     let n : length (without i ps) ≡ length ps - 1 = simp (length-append, length-take, length-drop) (omega arith) in
     let g : length ps - 1 + 1 ≡ length ps = omega arith in

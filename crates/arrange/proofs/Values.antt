@@ -7,9 +7,9 @@ use lib.ListN.{length, drop, length-map}
 use Rattle.ranges.specs.Lists.{filter, sort, last_of}
 use Rattle.ranges.proofs.Lists.{filter_map, sort-map}
 use Rattle.tracked.specs.Held.{HeldTransmission}
-use Rattle.tracked.specs.Bytes.{transmissionIn}
-use Rattle.arrange.specs.Arranged.{maxTransmissions, hasFix, olderThan, arranged}
-use Rattle.arrange.specs.Blocks.{hasFixIn, olderBlock, arrangedBlocks}
+use Rattle.tracked.specs.Bytes.{transmission_in}
+use Rattle.arrange.specs.Arranged.{max_transmissions, has_fix, older_than, arranged}
+use Rattle.arrange.specs.Blocks.{has_fix_in, older_block, arranged_blocks}
 use Rattle.arrange.proofs.Admitting.{few-stay}
 use Rattle.arrange.proofs.Settling.{arranged-few}
 
@@ -18,18 +18,18 @@ map-drop f zero l = refl
 map-drop f (suc n) [] = refl
 map-drop f (suc n) (x ∷ l) = map-drop f n l
 
-sorted-values : (bs : List (List ℕ)) → map transmissionIn (arrangedBlocks bs) ≡ sort olderThan (filter hasFix (map transmissionIn bs))
-unfolding arrangedBlocks
+sorted-values : (bs : List (List ℕ)) → map transmission_in (arranged_blocks bs) ≡ sort older_than (filter has_fix (map transmission_in bs))
+unfolding arranged_blocks
 sorted-values bs =
-    sym (sort-map transmissionIn olderBlock olderThan (filter hasFixIn bs) (λ x y m n. refl))
-    ∙ ap (sort olderThan) (sym (filter_map transmissionIn hasFixIn hasFix bs (λ x m. refl)))
+    sym (sort-map transmission_in older_block older_than (filter has_fix_in bs) (λ x y m n. refl))
+    ∙ ap (sort older_than) (sym (filter_map transmission_in has_fix_in has_fix bs (λ x m. refl)))
 
-latest-values : (bs : List (List ℕ)) → map transmissionIn (last_of maxTransmissions (arrangedBlocks bs)) ≡ arranged (map transmissionIn bs)
+latest-values : (bs : List (List ℕ)) → map transmission_in (last_of max_transmissions (arranged_blocks bs)) ≡ arranged (map transmission_in bs)
 unfolding arranged
 latest-values bs =
-    map-drop transmissionIn (length (arrangedBlocks bs) - maxTransmissions) (arrangedBlocks bs)
-    ∙ ap₂ (λ (n : ℕ) (l : List HeldTransmission). drop (n - maxTransmissions) l) (sym (length-map (arrangedBlocks bs) transmissionIn) ∙ ap length (sorted-values bs)) (sorted-values bs)
+    map-drop transmission_in (length (arranged_blocks bs) - max_transmissions) (arranged_blocks bs)
+    ∙ ap₂ (λ (n : ℕ) (l : List HeldTransmission). drop (n - max_transmissions) l) (sym (length-map (arranged_blocks bs) transmission_in) ∙ ap length (sorted-values bs)) (sorted-values bs)
 
 -- of at most eight none goes
-pub arranged-values : (bs : List (List ℕ)) → length bs ≤ maxTransmissions → map transmissionIn (arrangedBlocks bs) ≡ arranged (map transmissionIn bs)
-arranged-values bs h = ap (map transmissionIn) (sym (few-stay (arrangedBlocks bs) (let f = arranged-few bs in omega (arith, f, h)))) ∙ latest-values bs
+pub arranged-values : (bs : List (List ℕ)) → length bs ≤ max_transmissions → map transmission_in (arranged_blocks bs) ≡ arranged (map transmission_in bs)
+arranged-values bs h = ap (map transmission_in) (sym (few-stay (arranged_blocks bs) (let f = arranged-few bs in omega (arith, f, h)))) ∙ latest-values bs

@@ -2,22 +2,22 @@
 -- identity of the fix kept, equal ones in the order they had; beyond eight the oldest are forgotten.
 use Rattle.std.specs.Prelude.{ℕ, Bool, true, false, List, [], ◌∷◌}
 use Rattle.ranges.specs.Lists.{filter, sort, last_of}
-use Rattle.shown.specs.Ages.{olderFirst}
+use Rattle.shown.specs.Ages.{older_first}
 use Rattle.tracked.specs.Held.{HeldTransmission}
 
 -- the Rust's TRANSMISSIONS
-abbrev pub maxTransmissions : ℕ
-maxTransmissions = 8
+abbrev pub max_transmissions : ℕ
+max_transmissions = 8
 
 abbrev pub is_some : {A : Type 0} → List A → Bool
 is_some [] = false
 is_some (x ∷ l) = true
 
-abbrev pub hasFix : HeldTransmission → Bool
-hasFix t = is_some t.fixes
+abbrev pub has_fix : HeldTransmission → Bool
+has_fix t = is_some t.fixes
 
-abbrev pub olderThan : HeldTransmission → HeldTransmission → Bool
-olderThan t u = olderFirst t.fixes u.fixes
+abbrev pub older_than : HeldTransmission → HeldTransmission → Bool
+older_than t u = older_first t.fixes u.fixes
 
 unfoldable pub arranged : List HeldTransmission → List HeldTransmission
-arranged ts = last_of maxTransmissions (sort olderThan (filter hasFix ts))
+arranged ts = last_of max_transmissions (sort older_than (filter has_fix ts))

@@ -8,11 +8,11 @@
 #![tactic(auto)]
 
 ghost use Rattle.std.specs.Prelude.{◌≡◌, [], ◌∷◌, ◌++◌, ◌+◌, ◌*◌, ◌-◌, ◌<◌, ◌≤◌, ltb, length, get_or, take, drop};
-ghost use Rattle.tracked.specs.Layout.{transmissionSize};
-ghost use Rattle.tracked.specs.Bytes.{fixCount};
+ghost use Rattle.tracked.specs.Layout.{transmission_size};
+ghost use Rattle.tracked.specs.Bytes.{fix_count};
 ghost use Rattle.tracked.specs.Parts.{Sound};
-ghost use Rattle.tracked.specs.Known.{knownSize, knownCount, knownIdentity, Knows};
-ghost use Rattle.arrange.specs.Arranged.{maxTransmissions};
+ghost use Rattle.tracked.specs.Known.{known_size, known_count, known_identity, Knows};
+ghost use Rattle.arrange.specs.Arranged.{max_transmissions};
 ghost use Rattle.arrange.specs.Blocks as B;
 
 use tracked::layout::{KNOWN_SIZE, TRANSMISSION_SIZE};
@@ -26,8 +26,8 @@ pub const KNOWN_TABLE_SIZE: usize = MAX_TRANSMISSIONS * KNOWN_SIZE;
 
 // Transmission i.
 pub fn block(t: &[u8], i: usize) -> &[u8]
-    requires { i * transmissionSize + transmissionSize ≤ length t.now }
-    ensures { (result.now ≡ take transmissionSize (drop (i * transmissionSize) t.now)) × (length result.now ≡ transmissionSize) }
+    requires { i * transmission_size + transmission_size ≤ length t.now }
+    ensures { (result.now ≡ take transmission_size (drop (i * transmission_size) t.now)) × (length result.now ≡ transmission_size) }
 {
     let a = i * TRANSMISSION_SIZE;
     let e = a + TRANSMISSION_SIZE;
@@ -36,8 +36,8 @@ pub fn block(t: &[u8], i: usize) -> &[u8]
 
 // Whether the first fix of transmission a has an earlier time than that of transmission b.
 fn earlier(a: &[u8], b: &[u8]) -> bool
-    requires { Sound a.now × Sound b.now × (1 ≤ fixCount a.now) × (1 ≤ fixCount b.now) }
-    ensures { result ≡ ltb (B.firstTime a.now) (B.firstTime b.now) }
+    requires { Sound a.now × Sound b.now × (1 ≤ fix_count a.now) × (1 ≤ fix_count b.now) }
+    ensures { result ≡ ltb (B.first_time a.now) (B.first_time b.now) }
 {
     tracked::held(a, 0).record().time() < tracked::held(b, 0).record().time()
 }
@@ -45,7 +45,7 @@ fn earlier(a: &[u8], b: &[u8]) -> bool
 // Works out the identity of the first fix of transmission i, unless it is known.
 fn learn(t: &[u8], known: &mut [u8], i: usize)
     requires { B.Comparable t.now known.old i }
-    ensures { B.Still t.now known.old known.new × (1 ≤ knownCount (B.sheetAt known.new i)) }
+    ensures { B.Still t.now known.old known.new × (1 ≤ known_count (B.sheet_at known.new i)) }
 {
     let a = i * KNOWN_SIZE;
     let e = a + KNOWN_SIZE;
@@ -54,8 +54,8 @@ fn learn(t: &[u8], known: &mut [u8], i: usize)
 
 // The identity of the first fix of transmission i, where it is known.
 fn first_identity(known: &[u8], i: usize) -> &[u8]
-    requires { i * knownSize + knownSize ≤ length known.now }
-    ensures { result.now ≡ knownIdentity (B.sheetAt known.now i) 0 }
+    requires { i * known_size + known_size ≤ length known.now }
+    ensures { result.now ≡ known_identity (B.sheet_at known.now i) 0 }
 {
     let a = i * KNOWN_SIZE;
     let e = a + KNOWN_SIZE;
@@ -65,7 +65,7 @@ fn first_identity(known: &[u8], i: usize) -> &[u8]
 // Whether transmission j is older than transmission i: by time, then by identity, which is worked out only where the times are equal.
 fn older_at(t: &[u8], known: &mut [u8], j: usize, i: usize) -> bool
     requires { B.Comparable t.now known.old j × B.Comparable t.now known.old i }
-    ensures value { result ≡ B.olderBlock (B.transmissionAt t.now j) (B.transmissionAt t.now i) }
+    ensures value { result ≡ B.older_block (B.transmission_at t.now j) (B.transmission_at t.now i) }
     ensures still { B.Still t.now known.old known.new }
 {
     let a = block(t, j);
@@ -83,8 +83,8 @@ fn older_at(t: &[u8], known: &mut [u8], j: usize, i: usize) -> bool
 
 // Whether transmission b, whose sheet is s, is older than the first of a table: in the same way.
 fn older_than_first(t: &[u8], known: &mut [u8], b: &[u8], s: &mut [u8]) -> bool
-    requires { B.Comparable t.now known.old 0 × Sound b.now × (1 ≤ fixCount b.now) × Knows b.now s.old }
-    ensures value { result ≡ B.olderBlock b.now (B.transmissionAt t.now 0) }
+    requires { B.Comparable t.now known.old 0 × Sound b.now × (1 ≤ fix_count b.now) × Knows b.now s.old }
+    ensures value { result ≡ B.older_block b.now (B.transmission_at t.now 0) }
     ensures still { B.Still t.now known.old known.new × Knows b.now s.new }
 {
     let a = block(t, 0);
@@ -103,7 +103,7 @@ fn older_than_first(t: &[u8], known: &mut [u8], b: &[u8], s: &mut [u8]) -> bool
 fn place_below(t: &[u8], known: &mut [u8], n: usize, i: usize) -> usize
     requires filled { B.Filled t.now n × (i < n) × B.Known t.now known.old n }
     requires fixes_from { B.FixesFrom i (B.blocks n t.now) }
-    ensures value { result ≡ i + 1 + B.leading (λ b. B.olderBlock b (get_or (B.blocks n t.now) i [])) (drop (i + 1) (B.blocks n t.now)) }
+    ensures value { result ≡ i + 1 + B.leading (λ b. B.older_block b (get_or (B.blocks n t.now) i [])) (drop (i + 1) (B.blocks n t.now)) }
     ensures known { B.Known t.now known.new n }
 {
     for j in i + 1..n {
@@ -116,7 +116,7 @@ fn place_below(t: &[u8], known: &mut [u8], n: usize, i: usize) -> usize
 
 // The w bytes at a, in an array with room for a transmission.
 fn copy_of(t: &[u8], a: usize, w: usize) -> [u8; TRANSMISSION_SIZE]
-    requires { (w ≤ transmissionSize) × (a + w ≤ length t.now) }
+    requires { (w ≤ transmission_size) × (a + w ≤ length t.now) }
     ensures { take w result ≡ take w (drop a t.now) }
 {
     let mut x = [0u8; TRANSMISSION_SIZE];
@@ -127,8 +127,8 @@ fn copy_of(t: &[u8], a: usize, w: usize) -> [u8; TRANSMISSION_SIZE]
 
 // Puts the w bytes at a behind those up to e.
 fn turn(t: &mut [u8], a: usize, w: usize, e: usize)
-    requires { (w ≤ transmissionSize) × (a + w ≤ e) × (e ≤ length t.old) }
-    ensures { t.new ≡ B.turnedBytes a w e t.old }
+    requires { (w ≤ transmission_size) × (a + w ≤ e) × (e ≤ length t.old) }
+    ensures { t.new ≡ B.turned_bytes a w e t.old }
 {
     let x = copy_of(t, a, w);
     octets::runs::copy_down(t, a + w, a, e - (a + w));
@@ -138,7 +138,7 @@ fn turn(t: &mut [u8], a: usize, w: usize, e: usize)
 // Takes the w bytes at a out of those up to e.
 fn remove(t: &mut [u8], a: usize, w: usize, e: usize)
     requires { (a + w ≤ e) × (e ≤ length t.old) }
-    ensures { t.new ≡ B.removedBytes a w e t.old }
+    ensures { t.new ≡ B.removed_bytes a w e t.old }
 {
     octets::runs::copy_down(t, a + w, a, e - (a + w));
     let last = e - w;
@@ -148,7 +148,7 @@ fn remove(t: &mut [u8], a: usize, w: usize, e: usize)
 // Takes transmission i out of n, and its sheet.
 fn take_out(t: &mut [u8], known: &mut [u8], n: usize, i: usize)
     requires { B.Filled t.old n × (i < n) × B.Known t.old known.old n }
-    ensures t_after { t.new ≡ B.blockTable (B.without i (B.blocks n t.old)) }
+    ensures t_after { t.new ≡ B.block_table (B.without i (B.blocks n t.old)) }
     ensures known { B.Known t.new known.new (n - 1) }
 {
     remove(
@@ -165,7 +165,7 @@ fn settle(t: &mut [u8], known: &mut [u8], n: usize, i: usize) -> usize
     requires filled { B.Filled t.old n × (i < n) × B.Known t.old known.old n }
     requires fixes_from { B.FixesFrom (i + 1) (B.blocks n t.old) }
     ensures value { result ≡ length (B.settled i (B.blocks n t.old)) }
-    ensures t_after { t.new ≡ B.blockTable (B.settled i (B.blocks n t.old)) }
+    ensures t_after { t.new ≡ B.block_table (B.settled i (B.blocks n t.old)) }
     ensures known { B.Known t.new known.new result }
 {
     if tracked::fix_count(block(t, i)) == 0 {
@@ -188,8 +188,8 @@ fn settle(t: &mut [u8], known: &mut [u8], n: usize, i: usize) -> usize
 // Brings the n transmissions of a table into their order, and returns how many are left.
 pub fn arrange(t: &mut [u8], known: &mut [u8], n: usize) -> usize
     requires { B.Filled t.old n × B.Known t.old known.old n }
-    ensures value { result ≡ length (B.arrangedBlocks (B.blocks n t.old)) }
-    ensures t_after { t.new ≡ B.blockTable (B.arrangedBlocks (B.blocks n t.old)) }
+    ensures value { result ≡ length (B.arranged_blocks (B.blocks n t.old)) }
+    ensures t_after { t.new ≡ B.block_table (B.arranged_blocks (B.blocks n t.old)) }
     ensures known { B.Known t.new known.new result }
 {
     let mut m = n;
@@ -201,9 +201,9 @@ pub fn arrange(t: &mut [u8], known: &mut [u8], n: usize) -> usize
 
 // Puts a transmission behind n others, and brings all into their order.
 fn append(t: &mut [u8], known: &mut [u8], n: usize, b: &[u8], s: &[u8]) -> usize
-    requires { B.Filled t.old n × (n < maxTransmissions) × Sound b.now × B.Known t.old known.old n × Knows b.now s.now }
-    ensures value { result ≡ length (B.arrangedBlocks (B.blocks n t.old ++ (b.now ∷ []))) }
-    ensures t_after { t.new ≡ B.blockTable (B.arrangedBlocks (B.blocks n t.old ++ (b.now ∷ []))) }
+    requires { B.Filled t.old n × (n < max_transmissions) × Sound b.now × B.Known t.old known.old n × Knows b.now s.now }
+    ensures value { result ≡ length (B.arranged_blocks (B.blocks n t.old ++ (b.now ∷ []))) }
+    ensures t_after { t.new ≡ B.block_table (B.arranged_blocks (B.blocks n t.old ++ (b.now ∷ []))) }
     ensures known { B.Known t.new known.new result }
 {
     octets::runs::put_bytes(t, n * TRANSMISSION_SIZE, b);
@@ -213,9 +213,9 @@ fn append(t: &mut [u8], known: &mut [u8], n: usize, b: &[u8], s: &[u8]) -> usize
 
 // Takes a transmission in where there is room for no more: the oldest goes, which may be the new one.
 fn admit_full(t: &mut [u8], known: &mut [u8], n: usize, b: &[u8], s: &mut [u8]) -> usize
-    requires { B.Full t.old n × Sound b.now × (1 ≤ fixCount b.now) × B.Known t.old known.old n × Knows b.now s.old }
+    requires { B.Full t.old n × Sound b.now × (1 ≤ fix_count b.now) × B.Known t.old known.old n × Knows b.now s.old }
     ensures value { result ≡ length (B.admitted (B.blocks n t.old) b.now) }
-    ensures t_after { t.new ≡ B.blockTable (B.admitted (B.blocks n t.old) b.now) }
+    ensures t_after { t.new ≡ B.block_table (B.admitted (B.blocks n t.old) b.now) }
     ensures known { B.Known t.new known.new result × Knows b.now s.new }
 {
     if older_than_first(t, known, b, s) {
@@ -227,9 +227,9 @@ fn admit_full(t: &mut [u8], known: &mut [u8], n: usize, b: &[u8], s: &mut [u8]) 
 
 // Takes a further transmission in among n, which are brought into their order first: the oldest of them may have to go.
 fn admit_arranged(t: &mut [u8], known: &mut [u8], n: usize, b: &[u8], s: &mut [u8]) -> usize
-    requires { B.Filled t.old n × Sound b.now × (1 ≤ fixCount b.now) × B.Known t.old known.old n × Knows b.now s.old }
+    requires { B.Filled t.old n × Sound b.now × (1 ≤ fix_count b.now) × B.Known t.old known.old n × Knows b.now s.old }
     ensures value { result ≡ length (B.admitted (B.blocks n t.old) b.now) }
-    ensures t_after { t.new ≡ B.blockTable (B.admitted (B.blocks n t.old) b.now) }
+    ensures t_after { t.new ≡ B.block_table (B.admitted (B.blocks n t.old) b.now) }
     ensures known { B.Known t.new known.new result × Knows b.now s.new }
 {
     let m = arrange(t, known, n);
@@ -241,9 +241,9 @@ fn admit_arranged(t: &mut [u8], known: &mut [u8], n: usize, b: &[u8], s: &mut [u
 
 // Takes a further transmission in among n, and returns how many there are then. Beyond eight the oldest goes. s is the sheet of the further one.
 pub fn admit(t: &mut [u8], known: &mut [u8], n: usize, b: &[u8], s: &mut [u8]) -> usize
-    requires { B.Filled t.old n × Sound b.now × (1 ≤ fixCount b.now) × B.Known t.old known.old n × Knows b.now s.old }
+    requires { B.Filled t.old n × Sound b.now × (1 ≤ fix_count b.now) × B.Known t.old known.old n × Knows b.now s.old }
     ensures value { result ≡ length (B.admitted (B.blocks n t.old) b.now) }
-    ensures t_after { t.new ≡ B.blockTable (B.admitted (B.blocks n t.old) b.now) }
+    ensures t_after { t.new ≡ B.block_table (B.admitted (B.blocks n t.old) b.now) }
     ensures known { B.Known t.new known.new result × Knows b.now s.new }
 {
     if n < MAX_TRANSMISSIONS {

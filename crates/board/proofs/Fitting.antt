@@ -17,33 +17,33 @@ use Rattle.ranges.proofs.Range.{filt-at}
 use Rattle.ranges.proofs.Bools.{by, no_true}
 use Rattle.arithmetic.specs.declared.standing.ChiSquare.{ChiSquare}
 use Rattle.rule.specs.Outcome.{Refused, Outcome}
-use Rattle.decision.specs.Claims.{listedIn}
+use Rattle.decision.specs.Claims.{listed_in}
 use Rattle.decision.proofs.Laws.{listed-once}
-use Rattle.fixes.specs.Slots.{maxFixes}
+use Rattle.fixes.specs.Slots.{max_fixes}
 use Rattle.shown.specs.Fix.{Fix}
 use Rattle.shown.specs.Items.{at, AllFormed, Apart}
 use Rattle.shown.specs.Shown.{Transmission, shown}
-use Rattle.shown.specs.Claims.{fixRelations}
+use Rattle.shown.specs.Claims.{fix_relations}
 use Rattle.shown.proofs.Plainly.{shown-is-decided}
-use Rattle.links.specs.Transmissions.{transmissionsOf}
+use Rattle.links.specs.Transmissions.{transmissions_of}
 use Rattle.links.specs.Walk as W
 use Rattle.links.proofs.Fitness.{self-linked}
 use Rattle.links.proofs.Indexed.{transmissions-are}
 use Rattle.links.specs.Links.{link_at}
 use Rattle.links.proofs.Linking.{links-turned}
-use Rattle.transmissions.specs.Picture.{olderThan, picture, latestOf, maxShown}
-use Rattle.drawing.specs.Text.{boardText, boardSize}
+use Rattle.transmissions.specs.Picture.{older_than, picture, latest_of, max_shown}
+use Rattle.drawing.specs.Text.{board_text, board_size}
 use Rattle.drawing.proofs.Lengths.{lines_in, all_lines, texts-width, board-long}
 use Rattle.octets.specs.Bytes.{Bytes}
-use Rattle.fixes.specs.Fixes.{fixesOf}
+use Rattle.fixes.specs.Fixes.{fixes_of}
 use Rattle.held.specs.After.{after}
 use Rattle.register.specs.Register.{Register}
-use Rattle.register.specs.Memory.{wellFormed, decode}
+use Rattle.register.specs.Memory.{well_formed, decode}
 use Rattle.register.proofs.Opened.{opened}
 use Rattle.register.proofs.Valid.{Valid}
 use Rattle.register.proofs.Kept.{decode-valid}
-use Rattle.board.specs.Board.{boardOf, boardIn, drawBoard}
-use Rattle.board.specs.Claims.{greatestRefusal}
+use Rattle.board.specs.Board.{board_of, board_in, draw_board}
+use Rattle.board.specs.Claims.{greatest_refusal}
 use Rattle.board.specs.Latest.{latest_over}
 use Rattle.board.proofs.Standing.{standing}
 
@@ -108,7 +108,7 @@ module _ (lab : ℕ → ℕ) where
       rw t (omega (arith, p, q, r)))
       (λ t. rw t (several g (suc k) f xs))
 
-module _ (fs : List Fix) (w : AllFormed fs) (a : Apart fs) (few : length fs ≤ maxFixes) where
+module _ (fs : List Fix) (w : AllFormed fs) (a : Apart fs) (few : length fs ≤ max_fixes) where
   abbrev n : ℕ
   n = length fs
 
@@ -116,15 +116,15 @@ module _ (fs : List Fix) (w : AllFormed fs) (a : Apart fs) (few : length fs ≤ 
   lab = W.label (link_at fs) n
 
   -- no more fixes are in transmissions than there are
-  parted : total (λ (c : List Fix). length c) (transmissionsOf fs) ≤ length fs
+  parted : total (λ (c : List Fix). length c) (transmissions_of fs) ≤ length fs
   unfolding W.members W.heads
   parted =
-      let heads = filt (W.isHead (link_at fs) n) 0 n in
-      let e = ap (total (λ (c : List Fix). length c)) (transmissions-are fs few (λ f m. self-linked f.recordBytes (w f m).form) a (link_at fs) (λ i j h k. refl) (links-turned fs)) in
+      let heads = filt (W.is_head (link_at fs) n) 0 n in
+      let e = ap (total (λ (c : List Fix). length c)) (transmissions-are fs few (λ f m. self-linked f.record_bytes (w f m).form) a (link_at fs) (λ i j h k. refl) (links-turned fs)) in
       let f = total-map (λ (c : List Fix). length c) (λ s. map (at fs) (W.members (link_at fs) n s)) heads in
       let g = total-same (λ s. length (map (at fs) (W.members (link_at fs) n s))) (λ s. length (filter (has lab s) (up_to n))) heads
-      (λ s _. length-map (filt (W.isMember (link_at fs) n s) 0 n) (at fs) ∙ ap (λ (l : List ℕ). length l) (sym (filter_range (W.isMember (link_at fs) n s) 0 n))) in
-      let h = several lab (W.isHead (link_at fs) n) 0 n (up_to n) in
+      (λ s _. length-map (filt (W.is_member (link_at fs) n s) 0 n) (at fs) ∙ ap (λ (l : List ℕ). length l) (sym (filter_range (W.is_member (link_at fs) n s) 0 n))) in
+      let h = several lab (W.is_head (link_at fs) n) 0 n (up_to n) in
       let k = count-length 0 n in
       omega (arith, e, f, g, h, k)
 
@@ -138,45 +138,45 @@ all-total (t ∷ ts) = ap (λ (k : ℕ). lines_in t + k) (all-total ts)
 shown-lines : (gs : List Fix) → lines_in (shown gs) ≡ length gs
 shown-lines gs =
     let o = shown gs in
-    let p = perm-length (subst (λ (t : Outcome Fix ChiSquare). Permᴰ (listedIn t) gs) (sym (shown-is-decided gs)) (listed-once fixRelations gs)) in
+    let p = perm-length (subst (λ (t : Outcome Fix ChiSquare). Permᴰ (listed_in t) gs) (sym (shown-is-decided gs)) (listed-once fix_relations gs)) in
     let e = length-append o.ranked (o.dominated ++ map (λ (x : Refused Fix ChiSquare). x.item) o.refused) in
     let f = length-append o.dominated (map (λ (x : Refused Fix ChiSquare). x.item) o.refused) in
     let g = length-map o.refused (λ (x : Refused Fix ChiSquare). x.item) in
     omega arith
 
-pub board-fits : (fs : List Fix) → AllFormed fs → Apart fs → length fs ≤ maxFixes → length (boardText (latest_over fs)) ≤ boardSize
+pub board-fits : (fs : List Fix) → AllFormed fs → Apart fs → length fs ≤ max_fixes → length (board_text (latest_over fs)) ≤ board_size
 board-fits fs w a few =
-    let s = sort olderThan (map shown (transmissionsOf fs)) in
-    let x = texts-width 1 (latestOf s) in
-    let y = all-total (latestOf s) in
-    let l = length-drop (length s - maxShown) s in
-    let d = total-drop lines_in (length s - maxShown) s in
-    let p = total-perm lines_in (sort-perm olderThan (map shown (transmissionsOf fs))) in
-    let m = total-map lines_in shown (transmissionsOf fs) in
-    let e = total-same (λ gs. lines_in (shown gs)) (λ (c : List Fix). length c) (transmissionsOf fs) (λ gs _. shown-lines gs) in
+    let s = sort older_than (map shown (transmissions_of fs)) in
+    let x = texts-width 1 (latest_of s) in
+    let y = all-total (latest_of s) in
+    let l = length-drop (length s - max_shown) s in
+    let d = total-drop lines_in (length s - max_shown) s in
+    let p = total-perm lines_in (sort-perm older_than (map shown (transmissions_of fs))) in
+    let m = total-map lines_in shown (transmissions_of fs) in
+    let e = total-same (λ gs. lines_in (shown gs)) (λ (c : List Fix). length c) (transmissions_of fs) (λ gs _. shown-lines gs) in
     let q = parted fs w a few in
     omega (arith, x, y, l, d, p, m, e, q)
 
 -- ---- of a register
 
 module _ (s : Register) (v : Valid s) where
-  pub fits : length (boardIn s) ≤ boardSize
-  unfolding boardOf picture
-  fits = let k = standing s v in board-fits (fixesOf s.summaries s.records) k.formed k.apart k.few
+  pub fits : length (board_in s) ≤ board_size
+  unfolding board_of picture
+  fits = let k = standing s v in board-fits (fixes_of s.summaries s.records) k.formed k.apart k.few
 
-  pub long : (length (boardIn s) ≡ 0) ⊎ (46 ≤ length (boardIn s))
-  unfolding boardOf
-  long = board-long (latestOf (picture s.summaries s.records))
+  pub long : (length (board_in s) ≡ 0) ⊎ (46 ≤ length (board_in s))
+  unfolding board_of
+  long = board-long (latest_of (picture s.summaries s.records))
 
   -- the length can be no refusal's number
-  pub no-refusal : (length (boardIn s) ≡ 0) ⊎ (greatestRefusal < length (boardIn s))
-  no-refusal = ⊎_elim (λ z. inl z) (λ z. inr (omega (arith, z))) long
+  pub no_refusal : (length (board_in s) ≡ 0) ⊎ (greatest_refusal < length (board_in s))
+  no_refusal = ⊎_elim (λ z. inl z) (λ z. inr (omega (arith, z))) long
 
 -- in memory
-pub fits-board : (m : List ℕ) → Bytes m → wellFormed m ≡ true → length (boardIn (decode m)) ≤ boardSize
+pub fits-board : (m : List ℕ) → Bytes m → well_formed m ≡ true → length (board_in (decode m)) ≤ board_size
 fits-board m b w = fits (decode m) (decode-valid m (opened m w) b)
 
 -- an output that is too small
-pub too_small : (m out : List ℕ) → wellFormed m ≡ true → length out < boardSize → after 10 out ≡ drawBoard m out
-unfolding drawBoard
-too_small m out w l = rw (w, lt-ltb (length out) boardSize l) refl
+pub too_small : (m out : List ℕ) → well_formed m ≡ true → length out < board_size → after 10 out ≡ draw_board m out
+unfolding draw_board
+too_small m out w l = rw (w, lt-ltb (length out) board_size l) refl

@@ -8,16 +8,16 @@ use Rattle.geometry.proofs.Positions.{position-4}
 use Rattle.arithmetic.proofs.Positions.{position-1, position-2}
 use Rattle.decision.proofs.Positions.{position-3, ends-only}
 use Rattle.ranges.specs.Lists.{filter, sort}
-use Rattle.fixes.specs.Fixes.{enterAll, fixesOf}
-use Rattle.links.specs.Transmissions.{transmissionsOf}
+use Rattle.fixes.specs.Fixes.{enter_all, fixes_of}
+use Rattle.links.specs.Transmissions.{transmissions_of}
 use Rattle.links.proofs.Positions.{position-6}
 use Rattle.transmissions.specs.Picture.{picture}
-use Rattle.drawing.specs.Text.{textFrom}
-use Rattle.board.specs.Board.{boardOf}
+use Rattle.drawing.specs.Text.{text_from}
+use Rattle.board.specs.Board.{board_of}
 use Rattle.board.specs.Positions.{Positions}
 
-no_bytes : (ss : List (List ℕ)) → boardOf ss [] ≡ []
-unfolding boardOf picture fixesOf enterAll transmissionsOf filter sort textFrom
+no_bytes : (ss : List (List ℕ)) → board_of ss [] ≡ []
+unfolding board_of picture fixes_of enter_all transmissions_of filter sort text_from
 no_bytes ss = refl
 
 pub positions : Positions
@@ -25,7 +25,7 @@ positions = record {
   p1 = position-1;
   p2 = position-2;
   p3 = position-3;
-  p3-only = ends-only;
+  p3_only = ends-only;
   p4 = position-4;
   p5 = height-texts;
   p6 = position-6;

@@ -7,33 +7,33 @@ use lib.Count.{count_leading_zeros}
 use lib.Ieee.{of_bits, to_bits, round, le, lt, eq, of_int, div, mul, add, sub, neg, is_nan}
 use Rattle.octets.specs.Ascii.{ascii}
 use Rattle.octets.specs.Words.{word_bytes, word}
-use Rattle.octets.specs.Order.{same, isBefore}
-use Rattle.octets.specs.Masks.{bits, withoutBit}
-use Rattle.places.specs.Places.{keepPlaces}
+use Rattle.octets.specs.Order.{same, is_before}
+use Rattle.octets.specs.Masks.{bits, without_bit}
+use Rattle.places.specs.Places.{keep_places}
 use Rattle.text.specs.Numbers.{digits, signed, hex}
 use Rattle.hashing.specs.Blake2s as B
-use Rattle.record.specs.Fields.{tagsFrom}
-use Rattle.record.specs.Relations.{subset, allIn, anyIn, member, sharesTag, tied}
-use Rattle.record.specs.Worked.{recordWith}
-use Rattle.floats.specs.Root.{isqrt, digitsOf, rootOf, rootFinite, rootBits, root}
-use Rattle.geometry.specs.Numbers.{fromDecimal}
-use Rattle.geometry.specs.Angles.{degree, radiansOf, factorial, coefficient, sineSeries, cosineSeries, sincosOf}
-use Rattle.geometry.specs.Geodesy.{flattening, eccentricity2, toEcef, enuBasis, subOf, dotOf}
-use Rattle.geometry.specs.Linalg.{less, rowsBelow, columns, choleskyOf, forwards, forward, backwards, backward, solveOf, plus}
-use Rattle.arithmetic.specs.Agree.{limitOf, geodeticOf, matrixOf, sumUnder, finitely, lengthUnder, chiSquareOf, differenceOf, outcomeOf, agreementOf, agreesOf, chiSquareIn}
+use Rattle.record.specs.Fields.{tags_from}
+use Rattle.record.specs.Relations.{subset, all_in, any_in, member, shares_tag, tied}
+use Rattle.record.specs.Worked.{record_with}
+use Rattle.floats.specs.Root.{isqrt, digits_of, root_of, root_finite, root_bits, root}
+use Rattle.geometry.specs.Numbers.{from_decimal}
+use Rattle.geometry.specs.Angles.{degree, radians_of, factorial, coefficient, sine_series, cosine_series, sincos_of}
+use Rattle.geometry.specs.Geodesy.{flattening, eccentricity2, to_ecef, enu_basis, sub_of, dot_of}
+use Rattle.geometry.specs.Linalg.{less, rows_below, columns, cholesky_of, forwards, forward, backwards, backward, solve_of, plus}
+use Rattle.arithmetic.specs.Agree.{limit_of, geodetic_of, matrix_of, sum_under, finitely, length_under, chi_square_of, difference_of, outcome_of, agreement_of, agrees_of, chi_square_in}
 use Rattle.ranges.specs.Lists.{any_of, filter, insert, sort, foremost}
 use Rattle.items.specs.Claimed.{claim_of}
 use Rattle.decision.specs.Positions.{S, M, L}
-use Rattle.models.specs.Models.{allAgreed, stateFrom, summariesFor}
-use Rattle.models.specs.Identity.{citedInputs, setHash, identityFrom, inputsInOrder}
-use Rattle.fixes.specs.Fixes.{enter, enterAll, fixesOf}
-use Rattle.links.specs.Transmissions.{recordsLink, reach, transmissionsOf}
+use Rattle.models.specs.Models.{all_agreed, state_from, summaries_for}
+use Rattle.models.specs.Identity.{cited_inputs, set_hash, identity_from, inputs_in_order}
+use Rattle.fixes.specs.Fixes.{enter, enter_all, fixes_of}
+use Rattle.links.specs.Transmissions.{records_link, reach, transmissions_of}
 use Rattle.shown.specs.Shown.{shown}
 use Rattle.transmissions.specs.Picture.{picture}
-use Rattle.drawing.specs.Lines.{header, line, chiSquareText, refusedLine, fixText, whereWhen, metresText, heightText}
-use Rattle.drawing.specs.Text.{text_of, textFrom}
-use Rattle.register.specs.Register.{Register, strikeEngine}
-use Rattle.board.specs.Board.{boardOf, boardIn}
+use Rattle.drawing.specs.Lines.{header, line, chi_square_text, refused_line, fix_text, where_when, metres_text, height_text}
+use Rattle.drawing.specs.Text.{text_of, text_from}
+use Rattle.register.specs.Register.{Register, strike_engine}
+use Rattle.board.specs.Board.{board_of, board_in}
 
 -- a record in its slot, with its signers
 abbrev slot : List ℕ → ℕ → List ℕ
@@ -41,7 +41,7 @@ slot r signers = r ++ word_bytes 4 signers
 
 -- S, M and L; another record of S's identity, which S represents; and a fix with another tag, of a lower identity. All are of one time.
 abbrev slots : List (List ℕ)
-slots = slot S 2 ∷ slot M 4 ∷ slot L 8 ∷ slot (recordWith (1 ∷ []) 1) 16 ∷ slot (recordWith (9 ∷ []) 7) 32 ∷ []
+slots = slot S 2 ∷ slot M 4 ∷ slot L 8 ∷ slot (record_with (1 ∷ []) 1) 16 ∷ slot (record_with (9 ∷ []) 7) 32 ∷ []
 
 abbrev lines : List ℕ
 lines =
@@ -54,17 +54,17 @@ lines =
 
 -- what a board is computed from
 of-boards : Unit {0}
-unfolding boardOf shown textFrom text_of picture transmissionsOf reach fixesOf enter enterAll any_of filter insert sort foremost flat_map recordsLink tied sharesTag anyIn ascii header line chiSquareText refusedLine fixText whereWhen heightText metresText digits signed hex allAgreed stateFrom summariesFor citedInputs setHash identityFrom inputsInOrder B.rotateRight B.iv B.sigma B.addWord B.turnWord B.halfMix B.mixWords B.mixColumns B.mixDiagonals B.roundBy B.rounds B.startState B.compressBlock B.words_of B.padBlock B.firstState B.chainBlocks B.hashWords B.bytesOfWords B.blake2s256 subset allIn member same isBefore bits tagsFrom claim_of word_bytes word limitOf geodeticOf matrixOf sumUnder finitely lengthUnder chiSquareOf differenceOf outcomeOf agreementOf agreesOf chiSquareIn degree radiansOf factorial coefficient sineSeries cosineSeries sincosOf flattening eccentricity2 toEcef enuBasis subOf dotOf less rowsBelow columns choleskyOf forwards forward backwards backward solveOf plus fromDecimal isqrt digitsOf rootOf rootFinite rootBits root count_leading_zeros of_bits to_bits round le lt eq of_int div mul add sub neg is_nan
+unfolding board_of shown text_from text_of picture transmissions_of reach fixes_of enter enter_all any_of filter insert sort foremost flat_map records_link tied shares_tag any_in ascii header line chi_square_text refused_line fix_text where_when height_text metres_text digits signed hex all_agreed state_from summaries_for cited_inputs set_hash identity_from inputs_in_order B.rotate_right B.iv B.sigma B.add_word B.turn_word B.half_mix B.mix_words B.mix_columns B.mix_diagonals B.round_by B.rounds B.start_state B.compress_block B.words_of B.pad_block B.first_state B.chain_blocks B.hash_words B.bytes_of_words B.blake2s256 subset all_in member same is_before bits tags_from claim_of word_bytes word limit_of geodetic_of matrix_of sum_under finitely length_under chi_square_of difference_of outcome_of agreement_of agrees_of chi_square_in degree radians_of factorial coefficient sine_series cosine_series sincos_of flattening eccentricity2 to_ecef enu_basis sub_of dot_of less rows_below columns cholesky_of forwards forward backwards backward solve_of plus from_decimal isqrt digits_of root_of root_finite root_bits root count_leading_zeros of_bits to_bits round le lt eq of_int div mul add sub neg is_nan
 of-boards = tt
 
-pub whole-board : boardOf [] slots ≡ lines
+pub whole-board : board_of [] slots ≡ lines
 unfolding of-boards
 whole-board = refl
 
 -- A preview without engine 2, which alone signed M, and the other fix beside engine 5: M goes, and so does its signature. So the second writing of conviction and
 -- board has it.
 abbrev held : Register
-held = record { convicted = 0; summaries = []; records = slot S 2 ∷ slot M 4 ∷ slot (recordWith (9 ∷ []) 7) 36 ∷ [] }
+held = record { convicted = 0; summaries = []; records = slot S 2 ∷ slot M 4 ∷ slot (record_with (9 ∷ []) 7) 36 ∷ [] }
 
 abbrev lines-without : List ℕ
 lines-without =
@@ -73,6 +73,6 @@ lines-without =
     ++ ascii "transmission=2 ranked=1 dominated=0 refused=0\n"
     ++ ascii "role=ranked time=1000 lat=7 lon=0 height=2 weight=1 signers=00000020\n"
 
-pub whole-preview : boardIn (strikeEngine 2 held) ≡ lines-without
-unfolding of-boards keepPlaces withoutBit
+pub whole-preview : board_in (strike_engine 2 held) ≡ lines-without
+unfolding of-boards keep_places without_bit
 whole-preview = refl

@@ -3,9 +3,9 @@
 use Rattle.std.specs.Prelude.{ℕ, ◌≡◌, true, List}
 use Rattle.links.specs.Bursts.{Pause, BurstsApart}
 use Rattle.register.specs.Memory.{fresh}
-use Rattle.register.specs.Calls.{Call, noneFull}
-use Rattle.board.specs.Shows.{fixesOver}
+use Rattle.register.specs.Calls.{Call, none_full}
+use Rattle.board.specs.Shows.{fixes_over}
 
 -- of every list of which no call is refused as full
 abbrev pub BurstsOnBoards : Type 0
-BurstsOnBoards = (cs : List Call) → noneFull fresh cs ≡ true → (s : ℕ) → Pause s (fixesOver cs) → BurstsApart s (fixesOver cs)
+BurstsOnBoards = (cs : List Call) → none_full fresh cs ≡ true → (s : ℕ) → Pause s (fixes_over cs) → BurstsApart s (fixes_over cs)

@@ -3,41 +3,41 @@
 -- `whole-lists` in proofs/WholeLists.
 --
 -- register specs/Claims has the first two parts (`HoldsWhatRemains`, `FullExactlyWhen`), specs/Calls what is malformed, struck, remaining and refused as full,
--- and `runs`, which folds the very definitions that the contracts of report, summary and conviction cite; specs/Board has `drawBoard`, which the contract of
+-- and `runs`, which folds the very definitions that the contracts of report, summary and conviction cite; specs/Board has `draw_board`, which the contract of
 -- board cites.
 use Rattle.std.specs.Prelude.{ℕ, ◌≤◌, ◌<◌, ◌≡◌, ◌⊎◌, true, List, length, drop}
-use Rattle.drawing.specs.Text.{boardSize}
-use Rattle.register.specs.Layout.{summaryCountAt}
+use Rattle.drawing.specs.Text.{board_size}
+use Rattle.register.specs.Layout.{summary_count_at}
 use Rattle.register.specs.Memory.{fresh}
-use Rattle.register.specs.Calls.{Call, runs, noneFull, remaining}
-use Rattle.register.specs.Remains.{summariesHeld, recordsHeld}
+use Rattle.register.specs.Calls.{Call, runs, none_full, remaining}
+use Rattle.register.specs.Remains.{summaries_held, records_held}
 use Rattle.register.specs.Claims.{SameRemains, HoldsWhatRemains, FullExactlyWhen}
-use Rattle.held.specs.After.{writeText}
-use Rattle.board.specs.Board.{boardOf, drawBoard}
+use Rattle.held.specs.After.{write_text}
+use Rattle.board.specs.Board.{board_of, draw_board}
 
 -- the board over what remains: of the summaries and records that remain, each record with the engines of its remaining reports as its signers
-abbrev pub boardOver : List Call → List ℕ
-boardOver cs = boardOf (summariesHeld (remaining cs)) (recordsHeld (remaining cs))
+abbrev pub board_over : List Call → List ℕ
+board_over cs = board_of (summaries_held (remaining cs)) (records_held (remaining cs))
 
 -- the greatest number that a refusal has
-abbrev pub greatestRefusal : ℕ
-greatestRefusal = 12
+abbrev pub greatest_refusal : ℕ
+greatest_refusal = 12
 
 -- two rooms after their lists
 pub record SameInBothRooms (north south : List Call) : Type 0 where
   -- the registers are equal in every byte but the convicted set, which comes first
-  pub registers : drop summaryCountAt (runs fresh north) ≡ drop summaryCountAt (runs fresh south)
+  pub registers : drop summary_count_at (runs fresh north) ≡ drop summary_count_at (runs fresh south)
   -- whatever each room lends, if it is enough, it gets the board over what remains: neither call is refused, and both give this length and these bytes
-  pub drawn-north : (out : List ℕ) → boardSize ≤ length out → drawBoard (runs fresh north) out ≡ writeText (boardOver north) out
-  pub drawn-south : (out : List ℕ) → boardSize ≤ length out → drawBoard (runs fresh south) out ≡ writeText (boardOver north) out
+  pub drawn_north : (out : List ℕ) → board_size ≤ length out → draw_board (runs fresh north) out ≡ write_text (board_over north) out
+  pub drawn_south : (out : List ℕ) → board_size ≤ length out → draw_board (runs fresh south) out ≡ write_text (board_over north) out
   -- and the length can be no refusal's number
-  pub no-refusal : (length (boardOver north) ≡ 0) ⊎ (greatestRefusal < length (boardOver north))
+  pub no_refusal : (length (board_over north) ≡ 0) ⊎ (greatest_refusal < length (board_over north))
 
 -- the claim
 pub record WholeLists : Type 0 where
   -- of every list of which no call is refused as full, the register holds exactly what remains
-  pub holds-what-remains : HoldsWhatRemains
+  pub holds_what_remains : HoldsWhatRemains
   -- none is refused as full exactly when each beginning leaves at most 96 different records and 256 different summaries
-  pub full-exactly-when : FullExactlyWhen
+  pub full_exactly_when : FullExactlyWhen
   -- two lists of which the same remains, order and repeats aside, leave the same and show the same
-  pub same-in-both-rooms : (north south : List Call) → noneFull fresh north ≡ true → noneFull fresh south ≡ true → SameRemains north south → SameInBothRooms north south
+  pub same_in_both_rooms : (north south : List Call) → none_full fresh north ≡ true → none_full fresh south ≡ true → SameRemains north south → SameInBothRooms north south

@@ -4,14 +4,14 @@ use Rattle.std.specs.Prelude.{ℕ, ◌≡◌, Bool, true, not, List, eqb, length
 use Rattle.ranges.specs.Lists.{any_of}
 use Rattle.octets.specs.Bytes.{Bytes}
 use Rattle.models.specs.Models.{counts}
-use Rattle.fixes.specs.Fixes.{recordIn}
+use Rattle.fixes.specs.Fixes.{record_in}
 use Rattle.register.specs.Register.{Register}
-use Rattle.register.specs.Memory.{wellFormed, decode}
-use Rattle.board.specs.Board.{boardIn}
+use Rattle.register.specs.Memory.{well_formed, decode}
+use Rattle.board.specs.Board.{board_in}
 
 -- some record counts
-abbrev pub anyCounts : Register → Bool
-anyCounts s = any_of (λ p. counts s.summaries (recordIn p)) s.records
+abbrev pub any_counts : Register → Bool
+any_counts s = any_of (λ p. counts s.summaries (record_in p)) s.records
 
 abbrev pub NoBytesExactlyWhen : Type 0
-NoBytesExactlyWhen = (m : List ℕ) → Bytes m → wellFormed m ≡ true → eqb (length (boardIn (decode m))) 0 ≡ not (anyCounts (decode m))
+NoBytesExactlyWhen = (m : List ℕ) → Bytes m → well_formed m ≡ true → eqb (length (board_in (decode m))) 0 ≡ not (any_counts (decode m))

@@ -8,7 +8,7 @@ use Rattle.geometry.specs.Claims.{Position4}
 use Rattle.arithmetic.specs.Claims.{Position1, Position2}
 use Rattle.decision.specs.Claims.{Position3, OnlyTheEndsDisagree}
 use Rattle.links.specs.Claims.{Position6}
-use Rattle.board.specs.Board.{boardOf}
+use Rattle.board.specs.Board.{board_of}
 
 pub record Positions : Type 0 where
   -- a chi-square of 16.266 with both heights agrees; the next f64 does not
@@ -17,7 +17,7 @@ pub record Positions : Type 0 where
   pub p2 : Position2
   -- S in M in L, equal inputs, only S and L disagreeing: M ranked, S dominated, L refused
   pub p3 : Position3
-  pub p3-only : OnlyTheEndsDisagree
+  pub p3_only : OnlyTheEndsDisagree
   -- 450,000,000 gives q 1, 449,999,999 q 0, -450,000,001 q -1
   pub p4 : Position4
   -- 499 and 500 mm are 0, 1500 is 2, 2500 is 2, -1500 is -2: an exact half metre goes to the even metre
@@ -27,4 +27,4 @@ pub record Positions : Type 0 where
   -- the root of 4 is 2
   pub p7 : root (of_int binary64 (pos 4)) ≡ of_int binary64 (pos 2)
   -- no records, no bytes
-  pub p8 : (ss : List (List ℕ)) → boardOf ss [] ≡ []
+  pub p8 : (ss : List (List ℕ)) → board_of ss [] ≡ []

@@ -1,10 +1,10 @@
 // What is claimed of boards and previews: each function's contract is the theorem.
 ghost use Rattle.std.specs.Prelude.{ℕ, ◌≡◌, ◌≤◌, ◌⊎◌, ◌<◌, List, true, length};
 ghost use Rattle.octets.specs.Bytes.{Bytes};
-ghost use Rattle.drawing.specs.Text.{boardSize};
-ghost use Rattle.register.specs.Memory.{wellFormed, decode};
-ghost use Rattle.board.specs.Board.{boardIn};
-ghost use Rattle.board.specs.Claims.{WholeLists, greatestRefusal};
+ghost use Rattle.drawing.specs.Text.{board_size};
+ghost use Rattle.register.specs.Memory.{well_formed, decode};
+ghost use Rattle.board.specs.Board.{board_in};
+ghost use Rattle.board.specs.Claims.{WholeLists, greatest_refusal};
 ghost use Rattle.board.specs.Previews.{RefusedInOrder, ThenConvicted, ConvictedIsPresent, IdleIsPresent, ConvictionAtTheEnd, PreviewsInBothRooms};
 ghost use Rattle.board.specs.Shows.{WhatIsShown};
 ghost use Rattle.board.specs.Bursts.{BurstsOnBoards};
@@ -33,8 +33,8 @@ pub fn no_bytes_exactly_when()
 
 // Every board fits, and its length is 0 or greater than every refusal's number.
 pub fn every_board_fits()
-    ensures fits { (m : List ℕ) → Bytes m → wellFormed m ≡ true → length (boardIn (decode m)) ≤ boardSize }
-    ensures no_refusal { (m : List ℕ) → Bytes m → wellFormed m ≡ true → (length (boardIn (decode m)) ≡ 0) ⊎ (greatestRefusal < length (boardIn (decode m))) }
+    ensures fits { (m : List ℕ) → Bytes m → well_formed m ≡ true → length (board_in (decode m)) ≤ board_size }
+    ensures no_refusal { (m : List ℕ) → Bytes m → well_formed m ≡ true → (length (board_in (decode m)) ≡ 0) ⊎ (greatest_refusal < length (board_in (decode m))) }
 {}
 
 // The preview of a conviction on every memory: how it is refused, what is drawn once the engine is convicted, and when it is the present board.

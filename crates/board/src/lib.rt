@@ -5,11 +5,11 @@ ghost use Rattle.std.specs.Prelude.{◌≡◌, true, ◌≤◌, length};
 ghost use Rattle.octets.specs.Put.{Put};
 ghost use Rattle.shown.specs.Items.{AllFormed};
 ghost use Rattle.fixes.specs.Order.{ascends};
-ghost use Rattle.drawing.specs.Text.{boardSize, boardText};
+ghost use Rattle.drawing.specs.Text.{board_size, board_text};
 ghost use Rattle.held.specs.After.{after};
-ghost use Rattle.register.specs.Memory.{wellFormed, decode};
-ghost use Rattle.board.specs.Board.{boardIn, drawBoard};
-ghost use Rattle.board.specs.Preview.{drawPreview};
+ghost use Rattle.register.specs.Memory.{well_formed, decode};
+ghost use Rattle.board.specs.Board.{board_in, draw_board};
+ghost use Rattle.board.specs.Preview.{draw_preview};
 ghost use Rattle.board.specs.Latest.{latest_over};
 
 use arrayvec::ArrayVec;
@@ -34,8 +34,8 @@ fn draw_fixes(fixes: &[Fix<'_>], out: &mut [u8]) -> usize
     requires few { length fixes.now ≤ MAX_FIXES }
     requires formed { AllFormed fixes.now }
     requires in_order { ascends fixes.now ≡ true }
-    requires room { length (boardText (latest_over fixes.now)) ≤ length out.old }
-    ensures { Put out.old 0 (boardText (latest_over fixes.now)) result out.new }
+    requires room { length (board_text (latest_over fixes.now)) ≤ length out.old }
+    ensures { Put out.old 0 (board_text (latest_over fixes.now)) result out.new }
 {
     let transmissions = Transmissions::of(fixes);
     let mut items = [0u8; MAX_FIXES * ITEM_SIZE];
@@ -47,9 +47,9 @@ fn draw_fixes(fixes: &[Fix<'_>], out: &mut [u8]) -> usize
 
 // Writes the board of a register.
 fn draw(memory: &[u8], out: &mut [u8]) -> usize
-    requires memory_value { wellFormed memory.now ≡ true }
-    requires board_size_in_bounds { boardSize ≤ length out.old }
-    ensures { Put out.old 0 (boardIn (decode memory.now)) result out.new }
+    requires memory_value { well_formed memory.now ≡ true }
+    requires board_size_in_bounds { board_size ≤ length out.old }
+    ensures { Put out.old 0 (board_in (decode memory.now)) result out.new }
 {
     let n = octets::words::u16_at(memory, layout::SUMMARY_COUNT_AT) as usize;
     let records = octets::words::u16_at(memory, layout::RECORD_COUNT_AT) as usize;
@@ -69,8 +69,8 @@ fn draw(memory: &[u8], out: &mut [u8]) -> usize
 
 // The board of bytes that are a register: 10, or its length.
 fn draw_formed(memory: &[u8], out: &mut [u8]) -> u32
-    requires { wellFormed memory.now ≡ true }
-    ensures { after result out.new ≡ drawBoard memory.now out.old }
+    requires { well_formed memory.now ≡ true }
+    ensures { after result out.new ≡ draw_board memory.now out.old }
 {
     if out.len() < BOARD_SIZE {
         return 10;
@@ -80,7 +80,7 @@ fn draw_formed(memory: &[u8], out: &mut [u8]) -> u32
 
 // The board of a register: 1 or 10, or its length.
 pub fn board(memory: &[u8], out: &mut [u8]) -> u32
-    ensures { after result out.new ≡ drawBoard memory.now out.old }
+    ensures { after result out.new ≡ draw_board memory.now out.old }
 {
     if !register::formed::well_formed(memory) {
         return 1;
@@ -91,7 +91,7 @@ pub fn board(memory: &[u8], out: &mut [u8]) -> u32
 // The board of a register as it would be if an engine were convicted: 1, 2 or 10, or its length. The engine is convicted on a copy, which
 // is well-formed then and is not tested again.
 pub fn preview(memory: &[u8], engine: u32, out: &mut [u8]) -> u32
-    ensures { after result out.new ≡ drawPreview engine memory.now out.old }
+    ensures { after result out.new ≡ draw_preview engine memory.now out.old }
 {
     if memory.len() != REGISTER_SIZE {
         return 1;

@@ -1,11 +1,11 @@
 // The text of what is shown.
 ghost use Rattle.std.specs.Prelude.{◌≡◌, ℕ, ◌*◌, ◌<◌, ◌≤◌, length, get_or, map, flat_map};
-ghost use Rattle.items.specs.Layout.{itemSize};
+ghost use Rattle.items.specs.Layout.{item_size};
 ghost use Rattle.octets.specs.Put.{Put};
 ghost use Rattle.text.specs.Texts.{append};
 ghost use Rattle.drawing.specs.Text as D;
 ghost use Rattle.transmissions.specs.Parts.{AllParts};
-ghost use Rattle.transmissions.specs.Leads.{shownAt};
+ghost use Rattle.transmissions.specs.Leads.{shown_at};
 ghost use Rattle.transmissions.specs.declared.latest.Lead.{Lead as Named};
 
 use drawing::Role;
@@ -17,7 +17,7 @@ use transmissions::latest::Lead;
 
 // The lines of the ranked fixes, of the dominated, and of the refused.
 fn push_ranked(out: &mut Text, shown: &Shown<'_, '_, '_>)
-    ensures { out.new ≡ append out.old (flat_map D.rankedText shown.now.ranked) }
+    ensures { out.new ≡ append out.old (flat_map D.ranked_text shown.now.ranked) }
 {
     for i in 0..shown.ranked_len() {
         let fix = shown.ranked(i);
@@ -26,7 +26,7 @@ fn push_ranked(out: &mut Text, shown: &Shown<'_, '_, '_>)
 }
 
 fn push_dominated(out: &mut Text, shown: &Shown<'_, '_, '_>)
-    ensures { out.new ≡ append out.old (flat_map D.dominatedText shown.now.dominated) }
+    ensures { out.new ≡ append out.old (flat_map D.dominated_text shown.now.dominated) }
 {
     for i in 0..shown.dominated_len() {
         let fix = shown.dominated(i);
@@ -35,7 +35,7 @@ fn push_dominated(out: &mut Text, shown: &Shown<'_, '_, '_>)
 }
 
 fn push_refused(out: &mut Text, shown: &Shown<'_, '_, '_>)
-    ensures { out.new ≡ append out.old (flat_map D.refusedText shown.now.refused) }
+    ensures { out.new ≡ append out.old (flat_map D.refused_text shown.now.refused) }
 {
     for i in 0..shown.refused_len() {
         let fix = shown.refused(i);
@@ -44,7 +44,7 @@ fn push_refused(out: &mut Text, shown: &Shown<'_, '_, '_>)
 }
 
 fn push_header(out: &mut Text, number: u64, shown: &Shown<'_, '_, '_>)
-    ensures { out.new ≡ append out.old (D.headerOf number shown.now) }
+    ensures { out.new ≡ append out.old (D.header_of number shown.now) }
 {
     drawing::push_header(
         out,
@@ -72,10 +72,10 @@ fn push_latest(
     transmissions: &Transmissions<'_, '_>,
     leads: &[Lead],
 )
-    requires items_len { length items.old ≡ MAX_FIXES * itemSize }
+    requires items_len { length items.old ≡ MAX_FIXES * item_size }
     requires parts { AllParts transmissions.now }
     requires named { (i : ℕ) (d : Named) → i < length leads.now → (get_or leads.now i d).number < length transmissions.now }
-    ensures { out.new ≡ append out.old (D.boardText (map (shownAt transmissions.now) leads.now)) }
+    ensures { out.new ≡ append out.old (D.board_text (map (shown_at transmissions.now) leads.now)) }
 {
     for (i, lead) in leads.iter().enumerate() {
         let transmission = transmissions.nth(lead.number as usize);
@@ -92,11 +92,11 @@ pub fn write_latest(
     transmissions: &Transmissions<'_, '_>,
     leads: &[Lead],
 ) -> usize
-    requires items_len { length items.old ≡ MAX_FIXES * itemSize }
+    requires items_len { length items.old ≡ MAX_FIXES * item_size }
     requires parts { AllParts transmissions.now }
     requires named { (i : ℕ) (d : Named) → i < length leads.now → (get_or leads.now i d).number < length transmissions.now }
-    requires room { length (D.boardText (map (shownAt transmissions.now) leads.now)) ≤ length out.old }
-    ensures { Put out.old 0 (D.boardText (map (shownAt transmissions.now) leads.now)) result out.new }
+    requires room { length (D.board_text (map (shown_at transmissions.now) leads.now)) ≤ length out.old }
+    ensures { Put out.old 0 (D.board_text (map (shown_at transmissions.now) leads.now)) result out.new }
 {
     let mut text = Text::new(out);
     push_latest(&mut text, items, transmissions, leads);

@@ -7,14 +7,14 @@ use mathlib.Core.List.{List, [], ◌∷◌, ◌++◌, map, Permᴰ}
 use Prim.Native.Nat.{ℕ, zero, suc, ◌+◌, ◌*◌, ◌/◌, ◌≤◌}
 use native.Mathlib.Omega.{arith}
 use lib.ListN.{length, get_or, length-append, length-map}
-use Rattle.ranges.specs.Lists.{countFrom, up_to}
+use Rattle.ranges.specs.Lists.{count_from, up_to}
 use Rattle.ranges.proofs.Bools.{by}
 use Rattle.ranges.proofs.Lists.{count-length, up_in}
 use Rattle.ranges.proofs.Orders.{perm-length, perm-mem}
-use Rattle.items.specs.Layout.{itemSize}
+use Rattle.items.specs.Layout.{item_size}
 use Rattle.rule.specs.Outcome.{Refused, Outcome}
-use Rattle.decision.specs.Answer.{bad, outcome, decided, decision, refusedDecision, indices, refusals}
-use Rattle.decision.specs.Claims.{listedIn}
+use Rattle.decision.specs.Answer.{bad, outcome, decided, decision, refused_decision, indices, refusals}
+use Rattle.decision.specs.Claims.{listed_in}
 use Rattle.decision.specs.Working.{plainly}
 use Rattle.decision.proofs.Decided.{decided-is, lawful}
 use Rattle.arithmetic.specs.declared.standing.ChiSquare.{ChiSquare}
@@ -32,7 +32,7 @@ module _ (n : ℕ) (few : n ≤ 1) where
 
   only : (rs ds : List ℕ) (xs : List (Refused ℕ ChiSquare)) → Permᴰ (rs ++ (ds ++ map (λ x. x.item) xs)) (up_to n) → (rs ≡ [] → n ≡ 0)
       → (rs ≡ up_to n) × (ds ≡ []) × (xs ≡ [])
-  unfolding countFrom
+  unfolding count_from
   only [] [] [] p e = (ap up_to (sym (e refl)), refl, refl)
   only [] (d ∷ ds) xs p e = let t = total [] (d ∷ ds) xs p in let z = e refl in absurd (omega arith)
   only [] [] (x ∷ xs) p e = let t = total [] [] (x ∷ xs) p in let z = e refl in absurd (omega arith)
@@ -47,22 +47,22 @@ module _ (n : ℕ) (few : n ≤ 1) where
   only (r ∷ []) [] (x ∷ xs) p e = let t = total (r ∷ []) [] (x ∷ xs) p in absurd (omega arith)
 
 ranks : (n : ℕ) → n ≤ 1 → (o : Outcome ℕ ChiSquare) → (o.ranked ≡ up_to n) × (o.dominated ≡ []) × (o.refused ≡ []) → plainly 0 n ≡ decision o
-unfolding plainly decision indices refusals countFrom
+unfolding plainly decision indices refusals count_from
 ranks zero h o (a, b, c) = rw (a, b, c) refl
 ranks (suc zero) h o (a, b, c) = rw (a, b, c) refl
 ranks (suc (suc n)) h o w = absurd (omega arith)
 
-module _ (s : List ℕ) (n : ℕ) (long : length s ≡ n * itemSize) (few : n ≤ 1) where
+module _ (s : List ℕ) (n : ℕ) (long : length s ≡ n * item_size) (few : n ≤ 1) where
   pub alone : bad s ≡ false → plainly 0 n ≡ decision (outcome s)
   alone e =
       let l = lawful s e in
-      let z : length s / itemSize ≡ n = omega arith in
+      let z : length s / item_size ≡ n = omega arith in
       ranks n few (outcome s)
-      (only n few (outcome s).ranked (outcome s).dominated (outcome s).refused (subst (λ (k : ℕ). Permᴰ (listedIn (outcome s)) (up_to k)) z l.each-once) (λ q. sym z ∙ l.some-ranked q))
+      (only n few (outcome s).ranked (outcome s).dominated (outcome s).refused (subst (λ (k : ℕ). Permᴰ (listed_in (outcome s)) (up_to k)) z l.each_once) (λ q. sym z ∙ l.some_ranked q))
 
   -- the first ranked is the first, also where nothing is decided
   pub first_alone : get_or (decided s).ranked.list 0 0 ≡ 0
-  unfolding decided refusedDecision plainly indices
+  unfolding decided refused_decision plainly indices
   first_alone =
       by (bad s) (λ e. rw e refl)
       (λ e. ap (λ d. get_or d.ranked.list 0 0) (decided-is s e ∙ sym (alone e)))

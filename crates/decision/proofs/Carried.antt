@@ -6,13 +6,13 @@ use mathlib.Core.List.{List, [], ◌∷◌, ◌++◌, map, flat_map, Memᴰ}
 use Rattle.ranges.proofs.Bools.{by}
 use Rattle.ranges.specs.Lists.{filter, sort, foremost}
 use Rattle.ranges.proofs.Lists.{any-map, filter_map, filter-in, sort-map, foremost-map, foremost-in}
-use Rattle.rule.specs.Standing.{Relations, supersedes, replaces, isSuperseded, opposes, isContested, is_refused, isCovered, replaced, opposed, refusalOf, decide}
+use Rattle.rule.specs.Standing.{Relations, supersedes, replaces, is_superseded, opposes, is_contested, is_refused, is_covered, replaced, opposed, refusal_of, decide}
 use Rattle.rule.specs.Outcome.{Refused, Outcome}
 
 -- members of l relate as what h makes of them
 pub record Alike {A B C D : Type 0} (a : Relations A C) (b : Relations B D) (h : A → B) (u : C → D) (l : List A) : Type 0 where
   pub disagrees : (x y : A) → Memᴰ x l → Memᴰ y l → b.disagrees (h x) (h y) ≡ a.disagrees x y
-  pub chiSquare : (x y : A) → Memᴰ x l → Memᴰ y l → b.chiSquare (h x) (h y) ≡ u (a.chiSquare x y)
+  pub chi_square : (x y : A) → Memᴰ x l → Memᴰ y l → b.chi_square (h x) (h y) ≡ u (a.chi_square x y)
   pub outstands : (x y : A) → Memᴰ x l → Memᴰ y l → b.outstands (h x) (h y) ≡ a.outstands x y
   pub passed : (x : A) → Memᴰ x l → b.passed (h x) ≡ a.passed x
   pub within : (x y : A) → Memᴰ x l → Memᴰ y l → b.within (h x) (h y) ≡ a.within x y
@@ -20,11 +20,11 @@ pub record Alike {A B C D : Type 0} (a : Relations A C) (b : Relations B D) (h :
   pub ahead : (x y : A) → Memᴰ x l → Memᴰ y l → b.ahead (h x) (h y) ≡ a.ahead x y
 
 -- a refused item, and an outcome, with h of each item and u of what is measured
-abbrev pub carriedRefusal : {A B C D : Type 0} → (A → B) → (C → D) → Refused A C → Refused B D
-carriedRefusal h u x = record { item = h x.item; against = h x.against; chi2 = u x.chi2; superseded = x.superseded }
+abbrev pub carried_refusal : {A B C D : Type 0} → (A → B) → (C → D) → Refused A C → Refused B D
+carried_refusal h u x = record { item = h x.item; against = h x.against; chi2 = u x.chi2; superseded = x.superseded }
 
-abbrev pub carriedOutcome : {A B C D : Type 0} → (A → B) → (C → D) → Outcome A C → Outcome B D
-carriedOutcome h u o = record { ranked = map h o.ranked; dominated = map h o.dominated; refused = map (carriedRefusal h u) o.refused }
+abbrev pub carried_outcome : {A B C D : Type 0} → (A → B) → (C → D) → Outcome A C → Outcome B D
+carried_outcome h u o = record { ranked = map h o.ranked; dominated = map h o.dominated; refused = map (carried_refusal h u) o.refused }
 
 map-append : {A B : Type 0} (f : A → B) (l m : List A) → map f (l ++ m) ≡ map f l ++ map f m
 map-append f [] m = refl
@@ -51,15 +51,15 @@ module _ {A B C D : Type 0} (a : Relations A C) (b : Relations B D) (h : A → B
   replaces-to : (x y : A) → Memᴰ x l → Memᴰ y l → replaces b (map h l) (h x) (h y) ≡ replaces a l x y
   replaces-to x y m n = ap₂ ◌&&◌ (supersedes-to y n) (w.disagrees y x n m)
 
-  superseded-to : (x : A) → Memᴰ x l → isSuperseded b (map h l) (h x) ≡ isSuperseded a l x
-  unfolding isSuperseded
+  superseded-to : (x : A) → Memᴰ x l → is_superseded b (map h l) (h x) ≡ is_superseded a l x
+  unfolding is_superseded
   superseded-to x m = any-map h (replaces a l x) (replaces b (map h l) (h x)) l (λ y n. replaces-to x y m n)
 
   opposes-to : (x y : A) → Memᴰ x l → Memᴰ y l → opposes b (map h l) (h x) (h y) ≡ opposes a l x y
   opposes-to x y m n = ap₂ (λ (p q : Bool). p && not q) (w.disagrees x y m n) (superseded-to y n)
 
-  contested-to : (x : A) → Memᴰ x l → isContested b (map h l) (h x) ≡ isContested a l x
-  unfolding isContested
+  contested-to : (x : A) → Memᴰ x l → is_contested b (map h l) (h x) ≡ is_contested a l x
+  unfolding is_contested
   contested-to x m =
       ap₂ (λ (p q : Bool). not p && q) (supersedes-to x m)
       (ap₂ (λ (p q : Bool). not p && q) (superseded-to x m) (any-map h (opposes a l x) (opposes b (map h l) (h x)) l (λ y n. opposes-to x y m n)))
@@ -68,8 +68,8 @@ module _ {A B C D : Type 0} (a : Relations A C) (b : Relations B D) (h : A → B
   unfolding is_refused
   refused-to x m = ap₂ ◌||◌ (superseded-to x m) (contested-to x m)
 
-  covered-to : (x : A) → Memᴰ x l → isCovered b (map h l) (h x) ≡ isCovered a l x
-  unfolding isCovered
+  covered-to : (x : A) → Memᴰ x l → is_covered b (map h l) (h x) ≡ is_covered a l x
+  unfolding is_covered
   covered-to x m =
       any-map h (λ y. not (is_refused a l y) && a.within x y) (λ y. not (is_refused b (map h l) y) && b.within (h x) y) l
       (λ y n. ap₂ (λ (p q : Bool). not p && q) (refused-to y n) (w.within x y m n))
@@ -80,41 +80,41 @@ module _ {A B C D : Type 0} (a : Relations A C) (b : Relations B D) (h : A → B
   first_to : (x : A) (k : List A) → ((y : A) → Memᴰ y (x ∷ k) → Memᴰ y l) → foremost b.lower (h x) (map h k) ≡ h (foremost a.lower x k)
   first_to x k sub = foremost-map h a.lower b.lower x k (λ y z m n. w.lower y z (sub y m) (sub z n))
 
-  replaced-to : (x : A) → Memᴰ x l → (k : List A) → ((y : A) → Memᴰ y k → Memᴰ y l) → replaced b (map h l) (h x) (map h k) ≡ map (carriedRefusal h u) (replaced a l x k)
+  replaced-to : (x : A) → Memᴰ x l → (k : List A) → ((y : A) → Memᴰ y k → Memᴰ y l) → replaced b (map h l) (h x) (map h k) ≡ map (carried_refusal h u) (replaced a l x k)
   replaced-to x m [] sub = refl
   replaced-to x m (y ∷ k) sub =
       let z = foremost a.lower y k in
-      rw (first_to y k sub, w.chiSquare z x (sub z (foremost-in a.lower y k)) m) refl
+      rw (first_to y k sub, w.chi_square z x (sub z (foremost-in a.lower y k)) m) refl
 
-  opposed-to : (x : A) → Memᴰ x l → (k : List A) → ((y : A) → Memᴰ y k → Memᴰ y l) → opposed b (map h l) (h x) (map h k) ≡ map (carriedRefusal h u) (opposed a l x k)
+  opposed-to : (x : A) → Memᴰ x l → (k : List A) → ((y : A) → Memᴰ y k → Memᴰ y l) → opposed b (map h l) (h x) (map h k) ≡ map (carried_refusal h u) (opposed a l x k)
   opposed-to x m [] sub = refl
   opposed-to x m (y ∷ k) sub =
       let z = foremost a.lower y k in
-      rw (first_to y k sub, w.chiSquare x z m (sub z (foremost-in a.lower y k))) refl
+      rw (first_to y k sub, w.chi_square x z m (sub z (foremost-in a.lower y k))) refl
 
-  refusal-to : (x : A) → Memᴰ x l → refusalOf b (map h l) (h x) ≡ map (carriedRefusal h u) (refusalOf a l x)
-  unfolding refusalOf
+  refusal-to : (x : A) → Memᴰ x l → refusal_of b (map h l) (h x) ≡ map (carried_refusal h u) (refusal_of a l x)
+  unfolding refusal_of
   refusal-to x m =
-      by (isSuperseded a l x)
+      by (is_superseded a l x)
       (λ p. rw (superseded-to x m ∙ p, p, filter_map h (replaces a l x) (replaces b (map h l) (h x)) l (λ y n. replaces-to x y m n))
       (replaced-to x m (filter (replaces a l x) l) (λ y n. (filter-in (replaces a l x) l y n).0)))
-      (λ p. by (isContested a l x)
+      (λ p. by (is_contested a l x)
       (λ q. rw (superseded-to x m ∙ p, p, contested-to x m ∙ q, q, filter_map h (opposes a l x) (opposes b (map h l) (h x)) l (λ y n. opposes-to x y m n))
       (opposed-to x m (filter (opposes a l x) l) (λ y n. (filter-in (opposes a l x) l y n).0)))
       (λ q. rw (superseded-to x m ∙ p, p, contested-to x m ∙ q, q) refl))
 
   -- ---- the whole
 
-  pub carried : decide b (map h l) ≡ carriedOutcome h u (decide a l)
+  pub carried : decide b (map h l) ≡ carried_outcome h u (decide a l)
   unfolding decide
   carried =
-      let stands : A → Bool = λ x. not (is_refused a l x) && not (isCovered a l x) in
-      let e = filter_map h stands (λ y. not (is_refused b (map h l) y) && not (isCovered b (map h l) y)) l
+      let stands : A → Bool = λ x. not (is_refused a l x) && not (is_covered a l x) in
+      let e = filter_map h stands (λ y. not (is_refused b (map h l) y) && not (is_covered b (map h l) y)) l
       (λ x m. ap₂ (λ (p q : Bool). not p && not q) (refused-to x m) (covered-to x m)) in
-      let r : sort b.ahead (filter (λ y. not (is_refused b (map h l) y) && not (isCovered b (map h l) y)) (map h l)) ≡ map h (sort a.ahead (filter stands l)) =
+      let r : sort b.ahead (filter (λ y. not (is_refused b (map h l) y) && not (is_covered b (map h l) y)) (map h l)) ≡ map h (sort a.ahead (filter stands l)) =
       ap (sort b.ahead) e
       ∙ sort-map h a.ahead b.ahead (filter stands l) (λ x y m n. w.ahead x y (filter-in stands l x m).0 (filter-in stands l y n).0) in
-      let d = filter_map h (λ x. not (is_refused a l x) && isCovered a l x) (λ y. not (is_refused b (map h l) y) && isCovered b (map h l) y) l
+      let d = filter_map h (λ x. not (is_refused a l x) && is_covered a l x) (λ y. not (is_refused b (map h l) y) && is_covered b (map h l) y) l
       (λ x m. ap₂ (λ (p q : Bool). not p && q) (refused-to x m) (covered-to x m)) in
-      let f = flat-map h (carriedRefusal h u) (refusalOf a l) (refusalOf b (map h l)) l refusal-to in
+      let f = flat-map h (carried_refusal h u) (refusal_of a l) (refusal_of b (map h l)) l refusal-to in
       λ i. record { ranked = r i; dominated = d i; refused = f i }

@@ -13,33 +13,33 @@ use Rattle.ranges.proofs.Lists.{up_in, up_of}
 use Rattle.ranges.proofs.Orders.{perm-mem}
 use Rattle.ranges.proofs.Sorting.{Strict, strict-sub, sort-ascends}
 use Rattle.octets.specs.Words.{word}
-use Rattle.record.specs.Layout.{recordSize}
-use Rattle.items.specs.Layout.{hashSize, itemInputsAt, itemIdentityAt, standingAt, consistentAt, preferredAt, verifiedAt, itemSize}
-use Rattle.items.specs.Items.{itemRecord, itemInputs, itemIdentity, itemStanding, itemConsistent, itemPreferred, itemVerified, verifiedCase, subsetAt, agreementAt, disagreesAt, withinAt, lowerAt, aheadAt, aheadByStanding, aheadByWeight}
+use Rattle.record.specs.Layout.{record_size}
+use Rattle.items.specs.Layout.{hash_size, item_inputs_at, item_identity_at, standing_at, consistent_at, preferred_at, verified_at, item_size}
+use Rattle.items.specs.Items.{item_record, item_inputs, item_identity, item_standing, item_consistent, item_preferred, item_verified, verified_case, subset_at, agreement_at, disagrees_at, within_at, lower_at, ahead_at, ahead_by_standing, ahead_by_weight}
 use Rattle.rule.specs.Standing.{decide}
 use Rattle.rule.specs.Outcome.{Refused, Outcome}
-use Rattle.rule.specs.Related.{itemRelations}
+use Rattle.rule.specs.Related.{item_relations}
 use Rattle.decision.specs.Answer.{bad, outcome, decided, decision}
-use Rattle.decision.specs.Claims.{EachOnce, Names, contest, succession, DecisionsLawful, itemCount, item_at, Reordered, SameDecision, OrderFree}
-use Rattle.decision.proofs.Carried.{Alike, carried, carriedOutcome}
-use Rattle.decision.proofs.Laws.{Named, opponent, successor, listed-once, refused-names, some-ranked, same-ranked, same-dominated, same-refused}
+use Rattle.decision.specs.Claims.{EachOnce, Names, contest, succession, DecisionsLawful, item_count, item_at, Reordered, SameDecision, OrderFree}
+use Rattle.decision.proofs.Carried.{Alike, carried, carried_outcome}
+use Rattle.decision.proofs.Laws.{Named, opponent, successor, listed-once, refused-names, some_ranked, same-ranked, same-dominated, same-refused}
 use Rattle.decision.proofs.Passed.{good-items}
 use Rattle.decision.proofs.Sound.{rel-sound, by-identity, by_rank, rank-apart, ahead-trans, is-consistent, is_subset, is-apart}
 use Rattle.arithmetic.specs.declared.standing.ChiSquare.{ChiSquare}
 
-pub each-once : EachOnce
-each-once A C r all = listed-once r all
+pub each_once : EachOnce
+each_once A C r all = listed-once r all
 
 -- what is answered where nothing is bad
 pub decided-is : (s : List ℕ) → bad s ≡ false → decided s ≡ decision (outcome s)
 unfolding decided
 decided-is s e = rw e refl
 
-named : (s : List ℕ) (x : Refused ℕ ChiSquare) → Named (itemRelations s) (up_to (itemCount s)) x → Names s x
+named : (s : List ℕ) (x : Refused ℕ ChiSquare) → Named (item_relations s) (up_to (item_count s)) x → Names s x
 named s x (opponent p c m d u) =
     contest p c
     (record {
-      an_item = up_in (itemCount s) x.against m;
+      an_item = up_in (item_count s) x.against m;
       consistent = is-consistent s x.item x.against d;
       subset = is_subset s x.item x.against d;
       disagreeing = is-apart s x.item x.against d;
@@ -48,27 +48,27 @@ named s x (opponent p c m d u) =
 named s x (successor p c m d v o) =
     succession p c
     (record {
-      an_item = up_in (itemCount s) x.against m;
+      an_item = up_in (item_count s) x.against m;
       superset = is_subset s x.against x.item d;
       disagreeing = is-apart s x.against x.item d;
       verified = v;
-      more-standing = o;
+      more_standing = o;
     })
 
 -- one is ranked where there is an item
-pub ranks-some : (s : List ℕ) → 0 < itemCount s → (i : ℕ) × Memᴰ i (outcome s).ranked
-ranks-some s h = some-ranked (itemRelations s) (up_to (itemCount s)) (rel-sound s) 0 (up_of (itemCount s) 0 h)
+pub ranks-some : (s : List ℕ) → 0 < item_count s → (i : ℕ) × Memᴰ i (outcome s).ranked
+ranks-some s h = some_ranked (item_relations s) (up_to (item_count s)) (rel-sound s) 0 (up_of (item_count s) 0 h)
 
 pub lawful : DecisionsLawful
 unfolding decide
 lawful s e = record {
-  each-once = listed-once (itemRelations s) (up_to (itemCount s));
-  some-ranked = λ q. none q (itemCount s) refl;
-  by_rank = sort-ascends (aheadAt s) (ahead-trans s) _ (rank-apart s (itemCount s) (good-items s e) _);
-  names = λ x m. named s x (refused-names (itemRelations s) (up_to (itemCount s)) x m);
+  each_once = listed-once (item_relations s) (up_to (item_count s));
+  some_ranked = λ q. none q (item_count s) refl;
+  by_rank = sort-ascends (ahead_at s) (ahead-trans s) _ (rank-apart s (item_count s) (good-items s e) _);
+  names = λ x m. named s x (refused-names (item_relations s) (up_to (item_count s)) x m);
 }
   where
-    none : (outcome s).ranked ≡ [] → (k : ℕ) → itemCount s ≡ k → itemCount s ≡ 0
+    none : (outcome s).ranked ≡ [] → (k : ℕ) → item_count s ≡ k → item_count s ≡ 0
     none q zero z = z
     none q (suc k) z =
         let r = ranks-some s (omega arith) in
@@ -84,53 +84,53 @@ part_in k (suc j) (suc w) [] h = refl
 part_in k (suc j) (suc w) (x ∷ l) h = part_in k j w l (omega arith)
 
 module _ (s : List ℕ) (i : ℕ) where
-  part_at : (k j : ℕ) → j + k ≤ itemSize → take k (drop (i * itemSize + j) s) ≡ take k (drop j (item_at s i))
-  part_at k j h = sym (part_in k j itemSize (drop (i * itemSize) s) h ∙ ap (take k) (drop-drop j (i * itemSize) s))
+  part_at : (k j : ℕ) → j + k ≤ item_size → take k (drop (i * item_size + j) s) ≡ take k (drop j (item_at s i))
+  part_at k j h = sym (part_in k j item_size (drop (i * item_size) s) h ∙ ap (take k) (drop-drop j (i * item_size) s))
 
-  record-at : itemRecord s i ≡ take recordSize (item_at s i)
-  record-at = sym (take-take recordSize itemSize (drop (i * itemSize) s) (omega arith))
+  record-at : item_record s i ≡ take record_size (item_at s i)
+  record-at = sym (take-take record_size item_size (drop (i * item_size) s) (omega arith))
 
-  byte_at : (j : ℕ) → j < itemSize → get_or s (i * itemSize + j) 0 ≡ get_or (item_at s i) j 0
-  byte_at j h = sym (get_or-take itemSize (drop (i * itemSize) s) j 0 h ∙ get_or-drop (i * itemSize) s j 0)
+  byte_at : (j : ℕ) → j < item_size → get_or s (i * item_size + j) 0 ≡ get_or (item_at s i) j 0
+  byte_at j h = sym (get_or-take item_size (drop (i * item_size) s) j 0 h ∙ get_or-drop (i * item_size) s j 0)
 
 module _ (s t : List ℕ) (i j : ℕ) (e : item_at t j ≡ item_at s i) where
-  same-record : itemRecord t j ≡ itemRecord s i
-  same-record = record-at t j ∙ ap (take recordSize) e ∙ sym (record-at s i)
+  same-record : item_record t j ≡ item_record s i
+  same-record = record-at t j ∙ ap (take record_size) e ∙ sym (record-at s i)
 
-  same-part : (k at : ℕ) → at + k ≤ itemSize → take k (drop (j * itemSize + at) t) ≡ take k (drop (i * itemSize + at) s)
+  same-part : (k at : ℕ) → at + k ≤ item_size → take k (drop (j * item_size + at) t) ≡ take k (drop (i * item_size + at) s)
   same-part k at h = part_at t j k at h ∙ ap (λ (x : List ℕ). take k (drop at x)) e ∙ sym (part_at s i k at h)
 
-  same_byte : (at : ℕ) → at < itemSize → get_or t (j * itemSize + at) 0 ≡ get_or s (i * itemSize + at) 0
+  same_byte : (at : ℕ) → at < item_size → get_or t (j * item_size + at) 0 ≡ get_or s (i * item_size + at) 0
   same_byte at h = byte_at t j at h ∙ ap (λ (x : List ℕ). get_or x at 0) e ∙ sym (byte_at s i at h)
 
-  same_inputs : itemInputs t j ≡ itemInputs s i
-  same_inputs = same-part hashSize itemInputsAt (omega arith)
+  same_inputs : item_inputs t j ≡ item_inputs s i
+  same_inputs = same-part hash_size item_inputs_at (omega arith)
 
-  same-identity : itemIdentity t j ≡ itemIdentity s i
-  same-identity = same-part hashSize itemIdentityAt (omega arith)
+  same-identity : item_identity t j ≡ item_identity s i
+  same-identity = same-part hash_size item_identity_at (omega arith)
 
-  same-standing : itemStanding t j ≡ itemStanding s i
-  same-standing = ap word (same-part 8 standingAt (omega arith))
+  same-standing : item_standing t j ≡ item_standing s i
+  same-standing = ap word (same-part 8 standing_at (omega arith))
 
-  same-consistent : itemConsistent t j ≡ itemConsistent s i
-  same-consistent = rw (same_byte consistentAt (omega arith)) refl
+  same-consistent : item_consistent t j ≡ item_consistent s i
+  same-consistent = rw (same_byte consistent_at (omega arith)) refl
 
-  same-preferred : itemPreferred t j ≡ itemPreferred s i
-  same-preferred = rw (same_byte preferredAt (omega arith)) refl
+  same-preferred : item_preferred t j ≡ item_preferred s i
+  same-preferred = rw (same_byte preferred_at (omega arith)) refl
 
-  same-verified : itemVerified t j ≡ itemVerified s i
-  same-verified = ap verifiedCase (same_byte verifiedAt (omega arith))
+  same-verified : item_verified t j ≡ item_verified s i
+  same-verified = ap verified_case (same_byte verified_at (omega arith))
 
 module _ (s t : List ℕ) (to : ℕ → ℕ) (w : Reordered s t to) where
   abbrev n : ℕ
-  n = itemCount s
+  n = item_count s
 
   -- the items relate as they did
-  alike : Alike (itemRelations s) (itemRelations t) to (λ c. c) (up_to n)
-  unfolding disagreesAt withinAt subsetAt agreementAt aheadAt aheadByStanding aheadByWeight
+  alike : Alike (item_relations s) (item_relations t) to (λ c. c) (up_to n)
+  unfolding disagrees_at within_at subset_at agreement_at ahead_at ahead_by_standing ahead_by_weight
   alike = record {
     disagrees = λ i j h l. rw (same-consistent s t j (to j) (at j l), same-record s t j (to j) (at j l), same-record s t i (to i) (at i h)) refl;
-    chiSquare = λ i j h l. rw (same-record s t j (to j) (at j l), same-record s t i (to i) (at i h)) refl;
+    chi_square = λ i j h l. rw (same-record s t j (to j) (at j l), same-record s t i (to i) (at i h)) refl;
     outstands = λ i j h l. rw (same-standing s t j (to j) (at j l), same-standing s t i (to i) (at i h)) refl;
     passed = λ i h. rw (same-verified s t i (to i) (at i h)) refl;
     within = λ i j h l.
@@ -152,28 +152,28 @@ module _ (s t : List ℕ) (to : ℕ → ℕ) (w : Reordered s t to) where
       at : (i : ℕ) → Memᴰ i (up_to n) → item_at t (to i) ≡ item_at s i
       at i m = w.items i (up_in n i m)
 
-  moved-over : decide (itemRelations t) (map to (up_to n)) ≡ carriedOutcome to (λ c. c) (outcome s)
-  moved-over = carried (itemRelations s) (itemRelations t) to (λ c. c) (up_to n) alike
+  moved-over : decide (item_relations t) (map to (up_to n)) ≡ carried_outcome to (λ c. c) (outcome s)
+  moved-over = carried (item_relations s) (item_relations t) to (λ c. c) (up_to n) alike
 
   module _ (good : bad t ≡ false) where
     -- identity and rank order the items of t, in either order
-    turned : {before : ℕ → ℕ → Bool} → Strict before (up_to (itemCount t)) → Strict before (map to (up_to n))
+    turned : {before : ℕ → ℕ → Bool} → Strict before (up_to (item_count t)) → Strict before (map to (up_to n))
     turned {before} o = strict-sub before (λ i m. perm-mem (Permᴰ.symm w.places) m) o
 
-    lower : Strict (lowerAt t) (map to (up_to n))
-    lower = turned (by-identity t (itemCount t) (good-items t good))
+    lower : Strict (lower_at t) (map to (up_to n))
+    lower = turned (by-identity t (item_count t) (good-items t good))
 
     same : SameDecision s t to
     same = record {
       ranked =
-          sym (same-ranked (itemRelations t) (map to (up_to n)) (up_to (itemCount t)) w.places lower (turned (by_rank t (itemCount t) (good-items t good))))
+          sym (same-ranked (item_relations t) (map to (up_to n)) (up_to (item_count t)) w.places lower (turned (by_rank t (item_count t) (good-items t good))))
           ∙ ap (λ (o : Outcome ℕ ChiSquare). o.ranked) moved-over;
       dominated =
           subst (λ (o : Outcome ℕ ChiSquare). Permᴰ (outcome t).dominated o.dominated) moved-over
-          (Permᴰ.symm (same-dominated (itemRelations t) (map to (up_to n)) (up_to (itemCount t)) w.places lower));
+          (Permᴰ.symm (same-dominated (item_relations t) (map to (up_to n)) (up_to (item_count t)) w.places lower));
       refused =
           subst (λ (o : Outcome ℕ ChiSquare). Permᴰ (outcome t).refused o.refused) moved-over
-          (Permᴰ.symm (same-refused (itemRelations t) (map to (up_to n)) (up_to (itemCount t)) w.places lower));
+          (Permᴰ.symm (same-refused (item_relations t) (map to (up_to n)) (up_to (item_count t)) w.places lower));
     }
 
 pub order-free : OrderFree

@@ -6,18 +6,18 @@ use Prim.Native.Nat.{ℕ, ◌+◌, ◌*◌, ◌≤◌}
 use native.Mathlib.Omega.{arith}
 use lib.ListN.{length}
 use Rattle.ranges.proofs.Bools.{by}
-use Rattle.ranges.specs.Lists.{filter, countFrom, up_to}
+use Rattle.ranges.specs.Lists.{filter, count_from, up_to}
 use Rattle.ranges.proofs.Searches.{flat-more}
-use Rattle.items.specs.Layout.{itemSize}
+use Rattle.items.specs.Layout.{item_size}
 use Rattle.std.specs.Prelude.{Option, None, Some, is_some, unwrap_or}
 use Rattle.rule.specs.Outcome as O
 use Rattle.rule.specs.Standing as S
-use Rattle.rule.specs.Standing.{Relations, replaces, isSuperseded, opposes, isContested, is_refused, replaced, opposed, refusalOf}
-use Rattle.rule.specs.Related.{itemRelations}
+use Rattle.rule.specs.Standing.{Relations, replaces, is_superseded, opposes, is_contested, is_refused, replaced, opposed, refusal_of}
+use Rattle.rule.specs.Related.{item_relations}
 use Rattle.rule.specs.Choosing.{choose}
 use Rattle.rule.proofs.Choosing.{chose_none, chose-item}
 use Rattle.decision.specs.declared.Refusal.{Refusal}
-use Rattle.decision.specs.Answer.{refusal, noRefusal, outcome}
+use Rattle.decision.specs.Answer.{refusal, no_refusal, outcome}
 use Rattle.decision.specs.Working.{finding}
 use Rattle.decision.proofs.Laws.{refused-one, refused_none}
 use Rattle.decision.proofs.Passed.{outcome-is}
@@ -34,69 +34,69 @@ module _ (r : Relations ℕ ChiSquare) (all : List ℕ) (i : ℕ) where
   unfolding finding
   none-opposes l e = rw (chose_none r.lower l e) refl
 
-  pub one-replaces : (l : List ℕ) (k : ℕ) (c : ChiSquare) → choose r.lower None l ≡ Some k → c ≡ r.chiSquare k i
+  pub one-replaces : (l : List ℕ) (k : ℕ) (c : ChiSquare) → choose r.lower None l ≡ Some k → c ≡ r.chi_square k i
       → Some (record { refused = i; kept = k; chi2 = c; superseded = true }) ≡ finding (replaced r all i l)
   unfolding finding
   one-replaces l k c e q = let w = chose-item r.lower l k e in rw (w.2, w.3, q) refl
 
-  pub one-opposes : (l : List ℕ) (k : ℕ) (c : ChiSquare) → choose r.lower None l ≡ Some k → c ≡ r.chiSquare i k
+  pub one-opposes : (l : List ℕ) (k : ℕ) (c : ChiSquare) → choose r.lower None l ≡ Some k → c ≡ r.chi_square i k
       → Some (record { refused = i; kept = k; chi2 = c; superseded = false }) ≡ finding (opposed r all i l)
   unfolding finding
   one-opposes l k c e q = let w = chose-item r.lower l k e in rw (w.2, w.3, q) refl
 
   -- which of the two it is
-  pub refusal-replaced : isSuperseded r all i ≡ true → refusalOf r all i ≡ replaced r all i (filter (replaces r all i) all)
-  unfolding refusalOf
+  pub refusal-replaced : is_superseded r all i ≡ true → refusal_of r all i ≡ replaced r all i (filter (replaces r all i) all)
+  unfolding refusal_of
   refusal-replaced e = rw e refl
 
-  pub unrefused : is_refused r all i ≡ false → None ≡ finding (refusalOf r all i)
+  pub unrefused : is_refused r all i ≡ false → None ≡ finding (refusal_of r all i)
   unfolding finding
   unrefused e = ap finding (sym (refused_none r all i e))
 
-  pub refusal-opposed : isSuperseded r all i ≡ false → is_refused r all i ≡ true → refusalOf r all i ≡ opposed r all i (filter (opposes r all i) all)
-  unfolding refusalOf is_refused
-  refusal-opposed e q = let t : isContested r all i ≡ true = rw e at q in rw (e, t) refl
+  pub refusal-opposed : is_superseded r all i ≡ false → is_refused r all i ≡ true → refusal_of r all i ≡ opposed r all i (filter (opposes r all i) all)
+  unfolding refusal_of is_refused
+  refusal-opposed e q = let t : is_contested r all i ≡ true = rw e at q in rw (e, t) refl
 
 -- ---- the refusals so far
 
 abbrev the_refusal : Option Refusal → Refusal
-the_refusal o = unwrap_or o noRefusal
+the_refusal o = unwrap_or o no_refusal
 
 -- the refusals of the items before i, of n items
-abbrev pub refusedTo : Relations ℕ ChiSquare → ℕ → ℕ → List Refusal
-refusedTo r n i = map refusal (flat_map (refusalOf r (up_to n)) (up_to i))
+abbrev pub refused_to : Relations ℕ ChiSquare → ℕ → ℕ → List Refusal
+refused_to r n i = map refusal (flat_map (refusal_of r (up_to n)) (up_to i))
 
-pub none-refused : (r : Relations ℕ ChiSquare) (n : ℕ) → refusedTo r n 0 ≡ []
-unfolding countFrom flat_map
+pub none-refused : (r : Relations ℕ ChiSquare) (n : ℕ) → refused_to r n 0 ≡ []
+unfolding count_from flat_map
 none-refused r n = refl
 
-module _ (r : Relations ℕ ChiSquare) (n i : ℕ) (f : Option Refusal) (e : f ≡ finding (refusalOf r (up_to n) i)) where
-  pub found_none : f ≡ None → refusedTo r n (i + 1) ≡ refusedTo r n i
+module _ (r : Relations ℕ ChiSquare) (n i : ℕ) (f : Option Refusal) (e : f ≡ finding (refusal_of r (up_to n) i)) where
+  pub found_none : f ≡ None → refused_to r n (i + 1) ≡ refused_to r n i
   unfolding finding
   found_none q =
-      let so = flat_map (refusalOf r (up_to n)) (up_to i) in
-      ap (map refusal) (flat-more (refusalOf r (up_to n)) i ∙ ap (λ l. so ++ l) (empty (refusalOf r (up_to n) i) (sym e ∙ q)) ∙ append-nil so)
+      let so = flat_map (refusal_of r (up_to n)) (up_to i) in
+      ap (map refusal) (flat-more (refusal_of r (up_to n)) i ∙ ap (λ l. so ++ l) (empty (refusal_of r (up_to n) i) (sym e ∙ q)) ∙ append-nil so)
     where
       empty : (l : List (O.Refused ℕ ChiSquare)) → finding l ≡ None → l ≡ []
       empty [] e = refl
       empty (x ∷ l) e = absurd (true≢false (ap is_some e))
 
-  pub found-one : (x : Refusal) → f ≡ Some x → refusedTo r n (i + 1) ≡ refusedTo r n i ++ (x ∷ [])
+  pub found-one : (x : Refusal) → f ≡ Some x → refused_to r n (i + 1) ≡ refused_to r n i ++ (x ∷ [])
   unfolding finding
   found-one x q =
       let p : is_refused r (up_to n) i ≡ true = by (is_refused r (up_to n) i) (λ t. t) (λ t. absurd (true≢false (ap is_some (sym q ∙ e ∙ ap finding (refused_none r (up_to n) i t))))) in
       let y = refused-one r (up_to n) i p in
       let z : x ≡ refusal y.0 = ap the_refusal (sym q ∙ e ∙ ap finding y.1) in
-      let so = flat_map (refusalOf r (up_to n)) (up_to i) in
-      ap (map refusal) (flat-more (refusalOf r (up_to n)) i ∙ ap (λ l. so ++ l) y.1) ∙ map_snoc so y.0 ∙ ap (λ v. map refusal so ++ (v ∷ [])) (sym z)
+      let so = flat_map (refusal_of r (up_to n)) (up_to i) in
+      ap (map refusal) (flat-more (refusal_of r (up_to n)) i ∙ ap (λ l. so ++ l) y.1) ∙ map_snoc so y.0 ∙ ap (λ v. map refusal so ++ (v ∷ [])) (sym z)
     where
       map_snoc : (l : List (O.Refused ℕ ChiSquare)) (y : O.Refused ℕ ChiSquare) → map refusal (l ++ (y ∷ [])) ≡ map refusal l ++ (refusal y ∷ [])
       map_snoc [] y = refl
       map_snoc (x ∷ l) y = ap (λ k. refusal x ∷ k) (map_snoc l y)
 
 -- after the last item they are all
-pub all-refused : (s : List ℕ) (n i : ℕ) → length s ≡ n * itemSize → i ≤ n → n ≤ i → refusedTo (itemRelations s) n i ≡ map refusal (outcome s).refused
+pub all-refused : (s : List ℕ) (n i : ℕ) → length s ≡ n * item_size → i ≤ n → n ≤ i → refused_to (item_relations s) n i ≡ map refusal (outcome s).refused
 unfolding S.decide
 all-refused s n i long p q =
     let e : i ≡ n = omega arith in
-    ap (refusedTo (itemRelations s) n) e ∙ ap (λ o. map refusal o.refused) (sym (outcome-is s n long))
+    ap (refused_to (item_relations s) n) e ∙ ap (λ o. map refusal o.refused) (sym (outcome-is s n long))

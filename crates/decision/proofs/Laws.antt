@@ -16,9 +16,9 @@ use Rattle.ranges.specs.Lists.{any_of, filter, foremost}
 use Rattle.ranges.proofs.Orders.{perm-mem}
 use Rattle.ranges.proofs.Lists.{any-in, any-of, any-perm, any_same, filter-in, filter-of, filter-some, filter_same, filter-perm, sort-perm, foremost-in, flat_in, flat-same, flat-perm}
 use Rattle.ranges.proofs.Sorting.{Strict, strict-sub, foremost-perm, sort-same}
-use Rattle.rule.specs.Standing.{Relations, supersedes, replaces, isSuperseded, opposes, isContested, is_refused, isCovered, replaced, opposed, refusalOf, decide}
+use Rattle.rule.specs.Standing.{Relations, supersedes, replaces, is_superseded, opposes, is_contested, is_refused, is_covered, replaced, opposed, refusal_of, decide}
 use Rattle.rule.specs.Outcome.{Refused}
-use Rattle.decision.specs.Claims.{listedIn}
+use Rattle.decision.specs.Claims.{listed_in}
 
 total : (a b : ℕ) → (a ≤ b) ⊎ (b ≤ a)
 total a b = by (leb a b) (λ p. inl (leb-true a b p)) (λ p. inr (le_of_lt (leb-false a b p)))
@@ -50,60 +50,60 @@ module _ {A C : Type 0} (r : Relations A C) (all : List A) where
   -- ---- each item falls in one of the three
 
   -- a refused item has one refusal, another none
-  pub refused-one : (f : A) → is_refused r all f ≡ true → (x : Refused A C) × (refusalOf r all f ≡ x ∷ []) × (x.item ≡ f)
-  unfolding is_refused isContested isSuperseded refusalOf
+  pub refused-one : (f : A) → is_refused r all f ≡ true → (x : Refused A C) × (refusal_of r all f ≡ x ∷ []) × (x.item ≡ f)
+  unfolding is_refused is_contested is_superseded refusal_of
   refused-one f e =
       by (any_of (replaces r all f) all)
       (λ p. let w = filter-some (replaces r all f) all p in
       let k = foremost r.lower w.0 w.1 in
-      (record { item = f; against = k; chi2 = r.chiSquare k f; superseded = true }, rw (p, w.2) refl, refl))
+      (record { item = f; against = k; chi2 = r.chi_square k f; superseded = true }, rw (p, w.2) refl, refl))
       (λ p. let c = rw p at e in
       let o = and_right (not (supersedes r all f)) (any_of (opposes r all f) all) c in
       let w = filter-some (opposes r all f) all o in
       let k = foremost r.lower w.0 w.1 in
-      (record { item = f; against = k; chi2 = r.chiSquare f k; superseded = false }, rw (p, c, w.2) refl, refl))
+      (record { item = f; against = k; chi2 = r.chi_square f k; superseded = false }, rw (p, c, w.2) refl, refl))
 
-  pub refused_none : (f : A) → is_refused r all f ≡ false → refusalOf r all f ≡ []
-  unfolding is_refused refusalOf
+  pub refused_none : (f : A) → is_refused r all f ≡ false → refusal_of r all f ≡ []
+  unfolding is_refused refusal_of
   refused_none f e =
-      by (isSuperseded r all f)
+      by (is_superseded r all f)
       (λ p. clash {b = true} refl (rw p at e))
       (λ p. rw (p, rw p at e) refl)
 
   -- those of a list, in their three lists, are those of the list
   three : (l : List A)
-      → Permᴰ (filter (λ f. not (is_refused r all f) && not (isCovered r all f)) l ++ (filter (λ f. not (is_refused r all f) && isCovered r all f) l ++ map (λ x. x.item) (flat_map (refusalOf r all) l))) l
+      → Permᴰ (filter (λ f. not (is_refused r all f) && not (is_covered r all f)) l ++ (filter (λ f. not (is_refused r all f) && is_covered r all f) l ++ map (λ x. x.item) (flat_map (refusal_of r all) l))) l
   unfolding filter flat_map
   three [] = Permᴰ.nil
   three (f ∷ l) =
-      let a = filter (λ f. not (is_refused r all f) && not (isCovered r all f)) l in
-      let b = filter (λ f. not (is_refused r all f) && isCovered r all f) l in
-      let c = map (λ (x : Refused A C). x.item) (flat_map (refusalOf r all) l) in
+      let a = filter (λ f. not (is_refused r all f) && not (is_covered r all f)) l in
+      let b = filter (λ f. not (is_refused r all f) && is_covered r all f) l in
+      let c = map (λ (x : Refused A C). x.item) (flat_map (refusal_of r all) l) in
       let w = three l in
       by (is_refused r all f)
       (λ p. let x = refused-one f p in
       rw (p, x.1)
       (Permᴰ.trans (Permᴰ.append_left a (Permᴰ.middle x.0.item b c))
       (Permᴰ.trans (Permᴰ.middle x.0.item a (b ++ c)) (Permᴰ.cons x.2 w))))
-      (λ p. by (isCovered r all f)
+      (λ p. by (is_covered r all f)
       (λ q. rw (p, q, refused_none f p) (Permᴰ.trans (Permᴰ.middle f a (b ++ c)) (Permᴰ.cons refl w)))
       (λ q. rw (p, q, refused_none f p) (Permᴰ.cons refl w)))
 
-  pub listed-once : Permᴰ (listedIn (decide r all)) all
+  pub listed-once : Permᴰ (listed_in (decide r all)) all
   unfolding decide
   listed-once =
-      let g : A → Bool = λ f. not (is_refused r all f) && not (isCovered r all f) in
+      let g : A → Bool = λ f. not (is_refused r all f) && not (is_covered r all f) in
       Permᴰ.trans (Permᴰ.append_right ((decide r all).dominated ++ map (λ (x : Refused A C). x.item) (decide r all).refused) (sort-perm r.ahead (filter g all))) (three all)
 
   -- ---- what a refusal names
 
-  pub superseded-in : (f : A) → isSuperseded r all f ≡ true → (g : A) × Memᴰ g all × (replaces r all f g ≡ true)
-  unfolding isSuperseded
+  pub superseded-in : (f : A) → is_superseded r all f ≡ true → (g : A) × Memᴰ g all × (replaces r all f g ≡ true)
+  unfolding is_superseded
   superseded-in f e = any-in (replaces r all f) all e
 
-  pub contested-in : (f : A) → isContested r all f ≡ true → (g : A) × Memᴰ g all × (opposes r all f g ≡ true)
-  unfolding isContested
-  contested-in f e = any-in (opposes r all f) all (and_right (not (isSuperseded r all f)) _ (and_right (not (supersedes r all f)) _ e))
+  pub contested-in : (f : A) → is_contested r all f ≡ true → (g : A) × Memᴰ g all × (opposes r all f g ≡ true)
+  unfolding is_contested
+  contested-in f e = any-in (opposes r all f) all (and_right (not (is_superseded r all f)) _ (and_right (not (supersedes r all f)) _ e))
 
   supersedes-over : (f g : A) → Memᴰ g all → supersedes r all f ≡ true → r.disagrees f g ≡ true → r.outstands f g ≡ true
   unfolding supersedes
@@ -118,9 +118,9 @@ module _ {A C : Type 0} (r : Relations A C) (all : List A) where
 
   -- one that opposes it, or one that takes its place
   pub data Named (x : Refused A C) : Type 0 where
-    opponent : x.superseded ≡ false → x.chi2 ≡ r.chiSquare x.item x.against → Memᴰ x.against all
-        → r.disagrees x.item x.against ≡ true → isSuperseded r all x.against ≡ false → Named x
-    successor : x.superseded ≡ true → x.chi2 ≡ r.chiSquare x.against x.item → Memᴰ x.against all
+    opponent : x.superseded ≡ false → x.chi2 ≡ r.chi_square x.item x.against → Memᴰ x.against all
+        → r.disagrees x.item x.against ≡ true → is_superseded r all x.against ≡ false → Named x
+    successor : x.superseded ≡ true → x.chi2 ≡ r.chi_square x.against x.item → Memᴰ x.against all
         → r.disagrees x.against x.item ≡ true → r.passed x.against ≡ true → r.outstands x.against x.item ≡ true → Named x
 
   single : {x y : Refused A C} → Memᴰ x (y ∷ []) → x ≡ y
@@ -141,20 +141,20 @@ module _ {A C : Type 0} (r : Relations A C) (all : List A) where
       let k = foremost r.lower g l in
       let u = w k (foremost-in r.lower g l) in
       subst Named (sym (single n))
-      (opponent refl refl u.0 (and_left (r.disagrees f k) (not (isSuperseded r all k)) u.1) (not_t _ (and_right (r.disagrees f k) (not (isSuperseded r all k)) u.1)))
+      (opponent refl refl u.0 (and_left (r.disagrees f k) (not (is_superseded r all k)) u.1) (not_t _ (and_right (r.disagrees f k) (not (is_superseded r all k)) u.1)))
 
-  refusal-names : (f : A) → Memᴰ f all → (x : Refused A C) → Memᴰ x (refusalOf r all f) → Named x
-  unfolding refusalOf
+  refusal-names : (f : A) → Memᴰ f all → (x : Refused A C) → Memᴰ x (refusal_of r all f) → Named x
+  unfolding refusal_of
   refusal-names f m x n =
-      by (isSuperseded r all f)
+      by (is_superseded r all f)
       (λ p. replaced-names f m (filter (replaces r all f) all) (λ g k. filter-in (replaces r all f) all g k) x (rw p at n))
-      (λ p. by (isContested r all f)
+      (λ p. by (is_contested r all f)
       (λ q. opposed-names f (filter (opposes r all f) all) (λ g k. filter-in (opposes r all f) all g k) x (rw (p, q) at n))
       (λ q. absurd (Memᴰ.not-nil (rw (p, q) at n))))
 
   pub refused-names : (x : Refused A C) → Memᴰ x (decide r all).refused → Named x
   unfolding decide
-  refused-names x m = let w = flat_in (refusalOf r all) all x m in refusal-names w.0 w.1 x w.2
+  refused-names x m = let w = flat_in (refusal_of r all) all x m in refusal-names w.0 w.1 x w.2
 
 -- ---- ranked is empty only without items
 
@@ -163,16 +163,16 @@ pub record Sound {A C : Type 0} (r : Relations A C) : Type 0 where
   pub standing : A → ℕ
   pub size : A → ℕ
   pub over-is : (f g : A) → r.outstands f g ≡ true → standing g < standing f
-  pub dis-size : (f g : A) → r.disagrees f g ≡ true → size g < size f
-  pub sub-size : (f g : A) → r.within f g ≡ true → size f < size g
+  pub dis_size : (f g : A) → r.disagrees f g ≡ true → size g < size f
+  pub sub_size : (f g : A) → r.within f g ≡ true → size f < size g
 
 module _ {A C : Type 0} (r : Relations A C) (all : List A) (w : Sound r) where
   -- the highest standing is not superseded
-  one_free : any_of (λ f. true) all ≡ true → any_of (λ f. not (isSuperseded r all f)) all ≡ true
+  one_free : any_of (λ f. true) all ≡ true → any_of (λ f. not (is_superseded r all f)) all ≡ true
   one_free some =
       let st = w.standing in
       let b = best_of (λ f g. st g ≤ st f) (λ f g. total (st g) (st f)) (λ f g h p q. le_trans q p) (λ f. true) all some in
-      any-of (λ f. not (isSuperseded r all f)) all b.0 b.1
+      any-of (λ f. not (is_superseded r all f)) all b.0 b.1
       (not_f _ (no_true _ (λ e.
       let s = superseded-in r all b.0 e in
       let p = and_left (supersedes r all s.0) (r.disagrees s.0 b.0) s.2 in
@@ -186,31 +186,31 @@ module _ {A C : Type 0} (r : Relations A C) (all : List A) (w : Sound r) where
   unfolding is_refused
   one-unrefused some =
       let sz = w.size in
-      let b = best_of (λ f g. sz f ≤ sz g) (λ f g. total (sz f) (sz g)) (λ f g h p q. le_trans p q) (λ f. not (isSuperseded r all f)) all (one_free some) in
+      let b = best_of (λ f g. sz f ≤ sz g) (λ f g. total (sz f) (sz g)) (λ f g h p q. le_trans p q) (λ f. not (is_superseded r all f)) all (one_free some) in
       any-of (λ f. not (is_refused r all f)) all b.0 b.1
-      (rw (not_t (isSuperseded r all b.0) b.2) (not_f _ (no_true _ (λ e.
+      (rw (not_t (is_superseded r all b.0) b.2) (not_f _ (no_true _ (λ e.
       let s = contested-in r all b.0 e in
-      let o = w.dis-size b.0 s.0 (and_left (r.disagrees b.0 s.0) (not (isSuperseded r all s.0)) s.2) in
-      let m = b.3 s.0 s.1 (and_right (r.disagrees b.0 s.0) (not (isSuperseded r all s.0)) s.2) in
+      let o = w.dis_size b.0 s.0 (and_left (r.disagrees b.0 s.0) (not (is_superseded r all s.0)) s.2) in
+      let m = b.3 s.0 s.1 (and_right (r.disagrees b.0 s.0) (not (is_superseded r all s.0)) s.2) in
       omega arith))))
 
   -- of those the one with the most tags is covered by none
-  one-stands : any_of (λ f. true) all ≡ true → any_of (λ f. not (is_refused r all f) && not (isCovered r all f)) all ≡ true
-  unfolding isCovered
+  one-stands : any_of (λ f. true) all ≡ true → any_of (λ f. not (is_refused r all f) && not (is_covered r all f)) all ≡ true
+  unfolding is_covered
   one-stands some =
       let sz = w.size in
       let b = best_of (λ f g. sz g ≤ sz f) (λ f g. total (sz g) (sz f)) (λ f g h p q. le_trans q p) (λ f. not (is_refused r all f)) all (one-unrefused some) in
-      any-of (λ f. not (is_refused r all f) && not (isCovered r all f)) all b.0 b.1
+      any-of (λ f. not (is_refused r all f) && not (is_covered r all f)) all b.0 b.1
       (and_both _ _ b.2 (not_f _ (no_true _ (λ e.
       let s = any-in (λ g. not (is_refused r all g) && r.within b.0 g) all e in
-      let o = w.sub-size b.0 s.0 (and_right (not (is_refused r all s.0)) _ s.2) in
+      let o = w.sub_size b.0 s.0 (and_right (not (is_refused r all s.0)) _ s.2) in
       let m = b.3 s.0 s.1 (and_left (not (is_refused r all s.0)) (r.within b.0 s.0) s.2) in
       omega arith))))
 
-  pub some-ranked : (f : A) → Memᴰ f all → (g : A) × Memᴰ g (decide r all).ranked
+  pub some_ranked : (f : A) → Memᴰ f all → (g : A) × Memᴰ g (decide r all).ranked
   unfolding decide
-  some-ranked f m =
-      let stands : A → Bool = λ g. not (is_refused r all g) && not (isCovered r all g) in
+  some_ranked f m =
+      let stands : A → Bool = λ g. not (is_refused r all g) && not (is_covered r all g) in
       let s = any-in stands all (one-stands (any-of (λ g. true) all f m refl)) in
       (s.0, perm-mem (sort-perm r.ahead (filter stands all)) (filter-of stands all s.0 s.1 s.2))
 
@@ -221,15 +221,15 @@ module _ {A C : Type 0} (r : Relations A C) (l m : List A) (p : Permᴰ l m) whe
   unfolding supersedes
   supersedes-same f = rw (any-perm (r.disagrees f) p, any-perm (λ g. r.disagrees f g && not (r.outstands f g)) p) refl
 
-  superseded-same : (f : A) → isSuperseded r l f ≡ isSuperseded r m f
-  unfolding isSuperseded
+  superseded-same : (f : A) → is_superseded r l f ≡ is_superseded r m f
+  unfolding is_superseded
   superseded-same f = any-perm (replaces r l f) p ∙ any_same (replaces r l f) (replaces r m f) m (λ g k. ap (λ (b : Bool). b && r.disagrees g f) (supersedes-same g))
 
   opposes-same : (f g : A) → opposes r l f g ≡ opposes r m f g
   opposes-same f g = ap (λ (b : Bool). r.disagrees f g && not b) (superseded-same g)
 
-  contested-same : (f : A) → isContested r l f ≡ isContested r m f
-  unfolding isContested
+  contested-same : (f : A) → is_contested r l f ≡ is_contested r m f
+  unfolding is_contested
   contested-same f =
       ap₂ (λ (a b : Bool). not a && b) (supersedes-same f)
       (ap₂ (λ (a b : Bool). not a && b) (superseded-same f) (any-perm (opposes r l f) p ∙ any_same (opposes r l f) (opposes r m f) m (λ g k. opposes-same f g)))
@@ -238,8 +238,8 @@ module _ {A C : Type 0} (r : Relations A C) (l m : List A) (p : Permᴰ l m) whe
   unfolding is_refused
   refused-same f = ap₂ ◌||◌ (superseded-same f) (contested-same f)
 
-  covered_same : (f : A) → isCovered r l f ≡ isCovered r m f
-  unfolding isCovered
+  covered_same : (f : A) → is_covered r l f ≡ is_covered r m f
+  unfolding is_covered
   covered_same f =
       any-perm (λ g. not (is_refused r l g) && r.within f g) p
       ∙ any_same (λ g. not (is_refused r l g) && r.within f g) (λ g. not (is_refused r m g) && r.within f g) m (λ g k. ap (λ (b : Bool). not b && r.within f g) (refused-same g))
@@ -261,15 +261,15 @@ module _ {A C : Type 0} (r : Relations A C) (l m : List A) (p : Permᴰ l m) whe
     filters : (g h : A → Bool) → ((f : A) → g f ≡ h f) → Permᴰ (filter g l) (filter h m)
     filters g h e = subst (λ (k : List A). Permᴰ (filter g l) k) (filter_same g h m (λ f k. e f)) (filter-perm g p)
 
-    refusal-same : (f : A) → refusalOf r l f ≡ refusalOf r m f
-    unfolding refusalOf
+    refusal-same : (f : A) → refusal_of r l f ≡ refusal_of r m f
+    unfolding refusal_of
     refusal-same f =
-        by (isSuperseded r l f)
+        by (is_superseded r l f)
         (λ s. rw (s, sym (superseded-same f) ∙ s)
         (replaced-same f (filter (replaces r l f) l) (filter (replaces r m f) m)
         (filters (replaces r l f) (replaces r m f) (λ g. ap (λ (b : Bool). b && r.disagrees g f) (supersedes-same g)))
         (λ g k. (filter-in (replaces r l f) l g k).0)))
-        (λ s. by (isContested r l f)
+        (λ s. by (is_contested r l f)
         (λ t. rw (s, sym (superseded-same f) ∙ s, t, sym (contested-same f) ∙ t)
         (opposed-same f (filter (opposes r l f) l) (filter (opposes r m f) m)
         (filters (opposes r l f) (opposes r m f) (opposes-same f))
@@ -279,18 +279,18 @@ module _ {A C : Type 0} (r : Relations A C) (l m : List A) (p : Permᴰ l m) whe
     pub same-refused : Permᴰ (decide r l).refused (decide r m).refused
     unfolding decide
     same-refused =
-        subst (λ k. Permᴰ (flat_map (refusalOf r l) l) k) (flat-same (refusalOf r l) (refusalOf r m) m (λ f k. refusal-same f)) (flat-perm (refusalOf r l) p)
+        subst (λ k. Permᴰ (flat_map (refusal_of r l) l) k) (flat-same (refusal_of r l) (refusal_of r m) m (λ f k. refusal-same f)) (flat-perm (refusal_of r l) p)
 
     pub same-dominated : Permᴰ (decide r l).dominated (decide r m).dominated
     unfolding decide
     same-dominated =
-        filters (λ f. not (is_refused r l f) && isCovered r l f) (λ f. not (is_refused r m f) && isCovered r m f)
+        filters (λ f. not (is_refused r l f) && is_covered r l f) (λ f. not (is_refused r m f) && is_covered r m f)
         (λ f. ap₂ (λ (a b : Bool). not a && b) (refused-same f) (covered_same f))
 
     pub same-ranked : Strict r.ahead l → (decide r l).ranked ≡ (decide r m).ranked
     unfolding decide
     same-ranked o =
-        let g : A → Bool = λ f. not (is_refused r l f) && not (isCovered r l f) in
+        let g : A → Bool = λ f. not (is_refused r l f) && not (is_covered r l f) in
         sort-same r.ahead
-        (filters g (λ f. not (is_refused r m f) && not (isCovered r m f)) (λ f. ap₂ (λ (a b : Bool). not a && not b) (refused-same f) (covered_same f)))
+        (filters g (λ f. not (is_refused r m f) && not (is_covered r m f)) (λ f. ap₂ (λ (a b : Bool). not a && not b) (refused-same f) (covered_same f)))
         (strict-sub r.ahead (λ f k. (filter-in g l f k).0) o)

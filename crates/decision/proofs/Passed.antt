@@ -10,57 +10,57 @@ use borrow.Author.Tests.{eqb-true, ltb-false}
 use Rattle.ranges.proofs.Bools.{not-false-t, neither_left, neither_right}
 use Rattle.ranges.specs.Lists.{any_of, up_to}
 use Rattle.ranges.proofs.Lists.{any-no, up_of}
-use Rattle.record.specs.Formed.{wellFormed}
-use Rattle.items.specs.Layout.{maxItems, itemSize}
-use Rattle.items.specs.Items.{itemRecord, sameIdentity}
+use Rattle.record.specs.Formed.{well_formed}
+use Rattle.items.specs.Layout.{max_items, item_size}
+use Rattle.items.specs.Items.{item_record, same_identity}
 use Rattle.items.specs.Pairs.{Whole}
 use Rattle.rule.specs.Standing.{decide}
-use Rattle.rule.specs.Related.{itemRelations}
-use Rattle.decision.specs.Answer.{badAt, bad, outcome}
+use Rattle.rule.specs.Related.{item_relations}
+use Rattle.decision.specs.Answer.{bad_at, bad, outcome}
 
 -- they are not too many
-pub few-items : (s : List ℕ) → bad s ≡ false → length s / itemSize ≤ maxItems
+pub few-items : (s : List ℕ) → bad s ≡ false → length s / item_size ≤ max_items
 unfolding bad
-few-items s e = let l = ltb-false (maxItems * itemSize) (length s) (neither_left (ltb (maxItems * itemSize) (length s)) _ e) in omega arith
+few-items s e = let l = ltb-false (max_items * item_size) (length s) (neither_left (ltb (max_items * item_size) (length s)) _ e) in omega arith
 
-pub whole_of : (s : List ℕ) (n : ℕ) → n ≤ maxItems → length s ≡ n * itemSize → any_of (badAt s) (up_to n) ≡ false → Whole s n
-unfolding badAt
+pub whole_of : (s : List ℕ) (n : ℕ) → n ≤ max_items → length s ≡ n * item_size → any_of (bad_at s) (up_to n) ≡ false → Whole s n
+unfolding bad_at
 whole_of s n h l e = record {
   few = h;
   long = l;
-  formed = λ i p. not-false-t (wellFormed (itemRecord s i)) (neither_left (not (wellFormed (itemRecord s i))) (any_of (sameIdentity s i) (up_to i)) (any-no (badAt s) (up_to n) i e (up_of n i p)));
+  formed = λ i p. not-false-t (well_formed (item_record s i)) (neither_left (not (well_formed (item_record s i))) (any_of (same_identity s i) (up_to i)) (any-no (bad_at s) (up_to n) i e (up_of n i p)));
 }
 
 -- and none of them is bad
-pub good-items : (s : List ℕ) → bad s ≡ false → any_of (badAt s) (up_to (length s / itemSize)) ≡ false
+pub good-items : (s : List ℕ) → bad s ≡ false → any_of (bad_at s) (up_to (length s / item_size)) ≡ false
 unfolding bad
 good-items s e =
-    let a = ltb (maxItems * itemSize) (length s) in
-    let b = not (eqb (length s % itemSize) 0) in
-    let r = any_of (badAt s) (up_to (length s / itemSize)) in
+    let a = ltb (max_items * item_size) (length s) in
+    let b = not (eqb (length s % item_size) 0) in
+    let r = any_of (bad_at s) (up_to (length s / item_size)) in
     neither_right b r (neither_right a (b || r) e)
 
 -- they fill the bytes
-pub long-items : (s : List ℕ) → bad s ≡ false → length s ≡ length s / itemSize * itemSize
+pub long-items : (s : List ℕ) → bad s ≡ false → length s ≡ length s / item_size * item_size
 unfolding bad
 long-items s e =
-    let a = ltb (maxItems * itemSize) (length s) in
-    let b = eqb (length s % itemSize) 0 in
-    let r = any_of (badAt s) (up_to (length s / itemSize)) in
-    let z = eqb-true (length s % itemSize) 0 (not-false-t b (neither_left (not b) r (neither_right a (not b || r) e))) in
+    let a = ltb (max_items * item_size) (length s) in
+    let b = eqb (length s % item_size) 0 in
+    let r = any_of (bad_at s) (up_to (length s / item_size)) in
+    let z = eqb-true (length s % item_size) 0 (not-false-t b (neither_left (not b) r (neither_right a (not b || r) e))) in
     omega arith
 
 -- ---- where it is known how many they are
 
-module _ (s : List ℕ) (n : ℕ) (long : length s ≡ n * itemSize) where
-  count-is : length s / itemSize ≡ n
+module _ (s : List ℕ) (n : ℕ) (long : length s ≡ n * item_size) where
+  count-is : length s / item_size ≡ n
   count-is = omega arith
 
-  pub good_of : bad s ≡ false → any_of (badAt s) (up_to n) ≡ false
-  good_of e = ap (λ (k : ℕ). any_of (badAt s) (up_to k)) (sym count-is) ∙ good-items s e
+  pub good_of : bad s ≡ false → any_of (bad_at s) (up_to n) ≡ false
+  good_of e = ap (λ (k : ℕ). any_of (bad_at s) (up_to k)) (sym count-is) ∙ good-items s e
 
   pub whole-items : bad s ≡ false → Whole s n
   whole-items e = let f = few-items s e in whole_of s n (omega arith) long (good_of e)
 
-  pub outcome-is : outcome s ≡ decide (itemRelations s) (up_to n)
-  outcome-is = ap (λ (k : ℕ). decide (itemRelations s) (up_to k)) count-is
+  pub outcome-is : outcome s ≡ decide (item_relations s) (up_to n)
+  outcome-is = ap (λ (k : ℕ). decide (item_relations s) (up_to k)) count-is

@@ -4,30 +4,30 @@ use mathlib.Core.List.{flat_map}
 use lib.Count.{count_leading_zeros}
 use lib.Ieee.{of_bits, to_bits, round, le, lt, eq, of_int, div, mul, add, sub, neg, is_nan}
 use Rattle.octets.specs.Words.{word_bytes, word}
-use Rattle.record.specs.Formed.{wellFormed, ascends, ascendsFrom, allUpTo}
-use Rattle.record.specs.Fields.{tagsFrom}
-use Rattle.floats.specs.Root.{isqrt, digitsOf, rootOf, rootFinite, rootBits, root}
-use Rattle.geometry.specs.Numbers.{fromDecimal}
-use Rattle.geometry.specs.Angles.{degree, radiansOf, factorial, coefficient, sineSeries, cosineSeries, sincosOf}
-use Rattle.geometry.specs.Geodesy.{flattening, eccentricity2, toEcef, enuBasis, subOf, dotOf}
-use Rattle.geometry.specs.Linalg.{less, rowsBelow, columns, choleskyOf, forwards, forward, backwards, backward, solveOf, plus}
-use Rattle.arithmetic.specs.Agree.{limitOf, geodeticOf, matrixOf, sumUnder, finitely, lengthUnder, chiSquareOf, differenceOf, outcomeOf, agreementOf, agreesOf, chiSquareIn}
-use Rattle.octets.specs.Order.{same, isBefore}
+use Rattle.record.specs.Formed.{well_formed, ascends, ascends_from, all_up_to}
+use Rattle.record.specs.Fields.{tags_from}
+use Rattle.floats.specs.Root.{isqrt, digits_of, root_of, root_finite, root_bits, root}
+use Rattle.geometry.specs.Numbers.{from_decimal}
+use Rattle.geometry.specs.Angles.{degree, radians_of, factorial, coefficient, sine_series, cosine_series, sincos_of}
+use Rattle.geometry.specs.Geodesy.{flattening, eccentricity2, to_ecef, enu_basis, sub_of, dot_of}
+use Rattle.geometry.specs.Linalg.{less, rows_below, columns, cholesky_of, forwards, forward, backwards, backward, solve_of, plus}
+use Rattle.arithmetic.specs.Agree.{limit_of, geodetic_of, matrix_of, sum_under, finitely, length_under, chi_square_of, difference_of, outcome_of, agreement_of, agrees_of, chi_square_in}
+use Rattle.octets.specs.Order.{same, is_before}
 use Rattle.octets.specs.Masks.{bits}
-use Rattle.octets.specs.Runs.{allZero}
-use Rattle.record.specs.Relations.{subset, allIn, member}
-use Rattle.ranges.specs.Lists.{any_of, filter, insert, sort, foremost, countFrom}
-use Rattle.items.specs.Items.{disagreesAt, withinAt, subsetAt, agreementAt, aheadAt, aheadByStanding, aheadByWeight}
+use Rattle.octets.specs.Runs.{all_zero}
+use Rattle.record.specs.Relations.{subset, all_in, member}
+use Rattle.ranges.specs.Lists.{any_of, filter, insert, sort, foremost, count_from}
+use Rattle.items.specs.Items.{disagrees_at, within_at, subset_at, agreement_at, ahead_at, ahead_by_standing, ahead_by_weight}
 use Rattle.items.specs.Claimed.{claim_of}
-use Rattle.rule.specs.Standing.{supersedes, isSuperseded, isContested, is_refused, isCovered, refusalOf, decide}
-use Rattle.decision.specs.Answer.{decided, decision, bad, badAt, indices, refusals}
+use Rattle.rule.specs.Standing.{supersedes, is_superseded, is_contested, is_refused, is_covered, refusal_of, decide}
+use Rattle.decision.specs.Answer.{decided, decision, bad, bad_at, indices, refusals}
 use Rattle.decision.specs.Claims.{OnlyTheEndsDisagree, Position3}
 
 -- only S and L disagree
 pub ends-only : OnlyTheEndsDisagree
-unfolding claim_of word_bytes word limitOf geodeticOf matrixOf sumUnder finitely lengthUnder chiSquareOf differenceOf outcomeOf agreementOf agreesOf chiSquareIn degree radiansOf factorial coefficient sineSeries cosineSeries sincosOf flattening eccentricity2 toEcef enuBasis subOf dotOf less rowsBelow columns choleskyOf forwards forward backwards backward solveOf plus fromDecimal isqrt digitsOf rootOf rootFinite rootBits root count_leading_zeros of_bits to_bits round le lt eq of_int div mul add sub neg is_nan
+unfolding claim_of word_bytes word limit_of geodetic_of matrix_of sum_under finitely length_under chi_square_of difference_of outcome_of agreement_of agrees_of chi_square_in degree radians_of factorial coefficient sine_series cosine_series sincos_of flattening eccentricity2 to_ecef enu_basis sub_of dot_of less rows_below columns cholesky_of forwards forward backwards backward solve_of plus from_decimal isqrt digits_of root_of root_finite root_bits root count_leading_zeros of_bits to_bits round le lt eq of_int div mul add sub neg is_nan
 ends-only = (refl, refl, refl)
 
 pub position-3 : Position3
-unfolding decided decision bad badAt indices refusals any_of filter insert sort foremost countFrom flat_map decide isSuperseded isContested is_refused isCovered refusalOf supersedes disagreesAt withinAt subsetAt agreementAt aheadAt aheadByStanding aheadByWeight subset allIn member same isBefore bits allZero wellFormed ascends ascendsFrom allUpTo tagsFrom claim_of word_bytes word limitOf geodeticOf matrixOf sumUnder finitely lengthUnder chiSquareOf differenceOf outcomeOf agreementOf agreesOf chiSquareIn degree radiansOf factorial coefficient sineSeries cosineSeries sincosOf flattening eccentricity2 toEcef enuBasis subOf dotOf less rowsBelow columns choleskyOf forwards forward backwards backward solveOf plus fromDecimal isqrt digitsOf rootOf rootFinite rootBits root count_leading_zeros of_bits to_bits round le lt eq of_int div mul add sub neg is_nan
+unfolding decided decision bad bad_at indices refusals any_of filter insert sort foremost count_from flat_map decide is_superseded is_contested is_refused is_covered refusal_of supersedes disagrees_at within_at subset_at agreement_at ahead_at ahead_by_standing ahead_by_weight subset all_in member same is_before bits all_zero well_formed ascends ascends_from all_up_to tags_from claim_of word_bytes word limit_of geodetic_of matrix_of sum_under finitely length_under chi_square_of difference_of outcome_of agreement_of agrees_of chi_square_in degree radians_of factorial coefficient sine_series cosine_series sincos_of flattening eccentricity2 to_ecef enu_basis sub_of dot_of less rows_below columns cholesky_of forwards forward backwards backward solve_of plus from_decimal isqrt digits_of root_of root_finite root_bits root count_leading_zeros of_bits to_bits round le lt eq of_int div mul add sub neg is_nan
 position-3 = refl

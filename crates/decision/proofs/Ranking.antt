@@ -18,7 +18,7 @@ use Rattle.ranges.proofs.Orders.{perm-length, without, filt-one}
 use Rattle.ranges.proofs.Lists.{filter-in, filter-of, filter_same, sort-perm, up_in}
 use Rattle.ranges.proofs.Sorting.{Strict, strict-sub, sort-first}
 use Rattle.ranges.proofs.Searches.{filter_range, filter-up, holds-none, holds_more}
-use Rattle.items.specs.Layout.{maxItems}
+use Rattle.items.specs.Layout.{max_items}
 use Rattle.std.specs.Prelude.{None, Some}
 use Rattle.rule.specs.Choosing.{choose}
 use Rattle.rule.proofs.Choosing.{chose_none, chose-among, chose-first}
@@ -32,22 +32,22 @@ unmarked m b i h =
 -- of those that pass `test` the first k by rank are in the list, and the others are marked as left
 pub record Ranking (before : ℕ → ℕ → Bool) (n : ℕ) (test : ℕ → Bool) (list : List ℕ) (k : ℕ) (left : List Bool) : Type 0 where
   pub few : k ≤ n
-  pub wide : length left ≡ maxItems
+  pub wide : length left ≡ max_items
   pub so_far : List ℕ
-  pub holds : Holds maxItems 0 list k so_far
+  pub holds : Holds max_items 0 list k so_far
   pub rest : sort before (filter test (up_to n)) ≡ so_far ++ sort before (filter (marked left) (up_to n))
 
 module _ (before : ℕ → ℕ → Bool) (n : ℕ) (test : ℕ → Bool) where
-  pub ranking-none : (left : List Bool) → length left ≡ maxItems → Cached false left test n → Ranking before n test (replicate maxItems 0) 0 left
+  pub ranking-none : (left : List Bool) → length left ≡ max_items → Cached false left test n → Ranking before n test (replicate max_items 0) 0 left
   ranking-none left h c = record {
     few = omega arith;
     wide = h;
     so_far = [];
-    holds = holds-none maxItems 0;
+    holds = holds-none max_items 0;
     rest = ap (sort before) (filter_same test (marked left) (up_to n) (λ i m. sym (cached-at false left test n i c (up_in n i m))));
   }
 
-  module _ (few : n ≤ maxItems) (strict : Strict before (up_to n)) (list : List ℕ) (k : ℕ) (left : List Bool) (w : Ranking before n test list k left) where
+  module _ (few : n ≤ max_items) (strict : Strict before (up_to n)) (list : List ℕ) (k : ℕ) (left : List Bool) (w : Ranking before n test list k left) where
     -- the first of those left, and the others
     taken : (b : ℕ) → b < n → marked left b ≡ true → Permᴰ (filter (marked left) (up_to n)) (b ∷ filter (marked (set left b false)) (up_to n))
     taken b h e =
@@ -79,19 +79,19 @@ module _ (before : ℕ → ℕ → Bool) (n : ℕ) (test : ℕ → Bool) where
       few = omega arith;
       wide = length-set left b false ∙ w.wide;
       so_far = w.so_far ++ (b ∷ []);
-      holds = holds_more maxItems 0 list k w.so_far b (omega arith) w.holds;
+      holds = holds_more max_items 0 list k w.so_far b (omega arith) w.holds;
       rest = w.rest ∙ ap (λ (l : List ℕ). w.so_far ++ l) (first b e) ∙ sym (append_snoc w.so_far b (sort before (filter (marked (set left b false)) (up_to n))));
     }
 
     -- none is left
-    done : sort before (filter (marked left) (up_to n)) ≡ [] → Holds maxItems 0 list k (sort before (filter test (up_to n)))
-    done e = subst (λ (l : List ℕ). Holds maxItems 0 list k l) (sym (w.rest ∙ ap (λ (l : List ℕ). w.so_far ++ l) e ∙ append-nil w.so_far)) w.holds
+    done : sort before (filter (marked left) (up_to n)) ≡ [] → Holds max_items 0 list k (sort before (filter test (up_to n)))
+    done e = subst (λ (l : List ℕ). Holds max_items 0 list k l) (sym (w.rest ∙ ap (λ (l : List ℕ). w.so_far ++ l) e ∙ append-nil w.so_far)) w.holds
 
-    pub ranking-end : choose before None (filter (marked left) (up_to n)) ≡ None → Holds maxItems 0 list k (sort before (filter test (up_to n)))
+    pub ranking-end : choose before None (filter (marked left) (up_to n)) ≡ None → Holds max_items 0 list k (sort before (filter test (up_to n)))
     unfolding sort
     ranking-end e = done (ap (sort before) (chose_none before (filter (marked left) (up_to n)) e))
 
-    pub ranking-full : n ≤ k → Holds maxItems 0 list k (sort before (filter test (up_to n)))
+    pub ranking-full : n ≤ k → Holds max_items 0 list k (sort before (filter test (up_to n)))
     ranking-full h =
         let l = sort before (filter (marked left) (up_to n)) in
         let a = perm-length (sort-perm before (filter test (up_to n))) in

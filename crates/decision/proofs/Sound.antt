@@ -11,52 +11,52 @@ use lib.Dec.{ltb}
 use borrow.Author.Tests.{ltb-true, lt-ltb, le-ltb, ltb-false}
 use Rattle.octets.specs.Order.{same}
 use Rattle.octets.proofs.Comparison.{before-trans, before-irrefl, tri, same_refl}
-use Rattle.record.specs.Fields.{tagCount}
-use Rattle.record.specs.Formed.{wellFormed}
+use Rattle.record.specs.Fields.{tag_count}
+use Rattle.record.specs.Formed.{well_formed}
 use Rattle.record.proofs.Laws.{subset-fewer}
 use Rattle.ranges.proofs.Bools.{by, or, and_left, and_right, not_t, neither_right}
-use Rattle.ranges.specs.Lists.{any_of, filter, countFrom, up_to}
+use Rattle.ranges.specs.Lists.{any_of, filter, count_from, up_to}
 use Rattle.ranges.proofs.Lists.{any-no, filter-in, count-in, up_in, up_of}
 use Rattle.ranges.proofs.Sorting.{Strict, Apart, single, also}
-use Rattle.arithmetic.specs.Agree.{agreesOf}
-use Rattle.items.specs.Items.{itemRecord, itemIdentity, itemStanding, itemWeight, itemConsistent, itemPreferred, subsetAt, agreementAt, disagreesAt, withinAt, sameInputs, sameIdentity, lowerAt, aheadByWeight, aheadByStanding, aheadAt}
-use Rattle.items.specs.Claimed.{moreFirst}
-use Rattle.rule.specs.Related.{itemRelations}
-use Rattle.decision.specs.Answer.{badAt}
+use Rattle.arithmetic.specs.Agree.{agrees_of}
+use Rattle.items.specs.Items.{item_record, item_identity, item_standing, item_weight, item_consistent, item_preferred, subset_at, agreement_at, disagrees_at, within_at, same_inputs, same_identity, lower_at, ahead_by_weight, ahead_by_standing, ahead_at}
+use Rattle.items.specs.Claimed.{more_first}
+use Rattle.rule.specs.Related.{item_relations}
+use Rattle.decision.specs.Answer.{bad_at}
 use Rattle.decision.proofs.Laws.{Sound}
 
-fewer : (s : List ℕ) (i j : ℕ) → subsetAt s i j ≡ true → tagCount (itemRecord s i) < tagCount (itemRecord s j)
-unfolding subsetAt
-fewer s i j e = subset-fewer (itemRecord s i) (itemRecord s j) e
+fewer : (s : List ℕ) (i j : ℕ) → subset_at s i j ≡ true → tag_count (item_record s i) < tag_count (item_record s j)
+unfolding subset_at
+fewer s i j e = subset-fewer (item_record s i) (item_record s j) e
 
 -- a disagreeing subset is consistent, a subset, and does not agree
-module _ (s : List ℕ) (i j : ℕ) (e : disagreesAt s i j ≡ true) where
-  pub is-consistent : itemConsistent s j ≡ true
-  unfolding disagreesAt
-  is-consistent = and_left (itemConsistent s j) (subsetAt s j i && not (agreesOf (agreementAt s i j))) e
+module _ (s : List ℕ) (i j : ℕ) (e : disagrees_at s i j ≡ true) where
+  pub is-consistent : item_consistent s j ≡ true
+  unfolding disagrees_at
+  is-consistent = and_left (item_consistent s j) (subset_at s j i && not (agrees_of (agreement_at s i j))) e
 
-  pub is_subset : subsetAt s j i ≡ true
-  unfolding disagreesAt
-  is_subset = and_left (subsetAt s j i) (not (agreesOf (agreementAt s i j))) (and_right (itemConsistent s j) (subsetAt s j i && not (agreesOf (agreementAt s i j))) e)
+  pub is_subset : subset_at s j i ≡ true
+  unfolding disagrees_at
+  is_subset = and_left (subset_at s j i) (not (agrees_of (agreement_at s i j))) (and_right (item_consistent s j) (subset_at s j i && not (agrees_of (agreement_at s i j))) e)
 
-  pub is-apart : agreesOf (agreementAt s i j) ≡ false
-  unfolding disagreesAt
-  is-apart = not_t (agreesOf (agreementAt s i j)) (and_right (subsetAt s j i) (not (agreesOf (agreementAt s i j))) (and_right (itemConsistent s j) (subsetAt s j i && not (agreesOf (agreementAt s i j))) e))
+  pub is-apart : agrees_of (agreement_at s i j) ≡ false
+  unfolding disagrees_at
+  is-apart = not_t (agrees_of (agreement_at s i j)) (and_right (subset_at s j i) (not (agrees_of (agreement_at s i j))) (and_right (item_consistent s j) (subset_at s j i && not (agrees_of (agreement_at s i j))) e))
 
-pub rel-sound : (s : List ℕ) → Sound (itemRelations s)
-unfolding withinAt
+pub rel-sound : (s : List ℕ) → Sound (item_relations s)
+unfolding within_at
 rel-sound s = record {
-  standing = λ i. itemStanding s i;
-  size = λ i. tagCount (itemRecord s i);
-  over-is = λ i j e. ltb-true (itemStanding s j) (itemStanding s i) e;
-  dis-size = λ i j e. fewer s j i (is_subset s i j e);
-  sub-size = λ i j e. fewer s i j (and_left (subsetAt s i j) (sameInputs s i j) e);
+  standing = λ i. item_standing s i;
+  size = λ i. tag_count (item_record s i);
+  over-is = λ i j e. ltb-true (item_standing s j) (item_standing s i) e;
+  dis_size = λ i j e. fewer s j i (is_subset s i j e);
+  sub_size = λ i j e. fewer s i j (and_left (subset_at s i j) (same_inputs s i j) e);
 }
 
 -- ---- identity and rank
 
 -- the more first, then by another order
-more-trans : (a b c : ℕ) (p q t : Bool) → (p ≡ true → q ≡ true → t ≡ true) → moreFirst a b p ≡ true → moreFirst b c q ≡ true → moreFirst a c t ≡ true
+more-trans : (a b c : ℕ) (p q t : Bool) → (p ≡ true → q ≡ true → t ≡ true) → more_first a b p ≡ true → more_first b c q ≡ true → more_first a c t ≡ true
 more-trans a b c p q t f u v =
     by (ltb b a)
     (λ x. by (ltb c b)
@@ -71,10 +71,10 @@ more-trans a b c p q t f u v =
     (λ w. let k = ltb-false c b y in let j = ltb-false b c w in
     rw (le-ltb c a (omega arith), le-ltb a c (omega arith)) (f (rw (x, z) at u) (rw (y, w) at v))))))
 
-more-irrefl : (a : ℕ) (p : Bool) → p ≡ false → moreFirst a a p ≡ false
+more-irrefl : (a : ℕ) (p : Bool) → p ≡ false → more_first a a p ≡ false
 more-irrefl a p e = rw (le-ltb a a (omega arith)) e
 
-more-total : (a b : ℕ) (p q : Bool) → (p ≡ true) ⊎ (q ≡ true) → (moreFirst a b p ≡ true) ⊎ (moreFirst b a q ≡ true)
+more-total : (a b : ℕ) (p q : Bool) → (p ≡ true) ⊎ (q ≡ true) → (more_first a b p ≡ true) ⊎ (more_first b a q ≡ true)
 more-total a b p q f =
     by (ltb b a)
     (λ x. inl (rw x refl))
@@ -83,95 +83,95 @@ more-total a b p q f =
     (λ y. or f (λ u. inl (rw (x, y) u)) (λ u. inr (rw (y, x) u))))
 
 module _ (s : List ℕ) where
-  weight-trans : (i j k : ℕ) → aheadByWeight s i j ≡ true → aheadByWeight s j k ≡ true → aheadByWeight s i k ≡ true
-  unfolding aheadByWeight
+  weight-trans : (i j k : ℕ) → ahead_by_weight s i j ≡ true → ahead_by_weight s j k ≡ true → ahead_by_weight s i k ≡ true
+  unfolding ahead_by_weight
   weight-trans i j k u v =
-      more-trans (itemWeight s i) (itemWeight s j) (itemWeight s k) (lowerAt s i j) (lowerAt s j k) (lowerAt s i k)
-      (before-trans (itemIdentity s i) (itemIdentity s j) (itemIdentity s k)) u v
+      more-trans (item_weight s i) (item_weight s j) (item_weight s k) (lower_at s i j) (lower_at s j k) (lower_at s i k)
+      (before-trans (item_identity s i) (item_identity s j) (item_identity s k)) u v
 
-  standing-trans : (i j k : ℕ) → aheadByStanding s i j ≡ true → aheadByStanding s j k ≡ true → aheadByStanding s i k ≡ true
-  unfolding aheadByStanding
+  standing-trans : (i j k : ℕ) → ahead_by_standing s i j ≡ true → ahead_by_standing s j k ≡ true → ahead_by_standing s i k ≡ true
+  unfolding ahead_by_standing
   standing-trans i j k u v =
-      more-trans (itemStanding s i) (itemStanding s j) (itemStanding s k) (aheadByWeight s i j) (aheadByWeight s j k) (aheadByWeight s i k) (weight-trans i j k) u v
+      more-trans (item_standing s i) (item_standing s j) (item_standing s k) (ahead_by_weight s i j) (ahead_by_weight s j k) (ahead_by_weight s i k) (weight-trans i j k) u v
 
-  pub ahead-trans : (i j k : ℕ) → aheadAt s i j ≡ true → aheadAt s j k ≡ true → aheadAt s i k ≡ true
-  unfolding aheadAt
+  pub ahead-trans : (i j k : ℕ) → ahead_at s i j ≡ true → ahead_at s j k ≡ true → ahead_at s i k ≡ true
+  unfolding ahead_at
   ahead-trans i j k u v =
-      by (itemPreferred s i)
-      (λ a. by (itemPreferred s k)
-      (λ c. by (itemPreferred s j)
+      by (item_preferred s i)
+      (λ a. by (item_preferred s k)
+      (λ c. by (item_preferred s j)
       (λ b. rw (a, c) (standing-trans i j k (rw (a, b) at u) (rw (b, c) at v)))
       (λ b. absurd (false≢true (rw (b, c) at v))))
       (λ c. rw (a, c) refl))
-      (λ a. by (itemPreferred s j)
+      (λ a. by (item_preferred s j)
       (λ b. absurd (false≢true (rw (a, b) at u)))
-      (λ b. by (itemPreferred s k)
+      (λ b. by (item_preferred s k)
       (λ c. absurd (false≢true (rw (b, c) at v)))
       (λ c. rw (a, c) (standing-trans i j k (rw (a, b) at u) (rw (b, c) at v)))))
 
-  standing-irrefl : (i : ℕ) → aheadByStanding s i i ≡ false
-  unfolding aheadByStanding aheadByWeight
+  standing-irrefl : (i : ℕ) → ahead_by_standing s i i ≡ false
+  unfolding ahead_by_standing ahead_by_weight
   standing-irrefl i =
-      more-irrefl (itemStanding s i) (moreFirst (itemWeight s i) (itemWeight s i) (lowerAt s i i))
-      (more-irrefl (itemWeight s i) (lowerAt s i i) (before-irrefl (itemIdentity s i)))
+      more-irrefl (item_standing s i) (more_first (item_weight s i) (item_weight s i) (lower_at s i i))
+      (more-irrefl (item_weight s i) (lower_at s i i) (before-irrefl (item_identity s i)))
 
-  ahead-irrefl : (i : ℕ) → aheadAt s i i ≡ false
-  unfolding aheadAt
-  ahead-irrefl i = by (itemPreferred s i) (λ a. rw a (standing-irrefl i)) (λ a. rw a (standing-irrefl i))
+  ahead-irrefl : (i : ℕ) → ahead_at s i i ≡ false
+  unfolding ahead_at
+  ahead-irrefl i = by (item_preferred s i) (λ a. rw a (standing-irrefl i)) (λ a. rw a (standing-irrefl i))
 
-  ahead-total : (i j : ℕ) → (lowerAt s i j ≡ true) ⊎ (lowerAt s j i ≡ true) → (aheadAt s i j ≡ true) ⊎ (aheadAt s j i ≡ true)
-  unfolding aheadAt aheadByStanding aheadByWeight
+  ahead-total : (i j : ℕ) → (lower_at s i j ≡ true) ⊎ (lower_at s j i ≡ true) → (ahead_at s i j ≡ true) ⊎ (ahead_at s j i ≡ true)
+  unfolding ahead_at ahead_by_standing ahead_by_weight
   ahead-total i j f =
-      let w = more-total (itemWeight s i) (itemWeight s j) (lowerAt s i j) (lowerAt s j i) f in
-      let t = more-total (itemStanding s i) (itemStanding s j) (aheadByWeight s i j) (aheadByWeight s j i) w in
-      by (itemPreferred s i)
-      (λ a. by (itemPreferred s j) (λ b. or t (λ u. inl (rw (a, b) u)) (λ u. inr (rw (b, a) u))) (λ b. inl (rw (a, b) refl)))
-      (λ a. by (itemPreferred s j) (λ b. inr (rw (b, a) refl)) (λ b. or t (λ u. inl (rw (a, b) u)) (λ u. inr (rw (b, a) u))))
+      let w = more-total (item_weight s i) (item_weight s j) (lower_at s i j) (lower_at s j i) f in
+      let t = more-total (item_standing s i) (item_standing s j) (ahead_by_weight s i j) (ahead_by_weight s j i) w in
+      by (item_preferred s i)
+      (λ a. by (item_preferred s j) (λ b. or t (λ u. inl (rw (a, b) u)) (λ u. inr (rw (b, a) u))) (λ b. inl (rw (a, b) refl)))
+      (λ a. by (item_preferred s j) (λ b. inr (rw (b, a) refl)) (λ b. or t (λ u. inl (rw (a, b) u)) (λ u. inr (rw (b, a) u))))
 
   -- two items with one identity are refused
-  module _ (n : ℕ) (good : any_of (badAt s) (up_to n) ≡ false) where
-    apart : (i j : ℕ) → i < n → j < i → itemIdentity s i ≡ itemIdentity s j → ⊥
-    unfolding badAt
+  module _ (n : ℕ) (good : any_of (bad_at s) (up_to n) ≡ false) where
+    apart : (i j : ℕ) → i < n → j < i → item_identity s i ≡ item_identity s j → ⊥
+    unfolding bad_at
     apart i j h l q =
-        let b = neither_right (not (wellFormed (itemRecord s i))) (any_of (sameIdentity s i) (up_to i)) (any-no (badAt s) (up_to n) i good (up_of n i h)) in
-        let c = any-no (sameIdentity s i) (up_to i) j b (up_of i j l) in
-        true≢false (sym (same_refl (itemIdentity s i)) ∙ ap (same (itemIdentity s i)) q ∙ c)
+        let b = neither_right (not (well_formed (item_record s i))) (any_of (same_identity s i) (up_to i)) (any-no (bad_at s) (up_to n) i good (up_of n i h)) in
+        let c = any-no (same_identity s i) (up_to i) j b (up_of i j l) in
+        true≢false (sym (same_refl (item_identity s i)) ∙ ap (same (item_identity s i)) q ∙ c)
 
-    lower-total : (i j : ℕ) → i < n → j < n → (i ≡ j) ⊎ ((lowerAt s i j ≡ true) ⊎ (lowerAt s j i ≡ true))
+    lower-total : (i j : ℕ) → i < n → j < n → (i ≡ j) ⊎ ((lower_at s i j ≡ true) ⊎ (lower_at s j i ≡ true))
     lower-total i j h l =
-        or (tri (itemIdentity s i) (itemIdentity s j)) (λ a. inr (inl a))
+        or (tri (item_identity s i) (item_identity s j)) (λ a. inr (inl a))
         (λ b. or b (λ q. inl (equal q (dec_lt i j) (dec_lt j i))) (λ c. inr (inr c)))
       where
-        equal : itemIdentity s i ≡ itemIdentity s j → Dec (i < j) → Dec (j < i) → i ≡ j
+        equal : item_identity s i ≡ item_identity s j → Dec (i < j) → Dec (j < i) → i ≡ j
         equal q (yes p) d = absurd (apart j i l p (sym q))
         equal q (no p) (yes d) = absurd (apart i j h d q)
         equal q (no p) (no d) = omega arith
 
-    rank-total : (i j : ℕ) → i < n → j < n → (i ≡ j) ⊎ ((aheadAt s i j ≡ true) ⊎ (aheadAt s j i ≡ true))
+    rank-total : (i j : ℕ) → i < n → j < n → (i ≡ j) ⊎ ((ahead_at s i j ≡ true) ⊎ (ahead_at s j i ≡ true))
     rank-total i j h l = or (lower-total i j h l) (λ z. inl z) (λ f. inr (ahead-total i j f))
 
     -- items that `decide` does not refuse are strictly ordered
-    pub by-identity : Strict (lowerAt s) (up_to n)
+    pub by-identity : Strict (lower_at s) (up_to n)
     by-identity = record {
-      irrefl = λ i. before-irrefl (itemIdentity s i);
-      trans = λ i j k. before-trans (itemIdentity s i) (itemIdentity s j) (itemIdentity s k);
+      irrefl = λ i. before-irrefl (item_identity s i);
+      trans = λ i j k. before-trans (item_identity s i) (item_identity s j) (item_identity s k);
       total = λ i j h l. lower-total i j (up_in n i h) (up_in n j l);
     }
 
-    pub by_rank : Strict (aheadAt s) (up_to n)
+    pub by_rank : Strict (ahead_at s) (up_to n)
     by_rank = record { irrefl = ahead-irrefl; trans = ahead-trans; total = λ i j h l. rank-total i j (up_in n i h) (up_in n j l) }
 
     -- and any two of those that pass a test rank one before the other
-    pub rank-apart : (test : ℕ → Bool) → Apart (aheadAt s) (filter test (up_to n))
-    unfolding countFrom filter
+    pub rank-apart : (test : ℕ → Bool) → Apart (ahead_at s) (filter test (up_to n))
+    unfolding count_from filter
     rank-apart test = go 0 n (omega arith)
       where
-        go : (k f : ℕ) → k + f ≤ n → Apart (aheadAt s) (filter test (countFrom k f))
+        go : (k f : ℕ) → k + f ≤ n → Apart (ahead_at s) (filter test (count_from k f))
         go k zero h = single
         go k (suc f) h =
             by (test k)
             (λ t. rw t (also
-            (λ y m. let r = count-in (suc k) f y (filter-in test (countFrom (suc k) f) y m).0 in
+            (λ y m. let r = count-in (suc k) f y (filter-in test (count_from (suc k) f) y m).0 in
             or (rank-total k y (omega arith) (omega arith)) (λ e. absurd (omega arith)) (λ e. e))
             (go (suc k) f (omega arith))))
             (λ t. rw t (go (suc k) f (omega arith)))

@@ -3,52 +3,52 @@
 use Rattle.std.specs.Prelude.{◌≡◌, Bool, false, not, ◌&&◌, List, map, ℕ, ◌/◌, Float, length}
 use Rattle.std.specs.Float.{inf}
 use Rattle.ranges.specs.Lists.{up_to}
-use Rattle.arithmetic.specs.Before.{agreementBefore, agreedBefore}
+use Rattle.arithmetic.specs.Before.{agreement_before, agreed_before}
 use Rattle.arithmetic.specs.declared.standing.Measure.{Measure}
 use Rattle.arithmetic.specs.declared.standing.ChiSquare.{ChiSquare}
 use Rattle.arithmetic.specs.declared.standing.ChiSquare.TheVariants.{Measured, Unmeasured}
-use Rattle.items.specs.Layout.{itemSize}
+use Rattle.items.specs.Layout.{item_size}
 use Rattle.items.specs.Claimed.{claim_of}
-use Rattle.items.specs.Items.{itemRecord, itemConsistent, subsetAt}
+use Rattle.items.specs.Items.{item_record, item_consistent, subset_at}
 use Rattle.rule.specs.Standing.{Relations, decide}
 use Rattle.rule.specs.Outcome.{Refused, Outcome}
-use Rattle.rule.specs.Related.{itemRelations}
+use Rattle.rule.specs.Related.{item_relations}
 use Rattle.decision.specs.Answer.{outcome}
 
 -- item i against its subset j
-abbrev pub measuredBefore : List ℕ → ℕ → ℕ → Measure
-measuredBefore s i j = agreementBefore (claim_of (itemRecord s j)) (claim_of (itemRecord s i))
+abbrev pub measured_before : List ℕ → ℕ → ℕ → Measure
+measured_before s i j = agreement_before (claim_of (item_record s j)) (claim_of (item_record s i))
 
 -- j is a consistent subset of i, and they disagreed
-abbrev pub disagreedBefore : List ℕ → ℕ → ℕ → Bool
-disagreedBefore s i j = itemConsistent s j && (subsetAt s j i && not (agreedBefore (measuredBefore s i j)))
+abbrev pub disagreed_before : List ℕ → ℕ → ℕ → Bool
+disagreed_before s i j = item_consistent s j && (subset_at s j i && not (agreed_before (measured_before s i j)))
 
 -- the relations of before: all others are those of now
-abbrev pub relationsBefore : List ℕ → Relations ℕ Float
-relationsBefore s = record {
-  disagrees = disagreedBefore s;
-  chiSquare = λ i j. (measuredBefore s i j).chi2;
-  outstands = (itemRelations s).outstands;
-  passed = (itemRelations s).passed;
-  within = (itemRelations s).within;
-  lower = (itemRelations s).lower;
-  ahead = (itemRelations s).ahead;
+abbrev pub relations_before : List ℕ → Relations ℕ Float
+relations_before s = record {
+  disagrees = disagreed_before s;
+  chi_square = λ i j. (measured_before s i j).chi2;
+  outstands = (item_relations s).outstands;
+  passed = (item_relations s).passed;
+  within = (item_relations s).within;
+  lower = (item_relations s).lower;
+  ahead = (item_relations s).ahead;
 }
 
-abbrev pub outcomeBefore : List ℕ → Outcome ℕ Float
-outcomeBefore s = decide (relationsBefore s) (up_to (length s / itemSize))
+abbrev pub outcome_before : List ℕ → Outcome ℕ Float
+outcome_before s = decide (relations_before s) (up_to (length s / item_size))
 
 -- the number of before: infinite where there is none now
-abbrev pub numberBefore : ChiSquare → Float
-numberBefore (Measured x) = x
-numberBefore Unmeasured = inf false
+abbrev pub number_before : ChiSquare → Float
+number_before (Measured x) = x
+number_before Unmeasured = inf false
 
-abbrev pub refusedBefore : Refused ℕ ChiSquare → Refused ℕ Float
-refusedBefore x = record { item = x.item; against = x.against; chi2 = numberBefore x.chi2; superseded = x.superseded }
+abbrev pub refused_before : Refused ℕ ChiSquare → Refused ℕ Float
+refused_before x = record { item = x.item; against = x.against; chi2 = number_before x.chi2; superseded = x.superseded }
 
 -- The same items are ranked, in the same order, dominated and refused, each refusal names the same, and it has the number of before.
 abbrev pub DecidedAsBefore : Type 0
 DecidedAsBefore =
     (s : List ℕ)
-    → outcomeBefore s
-    ≡ record { ranked = (outcome s).ranked; dominated = (outcome s).dominated; refused = map refusedBefore (outcome s).refused }
+    → outcome_before s
+    ≡ record { ranked = (outcome s).ranked; dominated = (outcome s).dominated; refused = map refused_before (outcome s).refused }

@@ -3,57 +3,57 @@
 use Rattle.std.specs.Prelude.{◌≡◌, true, false, ℕ, ◌*◌, ◌/◌, ◌<◌, length, take, drop}
 use mathlib.Core.List.{List, [], ◌∷◌, ◌++◌, map, Memᴰ, Permᴰ}
 use Rattle.ranges.specs.Lists.{Ascending, up_to}
-use Rattle.arithmetic.specs.Agree.{agreementOf, agreesOf, chiSquareIn}
-use Rattle.items.specs.Layout.{itemSize}
-use Rattle.items.specs.Items.{itemConsistent, subsetAt, agreementAt, outstandsAt, aheadAt, itemVerified, isPassed}
+use Rattle.arithmetic.specs.Agree.{agreement_of, agrees_of, chi_square_in}
+use Rattle.items.specs.Layout.{item_size}
+use Rattle.items.specs.Items.{item_consistent, subset_at, agreement_at, outstands_at, ahead_at, item_verified, is_passed}
 use Rattle.items.specs.Claimed.{claim_of}
-use Rattle.rule.specs.Standing.{Relations, isSuperseded, decide}
+use Rattle.rule.specs.Standing.{Relations, is_superseded, decide}
 use Rattle.rule.specs.Outcome.{Refused, Outcome}
-use Rattle.rule.specs.Related.{itemRelations}
+use Rattle.rule.specs.Related.{item_relations}
 use Rattle.decision.specs.Answer.{bad, outcome, decided, indices, refusals}
 use Rattle.decision.specs.Positions.{item, S, M, L}
 use Rattle.arithmetic.specs.declared.standing.ChiSquare.{ChiSquare}
 
 -- the items that an outcome lists
-abbrev pub listedIn : {A C : Type 0} → Outcome A C → List A
-listedIn o = o.ranked ++ (o.dominated ++ map (λ x. x.item) o.refused)
+abbrev pub listed_in : {A C : Type 0} → Outcome A C → List A
+listed_in o = o.ranked ++ (o.dominated ++ map (λ x. x.item) o.refused)
 
 -- Every item falls in exactly one of ranked, dominated, refused: together they are the items in another order. So it is of any items.
 abbrev pub EachOnce : Type 1
-EachOnce = (A C : Type 0) (r : Relations A C) (all : List A) → Permᴰ (listedIn (decide r all)) all
+EachOnce = (A C : Type 0) (r : Relations A C) (all : List A) → Permᴰ (listed_in (decide r all)) all
 
 -- the number of items in s
-abbrev pub itemCount : List ℕ → ℕ
-itemCount s = length s / itemSize
+abbrev pub item_count : List ℕ → ℕ
+item_count s = length s / item_size
 
 -- A refusal that is not superseding names a consistent, disagreeing, unsuperseded subset, with the chi-square of the two.
 pub record Contest (s : List ℕ) (item against : ℕ) : Type 0 where
-  pub an_item : against < itemCount s
-  pub consistent : itemConsistent s against ≡ true
-  pub subset : subsetAt s against item ≡ true
-  pub disagreeing : agreesOf (agreementAt s item against) ≡ false
-  pub unsuperseded : isSuperseded (itemRelations s) (up_to (itemCount s)) against ≡ false
+  pub an_item : against < item_count s
+  pub consistent : item_consistent s against ≡ true
+  pub subset : subset_at s against item ≡ true
+  pub disagreeing : agrees_of (agreement_at s item against) ≡ false
+  pub unsuperseded : is_superseded (item_relations s) (up_to (item_count s)) against ≡ false
 
 -- A superseding one names a superset that is verified, passed, disagrees, and has strictly more standing.
 pub record Succession (s : List ℕ) (item against : ℕ) : Type 0 where
-  pub an_item : against < itemCount s
-  pub superset : subsetAt s item against ≡ true
-  pub disagreeing : agreesOf (agreementAt s against item) ≡ false
-  pub verified : isPassed (itemVerified s against) ≡ true
-  pub more-standing : outstandsAt s against item ≡ true
+  pub an_item : against < item_count s
+  pub superset : subset_at s item against ≡ true
+  pub disagreeing : agrees_of (agreement_at s against item) ≡ false
+  pub verified : is_passed (item_verified s against) ≡ true
+  pub more_standing : outstands_at s against item ≡ true
 
 -- which of the two a refusal is, with the chi-square between them
 pub data Names (s : List ℕ) (x : Refused ℕ ChiSquare) : Type 0 where
-  contest : x.superseded ≡ false → x.chi2 ≡ chiSquareIn (agreementAt s x.item x.against) → Contest s x.item x.against → Names s x
-  succession : x.superseded ≡ true → x.chi2 ≡ chiSquareIn (agreementAt s x.against x.item) → Succession s x.item x.against → Names s x
+  contest : x.superseded ≡ false → x.chi2 ≡ chi_square_in (agreement_at s x.item x.against) → Contest s x.item x.against → Names s x
+  succession : x.superseded ≡ true → x.chi2 ≡ chi_square_in (agreement_at s x.against x.item) → Succession s x.item x.against → Names s x
 
 pub record Lawful (s : List ℕ) : Type 0 where
   -- every index falls in exactly one of the three
-  pub each-once : Permᴰ (listedIn (outcome s)) (up_to (itemCount s))
+  pub each_once : Permᴰ (listed_in (outcome s)) (up_to (item_count s))
   -- ranked is empty only without items
-  pub some-ranked : (outcome s).ranked ≡ [] → itemCount s ≡ 0
+  pub some_ranked : (outcome s).ranked ≡ [] → item_count s ≡ 0
   -- and each of them comes in rank before every later one
-  pub by_rank : Ascending (aheadAt s) (outcome s).ranked
+  pub by_rank : Ascending (ahead_at s) (outcome s).ranked
   -- what a refusal names
   pub names : (x : Refused ℕ ChiSquare) → Memᴰ x (outcome s).refused → Names s x
 
@@ -65,12 +65,12 @@ DecisionsLawful = (s : List ℕ) → bad s ≡ false → Lawful s
 
 -- the bytes of item i
 abbrev pub item_at : List ℕ → ℕ → List ℕ
-item_at s i = take itemSize (drop (i * itemSize) s)
+item_at s i = take item_size (drop (i * item_size) s)
 
 -- t has the items of s in another order, that at i at `to i`
 pub record Reordered (s t : List ℕ) (to : ℕ → ℕ) : Type 0 where
-  pub places : Permᴰ (map to (up_to (itemCount s))) (up_to (itemCount t))
-  pub items : (i : ℕ) → i < itemCount s → item_at t (to i) ≡ item_at s i
+  pub places : Permᴰ (map to (up_to (item_count s))) (up_to (item_count t))
+  pub items : (i : ℕ) → i < item_count s → item_at t (to i) ≡ item_at s i
 
 -- a refusal with its items at their new places
 abbrev pub moved : (ℕ → ℕ) → Refused ℕ ChiSquare → Refused ℕ ChiSquare
@@ -91,9 +91,9 @@ OrderFree = (s t : List ℕ) (to : ℕ → ℕ) → bad s ≡ false → bad t �
 -- S in M in L, equal inputs, only S and L disagreeing: M is ranked, S dominated, L refused
 abbrev pub OnlyTheEndsDisagree : Type 0
 OnlyTheEndsDisagree =
-    (agreesOf (agreementOf (claim_of S) (claim_of M)) ≡ true)
-    × (agreesOf (agreementOf (claim_of M) (claim_of L)) ≡ true)
-    × (agreesOf (agreementOf (claim_of S) (claim_of L)) ≡ false)
+    (agrees_of (agreement_of (claim_of S) (claim_of M)) ≡ true)
+    × (agrees_of (agreement_of (claim_of M) (claim_of L)) ≡ true)
+    × (agrees_of (agreement_of (claim_of S) (claim_of L)) ≡ false)
 
 abbrev pub Position3 : Type 0
 Position3 =
@@ -102,5 +102,5 @@ Position3 =
       answer = 0;
       ranked = indices (1 ∷ []);
       dominated = indices (0 ∷ []);
-      refusals = refusals (record { refused = 2; kept = 0; chi2 = chiSquareIn (agreementOf (claim_of S) (claim_of L)); superseded = false } ∷ []);
+      refusals = refusals (record { refused = 2; kept = 0; chi2 = chi_square_in (agreement_of (claim_of S) (claim_of L)); superseded = false } ∷ []);
     }

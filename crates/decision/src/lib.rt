@@ -6,10 +6,10 @@
 
 ghost use Rattle.std.specs.Prelude.{◌≡◌, false, ◌+◌, ◌*◌, ◌≤◌, ◌<◌, length};
 ghost use Rattle.ranges.specs.Lists.{any_of, up_to};
-ghost use Rattle.items.specs.Layout.{itemSize, maxItems};
-ghost use Rattle.items.specs.Items.{sameIdentity};
+ghost use Rattle.items.specs.Layout.{item_size, max_items};
+ghost use Rattle.items.specs.Items.{same_identity};
 ghost use Rattle.items.specs.Pairs.{stride};
-ghost use Rattle.decision.specs.Answer.{badAt, bad, outcome, decision, decided};
+ghost use Rattle.decision.specs.Answer.{bad_at, bad, outcome, decision, decided};
 ghost use Rattle.decision.specs.Working.{few, plainly};
 
 use arithmetic::standing::{ChiSquare, Prepared, UNPREPARED};
@@ -67,8 +67,8 @@ pub struct Decision {
 
 // Whether item i has the identity of one before it.
 fn repeated(s: &[u8], i: u8) -> bool
-    requires { i * itemSize + itemSize ≤ length s.now }
-    ensures { result ≡ any_of (sameIdentity s.now i) (up_to i) }
+    requires { i * item_size + item_size ≤ length s.now }
+    ensures { result ≡ any_of (same_identity s.now i) (up_to i) }
 {
     for j in 0..i {
         if items::same_identity(s, i, j) {
@@ -78,17 +78,17 @@ fn repeated(s: &[u8], i: u8) -> bool
     false
 }
 
-#[tactic(auto, unfolding(crate::specs::Answer::badAt))]
+#[tactic(auto, unfolding(crate::specs::Answer::bad_at))]
 fn bad_at(s: &[u8], i: u8) -> bool
-    requires { i * itemSize + itemSize ≤ length s.now }
-    ensures { result ≡ badAt s.now i }
+    requires { i * item_size + item_size ≤ length s.now }
+    ensures { result ≡ bad_at s.now i }
 {
     items::parsed_record(s, i).is_none() || repeated(s, i)
 }
 
 fn any_bad(s: &[u8], n: u8) -> bool
-    requires { n * itemSize ≤ length s.now }
-    ensures { result ≡ any_of (badAt s.now) (up_to n) }
+    requires { n * item_size ≤ length s.now }
+    ensures { result ≡ any_of (bad_at s.now) (up_to n) }
 {
     for i in 0..n {
         if bad_at(s, i) {
@@ -142,7 +142,7 @@ fn plain(answer: u8, n: u8) -> Decision
 
 // Decides in the lent tables.
 fn decide_in(s: &[u8], n: u8, table: &mut [Prepared], codes: &mut [u8]) -> Decision
-    requires { (bad s.now ≡ false) × (length s.now ≡ n * itemSize) × (n ≤ length table.old) × (n * stride ≤ length codes.old) }
+    requires { (bad s.now ≡ false) × (length s.now ≡ n * item_size) × (n ≤ length table.old) × (n * stride ≤ length codes.old) }
     ensures { result ≡ decision (outcome s.now) }
 {
     let m = settled::settle(s, n, table, codes);
@@ -158,7 +158,7 @@ fn decide_in(s: &[u8], n: u8, table: &mut [Prepared], codes: &mut [u8]) -> Decis
 }
 
 fn decide_few(s: &[u8], n: u8) -> Decision
-    requires { (bad s.now ≡ false) × (length s.now ≡ n * itemSize) × (n ≤ few) }
+    requires { (bad s.now ≡ false) × (length s.now ≡ n * item_size) × (n ≤ few) }
     ensures { result ≡ decision (outcome s.now) }
 {
     let mut table = [UNPREPARED; FEW];
@@ -167,7 +167,7 @@ fn decide_few(s: &[u8], n: u8) -> Decision
 }
 
 fn decide_many(s: &[u8], n: u8) -> Decision
-    requires { (bad s.now ≡ false) × (length s.now ≡ n * itemSize) × (n ≤ maxItems) }
+    requires { (bad s.now ≡ false) × (length s.now ≡ n * item_size) × (n ≤ max_items) }
     ensures { result ≡ decision (outcome s.now) }
 {
     let mut table = [UNPREPARED; MAX_ITEMS];

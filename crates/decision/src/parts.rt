@@ -3,14 +3,14 @@ ghost use Rattle.std.specs.Prelude.{◌≡◌, false, ◌*◌, ◌≤◌, ◌<�
 ghost use Rattle.ranges.specs.Lists.{any_of, filter, sort, up_to};
 ghost use Rattle.ranges.specs.Range.{Holds};
 ghost use Rattle.ranges.specs.Tables.{Cached};
-ghost use Rattle.items.specs.Layout.{itemSize, maxItems};
-ghost use Rattle.items.specs.Items.{aheadAt};
+ghost use Rattle.items.specs.Layout.{item_size, max_items};
+ghost use Rattle.items.specs.Items.{ahead_at};
 ghost use Rattle.items.specs.Pairs.{AllPrepared};
 ghost use Rattle.rule.specs.Standing as S;
-ghost use Rattle.rule.specs.Related.{itemRelations};
+ghost use Rattle.rule.specs.Related.{item_relations};
 ghost use Rattle.rule.specs.Rule.{Ready};
-ghost use Rattle.rule.specs.Rule.{stands as isStanding};
-ghost use Rattle.decision.specs.Answer.{badAt};
+ghost use Rattle.rule.specs.Rule.{stands as is_standing};
+ghost use Rattle.decision.specs.Answer.{bad_at};
 ghost use Rattle.decision.specs.Working.{finding};
 
 use crate::{Indices, Refusal};
@@ -26,8 +26,8 @@ fn replaced(
     sup: &[bool; MAX_ITEMS],
     i: u8,
 ) -> Option<Refusal>
-    requires { (i < n) × (n ≤ maxItems) × Ready s.now codes.now n × Cached false sup.now (S.supersedes (itemRelations s.now) (up_to n)) n × AllPrepared s.now table.now n }
-    ensures { result ≡ finding (S.replaced (itemRelations s.now) (up_to n) i (filter (S.replaces (itemRelations s.now) (up_to n) i) (up_to n))) }
+    requires { (i < n) × (n ≤ max_items) × Ready s.now codes.now n × Cached false sup.now (S.supersedes (item_relations s.now) (up_to n)) n × AllPrepared s.now table.now n }
+    ensures { result ≡ finding (S.replaced (item_relations s.now) (up_to n) i (filter (S.replaces (item_relations s.now) (up_to n) i) (up_to n))) }
 {
     let k = rule::replacing(s, codes, n, sup, i)?;
     let chi2 = items::pairs::chi_square(s, n, table, k, i);
@@ -48,8 +48,8 @@ fn contested(
     sd: &[bool; MAX_ITEMS],
     i: u8,
 ) -> Option<Refusal>
-    requires { (i < n) × (n ≤ maxItems) × Ready s.now codes.now n × Cached false sd.now (S.isSuperseded (itemRelations s.now) (up_to n)) n × AllPrepared s.now table.now n }
-    ensures { result ≡ finding (S.opposed (itemRelations s.now) (up_to n) i (filter (S.opposes (itemRelations s.now) (up_to n) i) (up_to n))) }
+    requires { (i < n) × (n ≤ max_items) × Ready s.now codes.now n × Cached false sd.now (S.is_superseded (item_relations s.now) (up_to n)) n × AllPrepared s.now table.now n }
+    ensures { result ≡ finding (S.opposed (item_relations s.now) (up_to n) i (filter (S.opposes (item_relations s.now) (up_to n) i) (up_to n))) }
 {
     let k = rule::opposing(s, codes, n, sd, i)?;
     let chi2 = items::pairs::chi_square(s, n, table, i, k);
@@ -72,8 +72,8 @@ pub fn refusal_of(
     rf: &[bool; MAX_ITEMS],
     i: u8,
 ) -> Option<Refusal>
-    requires { (i < n) × (n ≤ maxItems) × Ready s.now codes.now n × Cached false sup.now (S.supersedes (itemRelations s.now) (up_to n)) n × Cached false sd.now (S.isSuperseded (itemRelations s.now) (up_to n)) n × AllPrepared s.now table.now n × Cached false rf.now (S.is_refused (itemRelations s.now) (up_to n)) n }
-    ensures { result ≡ finding (S.refusalOf (itemRelations s.now) (up_to n) i) }
+    requires { (i < n) × (n ≤ max_items) × Ready s.now codes.now n × Cached false sup.now (S.supersedes (item_relations s.now) (up_to n)) n × Cached false sd.now (S.is_superseded (item_relations s.now) (up_to n)) n × AllPrepared s.now table.now n × Cached false rf.now (S.is_refused (item_relations s.now) (up_to n)) n }
+    ensures { result ≡ finding (S.refusal_of (item_relations s.now) (up_to n) i) }
 {
     if !rf[i as usize] {
         return None;
@@ -86,8 +86,8 @@ pub fn refusal_of(
 
 // The items that stand, in rank.
 pub fn rank_all(s: &[u8], n: u8, stands: [bool; MAX_ITEMS]) -> Indices
-    requires { (n ≤ maxItems) × (n * itemSize ≤ length s.now) × (any_of (badAt s.now) (up_to n) ≡ false) × Cached false stands (isStanding (itemRelations s.now) (up_to n)) n }
-    ensures { Holds maxItems 0 result.list result.count (sort (aheadAt s.now) (filter (isStanding (itemRelations s.now) (up_to n)) (up_to n))) }
+    requires { (n ≤ max_items) × (n * item_size ≤ length s.now) × (any_of (bad_at s.now) (up_to n) ≡ false) × Cached false stands (is_standing (item_relations s.now) (up_to n)) n }
+    ensures { Holds max_items 0 result.list result.count (sort (ahead_at s.now) (filter (is_standing (item_relations s.now) (up_to n)) (up_to n))) }
 {
     let mut left = stands;
     let mut list = [0u8; MAX_ITEMS];

@@ -2,10 +2,10 @@
 // the decision from it. So nobody pays for a part that he does not ask for, or for room that his items do not need.
 ghost use Rattle.std.specs.Prelude.{◌≡◌, false, map, ◌*◌, ◌≤◌, ◌<◌, length};
 ghost use Rattle.ranges.specs.Lists.{up_to};
-ghost use Rattle.items.specs.Layout.{itemSize};
+ghost use Rattle.items.specs.Layout.{item_size};
 ghost use Rattle.items.specs.Pairs.{stride, AllPrepared};
 ghost use Rattle.rule.specs.Standing as S;
-ghost use Rattle.rule.specs.Related.{itemRelations};
+ghost use Rattle.rule.specs.Related.{item_relations};
 ghost use Rattle.decision.specs.Answer as D;
 ghost use Rattle.decision.specs.Working.{Settled, finding};
 
@@ -16,7 +16,7 @@ use rule::Marks;
 
 // Prepares n items, compares them, and marks them.
 pub fn settle(s: &[u8], n: u8, table: &mut [Prepared], codes: &mut [u8]) -> Marks
-    requires { (D.bad s.now ≡ false) × (length s.now ≡ n * itemSize) × (n ≤ length table.old) × (n * stride ≤ length codes.old) }
+    requires { (D.bad s.now ≡ false) × (length s.now ≡ n * item_size) × (n ≤ length table.old) × (n * stride ≤ length codes.old) }
     ensures { AllPrepared s.now table.new n × Settled s.now n codes.new result }
 {
     items::pairs::prepare_all(s, n, table);
@@ -61,7 +61,7 @@ pub fn refusal(
     i: u8,
 ) -> Option<Refusal>
     requires { (i < n) × AllPrepared s.now table.now n × Settled s.now n codes.now m }
-    ensures { result ≡ finding (S.refusalOf (itemRelations s.now) (up_to n) i) }
+    ensures { result ≡ finding (S.refusal_of (item_relations s.now) (up_to n) i) }
 {
     let sup = m.superseding;
     let sd = m.superseded;

@@ -13,18 +13,18 @@ use Rattle.text.specs.Heights.{metres}
 use Rattle.text.proofs.Readback.{digits-width, hex-width}
 use Rattle.record.specs.Fields.{time, latitude, longitude, height, weight}
 use Rattle.octets.specs.Ascii.{ascii}
-use Rattle.drawing.specs.Lines.{header, whereWhen, metresText, heightText, fixText, line, chiSquareText, refusedLine}
+use Rattle.drawing.specs.Lines.{header, where_when, metres_text, height_text, fix_text, line, chi_square_text, refused_line}
 use Rattle.arithmetic.specs.declared.standing.ChiSquare.{ChiSquare}
 use Rattle.arithmetic.specs.declared.standing.ChiSquare.TheVariants.{Measured, Unmeasured}
 use Rattle.drawing.specs.Claims.{NoneExactlyWhen}
-use Rattle.drawing.specs.Widths.{roleWidth, headerWidth, lineWidth, refusedWidth}
+use Rattle.drawing.specs.Widths.{role_width, header_width, line_width, refused_width}
 
 signed-width : (v : ℤ) → length (signed v) ≤ 11
 unfolding signed
 signed-width (pos n) = let w = digits-width 9 n in omega arith
 signed-width (negsuc n) = let w = digits-width 9 (suc n) in omega arith
 
-pub header-width : (a b c d : ℕ) → (46 ≤ length (header a b c d)) × (length (header a b c d) ≤ headerWidth)
+pub header-width : (a b c d : ℕ) → (46 ≤ length (header a b c d)) × (length (header a b c d) ≤ header_width)
 unfolding header
 header-width a b c d =
     let p = digits-width 19 a in
@@ -38,8 +38,8 @@ header-width a b c d =
     let m : length (ascii "\n") ≡ 1 = unfold ascii in refl in
     simp length-append (omega arith, omega arith)
 
-where-width : (r : List ℕ) → length (whereWhen r) ≤ 58
-unfolding whereWhen
+where-width : (r : List ℕ) → length (where_when r) ≤ 58
+unfolding where_when
 where-width r =
     let p = digits-width 19 (time r) in
     let q = signed-width (latitude r) in
@@ -49,20 +49,20 @@ where-width r =
     let k : length (ascii " lon=") ≡ 5 = unfold ascii in refl in
     simp length-append (omega arith)
 
-metres-text-width : (h : Option ℤ) → length (metresText h) ≤ 11
-unfolding metresText
+metres-text-width : (h : Option ℤ) → length (metres_text h) ≤ 11
+unfolding metres_text
 metres-text-width None = let j : length (ascii "none") ≡ 4 = unfold ascii in refl in omega arith
 metres-text-width (Some h) = signed-width (metres h)
 
-height-width : (r : List ℕ) → length (heightText r) ≤ 19
-unfolding heightText
+height-width : (r : List ℕ) → length (height_text r) ≤ 19
+unfolding height_text
 height-width r =
     let q = metres-text-width (height r) in
     let i : length (ascii " height=") ≡ 8 = unfold ascii in refl in
     simp length-append (omega arith)
 
-fix-width : (role r : List ℕ) (s : ℕ) → length role ≤ roleWidth → length (fixText role r s) ≤ 136
-unfolding fixText
+fix-width : (role r : List ℕ) (s : ℕ) → length role ≤ role_width → length (fix_text role r s) ≤ 136
+unfolding fix_text
 fix-width role r s h =
     let p = where-width r in
     let q = height-width r in
@@ -73,7 +73,7 @@ fix-width role r s h =
     let k : length (ascii " signers=") ≡ 9 = unfold ascii in refl in
     simp length-append (omega arith)
 
-pub line-width : (role r : List ℕ) (s : ℕ) → length role ≤ roleWidth → length (line role r s) ≤ lineWidth
+pub line-width : (role r : List ℕ) (s : ℕ) → length role ≤ role_width → length (line role r s) ≤ line_width
 unfolding line
 line-width role r s h =
     let p = fix-width role r s h in
@@ -81,25 +81,25 @@ line-width role r s h =
     simp length-append (omega arith)
 
 -- 16 digits or `none`
-pub chi-square-width : (c : ChiSquare) → length (chiSquareText c) ≤ 16
-unfolding chiSquareText ascii
+pub chi-square-width : (c : ChiSquare) → length (chi_square_text c) ≤ 16
+unfolding chi_square_text ascii
 chi-square-width (Measured x) = let w = hex-width 16 (to_bits binary64 x) in omega arith
 chi-square-width Unmeasured = omega arith
 
 -- digits are sixteen, and `none` has four letters
 pub none-exactly-when : NoneExactlyWhen
-none-exactly-when chi2 = (only chi2, λ e. unfold chiSquareText in ap chiSquareText e)
+none-exactly-when chi2 = (only chi2, λ e. unfold chi_square_text in ap chi_square_text e)
   where
-    only : (c : ChiSquare) → chiSquareText c ≡ ascii "none" → c ≡ Unmeasured
+    only : (c : ChiSquare) → chi_square_text c ≡ ascii "none" → c ≡ Unmeasured
     only (Measured x) e =
-        let h : length (hex 16 (to_bits binary64 x)) ≡ length (ascii "none") = unfold chiSquareText in ap length e in
+        let h : length (hex 16 (to_bits binary64 x)) ≡ length (ascii "none") = unfold chi_square_text in ap length e in
         let w = hex-width 16 (to_bits binary64 x) in
         let n : length (ascii "none") ≡ 4 = unfold ascii in refl in
         absurd (omega arith)
     only Unmeasured e = refl
 
-pub refused-width : (r : List ℕ) (s : ℕ) (c : ChiSquare) → length (refusedLine r s c) ≤ refusedWidth
-unfolding refusedLine
+pub refused-width : (r : List ℕ) (s : ℕ) (c : ChiSquare) → length (refused_line r s c) ≤ refused_width
+unfolding refused_line
 refused-width r s c =
     let p = fix-width (ascii "refused") r s (unfold ascii in omega arith) in
     let x = chi-square-width c in

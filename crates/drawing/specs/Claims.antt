@@ -4,7 +4,7 @@ use Rattle.std.specs.Prelude.{◌≡◌, ◌↔◌}
 use Rattle.octets.specs.Ascii.{ascii}
 use Rattle.arithmetic.specs.declared.standing.ChiSquare.{ChiSquare}
 use Rattle.arithmetic.specs.declared.standing.ChiSquare.TheVariants.{Unmeasured}
-use Rattle.drawing.specs.Lines.{chiSquareText}
+use Rattle.drawing.specs.Lines.{chi_square_text}
 
 abbrev pub NoneExactlyWhen : Type 0
-NoneExactlyWhen = (chi2 : ChiSquare) → (chiSquareText chi2 ≡ ascii "none") ↔ (chi2 ≡ Unmeasured)
+NoneExactlyWhen = (chi2 : ChiSquare) → (chi_square_text chi2 ≡ ascii "none") ↔ (chi2 ≡ Unmeasured)

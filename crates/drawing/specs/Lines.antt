@@ -20,40 +20,40 @@ header number ranked dominated refused =
     ++ ascii "\n")))
 
 -- time=1000 lat=500000000 lon=100000000
-unfoldable pub whereWhen : List ℕ → List ℕ
-whereWhen r = (ascii " time=" ++ decimal (time r)) ++ ((ascii " lat=" ++ signed (latitude r)) ++ (ascii " lon=" ++ signed (longitude r)))
+unfoldable pub where_when : List ℕ → List ℕ
+where_when r = (ascii " time=" ++ decimal (time r)) ++ ((ascii " lat=" ++ signed (latitude r)) ++ (ascii " lon=" ++ signed (longitude r)))
 
 -- a height in whole metres, or `none`; the rule of rounding is that of text specs/Heights
-unfoldable pub metresText : Option ℤ → List ℕ
-metresText None = ascii "none"
-metresText (Some h) = signed (metres h)
+unfoldable pub metres_text : Option ℤ → List ℕ
+metres_text None = ascii "none"
+metres_text (Some h) = signed (metres h)
 
-unfoldable pub heightText : List ℕ → List ℕ
-heightText r = ascii " height=" ++ metresText (height r)
+unfoldable pub height_text : List ℕ → List ℕ
+height_text r = ascii " height=" ++ metres_text (height r)
 
 -- what every line says of a fix: its role, its record, and its signers in 8 hex digits, highest first
-unfoldable pub fixText : List ℕ → List ℕ → ℕ → List ℕ
-fixText role r signers =
+unfoldable pub fix_text : List ℕ → List ℕ → ℕ → List ℕ
+fix_text role r signers =
     (ascii "role=" ++ role)
-    ++ (whereWhen r
-    ++ (heightText r
+    ++ (where_when r
+    ++ (height_text r
     ++ ((ascii " weight=" ++ decimal (weight r))
     ++ (ascii " signers=" ++ hex 8 signers))))
 
 -- a line of a ranked or dominated fix
 unfoldable pub line : List ℕ → List ℕ → ℕ → List ℕ
-line role r signers = fixText role r signers ++ ascii "\n"
+line role r signers = fix_text role r signers ++ ascii "\n"
 
-abbrev pub rankedLine : List ℕ → ℕ → List ℕ
-rankedLine r signers = line (ascii "ranked") r signers
+abbrev pub ranked_line : List ℕ → ℕ → List ℕ
+ranked_line r signers = line (ascii "ranked") r signers
 
-abbrev pub dominatedLine : List ℕ → ℕ → List ℕ
-dominatedLine r signers = line (ascii "dominated") r signers
+abbrev pub dominated_line : List ℕ → ℕ → List ℕ
+dominated_line r signers = line (ascii "dominated") r signers
 
 -- the bits of a chi-square in 16 hex digits, and `none` where there is no number
-unfoldable pub chiSquareText : ChiSquare → List ℕ
-chiSquareText (Measured x) = hex 16 (to_bits binary64 x)
-chiSquareText Unmeasured = ascii "none"
+unfoldable pub chi_square_text : ChiSquare → List ℕ
+chi_square_text (Measured x) = hex 16 (to_bits binary64 x)
+chi_square_text Unmeasured = ascii "none"
 
-unfoldable pub refusedLine : List ℕ → ℕ → ChiSquare → List ℕ
-refusedLine r signers chi2 = fixText (ascii "refused") r signers ++ ((ascii " chi2=" ++ chiSquareText chi2) ++ ascii "\n")
+unfoldable pub refused_line : List ℕ → ℕ → ChiSquare → List ℕ
+refused_line r signers chi2 = fix_text (ascii "refused") r signers ++ ((ascii " chi2=" ++ chi_square_text chi2) ++ ascii "\n")

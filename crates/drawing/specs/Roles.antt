@@ -4,7 +4,7 @@ use Rattle.octets.specs.Ascii.{ascii}
 use Rattle.drawing.specs.declared.Role.{Role}
 use Rattle.drawing.specs.declared.Role.TheVariants.{Ranked, Dominated, Refused}
 
-unfoldable pub roleName : Role → List ℕ
-roleName Ranked = ascii "ranked"
-roleName Dominated = ascii "dominated"
-roleName Refused = ascii "refused"
+unfoldable pub role_name : Role → List ℕ
+role_name Ranked = ascii "ranked"
+role_name Dominated = ascii "dominated"
+role_name Refused = ascii "refused"

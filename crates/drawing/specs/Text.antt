@@ -5,36 +5,36 @@ use mathlib.Core.List.{List, [], ◌∷◌, ◌++◌, flat_map}
 use Rattle.shown.specs.Fix.{Fix}
 use Rattle.rule.specs.Outcome.{Refused}
 use Rattle.shown.specs.Shown.{Transmission}
-use Rattle.drawing.specs.Lines.{header, rankedLine, dominatedLine, refusedLine}
+use Rattle.drawing.specs.Lines.{header, ranked_line, dominated_line, refused_line}
 use Rattle.arithmetic.specs.declared.standing.ChiSquare.{ChiSquare}
 
-abbrev pub headerOf : ℕ → Transmission → List ℕ
-headerOf number t = header number (length t.ranked) (length t.dominated) (length t.refused)
+abbrev pub header_of : ℕ → Transmission → List ℕ
+header_of number t = header number (length t.ranked) (length t.dominated) (length t.refused)
 
-abbrev pub rankedText : Fix → List ℕ
-rankedText f = rankedLine f.recordBytes f.signers
+abbrev pub ranked_text : Fix → List ℕ
+ranked_text f = ranked_line f.record_bytes f.signers
 
-abbrev pub dominatedText : Fix → List ℕ
-dominatedText f = dominatedLine f.recordBytes f.signers
+abbrev pub dominated_text : Fix → List ℕ
+dominated_text f = dominated_line f.record_bytes f.signers
 
-abbrev pub refusedText : Refused Fix ChiSquare → List ℕ
-refusedText r = refusedLine r.item.recordBytes r.item.signers r.chi2
+abbrev pub refused_text : Refused Fix ChiSquare → List ℕ
+refused_text r = refused_line r.item.record_bytes r.item.signers r.chi2
 
 -- a transmission with its number
 unfoldable pub text_of : ℕ → Transmission → List ℕ
 text_of number t =
-    headerOf number t
-    ++ (flat_map rankedText t.ranked ++ (flat_map dominatedText t.dominated ++ flat_map refusedText t.refused))
+    header_of number t
+    ++ (flat_map ranked_text t.ranked ++ (flat_map dominated_text t.dominated ++ flat_map refused_text t.refused))
 
 -- transmissions, the first with this number
-unfoldable pub textFrom : ℕ → List Transmission → List ℕ
-textFrom number [] = []
-textFrom number (t ∷ ts) = text_of number t ++ textFrom (suc number) ts
+unfoldable pub text_from : ℕ → List Transmission → List ℕ
+text_from number [] = []
+text_from number (t ∷ ts) = text_of number t ++ text_from (suc number) ts
 
 -- the first is numbered 1
-abbrev pub boardText : List Transmission → List ℕ
-boardText ts = textFrom 1 ts
+abbrev pub board_text : List Transmission → List ℕ
+board_text ts = text_from 1 ts
 
 -- what a caller lends at least: less is refused with 10
-abbrev pub boardSize : ℕ
-boardSize = 16384
+abbrev pub board_size : ℕ
+board_size = 16384

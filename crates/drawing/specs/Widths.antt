@@ -2,14 +2,14 @@
 use Rattle.std.specs.Prelude.{ℕ}
 
 -- "dominated" is the longest of the roles
-abbrev pub roleWidth : ℕ
-roleWidth = 9
+abbrev pub role_width : ℕ
+role_width = 9
 
-abbrev pub headerWidth : ℕ
-headerWidth = 122
+abbrev pub header_width : ℕ
+header_width = 122
 
-abbrev pub lineWidth : ℕ
-lineWidth = 137
+abbrev pub line_width : ℕ
+line_width = 137
 
-abbrev pub refusedWidth : ℕ
-refusedWidth = 159
+abbrev pub refused_width : ℕ
+refused_width = 159

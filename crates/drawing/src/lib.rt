@@ -7,7 +7,7 @@ ghost use Rattle.record.specs.Fields as F;
 ghost use Rattle.text.specs.Numbers.{decimal, signed};
 ghost use Rattle.text.specs.Texts.{append};
 ghost use Rattle.drawing.specs.Lines as L;
-ghost use Rattle.drawing.specs.Roles.{roleName};
+ghost use Rattle.drawing.specs.Roles.{role_name};
 
 use arithmetic::standing::ChiSquare;
 use record::Record;
@@ -24,9 +24,9 @@ pub enum Role {
 }
 
 impl Append for Role {
-    ghost text = { roleName };
+    ghost text = { role_name };
 
-    #[tactic(auto, unfolding(crate::specs::Roles::roleName, octets::specs::Ascii::ascii))]
+    #[tactic(auto, unfolding(crate::specs::Roles::role_name, octets::specs::Ascii::ascii))]
     fn append_to(&self, out: &mut Text) {
         match self {
             Role::Ranked => out.push_str("ranked"),
@@ -59,16 +59,16 @@ fn push_longitude(out: &mut Text, report: Record)
 
 // When and where.
 fn push_where_when(out: &mut Text, report: Record)
-    ensures { out.new ≡ append out.old (L.whereWhen report.entry.bytes.now) }
+    ensures { out.new ≡ append out.old (L.where_when report.entry.bytes.now) }
 {
     push_time(out, report);
     push_latitude(out, report);
     push_longitude(out, report);
 }
 
-#[tactic(auto, unfolding(crate::specs::Lines::heightText, crate::specs::Lines::metresText, octets::specs::Ascii::ascii))]
+#[tactic(auto, unfolding(crate::specs::Lines::height_text, crate::specs::Lines::metres_text, octets::specs::Ascii::ascii))]
 fn push_height(out: &mut Text, report: Record)
-    ensures { out.new ≡ append out.old (L.heightText report.entry.bytes.now) }
+    ensures { out.new ≡ append out.old (L.height_text report.entry.bytes.now) }
 {
     match report.height() {
         Some(height) => out.push_field(" height=", &Metres(height)),
@@ -85,7 +85,7 @@ fn push_weight(out: &mut Text, report: Record)
 
 // What every line says of a fix.
 fn push_fix(out: &mut Text, role: Role, report: Record, signers: u32)
-    ensures { out.new ≡ append out.old (L.fixText (roleName role) report.entry.bytes.now signers) }
+    ensures { out.new ≡ append out.old (L.fix_text (role_name role) report.entry.bytes.now signers) }
 {
     out.push_field("role=", &role);
     push_where_when(out, report);
@@ -96,16 +96,16 @@ fn push_fix(out: &mut Text, role: Role, report: Record, signers: u32)
 
 // The line of a fix that is ranked or dominated.
 pub fn push_line(out: &mut Text, role: Role, report: Record, signers: u32)
-    ensures { out.new ≡ append out.old (L.line (roleName role) report.entry.bytes.now signers) }
+    ensures { out.new ≡ append out.old (L.line (role_name role) report.entry.bytes.now signers) }
 {
     push_fix(out, role, report, signers);
     out.push_str("\n");
 }
 
 // The bits of a chi-square, or that there is none.
-#[tactic(auto, unfolding(crate::specs::Lines::chiSquareText, octets::specs::Ascii::ascii))]
+#[tactic(auto, unfolding(crate::specs::Lines::chi_square_text, octets::specs::Ascii::ascii))]
 fn push_chi_square(out: &mut Text, chi2: ChiSquare)
-    ensures { out.new ≡ append out.old (ascii " chi2=" ++ L.chiSquareText chi2) }
+    ensures { out.new ≡ append out.old (ascii " chi2=" ++ L.chi_square_text chi2) }
 {
     match chi2 {
         ChiSquare::Measured(x) => out.push_field(" chi2=", &Hex::<16>(floats::to_bits(x))),
@@ -115,7 +115,7 @@ fn push_chi_square(out: &mut Text, chi2: ChiSquare)
 
 // The line of a refused fix, with its refusal's chi-square.
 pub fn push_refused(out: &mut Text, report: Record, signers: u32, chi2: ChiSquare)
-    ensures { out.new ≡ append out.old (L.refusedLine report.entry.bytes.now signers chi2) }
+    ensures { out.new ≡ append out.old (L.refused_line report.entry.bytes.now signers chi2) }
 {
     push_fix(out, Role::Refused, report, signers);
     push_chi_square(out, chi2);

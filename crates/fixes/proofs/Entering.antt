@@ -13,28 +13,28 @@ use Rattle.std.specs.List.{insert, refill, AllWithin, HoldsAt}
 use Rattle.std.specs.List.Sorted.{IsNonDecreasingBy}
 use Rattle.std.specs.Ordering.{ordering_index}
 use Rattle.std.specs.declared.cmp.Ordering.TheVariants.{Less, Equal, Greater}
-use Rattle.octets.specs.Order.{isBefore}
+use Rattle.octets.specs.Order.{is_before}
 use Rattle.octets.proofs.Comparison.{before-trans, before_same}
 use Rattle.ranges.proofs.Bools.{by, and_left, and_right}
 use Rattle.shown.specs.Fix.{Fix}
 use Rattle.shown.specs.Shown.{lower}
 use Rattle.fixes.specs.Fixes.{unite, enter}
-use Rattle.fixes.specs.Order.{order, ascendsFrom, ascends}
+use Rattle.fixes.specs.Order.{order, ascends_from, ascends}
 
 -- ---- entering keeps the order
 
 unite-identity : (g f : Fix) → g.identity ≡ f.identity → (unite g f).identity ≡ g.identity
-unite-identity g f e = by (isBefore f.recordBytes g.recordBytes) (λ h. rw h (sym e)) (λ h. rw h refl)
+unite-identity g f e = by (is_before f.record_bytes g.record_bytes) (λ h. rw h (sym e)) (λ h. rw h refl)
 
 same-identity : (f g : Fix) → lower g f ≡ false → lower f g ≡ false → g.identity ≡ f.identity
 same-identity f g a b = before_same g.identity f.identity a b
 
-enter-from : (f : Fix) (key : List ℕ) (gs : List Fix) → isBefore key f.identity ≡ true → ascendsFrom key gs ≡ true → ascendsFrom key (enter f gs) ≡ true
-unfolding ascendsFrom enter
+enter-from : (f : Fix) (key : List ℕ) (gs : List Fix) → is_before key f.identity ≡ true → ascends_from key gs ≡ true → ascends_from key (enter f gs) ≡ true
+unfolding ascends_from enter
 enter-from f key [] h a = rw h refl
 enter-from f key (g ∷ gs) h a =
-    let k : isBefore key g.identity ≡ true = and_left (isBefore key g.identity) (ascendsFrom g.identity gs) a in
-    let r : ascendsFrom g.identity gs ≡ true = and_right (isBefore key g.identity) (ascendsFrom g.identity gs) a in
+    let k : is_before key g.identity ≡ true = and_left (is_before key g.identity) (ascends_from g.identity gs) a in
+    let r : ascends_from g.identity gs ≡ true = and_right (is_before key g.identity) (ascends_from g.identity gs) a in
     by (lower g f)
     (λ u. rw (u, k) (enter-from f g.identity gs u r))
     (λ u. by (lower f g)
@@ -42,7 +42,7 @@ enter-from f key (g ∷ gs) h a =
     (λ v. rw (u, v, unite-identity g f (same-identity f g u v), k) r))
 
 pub enter-ascends : (f : Fix) (gs : List Fix) → ascends gs ≡ true → ascends (enter f gs) ≡ true
-unfolding ascends ascendsFrom enter
+unfolding ascends ascends_from enter
 enter-ascends f [] a = refl
 enter-ascends f (g ∷ gs) a =
     by (lower g f)
@@ -53,18 +53,18 @@ enter-ascends f (g ∷ gs) a =
 
 -- ---- an earlier fix is the lower
 
-from-key : (key : List ℕ) (gs : List Fix) → ascendsFrom key gs ≡ true → (j : ℕ) (d : Fix) → j < length gs → isBefore key (get_or gs j d).identity ≡ true
-unfolding ascendsFrom
+from-key : (key : List ℕ) (gs : List Fix) → ascends_from key gs ≡ true → (j : ℕ) (d : Fix) → j < length gs → is_before key (get_or gs j d).identity ≡ true
+unfolding ascends_from
 from-key key [] a j d h = absurd (omega arith)
-from-key key (g ∷ gs) a zero d h = and_left (isBefore key g.identity) (ascendsFrom g.identity gs) a
+from-key key (g ∷ gs) a zero d h = and_left (is_before key g.identity) (ascends_from g.identity gs) a
 from-key key (g ∷ gs) a (suc j) d h =
-    before-trans key g.identity (get_or gs j d).identity (and_left (isBefore key g.identity) (ascendsFrom g.identity gs) a)
-    (from-key g.identity gs (and_right (isBefore key g.identity) (ascendsFrom g.identity gs) a) j d (omega arith))
+    before-trans key g.identity (get_or gs j d).identity (and_left (is_before key g.identity) (ascends_from g.identity gs) a)
+    (from-key g.identity gs (and_right (is_before key g.identity) (ascends_from g.identity gs) a) j d (omega arith))
 
-pub rest-ascends : (key : List ℕ) (gs : List Fix) → ascendsFrom key gs ≡ true → ascends gs ≡ true
-unfolding ascendsFrom ascends
+pub rest-ascends : (key : List ℕ) (gs : List Fix) → ascends_from key gs ≡ true → ascends gs ≡ true
+unfolding ascends_from ascends
 rest-ascends key [] a = refl
-rest-ascends key (g ∷ gs) a = and_right (isBefore key g.identity) (ascendsFrom g.identity gs) a
+rest-ascends key (g ∷ gs) a = and_right (is_before key g.identity) (ascends_from g.identity gs) a
 
 pub earlier-lower : (gs : List Fix) → ascends gs ≡ true → (i j : ℕ) (d : Fix) → i < j → j < length gs → lower (get_or gs i d) (get_or gs j d) ≡ true
 unfolding ascends

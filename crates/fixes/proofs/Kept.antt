@@ -8,19 +8,19 @@ use native.Mathlib.Omega.{arith}
 use lib.Dec.{ltb}
 use lib.ListN.{length}
 use borrow.Author.Tests.{ltb-true, ltb-false}
-use Rattle.octets.specs.Order.{isBefore}
+use Rattle.octets.specs.Order.{is_before}
 use Rattle.octets.proofs.Comparison.{before-irrefl}
 use Rattle.ranges.specs.Lists.{filter}
 use Rattle.ranges.proofs.Bools.{by, or, clash, and_left, and_right}
-use Rattle.places.specs.Places.{allPlaces}
+use Rattle.places.specs.Places.{all_places}
 use Rattle.models.specs.Models.{counts}
-use Rattle.models.specs.Identity.{setHash, citedInputs}
+use Rattle.models.specs.Identity.{set_hash, cited_inputs}
 use Rattle.models.proofs.Sets.{cited-length, identity-length}
-use Rattle.shown.specs.Fix.{Fix, withSigners}
+use Rattle.shown.specs.Fix.{Fix, with_signers}
 use Rattle.shown.specs.Shown.{lower}
-use Rattle.shown.specs.Items.{noFix, at, Formed, AllFormed, Apart}
-use Rattle.fixes.specs.Slots.{slotFormed}
-use Rattle.fixes.specs.Fixes.{recordIn, fixOf, unite, enter, enterAll, fixesOf}
+use Rattle.shown.specs.Items.{no_fix, at, Formed, AllFormed, Apart}
+use Rattle.fixes.specs.Slots.{slot_formed}
+use Rattle.fixes.specs.Fixes.{record_in, fix_of_place, unite, enter, enter_all, fixes_of}
 use Rattle.fixes.specs.Order.{ascends}
 use Rattle.fixes.proofs.Entering.{enter-ascends, enter-length, earlier-lower}
 use Rattle.fixes.proofs.Representing.{counted}
@@ -30,18 +30,18 @@ use Rattle.fixes.proofs.Representing.{counted}
 pub apart : (gs : List Fix) → ascends gs ≡ true → Apart gs
 apart gs a i j h k e =
     by (ltb i j)
-    (λ t. clash (earlier-lower gs a i j noFix (ltb-true i j t) k) (rw e (before-irrefl (at gs j).identity)))
+    (λ t. clash (earlier-lower gs a i j no_fix (ltb-true i j t) k) (rw e (before-irrefl (at gs j).identity)))
     (λ t. by (ltb j i)
-    (λ u. clash (earlier-lower gs a j i noFix (ltb-true j i u) h) (rw e (before-irrefl (at gs j).identity)))
+    (λ u. clash (earlier-lower gs a j i no_fix (ltb-true j i u) h) (rw e (before-irrefl (at gs j).identity)))
     (λ u. let x = ltb-false i j t in let y = ltb-false j i u in omega arith))
 
 -- ---- each is formed
 
-formed-signed : (n : ℕ) (f : Fix) → Formed f → Formed (withSigners n f)
+formed-signed : (n : ℕ) (f : Fix) → Formed f → Formed (with_signers n f)
 formed-signed n f w = record { key = w.key; form = w.form; cited = w.cited }
 
 united-formed : (g f : Fix) → Formed g → Formed f → Formed (unite g f)
-united-formed g f u v = by (isBefore f.recordBytes g.recordBytes) (λ h. rw h (formed-signed _ f v)) (λ h. rw h (formed-signed _ g u))
+united-formed g f u v = by (is_before f.record_bytes g.record_bytes) (λ h. rw h (formed-signed _ f v)) (λ h. rw h (formed-signed _ g u))
 
 all-cons : (f : Fix) (fs : List Fix) → Formed f → AllFormed fs → AllFormed (f ∷ fs)
 all-cons f fs h w y m = or (Memᴰ.cases_cons m) (λ e. subst Formed (sym e) h) (λ k. w y k)
@@ -58,8 +58,8 @@ enter-formed f (g ∷ gs) h w =
     (λ v. rw (u, v) (all-cons f (g ∷ gs) h w))
     (λ v. rw (u, v) (all-cons (unite g f) gs (united-formed g f first h) others)))
 
-slot-formed : (ss : List (List ℕ)) (p : List ℕ) → slotFormed p ≡ true → Formed (fixOf ss p)
-slot-formed ss p h = record { key = identity-length (setHash (recordIn p)) (citedInputs ss (recordIn p)); form = h; cited = cited-length ss (recordIn p) }
+slot-formed : (ss : List (List ℕ)) (p : List ℕ) → slot_formed p ≡ true → Formed (fix_of_place ss p)
+slot-formed ss p h = record { key = identity-length (set_hash (record_in p)) (cited_inputs ss (record_in p)); form = h; cited = cited-length ss (record_in p) }
 
 -- ---- the fixes of summaries and records
 
@@ -68,16 +68,16 @@ record Kept (fs : List Fix) (n : ℕ) : Type 0 where
   formed : AllFormed fs
   few : length fs ≤ n
 
-all-kept : (ss ps : List (List ℕ)) (fs : List Fix) (n : ℕ) → allPlaces slotFormed ps ≡ true → Kept fs n → Kept (enterAll fs (counted ss [] 0 ps)) (n + length ps)
-unfolding allPlaces enterAll filter
+all-kept : (ss ps : List (List ℕ)) (fs : List Fix) (n : ℕ) → all_places slot_formed ps ≡ true → Kept fs n → Kept (enter_all fs (counted ss [] 0 ps)) (n + length ps)
+unfolding all_places enter_all filter
 all-kept ss [] fs n h k = record { in_order = k.in_order; formed = k.formed; few = let x = k.few in omega arith }
 all-kept ss (p ∷ ps) fs n h k =
-    let one : slotFormed p ≡ true = and_left (slotFormed p) (allPlaces slotFormed ps) h in
-    let others : allPlaces slotFormed ps ≡ true = and_right (slotFormed p) (allPlaces slotFormed ps) h in
-    let f = fixOf ss p in
+    let one : slot_formed p ≡ true = and_left (slot_formed p) (all_places slot_formed ps) h in
+    let others : all_places slot_formed ps ≡ true = and_right (slot_formed p) (all_places slot_formed ps) h in
+    let f = fix_of_place ss p in
     let x = k.few in
     let z : suc n + length ps ≡ n + suc (length ps) = omega arith in
-    by (counts ss (recordIn p))
+    by (counts ss (record_in p))
     (λ c. rw (c, ← z) (all-kept ss ps (enter f fs) (suc n) others (record {
       in_order = enter-ascends f fs k.in_order;
       formed = enter-formed f fs (slot-formed ss p one) k.formed;
@@ -85,19 +85,19 @@ all-kept ss (p ∷ ps) fs n h k =
     })))
     (λ c. rw (c, ← z) (all-kept ss ps fs (suc n) others (record { in_order = k.in_order; formed = k.formed; few = omega arith })))
 
-module _ (ss ps : List (List ℕ)) (h : allPlaces slotFormed ps ≡ true) where
-  all : Kept (fixesOf ss ps) (0 + length ps)
-  unfolding fixesOf ascends
+module _ (ss ps : List (List ℕ)) (h : all_places slot_formed ps ≡ true) where
+  all : Kept (fixes_of ss ps) (0 + length ps)
+  unfolding fixes_of ascends
   all = all-kept ss ps [] 0 h (record { in_order = refl; formed = λ y m. absurd (Memᴰ.not-nil m); few = omega arith })
 
-  pub fixes-ascend : ascends (fixesOf ss ps) ≡ true
+  pub fixes-ascend : ascends (fixes_of ss ps) ≡ true
   fixes-ascend = all.in_order
 
-  pub fixes-apart : Apart (fixesOf ss ps)
-  fixes-apart = apart (fixesOf ss ps) all.in_order
+  pub fixes-apart : Apart (fixes_of ss ps)
+  fixes-apart = apart (fixes_of ss ps) all.in_order
 
-  pub fixes-formed : AllFormed (fixesOf ss ps)
+  pub fixes-formed : AllFormed (fixes_of ss ps)
   fixes-formed = all.formed
 
-  pub fixes-few : length (fixesOf ss ps) ≤ length ps
+  pub fixes-few : length (fixes_of ss ps) ≤ length ps
   fixes-few = let x = all.few in omega arith

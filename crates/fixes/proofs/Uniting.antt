@@ -3,16 +3,16 @@ use mathlib.Core.Path.{◌≡◌, sym, ◌∙◌}
 use mathlib.Core.Bool.{Bool, true, false}
 use mathlib.Core.List.{List}
 use Prim.Native.Nat.{ℕ}
-use Rattle.octets.specs.Order.{isBefore, same}
-use Rattle.octets.specs.Lesser.{lesserOf}
+use Rattle.octets.specs.Order.{is_before, same}
+use Rattle.octets.specs.Lesser.{lesser_of}
 use Rattle.octets.proofs.Comparison.{same_refl, less-same}
 use Rattle.ranges.proofs.Bools.{by, clash}
 
-module _ (a b r : List ℕ) (equal : Bool) (e : r ≡ lesserOf a b) (q : equal ≡ same r a) where
+module _ (a b r : List ℕ) (equal : Bool) (e : r ≡ lesser_of a b) (q : equal ≡ same r a) where
   -- it is not the first: the second comes before it
-  pub second : equal ≡ false → isBefore b a ≡ true
-  second h = by (isBefore b a) (λ t. t) (λ t. clash (rw (e, t) (same_refl a)) (sym q ∙ h))
+  pub second : equal ≡ false → is_before b a ≡ true
+  second h = by (is_before b a) (λ t. t) (λ t. clash (rw (e, t) (same_refl a)) (sym q ∙ h))
 
   -- it is the first
-  pub first : equal ≡ true → isBefore b a ≡ false
-  first h = by (isBefore b a) (λ t. clash (sym q ∙ h) (rw (e, t) (less-same b a t))) (λ t. t)
+  pub first : equal ≡ true → is_before b a ≡ false
+  first h = by (is_before b a) (λ t. clash (sym q ∙ h) (rw (e, t) (less-same b a t))) (λ t. t)

@@ -31,7 +31,7 @@ impl<'a> Model for Fix<'a> {
 
     ghost Value = { S.Fix };
 
-    ghost view = { λ f. record { identity = f.identity.0; recordBytes = f.report.bytes.now; inputs = f.inputs.0; signers = f.signers } };
+    ghost view = { λ f. record { identity = f.identity.0; record_bytes = f.report.bytes.now; inputs = f.inputs.0; signers = f.signers } };
 }
 
 // A record with a message of 7 zero bytes, and the tag 0.

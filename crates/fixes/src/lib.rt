@@ -3,10 +3,10 @@
 
 ghost use Rattle.std.specs.Prelude.{◌≡◌, true, [], ◌+◌, ◌*◌, ◌<◌, ◌≤◌, length};
 ghost use Rattle.arrayvec.specs.ArrayVec.{array_vec_len};
-ghost use Rattle.places.specs.Places.{places, allPlaces};
-ghost use Rattle.record.specs.Layout.{recordSize};
+ghost use Rattle.places.specs.Places.{places, all_places};
+ghost use Rattle.record.specs.Layout.{record_size};
 ghost use Rattle.models.specs.Answers.{listed};
-ghost use Rattle.fixes.specs.Slots.{slotFormed};
+ghost use Rattle.fixes.specs.Slots.{slot_formed};
 ghost use Rattle.fixes.specs.Fixes as F;
 ghost use Rattle.fixes.specs.Order.{ascends};
 
@@ -43,11 +43,11 @@ fn enter<'a>(fixes: &mut Fixes<'a>, fix: Fix<'a>)
 
 // Puts the fixes of nr places of a register's records into an empty list.
 pub fn represent<'a>(all: Summaries, recs: &'a [u8], nr: usize, fixes: &mut Fixes<'a>)
-    requires recs_len { nr * (recordSize + 4) ≤ length recs.now }
+    requires recs_len { nr * (record_size + 4) ≤ length recs.now }
     requires few { nr ≤ MAX_FIXES }
-    requires recs_formed { allPlaces slotFormed (places (recordSize + 4) nr recs.now) ≡ true }
+    requires recs_formed { all_places slot_formed (places (record_size + 4) nr recs.now) ≡ true }
     requires none { fixes.old.items ≡ [] }
-    ensures { fixes.new.items ≡ F.fixesOf (listed all.entry) (places (recordSize + 4) nr recs.now) }
+    ensures { fixes.new.items ≡ F.fixes_of (listed all.entry) (places (record_size + 4) nr recs.now) }
 {
     for i in 0..nr {
         let at = i * PLACE_SIZE;

@@ -1,7 +1,7 @@
--- `root` is IEEE 754-2019's squareRoot on binary64, rounded to the nearest, ties to even: `SquareRoot` of specs/ holds of it at every
+-- `root` is IEEE 754-2019's square_root on binary64, rounded to the nearest, ties to even: `SquareRoot` of specs/ holds of it at every
 -- binary64 value x, and of no other result.
---   root-is-squareRoot : (x : Float) → T (fits binary64 x) → SquareRoot x (root x)
---   squareRoot-is-root : (x r : Float) → T (fits binary64 x) → SquareRoot x r → r ≡ root x
+--   root-is-square_root : (x : Float) → T (fits binary64 x) → SquareRoot x (root x)
+--   square_root-is-root : (x r : Float) → T (fits binary64 x) → SquareRoot x r → r ≡ root x
 -- Together they are the claim of specs/Claims, `root-is-ieee754`.
 -- The rest are the theorem's cases.
 use Rattle.std.proofs.Common.{◌≡◌, ℕ, zero, suc, ◌+◌, ◌-◌, ◌*◌, ◌/◌, ◌%◌, ◌^◌, ◌<◌, ◌≤◌, Bool, true, false, T, ℤ, pos, negsuc, sym, refl, ap, ◌∙◌, subst, lt_trans, lt_of_le_of_lt, lt_irrefl, mul-le-mul, add_comm, le_antisymm, mul-pos, pow-suc, lt_of_not-le, arith, lit<, eqb→eq, pow_pos, ne_eqb, leb-false}
@@ -11,7 +11,7 @@ use lib.Ieee.{Float, nan, inf, fin, binary64, down, size, fits, of_bits, to_bits
 use lib.Ieee.Bits.{of_bits-to_bits, of_bits-fits}
 use lib.Ieee.Fits.{up_pos}
 use lib.Ieee.Positive.{positive_of_value, first_pos}
-use Rattle.floats.specs.Root.{root, rootBits, rootOf, rootFinite, field_of, digitsIn}
+use Rattle.floats.specs.Root.{root, root_bits, root_of, root_finite, field_of, digits_in}
 use Rattle.floats.specs.Claims.{RootIsIeee754}
 use Rattle.floats.specs.SquareRoot.{SquareRoot, Nearest, Nearer, units, negative}
 use Rattle.floats.proofs.Pattern.{Short, Bits, bits-value, value-units, units-value, of-value}
@@ -19,19 +19,19 @@ use Rattle.floats.proofs.Positives.{Best, best-bits}
 
 -- ---- NaN, the infinities, the zeros
 pub root-nan : root nan ≡ nan
-unfolding root rootBits to_bits of_bits
+unfolding root root_bits to_bits of_bits
 root-nan = refl
 
 pub root-infinity : root (inf false) ≡ inf false
-unfolding root rootBits to_bits of_bits
+unfolding root root_bits to_bits of_bits
 root-infinity = refl
 
 pub root-minus-infinity : root (inf true) ≡ nan
-unfolding root rootBits to_bits of_bits
+unfolding root root_bits to_bits of_bits
 root-minus-infinity = refl
 
 pub root-zero : (s : Bool) → root (fin s 0 (pos 0)) ≡ fin s 0 (pos 0)
-unfolding root rootBits to_bits of_bits
+unfolding root root_bits to_bits of_bits
 root-zero true = refl
 root-zero false = refl
 
@@ -56,7 +56,7 @@ pattern s m e f =
 
 -- ---- below zero, of every size
 pub root-negative : (m : ℕ) (e : ℤ) → T (fits binary64 (fin true (suc m) e)) → root (fin true (suc m) e) ≡ nan
-unfolding root rootBits
+unfolding root root_bits
 root-negative m e f =
     let b = to_bits binary64 (fin true (suc m) e) in
     let p = pattern true m e f in
@@ -80,7 +80,7 @@ nearest-of-best S r f b = record {
         lt_of_le_of_lt (mul-le-mul l l) (b.below 0 nothing b.some)
 
 pub root-positive : (m : ℕ) (e : ℤ) → T (fits binary64 (fin false (suc m) e)) → Nearest (units (fin false (suc m) e) * 2 ^ 1074) (root (fin false (suc m) e))
-unfolding root rootBits rootFinite rootOf
+unfolding root root_bits root_finite root_of
 root-positive m e f =
     let x = fin false (suc m) e in
     let b = to_bits binary64 x in
@@ -88,21 +88,21 @@ root-positive m e f =
     let l : b < 2 ^ 63 = leb-false (2 ^ 63) b p.sign in
     let h : b < 0x7ff0_0000_0000_0000 = omega (arith, p.under) in
     let o : 0 < b = positive-bits b p.some in
-    let v : units x ≡ digitsIn b * 2 ^ (field_of b - 1) = value-units x false (digitsIn b * 2 ^ (field_of b - 1)) (rw (of_bits-to_bits binary64 x f) at (bits-value b h)) in
+    let v : units x ≡ digits_in b * 2 ^ (field_of b - 1) = value-units x false (digits_in b * 2 ^ (field_of b - 1)) (rw (of_bits-to_bits binary64 x f) at (bits-value b h)) in
     rw (ne_eqb (b % 2 ^ 63) 0 p.some, p.sign, lt-leb 0x7ff0_0000_0000_0000 b h, v)
-    (nearest-of-best (digitsIn b * 2 ^ (field_of b - 1) * 2 ^ 1074) (rootFinite b) (of_bits-fits binary64 _) (best-bits b o h))
+    (nearest-of-best (digits_in b * 2 ^ (field_of b - 1) * 2 ^ 1074) (root_finite b) (of_bits-fits binary64 _) (best-bits b o h))
   where
     positive-bits : (b : ℕ) → (b % 2 ^ 63 ≡ 0 → ⊥) → 0 < b
     positive-bits b h = omega arith
 
 -- ---- the theorem
-pub root-is-squareRoot : (x : Float) → T (fits binary64 x) → SquareRoot x (root x)
-root-is-squareRoot nan f = root-nan
-root-is-squareRoot (inf false) f = root-infinity
-root-is-squareRoot (inf true) f = root-minus-infinity
-root-is-squareRoot (fin s zero e) f = rw (zero_is s e f) (root-zero s)
-root-is-squareRoot (fin false (suc m) e) f = root-positive m e f
-root-is-squareRoot (fin true (suc m) e) f = root-negative m e f
+pub root-is-square_root : (x : Float) → T (fits binary64 x) → SquareRoot x (root x)
+root-is-square_root nan f = root-nan
+root-is-square_root (inf false) f = root-infinity
+root-is-square_root (inf true) f = root-minus-infinity
+root-is-square_root (fin s zero e) f = rw (zero_is s e f) (root-zero s)
+root-is-square_root (fin false (suc m) e) f = root-positive m e f
+root-is-square_root (fin true (suc m) e) f = root-negative m e f
 
 -- ---- there is no other
 same_bits : (m n : ℕ) (e d : ℤ) → units (fin false m e) ≡ units (fin false n d) → to_bits binary64 (fin false m e) ≡ to_bits binary64 (fin false n d)
@@ -134,14 +134,14 @@ only_one S (fin false m e) (fin false n d) a b = go (dec_le R Q) (dec_le Q R)
     go (no h) k = absurd (lt_irrefl (4 * S) (lt_trans ((b.nearer (fin false m e) a.held tt).0 (lt_of_not-le h)) (subst (λ (z : ℕ). z * z < 4 * S) (add_comm R Q) ((a.nearer (fin false n d) b.held tt).1 (lt_of_not-le h)))))
     go (yes h) (no k) = absurd (lt_irrefl (4 * S) (lt_trans ((a.nearer (fin false n d) b.held tt).0 (lt_of_not-le k)) (subst (λ (z : ℕ). z * z < 4 * S) (add_comm Q R) ((b.nearer (fin false m e) a.held tt).1 (lt_of_not-le k)))))
 
-pub squareRoot-is-root : (x r : Float) → T (fits binary64 x) → SquareRoot x r → r ≡ root x
-squareRoot-is-root nan r f h = h ∙ sym root-nan
-squareRoot-is-root (inf false) r f h = h ∙ sym root-infinity
-squareRoot-is-root (inf true) r f h = h ∙ sym root-minus-infinity
-squareRoot-is-root (fin s zero e) r f h = h ∙ sym (root-is-squareRoot (fin s zero e) f)
-squareRoot-is-root (fin false (suc m) e) r f h = only_one (units (fin false (suc m) e) * 2 ^ 1074) r (root (fin false (suc m) e)) h (root-positive m e f)
-squareRoot-is-root (fin true (suc m) e) r f h = h ∙ sym (root-negative m e f)
+pub square_root-is-root : (x r : Float) → T (fits binary64 x) → SquareRoot x r → r ≡ root x
+square_root-is-root nan r f h = h ∙ sym root-nan
+square_root-is-root (inf false) r f h = h ∙ sym root-infinity
+square_root-is-root (inf true) r f h = h ∙ sym root-minus-infinity
+square_root-is-root (fin s zero e) r f h = h ∙ sym (root-is-square_root (fin s zero e) f)
+square_root-is-root (fin false (suc m) e) r f h = only_one (units (fin false (suc m) e) * 2 ^ 1074) r (root (fin false (suc m) e)) h (root-positive m e f)
+square_root-is-root (fin true (suc m) e) r f h = h ∙ sym (root-negative m e f)
 
 -- what is claimed
 pub root-is-ieee754 : RootIsIeee754
-root-is-ieee754 = record { asked = root-is-squareRoot; only = squareRoot-is-root }
+root-is-ieee754 = record { asked = root-is-square_root; only = square_root-is-root }

@@ -2,7 +2,7 @@
 -- and r * 2 ^ 27 = 2 s q + u, the square of s * 2 ^ 27 + q is apart from that number by u * 2 ^ 27 less q².
 use Rattle.std.proofs.Common.{◌≡◌, ℕ, zero, suc, ◌+◌, ◌-◌, ◌*◌, ◌/◌, ◌%◌, ◌^◌, ◌<◌, ◌≤◌, ◌⊎◌, sym, refl, ap, ◌∙◌, subst, inl, inr, le_trans, lt_of_lt_of_le, le_of_suc-le-suc, lt_irrefl, mul-le-mul_right, mul_assoc, mul_comm, add-mul, le_antisymm, eq-or-lt_of_le, lt_of_not-le, mul-add, mul_left_comm, arith, eq-eqb, ne_eqb}
 use lib.Ieee.Nearest.{closest}
-use Rattle.floats.specs.Root.{isqrt, digitsOf}
+use Rattle.floats.specs.Root.{isqrt, digits_of}
 use Rattle.floats.proofs.Square.{sq-le, next-sq}
 use Rattle.floats.proofs.Middle.{Whole, isqrt-whole, closest-half}
 
@@ -65,10 +65,10 @@ abbrev pub longer : ℕ → ℕ → ℕ
 longer s q = s * 0x800_0000 + q
 
 pub record Step (m s q : ℕ) : Type 0 where
-  pub lower-to : q ≤ 2 ^ 27
+  pub lower_to : q ≤ 2 ^ 27
   pub square-to : q * q ≤ 2 ^ 54
-  pub less : over m s q < q * q → (longer s q + 1) / 4 ≡ closest (digitsOf m) 8
-  pub not-less : q * q ≤ over m s q → (longer s q + 2) / 4 ≡ closest (digitsOf m) 8
+  pub less : over m s q < q * q → (longer s q + 1) / 4 ≡ closest (digits_of m) 8
+  pub not-less : q * q ≤ over m s q → (longer s q + 2) / 4 ≡ closest (digits_of m) 8
 
 module _ (m s : ℕ) (from : 2 ^ 52 ≤ m) (low : s * s ≤ m * 4) (high : m * 4 ≤ s * s + 2 * s) where
   pub s-from : 2 ^ 27 ≤ s
@@ -130,30 +130,30 @@ module _ (m s q : ℕ) (from : 2 ^ 52 ≤ m) (under : m < 2 ^ 54) (low : s * s �
   isqrt-is : (p : ℕ) → Whole n p → isqrt 55 n ≡ p
   isqrt-is p w = only-root n (isqrt 55 n) p (isqrt-whole 55 n (omega arith)) w
 
-  digits-less : u * 0x800_0000 < q * q → digitsOf m ≡ root * 2 - 1
-  unfolding digitsOf
+  digits-less : u * 0x800_0000 < q * q → digits_of m ≡ root * 2 - 1
+  unfolding digits_of
   digits-less h =
       rw (isqrt-is (p h) (is-one-less h), ne_eqb (p h * p h) n (λ (e : p h * p h ≡ n). lt_irrefl n (subst (λ (z : ℕ). z < n) e (strict h))))
       (omega (arith, far))
 
-  digits_same : u * 0x800_0000 ≡ q * q → digitsOf m ≡ root * 2
-  unfolding digitsOf
+  digits_same : u * 0x800_0000 ≡ q * q → digits_of m ≡ root * 2
+  unfolding digits_of
   digits_same h =
       let e : root * root ≡ n = omega (arith, apart) in
       rw (isqrt-is root (is-root (omega arith)), eq-eqb (root * root) n e) (omega arith)
 
-  digits_more : q * q < u * 0x800_0000 → digitsOf m ≡ root * 2 + 1
-  unfolding digitsOf
+  digits_more : q * q < u * 0x800_0000 → digits_of m ≡ root * 2 + 1
+  unfolding digits_of
   digits_more h =
       rw (isqrt-is root (is-root (omega arith)), ne_eqb (root * root) n (λ (e : root * root ≡ n). absurd (omega (arith, apart)))) (omega arith)
 
-  less : u * 0x800_0000 < q * q → (root + 1) / 4 ≡ closest (digitsOf m) 8
+  less : u * 0x800_0000 < q * q → (root + 1) / 4 ≡ closest (digits_of m) 8
   less h = rw (digits-less h) (sym (quarter-less root (omega (arith, far))))
 
-  not-less : q * q ≤ u * 0x800_0000 → (root + 2) / 4 ≡ closest (digitsOf m) 8
+  not-less : q * q ≤ u * 0x800_0000 → (root + 2) / 4 ≡ closest (digits_of m) 8
   not-less h = go (eq-or-lt_of_le h)
     where
-      go : (q * q ≡ u * 0x800_0000) ⊎ (q * q < u * 0x800_0000) → (root + 2) / 4 ≡ closest (digitsOf m) 8
+      go : (q * q ≡ u * 0x800_0000) ⊎ (q * q < u * 0x800_0000) → (root + 2) / 4 ≡ closest (digits_of m) 8
       go (inl e) =
           let i : root * root ≡ n = omega (arith, apart) in
           let z : root * root % 8 ≡ 0 = omega arith in
@@ -161,4 +161,4 @@ module _ (m s q : ℕ) (from : 2 ^ 52 ≤ m) (under : m < 2 ^ 54) (low : s * s �
       go (inr l) = rw (digits_more l) (sym (quarter-more root))
 
   pub step : Step m s q
-  step = record { lower-to = q-to; square-to = square-to; less = less; not-less = not-less }
+  step = record { lower_to = q-to; square-to = square-to; less = less; not-less = not-less }

@@ -1,7 +1,7 @@
 -- A number of at most 53 digits, with its leading digit brought to the 53rd place, where that of a normal stands.
 use Rattle.std.proofs.Common.{◌≡◌, ℕ, suc, ◌+◌, ◌-◌, ◌*◌, ◌/◌, ◌%◌, ◌^◌, ◌<◌, ◌≤◌, true, false, eqb, sym, refl, ap, ◌∙◌, ap₂, le_trans, lt_trans, le_of_eq, lt_of_lt_of_le, lt_irrefl, mul-le-mul_right, mod-eq_of_lt, mul-lt-mul_of_pos_right, lt_of_not-le, arith, lit<, pow_pos, pow_mono, pow-add, eq-eqb, ne_eqb}
 use lib.Count.{count_leading_zeros, leading_top}
-use Rattle.floats.specs.Root.{rootOf, rootFinite}
+use Rattle.floats.specs.Root.{root_of, root_finite}
 
 pub record Placed (a z : ℕ) : Type 0 where
   pub low : 11 ≤ z
@@ -36,18 +36,18 @@ stands a l h =
 -- ---- the root of a positive finite value, by whether it is a normal
 
 module _ (b : ℕ) where
-  pub normal-root : 2 ^ 52 ≤ b → b < 2 ^ 63 → rootFinite b ≡ rootOf (2 ^ 52 + b % 2 ^ 52) (b / 2 ^ 52 + 1053)
-  unfolding rootFinite
+  pub normal-root : 2 ^ 52 ≤ b → b < 2 ^ 63 → root_finite b ≡ root_of (2 ^ 52 + b % 2 ^ 52) (b / 2 ^ 52 + 1053)
+  unfolding root_finite
   normal-root l h =
       let m = 2 ^ 52 + b % 2 ^ 52 in
       let n : eqb (b / 2 ^ 52) 0 ≡ false = ne_eqb (b / 2 ^ 52) 0 (λ e. omega arith) in
       let z : count_leading_zeros 64 m ≡ 11 = stands m (omega arith) (omega arith) in
       let x : m * 2 ^ (11 - 11) ≡ m = omega arith in
       let y : b / 2 ^ 52 + 1064 - 11 ≡ b / 2 ^ 52 + 1053 = omega arith in
-      rw (n, z) (ap₂ rootOf x y)
+      rw (n, z) (ap₂ root_of x y)
 
-  pub subnormal-root : b < 2 ^ 52 → rootFinite b ≡ rootOf (b * 2 ^ (count_leading_zeros 64 b - 11)) (1065 - count_leading_zeros 64 b)
-  unfolding rootFinite
+  pub subnormal-root : b < 2 ^ 52 → root_finite b ≡ root_of (b * 2 ^ (count_leading_zeros 64 b - 11)) (1065 - count_leading_zeros 64 b)
+  unfolding root_finite
   subnormal-root h =
       let n : eqb (b / 2 ^ 52) 0 ≡ true = eq-eqb (b / 2 ^ 52) 0 (omega arith) in
       let d : b % 2 ^ 52 ≡ b = omega arith in

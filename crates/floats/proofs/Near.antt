@@ -3,7 +3,7 @@ use Rattle.std.proofs.Common.{◌≡◌, ℕ, suc, ◌+◌, ◌-◌, ◌*◌, �
 use native.Mathlib.Nat.{mul-mul-mul_comm}
 use native.Mathlib.Decide.{dec_le}
 use lib.Ieee.Nearest.{closest}
-use Rattle.floats.specs.Root.{isqrt, sticky, digitsOf}
+use Rattle.floats.specs.Root.{isqrt, sticky, digits_of}
 use Rattle.floats.proofs.Square.{sq-le, sq-lt}
 use Rattle.floats.proofs.Middle.{Whole, isqrt-whole, near, under-upper, over-lower}
 
@@ -80,8 +80,8 @@ module _ (m : ℕ) (lo : 2 ^ 52 ≤ m) (hi : m < 2 ^ 54) where
   unfoldable pub k : ℕ
   k = closest s 8
 
-  pub k-is : k ≡ closest (digitsOf m) 8
-  unfolding k s q n digitsOf
+  pub k-is : k ≡ closest (digits_of m) 8
+  unfolding k s q n digits_of
   k-is = refl
 
   pub k-from : 2 ^ 52 ≤ k

@@ -7,7 +7,7 @@ use lib.Ieee.{Float, nan, inf, fin, binary64, up, down, fits, of_bits, of_fields
 use lib.Ieee.Exact.{HasValue, odd_sign}
 use lib.Ieee.Fits.{and_l, and_r, down_pos}
 use lib.Ieee.Scale.{finite}
-use Rattle.floats.specs.Root.{field_of, digitsIn}
+use Rattle.floats.specs.Root.{field_of, digits_in}
 use Rattle.floats.specs.SquareRoot.{units, negative}
 
 -- ---- the value of a positive finite pattern
@@ -20,7 +20,7 @@ by_field b (suc x) h e =
     let o : suc x ≡ 0 → ⊥ = λ k. omega arith in
     rw (ne_eqb (suc x) 2047 l, ne_eqb (suc x) 0 o, z) (odd_sign 53 false (2 ^ 52 + b % 2 ^ 52) x 1074)
 
-pub bits-value : (b : ℕ) → b < 0x7ff0_0000_0000_0000 → HasValue (of_bits binary64 b) false (digitsIn b * 2 ^ (field_of b - 1)) (2 ^ 1074)
+pub bits-value : (b : ℕ) → b < 0x7ff0_0000_0000_0000 → HasValue (of_bits binary64 b) false (digits_in b * 2 ^ (field_of b - 1)) (2 ^ 1074)
 unfolding of_bits
 bits-value b h =
     let t : b < 2 ^ 63 = omega arith in
@@ -28,7 +28,7 @@ bits-value b h =
     rw (lt-leb (2 ^ 63) b t, f) (by_field b (b / 2 ^ 52) h refl)
 
 -- the value that a field and 53 digits make, or a field and 2 ^ 53, which is carried into the field
-digits-at : (b f : ℕ) → b / 2 ^ 52 ≡ suc f → digitsIn b * 2 ^ (field_of b - 1) ≡ (2 ^ 52 + b % 2 ^ 52) * 2 ^ f
+digits-at : (b f : ℕ) → b / 2 ^ 52 ≡ suc f → digits_in b * 2 ^ (field_of b - 1) ≡ (2 ^ 52 + b % 2 ^ 52) * 2 ^ f
 digits-at b f e =
     let o : suc f ≡ 0 → ⊥ = λ k. omega arith in
     let z : suc f - 1 ≡ f = omega arith in
@@ -40,7 +40,7 @@ made-value f k l lo hi = subst (λ (z : ℕ). HasValue (of_bits binary64 b) fals
     b : ℕ
     b = f * 2 ^ 52 + k
 
-    is : (k ≡ 2 ^ 53) ⊎ (k < 2 ^ 53) → digitsIn b * 2 ^ (field_of b - 1) ≡ k * 2 ^ f
+    is : (k ≡ 2 ^ 53) ⊎ (k < 2 ^ 53) → digits_in b * 2 ^ (field_of b - 1) ≡ k * 2 ^ f
     is (inl e) =
         let g : b / 2 ^ 52 ≡ suc (suc f) = omega arith in
         let d : 2 ^ 52 + b % 2 ^ 52 ≡ 2 ^ 52 = omega arith in
@@ -50,7 +50,7 @@ made-value f k l lo hi = subst (λ (z : ℕ). HasValue (of_bits binary64 b) fals
         let d : 2 ^ 52 + b % 2 ^ 52 ≡ k = omega arith in
         digits-at b f g ∙ ap (λ (z : ℕ). z * 2 ^ f) d
 
-pub in-digits : (b : ℕ) → 0 < b → (0 < digitsIn b) × (digitsIn b < 2 ^ 53)
+pub in-digits : (b : ℕ) → 0 < b → (0 < digits_in b) × (digits_in b < 2 ^ 53)
 in-digits b h = go (eqb (b / 2 ^ 52) 0) (eqb→eq (b / 2 ^ 52) 0)
   where
     go : (c : Bool) → (T c → b / 2 ^ 52 ≡ 0) → (0 < cond c (b % 2 ^ 52) (2 ^ 52 + b % 2 ^ 52)) × (cond c (b % 2 ^ 52) (2 ^ 52 + b % 2 ^ 52) < 2 ^ 53)

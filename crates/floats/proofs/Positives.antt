@@ -3,7 +3,7 @@ use Rattle.std.proofs.Common.{◌≡◌, ℕ, zero, suc, ◌+◌, ◌-◌, ◌*�
 use lib.Count.{count_leading_zeros}
 use lib.Ieee.{Float}
 use lib.Ieee.Exact.{HasValue}
-use Rattle.floats.specs.Root.{rootOf, rootFinite, field_of, digitsIn}
+use Rattle.floats.specs.Root.{root_of, root_finite, field_of, digits_in}
 use Rattle.floats.proofs.Leading.{placed}
 use Rattle.floats.proofs.Pattern.{Short, in-digits, in_field, made-value}
 use Rattle.floats.proofs.Near as near
@@ -43,12 +43,12 @@ module _ (m z f : ℕ) (zl : 11 ≤ z) (zh : z ≤ 63) (fl : 1 ≤ f) where
       ∙ ap (λ (w : ℕ). w * 2 ^ t) (join (z - 11 + e % 2 + 56) t m)
       ∙ join (z - 11 + e % 2 + 56 + t) t m))
 
-pub best-bits : (b : ℕ) → 0 < b → b < 0x7ff0_0000_0000_0000 → Best (digitsIn b * 2 ^ (field_of b - 1) * 2 ^ 1074) (rootFinite b)
-unfolding rootFinite rootOf near.n
+pub best-bits : (b : ℕ) → 0 < b → b < 0x7ff0_0000_0000_0000 → Best (digits_in b * 2 ^ (field_of b - 1) * 2 ^ 1074) (root_finite b)
+unfolding root_finite root_of near.n
 best-bits b lo hi =
     let d = in-digits b lo in
     let g = in_field b hi in
-    let a = digitsIn b in
+    let a = digits_in b in
     let z = count_leading_zeros 64 a in
     let p = placed a d.0 d.1 in
     let f = field_of b in

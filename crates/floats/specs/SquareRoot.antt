@@ -1,11 +1,11 @@
--- What IEEE 754-2019 asks of squareRoot on binary64, with roundTiesToEven: a relation between an operand x and a result r.
+-- What IEEE 754-2019 asks of square_root on binary64, with round_ties_to_even: a relation between an operand x and a result r.
 -- It says which r is right and not how to find it. proofs/Ieee754 proves that it holds of `root` at every binary64 value,
 -- and of no other result. `fits binary64 x` says that x is a binary64 value (lib.Ieee).
 --
 -- From the standard:
---   5.4.1  squareRoot(x) computes √x. It has a positive sign for every operand from 0 on, but squareRoot(−0) is −0.
+--   5.4.1  square_root(x) computes √x. It has a positive sign for every operand from 0 on, but square_root(−0) is −0.
 --   7.2    of an operand below zero it is an invalid operation, which delivers a NaN.
---   6.1, 6.2  squareRoot(+∞) is +∞, and a NaN gives a NaN.
+--   6.1, 6.2  square_root(+∞) is +∞, and a NaN gives a NaN.
 --   4.3.1  the result is the value nearest to the exact one; of two equally near, the one with an even last digit.
 use Rattle.std.specs.Prelude.{◌≡◌, ℕ, zero, suc, ◌+◌, ◌-◌, ◌*◌, ◌/◌, ◌^◌, ◌<◌, Bool, true, false, T, Float}
 use Rattle.std.specs.Float.{nan, inf, fin, binary64}

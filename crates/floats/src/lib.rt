@@ -113,7 +113,7 @@ fn quotient(n: u64, d: u64, guess: u64) -> u64
 // left. Two of the digits are then rounded off, and are never half way.
 fn rounded(m: u64) -> u64
     requires { (2 ^ 52 ≤ m) × (m < 2 ^ 54) }
-    ensures { (result ≡ closest (Root.digitsOf m) 8) × (result ≤ 2 ^ 53) }
+    ensures { (result ≡ closest (Root.digits_of m) 8) × (result ≤ 2 ^ 53) }
 {
     let y = inverse(m);
     let s = whole_root(m * 4, guess(m, y));
@@ -129,7 +129,7 @@ fn rounded(m: u64) -> u64
 
 fn root_of(m: u64, e: u64) -> f64
     requires { (2 ^ 52 ≤ m) × (m < 2 ^ 53) × (32 ≤ e) × (e < 4000) }
-    ensures { result ≡ Root.rootOf m e }
+    ensures { result ≡ Root.root_of m e }
 {
     of_bits((e / 2 - 16) * FIELD + rounded(m * (1 + e % 2)))
 }
@@ -137,7 +137,7 @@ fn root_of(m: u64, e: u64) -> f64
 // The leading digit of a normal, which the pattern leaves out, stands in the 53rd place: no zeros are counted, and nothing is shifted.
 fn root_normal(b: u64) -> f64
     requires { (2 ^ 52 ≤ b) × (b < 0x7ff0_0000_0000_0000) }
-    ensures { result ≡ Root.rootFinite b }
+    ensures { result ≡ Root.root_finite b }
 {
     root_of(FIELD + b % FIELD, b / FIELD + 1053)
 }
@@ -146,7 +146,7 @@ fn root_normal(b: u64) -> f64
 // many places.
 fn root_subnormal(b: u64) -> f64
     requires { (0 < b) × (b < 2 ^ 52) }
-    ensures { result ≡ Root.rootFinite b }
+    ensures { result ≡ Root.root_finite b }
 {
     let z = u64::leading_zeros(b) as u64;
     root_of(b << (z - 11), 1065 - z)
@@ -154,7 +154,7 @@ fn root_subnormal(b: u64) -> f64
 
 fn root_finite(b: u64) -> f64
     requires { (0 < b) × (b < 0x7ff0_0000_0000_0000) }
-    ensures { result ≡ Root.rootFinite b }
+    ensures { result ≡ Root.root_finite b }
 {
     if b < FIELD {
         return root_subnormal(b);
@@ -164,7 +164,7 @@ fn root_finite(b: u64) -> f64
 
 // All tests are on the bits, as integers.
 fn root_bits(b: u64) -> f64
-    ensures { result ≡ Root.rootBits b }
+    ensures { result ≡ Root.root_bits b }
 {
     if b % SIGN == 0 {
         return of_bits(b);

@@ -7,7 +7,7 @@ use native.Mathlib.Omega.{arith}
 use borrow.Author.Tests.{lt-ltb, le-ltb, eq-eqb, ne_eqb}
 use lib.Dec.{ltb, eqb}
 use lib.Ieee.{Float, nan, inf, fin, binary64, up, down, of_bits, of_int, lt, le, eq, is_nan}
-use Rattle.geometry.specs.Numbers.{notAbove}
+use Rattle.geometry.specs.Numbers.{not_above}
 
 -- a ≤ b, in two tests, is that b is not below a
 at_most : (a b : ℕ) (t : Bool) → ltb a b || eqb a b && (true || t) ≡ not (ltb b a)
@@ -89,7 +89,7 @@ at-most-not-above (fin true m d) (fin false n k) e f = below-zero (m * up d * do
 at-most-not-above (fin true m d) (fin true n k) e f = at_least (m * up d * down k) (n * up k * down d) (eqb (m * up d * down k) 0)
 
 -- x is a NaN or at most zero exactly where it is not above zero
-pub not-above : (x : Float) → notAbove x ≡ not (lt (of_bits binary64 0) x)
+pub not-above : (x : Float) → not_above x ≡ not (lt (of_bits binary64 0) x)
 unfolding is_nan lt of_int of_bits
 not-above nan = refl
 not-above (inf s) = at-most-not-above (inf s) (of_bits binary64 0) refl refl

@@ -9,8 +9,8 @@ use lib.Dec.{le→leb, lt→ltb, leb→le, ltb→lt, lit<}
 use lib.IntN.{ℤ, pos, negsuc, sub_ℕ, neg_ℤ, neg_ℤ-neg_ℤ, ◌+ℤ◌, ◌-ℤ◌, ◌*ℤ◌, +ℤ_comm, -ℤ-+ℤ_cancel}
 use lib.Ieee.{Float}
 use lib.Signed.{◌≤ℤ◌, ◌<ℤ◌}
-use Rattle.geometry.specs.Angles.{quadrantOf, rightAngles, rest_of, turn_of, sincosOf, radiansOf, sineOf, cosineOf}
-use Rattle.geometry.specs.Formula.{floorDiv, floorMod, formulaQ, formulaTurn, formulaSincos}
+use Rattle.geometry.specs.Angles.{quadrant_of, right_angles, rest_of, turn_of, sincos_of, radians_of, sine_of, cosine_of}
+use Rattle.geometry.specs.Formula.{floor_div, floor_mod, formula_q, formula_turn, formula_sincos}
 use Rattle.geometry.specs.Claims.{InRange, CoveredOnce, QuadrantAndRest, InI32, InFive, RangesAreTheFormula, Edges}
 use Rattle.geometry.specs.declared.angles.Quadrant.{Quadrant}
 use Rattle.geometry.specs.declared.angles.Quadrant.TheVariants.{MinusTwo, MinusOne, Zero, One, Two}
@@ -56,39 +56,39 @@ across-below = record { lt = tt }
 -- ---- which range an angle is in
 
 -- of -(n + 1) and of n, by how great n is
-two-below : (n : ℕ) → 1349999999 < n → quadrantOf (negsuc n) ≡ MinusTwo
+two-below : (n : ℕ) → 1349999999 < n → quadrant_of (negsuc n) ≡ MinusTwo
 two-below n h = rw (lt-ltb 1349999999 n h)
 
-one_below : (n : ℕ) → 449999999 < n → n ≤ 1349999999 → quadrantOf (negsuc n) ≡ MinusOne
+one_below : (n : ℕ) → 449999999 < n → n ≤ 1349999999 → quadrant_of (negsuc n) ≡ MinusOne
 one_below n l h = rw (le-ltb 1349999999 n h, lt-ltb 449999999 n l)
 
-none_below : (n : ℕ) → n ≤ 449999999 → quadrantOf (negsuc n) ≡ Zero
+none_below : (n : ℕ) → n ≤ 449999999 → quadrant_of (negsuc n) ≡ Zero
 none_below n h = rw (le-ltb 1349999999 n (omega arith), le-ltb 449999999 n h)
 
-none_above : (n : ℕ) → n < 450000000 → quadrantOf (pos n) ≡ Zero
+none_above : (n : ℕ) → n < 450000000 → quadrant_of (pos n) ≡ Zero
 none_above n h = rw (lt-ltb n 450000000 h)
 
-one-above : (n : ℕ) → 450000000 ≤ n → n < 1350000000 → quadrantOf (pos n) ≡ One
+one-above : (n : ℕ) → 450000000 ≤ n → n < 1350000000 → quadrant_of (pos n) ≡ One
 one-above n l h = rw (le-ltb n 450000000 l, lt-ltb n 1350000000 h)
 
-two-above : (n : ℕ) → 1350000000 ≤ n → quadrantOf (pos n) ≡ Two
+two-above : (n : ℕ) → 1350000000 ≤ n → quadrant_of (pos n) ≡ Two
 two-above n l = rw (le-ltb n 450000000 (omega arith), le-ltb n 1350000000 l)
 
-covered : (v : ℤ) → InRange (quadrantOf v) v
+covered : (v : ℤ) → InRange (quadrant_of v) v
 covered (pos n) = go (dec_lt n 450000000) (dec_lt n 1350000000)
   where
-    go : Dec (n < 450000000) → Dec (n < 1350000000) → InRange (quadrantOf (pos n)) (pos n)
+    go : Dec (n < 450000000) → Dec (n < 1350000000) → InRange (quadrant_of (pos n)) (pos n)
     go (yes h) _ = rw (none_above n h) (across, up-below h)
     go (no l) (yes h) = rw (one-above n (omega arith) h) (up (omega arith), up-below h)
     go (no l) (no h) = rw (two-above n (omega arith)) (up (omega arith))
 covered (negsuc n) = go (dec_lt 449999999 n) (dec_lt 1349999999 n)
   where
-    go : Dec (449999999 < n) → Dec (1349999999 < n) → InRange (quadrantOf (negsuc n)) (negsuc n)
+    go : Dec (449999999 < n) → Dec (1349999999 < n) → InRange (quadrant_of (negsuc n)) (negsuc n)
     go (no h) _ = rw (none_below n (omega arith)) (down (omega arith), across-below)
     go (yes l) (no h) = rw (one_below n l (omega arith)) (down (omega arith), down-below l)
     go (yes l) (yes h) = rw (two-below n h) (down-below h)
 
-pub once : (v : ℤ) (q : Quadrant) → InRange q v → quadrantOf v ≡ q
+pub once : (v : ℤ) (q : Quadrant) → InRange q v → quadrant_of v ≡ q
 once (negsuc n) MinusTwo h = two-below n (ltb→lt 1349999999 n h.lt)
 once (negsuc n) MinusOne h = one_below n (ltb→lt 449999999 n h.1.lt) (leb→le n 1349999999 h.0.le)
 once (negsuc n) Zero h = none_below n (leb→le n 449999999 h.0.le)
@@ -106,9 +106,9 @@ covered-once = record { covered = covered; once = once }
 -- ---- the laws of the formula's division, which say which q and r they are: for every integer v
 
 -- v = 900,000,000 q + r
-whole-law : (v : ℤ) → v ≡ pos 900000000 *ℤ formulaQ v +ℤ rest_of (formulaQ v) v
-whole-law v =
-    sym (-ℤ-+ℤ_cancel v (pos 900000000 *ℤ formulaQ v)) ∙ +ℤ_comm (rest_of (formulaQ v) v) (pos 900000000 *ℤ formulaQ v)
+whole_law : (v : ℤ) → v ≡ pos 900000000 *ℤ formula_q v +ℤ rest_of (formula_q v) v
+whole_law v =
+    sym (-ℤ-+ℤ_cancel v (pos 900000000 *ℤ formula_q v)) ∙ +ℤ_comm (rest_of (formula_q v) v) (pos 900000000 *ℤ formula_q v)
 
 within : (a b : ℕ) → b ≤ a + 450000000 → a < b + 450000000 → InRange Zero (sub_ℕ a b)
 within a b h l = go (dec_lt a b)
@@ -117,13 +117,13 @@ within a b h l = go (dec_lt a b)
     go (yes d) = rw (sub-down a b d) (down (omega arith), across-below)
     go (no d) = rw (sub-up a b (omega arith)) (across, up-below (omega arith))
 
-rest_in : (v : ℤ) → InRange Zero (rest_of (formulaQ v) v)
+rest_in : (v : ℤ) → InRange Zero (rest_of (formula_q v) v)
 rest_in (pos n) =
     let q = (n + 450000000) / 900000000 in
     rw (minus_is n (900000000 * q)) (within n (900000000 * q) (omega arith) (omega arith))
 rest_in (negsuc n) = go (dec_lt 449999999 n)
   where
-    go : Dec (449999999 < n) → InRange Zero (rest_of (formulaQ (negsuc n)) (negsuc n))
+    go : Dec (449999999 < n) → InRange Zero (rest_of (formula_q (negsuc n)) (negsuc n))
     go (yes l) =
         let k = (suc n - suc 450000000) / 900000000 in
         rw (sub-down 450000000 (suc n) (omega arith), neg_ℤ-neg_ℤ)
@@ -134,7 +134,7 @@ rest_in (negsuc n) = go (dec_lt 449999999 n)
         (down (omega arith), across-below)
 
 -- q = 4 (q / 4) + (q % 4)
-fours : (q : ℤ) → q ≡ pos 4 *ℤ floorDiv q 4 +ℤ pos (floorMod q 4)
+fours : (q : ℤ) → q ≡ pos 4 *ℤ floor_div q 4 +ℤ pos (floor_mod q 4)
 fours (pos n) = ap pos (omega arith)
 fours (negsuc n) =
     sym
@@ -142,12 +142,12 @@ fours (negsuc n) =
     ∙ sub-down (4 - 1 - n % 4) (4 * suc (n / 4)) (omega arith)
     ∙ ap negsuc (omega arith))
 
-below-four : (q : ℤ) → floorMod q 4 < 4
-below-four (pos n) = omega arith
-below-four (negsuc n) = omega arith
+below_four : (q : ℤ) → floor_mod q 4 < 4
+below_four (pos n) = omega arith
+below_four (negsuc n) = omega arith
 
 pub quadrant-and-rest : QuadrantAndRest
-quadrant-and-rest = record { whole-law = whole-law; rest_in = rest_in; fours = fours; below-four = below-four }
+quadrant-and-rest = record { whole_law = whole_law; rest_in = rest_in; fours = fours; below_four = below_four }
 
 -- ---- the ranges give what the formula gives
 
@@ -155,13 +155,13 @@ five : (v : ℤ) → InI32 v → InFive v
 five (pos n) h = (across, up-below (lt_of_le_of_lt (leb→le n 2147483647 h.1.le) (lit< tt)))
 five (negsuc n) h = (down (le_trans (leb→le n 2147483647 h.0.le) (le_of_lt (lit< tt))), across-below)
 
-quadrant : (v : ℤ) → InFive v → rightAngles (quadrantOf v) ≡ formulaQ v
+quadrant : (v : ℤ) → InFive v → right_angles (quadrant_of v) ≡ formula_q v
 quadrant (pos n) h = go (dec_lt n 450000000) (dec_lt n 1350000000)
   where
     below : n < 2250000000
     below = ltb→lt n 2250000000 h.1.lt
 
-    go : Dec (n < 450000000) → Dec (n < 1350000000) → rightAngles (quadrantOf (pos n)) ≡ formulaQ (pos n)
+    go : Dec (n < 450000000) → Dec (n < 1350000000) → right_angles (quadrant_of (pos n)) ≡ formula_q (pos n)
     go (yes l) _ = rw (none_above n l) (ap pos (omega arith))
     go (no l) (yes m) = rw (one-above n (omega arith) m) (ap pos (omega arith))
     go (no l) (no m) = rw (two-above n (omega arith)) (ap pos (omega (arith, below)))
@@ -170,12 +170,12 @@ quadrant (negsuc n) h = go (dec_lt 449999999 n) (dec_lt 1349999999 n)
     above : n ≤ 2249999999
     above = leb→le n 2249999999 h.0.le
 
-    go : Dec (449999999 < n) → Dec (1349999999 < n) → rightAngles (quadrantOf (negsuc n)) ≡ formulaQ (negsuc n)
+    go : Dec (449999999 < n) → Dec (1349999999 < n) → right_angles (quadrant_of (negsuc n)) ≡ formula_q (negsuc n)
     go (no l) _ = rw (none_below n (omega arith), sub-up 450000000 (suc n) (omega arith)) (ap pos (omega arith))
     go (yes l) (no m) = rw (one_below n l (omega arith), sub-down 450000000 (suc n) (omega arith)) (ap negsuc (omega arith))
     go (yes l) (yes m) = rw (two-below n m, sub-down 450000000 (suc n) (omega arith)) (ap negsuc (omega (arith, above)))
 
-no_other : (v : ℤ) → rightAngles (quadrantOf v) ≡ formulaQ v → InFive v
+no_other : (v : ℤ) → right_angles (quadrant_of v) ≡ formula_q v → InFive v
 no_other (pos n) e = go (dec_lt n 2250000000)
   where
     inner : (a b : ℕ) → pos a ≡ pos b → a ≡ b
@@ -197,26 +197,26 @@ no_other (negsuc n) e = go (dec_lt 2249999999 n)
         let same = inner 1 ((suc n - suc 450000000) / 900000000) (rw (two-below n (omega arith), sub-down 450000000 (suc n) (omega arith)) at e) in
         absurd (omega arith)
 
-rest : (v : ℤ) → InFive v → InRange Zero (rest_of (rightAngles (quadrantOf v)) v)
+rest : (v : ℤ) → InFive v → InRange Zero (rest_of (right_angles (quadrant_of v)) v)
 rest v h = rw (quadrant v h) (rest_in v)
 
 -- what a range takes is what the remainder of its q takes
-taken : (q : Quadrant) (s c : Float) → turn_of q s c ≡ formulaTurn (floorMod (rightAngles q) 4) s c
+taken : (q : Quadrant) (s c : Float) → turn_of q s c ≡ formula_turn (floor_mod (right_angles q) 4) s c
 taken MinusTwo s c = refl
 taken MinusOne s c = refl
 taken Zero s c = refl
 taken One s c = refl
 taken Two s c = refl
 
-turn : (v : ℤ) → InFive v → (s c : Float) → turn_of (quadrantOf v) s c ≡ formulaTurn (floorMod (formulaQ v) 4) s c
-turn v h s c = taken (quadrantOf v) s c ∙ ap (λ q. formulaTurn (floorMod q 4) s c) (quadrant v h)
+turn : (v : ℤ) → InFive v → (s c : Float) → turn_of (quadrant_of v) s c ≡ formula_turn (floor_mod (formula_q v) 4) s c
+turn v h s c = taken (quadrant_of v) s c ∙ ap (λ q. formula_turn (floor_mod q 4) s c) (quadrant v h)
 
-sincos : (v : ℤ) → InFive v → sincosOf v ≡ formulaSincos v
-unfolding sincosOf formulaSincos
+sincos : (v : ℤ) → InFive v → sincos_of v ≡ formula_sincos v
+unfolding sincos_of formula_sincos
 sincos v h =
-    let t : ℤ → Float = λ q. radiansOf (rest_of q v) in
-    turn v h (sineOf (t (rightAngles (quadrantOf v)))) (cosineOf (t (rightAngles (quadrantOf v))))
-    ∙ ap (λ q. formulaTurn (floorMod (formulaQ v) 4) (sineOf (t q)) (cosineOf (t q))) (quadrant v h)
+    let t : ℤ → Float = λ q. radians_of (rest_of q v) in
+    turn v h (sine_of (t (right_angles (quadrant_of v)))) (cosine_of (t (right_angles (quadrant_of v))))
+    ∙ ap (λ q. formula_turn (floor_mod (formula_q v) 4) (sine_of (t q)) (cosine_of (t q))) (quadrant v h)
 
 pub ranges-are-the-formula : RangesAreTheFormula
 ranges-are-the-formula =
@@ -225,7 +225,7 @@ ranges-are-the-formula =
       quadrant = quadrant;
       no_other = no_other;
       rest = rest;
-      remainder = λ v h. ap (λ q. floorMod q 4) (quadrant v h);
+      remainder = λ v h. ap (λ q. floor_mod q 4) (quadrant v h);
       turn = turn;
       sincos = sincos;
     }
@@ -234,11 +234,11 @@ pub edges : Edges
 edges =
     record {
       least = (refl, refl);
-      last-minus-two = (refl, refl);
-      first-minus-one = (refl, refl);
-      last-minus-one = (refl, refl);
-      first-zero = (refl, refl);
-      last-zero = (refl, refl);
+      last_minus_two = (refl, refl);
+      first_minus_one = (refl, refl);
+      last_minus_one = (refl, refl);
+      first_zero = (refl, refl);
+      last_zero = (refl, refl);
       first_one = (refl, refl);
       last_one = (refl, refl);
       first_two = (refl, refl);

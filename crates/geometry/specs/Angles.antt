@@ -5,26 +5,26 @@ use mathlib.Core.List.{[], ◌∷◌, foldl}
 use Rattle.std.specs.Int.Signed.{lt_z}
 use Rattle.std.specs.Float.{binary64}
 use Rattle.std.specs.Float.Ieee.{round, neg, of_int}
-use Rattle.geometry.specs.Numbers.{◌⊕◌, ◌⊗◌, ◌⊘◌, whole, fromDecimal}
+use Rattle.geometry.specs.Numbers.{◌⊕◌, ◌⊗◌, ◌⊘◌, whole, from_decimal}
 use Rattle.geometry.specs.declared.angles.Quadrant.{Quadrant}
 use Rattle.geometry.specs.declared.angles.Quadrant.TheVariants.{MinusTwo, MinusOne, Zero, One, Two}
 use Rattle.geometry.specs.declared.angles.Turn.{Turn}
 
 -- the quadrant of v: five ranges, each up to the next one's first angle
-abbrev pub quadrantOf : ℤ → Quadrant
-quadrantOf v =
+abbrev pub quadrant_of : ℤ → Quadrant
+quadrant_of v =
     cond (lt_z v (neg_ℤ (pos 1_350_000_000))) MinusTwo
     (cond (lt_z v (neg_ℤ (pos 450_000_000))) MinusOne
     (cond (lt_z v (pos 450_000_000)) Zero
     (cond (lt_z v (pos 1_350_000_000)) One Two)))
 
 -- q, the number of right angles that the quadrant's angles are nearest to
-abbrev pub rightAngles : Quadrant → ℤ
-rightAngles MinusTwo = neg_ℤ (pos 2)
-rightAngles MinusOne = neg_ℤ (pos 1)
-rightAngles Zero = pos 0
-rightAngles One = pos 1
-rightAngles Two = pos 2
+abbrev pub right_angles : Quadrant → ℤ
+right_angles MinusTwo = neg_ℤ (pos 2)
+right_angles MinusOne = neg_ℤ (pos 1)
+right_angles Zero = pos 0
+right_angles One = pos 1
+right_angles Two = pos 2
 
 -- r = v - 900,000,000 * q
 abbrev pub rest_of : ℤ → ℤ → ℤ
@@ -32,15 +32,15 @@ rest_of q v = v -ℤ pos 900_000_000 *ℤ q
 
 -- The value nearest to pi / 180, from pi's first 35 decimals. (Pi cut after them and the next number of 35 decimals give
 -- the same value: `nearest-pi` of proofs/Constants.antt.)
-abbrev pub piDigits : ℕ
-piDigits = 3_14159_26535_89793_23846_26433_83279_50288
+abbrev pub pi_digits : ℕ
+pi_digits = 3_14159_26535_89793_23846_26433_83279_50288
 
 unfoldable pub degree : Float
-degree = round binary64 false piDigits (180 * 10 ^ 35)
+degree = round binary64 false pi_digits (180 * 10 ^ 35)
 
 -- t is r as f64, times 1e-7, times the value nearest to pi / 180
-unfoldable pub radiansOf : ℤ → Float
-radiansOf r = of_int binary64 r ⊗ fromDecimal 1 7 ⊗ degree
+unfoldable pub radians_of : ℤ → Float
+radians_of r = of_int binary64 r ⊗ from_decimal 1 7 ⊗ degree
 
 unfoldable pub factorial : ℕ → ℕ
 factorial zero = 1
@@ -54,8 +54,8 @@ coefficient n = whole 1 ⊘ whole (factorial n)
 abbrev pub step : Float → Float → Float → Float
 step u sum next = sum ⊗ u ⊕ next
 
-unfoldable pub sineSeries : Float → Float
-sineSeries u =
+unfoldable pub sine_series : Float → Float
+sine_series u =
     foldl (step u) (coefficient 17)
     (neg (coefficient 15)
     ∷ coefficient 13
@@ -67,8 +67,8 @@ sineSeries u =
     ∷ coefficient 1
     ∷ [])
 
-unfoldable pub cosineSeries : Float → Float
-cosineSeries u =
+unfoldable pub cosine_series : Float → Float
+cosine_series u =
     foldl (step u) (coefficient 16)
     (neg (coefficient 14)
     ∷ coefficient 12
@@ -81,11 +81,11 @@ cosineSeries u =
     ∷ [])
 
 -- s and c: the sine and the cosine of t
-abbrev pub sineOf : Float → Float
-sineOf t = sineSeries (t ⊗ t) ⊗ t
+abbrev pub sine_of : Float → Float
+sine_of t = sine_series (t ⊗ t) ⊗ t
 
-abbrev pub cosineOf : Float → Float
-cosineOf t = cosineSeries (t ⊗ t)
+abbrev pub cosine_of : Float → Float
+cosine_of t = cosine_series (t ⊗ t)
 
 -- which of the two is the sine of v and which its cosine, and their signs
 abbrev pub turn_of : Quadrant → Float → Float → Turn
@@ -95,8 +95,8 @@ turn_of Zero s c = record { sin = s; cos = c }
 turn_of One s c = record { sin = c; cos = neg s }
 turn_of Two s c = record { sin = neg s; cos = neg c }
 
-unfoldable pub sincosOf : ℤ → Turn
-sincosOf v =
-    let q = quadrantOf v in
-    let t = radiansOf (rest_of (rightAngles q) v) in
-    turn_of q (sineOf t) (cosineOf t)
+unfoldable pub sincos_of : ℤ → Turn
+sincos_of v =
+    let q = quadrant_of v in
+    let t = radians_of (rest_of (right_angles q) v) in
+    turn_of q (sine_of t) (cosine_of t)

@@ -1,8 +1,8 @@
 -- What is claimed of the sine and the cosine of an angle, beside that the code gives what Angles says. Each statement is a type; the theorem of it has its
 -- name, in proofs/Quadrants and proofs/Positions.
 use Rattle.std.specs.Prelude.{◌≡◌, ◌<◌, ℤ, pos, neg_ℤ, ◌+ℤ◌, ◌*ℤ◌, ◌≤ℤ◌, ◌<ℤ◌, Float}
-use Rattle.geometry.specs.Angles.{quadrantOf, rightAngles, rest_of, turn_of, sincosOf}
-use Rattle.geometry.specs.Formula.{floorDiv, floorMod, formulaQ, formulaTurn, formulaSincos}
+use Rattle.geometry.specs.Angles.{quadrant_of, right_angles, rest_of, turn_of, sincos_of}
+use Rattle.geometry.specs.Formula.{floor_div, floor_mod, formula_q, formula_turn, formula_sincos}
 use Rattle.geometry.specs.declared.angles.Quadrant.{Quadrant}
 use Rattle.geometry.specs.declared.angles.Quadrant.TheVariants.{MinusTwo, MinusOne, Zero, One, Two}
 
@@ -18,19 +18,19 @@ InRange Two v = pos 1_350_000_000 ≤ℤ v
 
 -- each angle lies in the range of its quadrant, and in no other
 pub record CoveredOnce : Type 0 where
-  pub covered : (v : ℤ) → InRange (quadrantOf v) v
-  pub once : (v : ℤ) (q : Quadrant) → InRange q v → quadrantOf v ≡ q
+  pub covered : (v : ℤ) → InRange (quadrant_of v) v
+  pub once : (v : ℤ) (q : Quadrant) → InRange q v → quadrant_of v ≡ q
 
 -- ---- the formula with a division that rounds down
 
 -- which q and r the formula gives, for every whole number v
 pub record QuadrantAndRest : Type 0 where
-  pub whole-law : (v : ℤ) → v ≡ pos 900_000_000 *ℤ formulaQ v +ℤ rest_of (formulaQ v) v
+  pub whole_law : (v : ℤ) → v ≡ pos 900_000_000 *ℤ formula_q v +ℤ rest_of (formula_q v) v
   -- -450,000,000 ≤ r < 450,000,000, which is the range in the middle
-  pub rest_in : (v : ℤ) → InRange Zero (rest_of (formulaQ v) v)
+  pub rest_in : (v : ℤ) → InRange Zero (rest_of (formula_q v) v)
   -- and which remainder by 4 it takes of q, for every whole number q
-  pub fours : (q : ℤ) → q ≡ pos 4 *ℤ floorDiv q 4 +ℤ pos (floorMod q 4)
-  pub below-four : (q : ℤ) → floorMod q 4 < 4
+  pub fours : (q : ℤ) → q ≡ pos 4 *ℤ floor_div q 4 +ℤ pos (floor_mod q 4)
+  pub below_four : (q : ℤ) → floor_mod q 4 < 4
 
 -- ---- the ranges give what the formula gives
 
@@ -46,38 +46,38 @@ pub record RangesAreTheFormula : Type 0 where
   -- every angle of 32 bits is one of these
   pub five : (v : ℤ) → InI32 v → InFive v
   -- for them and for no other the ranges give the formula's q
-  pub quadrant : (v : ℤ) → InFive v → rightAngles (quadrantOf v) ≡ formulaQ v
-  pub no_other : (v : ℤ) → rightAngles (quadrantOf v) ≡ formulaQ v → InFive v
+  pub quadrant : (v : ℤ) → InFive v → right_angles (quadrant_of v) ≡ formula_q v
+  pub no_other : (v : ℤ) → right_angles (quadrant_of v) ≡ formula_q v → InFive v
   -- so also an r of at most half a right angle, the remainder by 4, and what that chooses
-  pub rest : (v : ℤ) → InFive v → InRange Zero (rest_of (rightAngles (quadrantOf v)) v)
-  pub remainder : (v : ℤ) → InFive v → floorMod (rightAngles (quadrantOf v)) 4 ≡ floorMod (formulaQ v) 4
-  pub turn : (v : ℤ) → InFive v → (s c : Float) → turn_of (quadrantOf v) s c ≡ formulaTurn (floorMod (formulaQ v) 4) s c
+  pub rest : (v : ℤ) → InFive v → InRange Zero (rest_of (right_angles (quadrant_of v)) v)
+  pub remainder : (v : ℤ) → InFive v → floor_mod (right_angles (quadrant_of v)) 4 ≡ floor_mod (formula_q v) 4
+  pub turn : (v : ℤ) → InFive v → (s c : Float) → turn_of (quadrant_of v) s c ≡ formula_turn (floor_mod (formula_q v) 4) s c
   -- and the same sine and cosine
-  pub sincos : (v : ℤ) → InFive v → sincosOf v ≡ formulaSincos v
+  pub sincos : (v : ℤ) → InFive v → sincos_of v ≡ formula_sincos v
 
 -- ---- three angles at edges of the ranges
 
 -- v = 450,000,000 gives q 1, 449,999,999 gives q 0, -450,000,001 gives q -1
 abbrev pub Position4 : Type 0
 Position4 =
-    (rightAngles (quadrantOf (pos 450_000_000)) ≡ pos 1)
-    × (rightAngles (quadrantOf (pos 449_999_999)) ≡ pos 0)
-    × (rightAngles (quadrantOf (neg_ℤ (pos 450_000_001))) ≡ neg_ℤ (pos 1))
+    (right_angles (quadrant_of (pos 450_000_000)) ≡ pos 1)
+    × (right_angles (quadrant_of (pos 449_999_999)) ≡ pos 0)
+    × (right_angles (quadrant_of (neg_ℤ (pos 450_000_001))) ≡ neg_ℤ (pos 1))
 
 -- ---- the edges
 
 -- the ranges and the formula give v this q
 abbrev pub Given : ℤ → Quadrant → Type 0
-Given v q = (quadrantOf v ≡ q) × (formulaQ v ≡ rightAngles q)
+Given v q = (quadrant_of v ≡ q) × (formula_q v ≡ right_angles q)
 
 -- the two ends of an i32, and the last and the first angle on either side of each edge
 pub record Edges : Type 0 where
   pub least : Given (neg_ℤ (pos 2_147_483_648)) MinusTwo
-  pub last-minus-two : Given (neg_ℤ (pos 1_350_000_001)) MinusTwo
-  pub first-minus-one : Given (neg_ℤ (pos 1_350_000_000)) MinusOne
-  pub last-minus-one : Given (neg_ℤ (pos 450_000_001)) MinusOne
-  pub first-zero : Given (neg_ℤ (pos 450_000_000)) Zero
-  pub last-zero : Given (pos 449_999_999) Zero
+  pub last_minus_two : Given (neg_ℤ (pos 1_350_000_001)) MinusTwo
+  pub first_minus_one : Given (neg_ℤ (pos 1_350_000_000)) MinusOne
+  pub last_minus_one : Given (neg_ℤ (pos 450_000_001)) MinusOne
+  pub first_zero : Given (neg_ℤ (pos 450_000_000)) Zero
+  pub last_zero : Given (pos 449_999_999) Zero
   pub first_one : Given (pos 450_000_000) One
   pub last_one : Given (pos 1_349_999_999) One
   pub first_two : Given (pos 1_350_000_000) Two

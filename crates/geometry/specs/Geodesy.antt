@@ -3,26 +3,26 @@
 use Rattle.std.specs.Prelude.{Float}
 use Rattle.std.specs.Float.Ieee.{neg}
 use Rattle.floats.specs.Root.{root}
-use Rattle.geometry.specs.Numbers.{◌⊕◌, ◌⊖◌, ◌⊗◌, ◌⊘◌, whole, fromDecimal}
+use Rattle.geometry.specs.Numbers.{◌⊕◌, ◌⊖◌, ◌⊗◌, ◌⊘◌, whole, from_decimal}
 use Rattle.geometry.specs.declared.geodesy.Vec3.{Vec3}
 use Rattle.geometry.specs.declared.geodesy.Basis.{Basis}
 use Rattle.geometry.specs.declared.geodesy.Geodetic.{Geodetic}
 
 -- A: the semi-major axis, 6,378,137 metres
-abbrev pub semiMajor : Float
-semiMajor = whole 6_378_137
+abbrev pub semi_major : Float
+semi_major = whole 6_378_137
 
 -- F = 1.0 / 298.257_223_563: the flattening
 unfoldable pub flattening : Float
-flattening = whole 1 ⊘ fromDecimal 298_257_223_563 9
+flattening = whole 1 ⊘ from_decimal 298_257_223_563 9
 
 -- E2 = F * (2.0 - F): the first eccentricity squared
 unfoldable pub eccentricity2 : Float
 eccentricity2 = flattening ⊗ (whole 2 ⊖ flattening)
 
-unfoldable pub toEcef : Geodetic → Vec3
-toEcef position =
-    let n = semiMajor ⊘ root (whole 1 ⊖ eccentricity2 ⊗ position.lat.sin ⊗ position.lat.sin) in
+unfoldable pub to_ecef : Geodetic → Vec3
+to_ecef position =
+    let n = semi_major ⊘ root (whole 1 ⊖ eccentricity2 ⊗ position.lat.sin ⊗ position.lat.sin) in
     record {
       x = (n ⊕ position.height_m) ⊗ position.lat.cos ⊗ position.lon.cos;
       y = (n ⊕ position.height_m) ⊗ position.lat.cos ⊗ position.lon.sin;
@@ -30,8 +30,8 @@ toEcef position =
     }
 
 -- the unit vectors east, north and up
-unfoldable pub enuBasis : Geodetic → Basis
-enuBasis position =
+unfoldable pub enu_basis : Geodetic → Basis
+enu_basis position =
     record {
       east = record { x = neg position.lon.sin; y = position.lon.cos; z = whole 0 };
       north =
@@ -49,8 +49,8 @@ enuBasis position =
     }
 
 -- linalg::sub and linalg::dot
-unfoldable pub subOf : Vec3 → Vec3 → Vec3
-subOf a b = record { x = a.x ⊖ b.x; y = a.y ⊖ b.y; z = a.z ⊖ b.z }
+unfoldable pub sub_of : Vec3 → Vec3 → Vec3
+sub_of a b = record { x = a.x ⊖ b.x; y = a.y ⊖ b.y; z = a.z ⊖ b.z }
 
-unfoldable pub dotOf : Vec3 → Vec3 → Float
-dotOf a b = a.x ⊗ b.x ⊕ a.y ⊗ b.y ⊕ a.z ⊗ b.z
+unfoldable pub dot_of : Vec3 → Vec3 → Float
+dot_of a b = a.x ⊗ b.x ⊕ a.y ⊗ b.y ⊕ a.z ⊗ b.z

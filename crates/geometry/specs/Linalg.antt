@@ -3,7 +3,7 @@
 use Rattle.std.specs.Prelude.{ℕ, zero, suc, ◌+◌, ◌-◌, ◌*◌, cond, List, get_or, set, replicate, Float, Option, Some, None}
 use Rattle.std.specs.Float.{nan}
 use Rattle.floats.specs.Root.{root}
-use Rattle.geometry.specs.Numbers.{◌⊕◌, ◌⊖◌, ◌⊗◌, ◌⊘◌, whole, notAbove}
+use Rattle.geometry.specs.Numbers.{◌⊕◌, ◌⊖◌, ◌⊗◌, ◌⊘◌, whole, not_above}
 
 -- what stands at an index, which is always below the length here
 abbrev pub item : List Float → ℕ → Float
@@ -18,10 +18,10 @@ less value p zero = value
 less value p (suc k) = less value p k ⊖ p k
 
 -- for i in i..i + d { value = a[i][j]; for k in 0..j { value -= l[i][k] * l[j][k]; } l[i][j] = value / root; }
-unfoldable pub rowsBelow : ℕ → List Float → Float → ℕ → ℕ → ℕ → List Float → List Float
-rowsBelow n a r j i zero l = l
-rowsBelow n a r j i (suc d) l =
-    rowsBelow n a r j (suc i) d (set l (i * n + j) (less (entry n a i j) (λ k. entry n l i k ⊗ entry n l j k) j ⊘ r))
+unfoldable pub rows_below : ℕ → List Float → Float → ℕ → ℕ → ℕ → List Float → List Float
+rows_below n a r j i zero l = l
+rows_below n a r j i (suc d) l =
+    rows_below n a r j (suc i) d (set l (i * n + j) (less (entry n a i j) (λ k. entry n l i k ⊗ entry n l j k) j ⊘ r))
 
 -- for j in j..j + d: the diagonal less its squares, refused where it is a NaN or not above zero; its root; the rows below it
 unfoldable pub columns : ℕ → List Float → ℕ → ℕ → List Float → Option (List Float)
@@ -29,10 +29,10 @@ columns n a j zero l = Some l
 columns n a j (suc d) l =
     let diagonal = less (entry n a j j) (λ k. entry n l j k ⊗ entry n l j k) j in
     let r = root diagonal in
-    cond (notAbove diagonal) None (columns n a (suc j) d (rowsBelow n a r j (suc j) d (set l (j * n + j) r)))
+    cond (not_above diagonal) None (columns n a (suc j) d (rows_below n a r j (suc j) d (set l (j * n + j) r)))
 
-unfoldable pub choleskyOf : ℕ → List Float → Option (List Float)
-choleskyOf n a = columns n a 0 n (replicate (n * n) (whole 0))
+unfoldable pub cholesky_of : ℕ → List Float → Option (List Float)
+cholesky_of n a = columns n a 0 n (replicate (n * n) (whole 0))
 
 -- for i in i..i + d { value = b[i]; for k in 0..i { value -= l[i][k] * y[k]; } y[i] = value / l[i][i]; }
 unfoldable pub forwards : ℕ → List Float → List Float → ℕ → ℕ → List Float → List Float
@@ -53,8 +53,8 @@ backwards n l y (suc i) x =
 unfoldable pub backward : ℕ → List Float → List Float → List Float
 backward n l y = backwards n l y n (replicate n (whole 0))
 
-unfoldable pub solveOf : ℕ → List Float → List Float → List Float
-solveOf n l b = backward n l (forward n l b)
+unfoldable pub solve_of : ℕ → List Float → List Float → List Float
+solve_of n l b = backward n l (forward n l b)
 
 -- p(0) + p(1) + .. + p(k), in this order. (Rust's `sum` begins at -0.0, and -0.0 + x is x.)
 unfoldable pub plus : (ℕ → Float) → ℕ → Float

@@ -24,9 +24,9 @@ abbrev pub whole : ℕ → Float
 whole n = of_int binary64 (pos n)
 
 -- the value nearest to digits / 10 ^ places: 16.266 is `decimal 16266 3`
-unfoldable pub fromDecimal : ℕ → ℕ → Float
-fromDecimal digits places = round binary64 false digits (10 ^ places)
+unfoldable pub from_decimal : ℕ → ℕ → Float
+from_decimal digits places = round binary64 false digits (10 ^ places)
 
 -- Rust's `x.is_nan() || x <= 0.0`
-abbrev pub notAbove : Float → Bool
-notAbove x = is_nan x || le x (whole 0)
+abbrev pub not_above : Float → Bool
+not_above x = is_nan x || le x (whole 0)

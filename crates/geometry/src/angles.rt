@@ -1,6 +1,6 @@
 // The sine and the cosine of an angle in 1e-7 degree.
 ghost use Rattle.std.specs.Prelude.{◌≡◌};
-ghost use Rattle.geometry.specs.Angles.{quadrantOf, rightAngles, rest_of, radiansOf, sineSeries, cosineSeries, turn_of, sincosOf};
+ghost use Rattle.geometry.specs.Angles.{quadrant_of, right_angles, rest_of, radians_of, sine_series, cosine_series, turn_of, sincos_of};
 
 // The number q of right angles that an angle is nearest to.
 #[derive(Clone, Copy)]
@@ -26,7 +26,7 @@ pub const DEGREE: f64 = 0.017453292519943295;
 
 // The right angle nearest to v: five ranges, one for each number q of right angles from -2 to 2.
 fn quadrant_of(v: i32) -> Quadrant
-    ensures { result ≡ quadrantOf v }
+    ensures { result ≡ quadrant_of v }
 {
     match v {
         ..-1_350_000_000 => Quadrant::MinusTwo,
@@ -38,28 +38,28 @@ fn quadrant_of(v: i32) -> Quadrant
 }
 
 fn right_angles(q: Quadrant) -> i32
-    ensures { result ≡ rightAngles q }
+    ensures { result ≡ right_angles q }
 {
     q as i32
 }
 
 // What v has past that right angle.
 fn rest(q: Quadrant, v: i32) -> i32
-    requires { q ≡ quadrantOf v }
-    ensures { result ≡ rest_of (rightAngles q) v }
+    requires { q ≡ quadrant_of v }
+    ensures { result ≡ rest_of (right_angles q) v }
 {
     v - 900_000_000 * right_angles(q)
 }
 
 fn radians(r: i32) -> f64
-    ensures { result ≡ radiansOf r }
+    ensures { result ≡ radians_of r }
 {
     r as f64 * E7 * DEGREE
 }
 
 // The sine of an angle in radians, by its series.
 pub fn sine_series(u: f64) -> f64
-    ensures { result ≡ sineSeries u }
+    ensures { result ≡ sine_series u }
 {
     let a = 1.0 / 355687428096000.0 * u + -(1.0 / 1307674368000.0);
     let b = a * u + 1.0 / 6227020800.0;
@@ -73,7 +73,7 @@ pub fn sine_series(u: f64) -> f64
 
 // The cosine of an angle in radians, by its series.
 pub fn cosine_series(u: f64) -> f64
-    ensures { result ≡ cosineSeries u }
+    ensures { result ≡ cosine_series u }
 {
     let a = 1.0 / 20922789888000.0 * u + -(1.0 / 87178291200.0);
     let b = a * u + 1.0 / 479001600.0;
@@ -100,7 +100,7 @@ fn turned(q: Quadrant, s: f64, c: f64) -> Turn
 
 // The sine and the cosine of an angle in 1e-7 degree.
 pub fn sincos(v: i32) -> Turn
-    ensures { result ≡ sincosOf v }
+    ensures { result ≡ sincos_of v }
 {
     let q = quadrant_of(v);
     let t = radians(rest(q, v));

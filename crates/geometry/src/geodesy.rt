@@ -1,6 +1,6 @@
 // Positions on the WGS84 ellipsoid, in Earth-centred Earth-fixed metres, and the local east, north and up.
 ghost use Rattle.std.specs.Prelude.{◌≡◌};
-ghost use Rattle.geometry.specs.Geodesy.{toEcef, enuBasis, subOf, dotOf};
+ghost use Rattle.geometry.specs.Geodesy.{to_ecef, enu_basis, sub_of, dot_of};
 
 use crate::angles::Turn;
 
@@ -37,7 +37,7 @@ pub const E2: f64 = F * (2.0 - F);
 
 // A place in the earth's frame.
 pub fn to_ecef(position: Geodetic) -> Vec3
-    ensures { result ≡ toEcef position }
+    ensures { result ≡ to_ecef position }
 {
     let lat = position.lat;
     let lon = position.lon;
@@ -51,7 +51,7 @@ pub fn to_ecef(position: Geodetic) -> Vec3
 
 // East, north and up at a place.
 pub fn enu_basis(position: Geodetic) -> Basis
-    ensures { result ≡ enuBasis position }
+    ensures { result ≡ enu_basis position }
 {
     let lat = position.lat;
     let lon = position.lon;
@@ -75,7 +75,7 @@ pub fn enu_basis(position: Geodetic) -> Basis
 
 // The difference of two vectors.
 pub fn sub(a: Vec3, b: Vec3) -> Vec3
-    ensures { result ≡ subOf a b }
+    ensures { result ≡ sub_of a b }
 {
     Vec3 {
         x: a.x - b.x,
@@ -86,7 +86,7 @@ pub fn sub(a: Vec3, b: Vec3) -> Vec3
 
 // The product of two vectors.
 pub fn dot(a: Vec3, b: Vec3) -> f64
-    ensures { result ≡ dotOf a b }
+    ensures { result ≡ dot_of a b }
 {
     a.x * b.x + a.y * b.y + a.z * b.z
 }

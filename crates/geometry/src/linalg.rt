@@ -1,6 +1,6 @@
 // The Cholesky factor of a covariance, for two rows and for three, and the squared length of a difference under it.
 ghost use Rattle.std.specs.Prelude.{◌≡◌};
-ghost use Rattle.geometry.specs.Factors.{factorOf, flatLength, fullLength};
+ghost use Rattle.geometry.specs.Factors.{factor_of, flat_length, full_length};
 
 use crate::geodesy::Vec3;
 
@@ -40,7 +40,7 @@ pub enum Factor {
 
 // The factor of a covariance, where it has one. A diagonal that is a NaN is not above zero either.
 pub fn cholesky(c: Covariance) -> Option<Factor>
-    ensures { result ≡ factorOf c }
+    ensures { result ≡ factor_of c }
 {
     if !(c.xx > 0.0) {
         return None;
@@ -64,7 +64,7 @@ pub fn cholesky(c: Covariance) -> Option<Factor>
 
 // Forward, backward and the sum of products, in east and north.
 pub fn flat_length(f: TwoRows, v: Vec3) -> f64
-    ensures { result ≡ flatLength f v }
+    ensures { result ≡ flat_length f v }
 {
     let y0 = v.x / f.l00;
     let y1 = (v.y - f.l10 * y0) / f.l11;
@@ -75,7 +75,7 @@ pub fn flat_length(f: TwoRows, v: Vec3) -> f64
 
 // The same in east, north and up.
 pub fn full_length(f: TwoRows, g: ThirdRow, v: Vec3) -> f64
-    ensures { result ≡ fullLength f g v }
+    ensures { result ≡ full_length f g v }
 {
     let y0 = v.x / f.l00;
     let y1 = (v.y - f.l10 * y0) / f.l11;

@@ -2,10 +2,10 @@
 use Rattle.std.proofs.Common.{◌≡◌, ◌∙◌, sym, ap, refl, ℕ, zero, suc, ◌+◌, ◌*◌, ◌/◌, ◌%◌, ◌^◌, ◌-◌, ◌≤◌, ◌++◌, Option, Some, None, length-append, append-nil, List, [], ◌∷◌, length, take, drop, replicate, w16, w32, w64, arith}
 use Rattle.std.proofs.lemmas.List.{drop-replicate, take_all, length-replicate}
 use Rattle.std.specs.Prelude.{ℤ}
-use Rattle.record.specs.Layout.{recordSize, longMessage, maxTags, maxModels}
+use Rattle.record.specs.Layout.{record_size, long_message, max_tags, max_models}
 use Rattle.octets.proofs.Numbers.{length-word-bytes}
 use Rattle.grammar.specs.declared.lines.Report.{Report}
-use Rattle.grammar.specs.Records.{bits, pad, words, height_bytes, message_bytes, placeBytes, sightingBytes, citedBytes}
+use Rattle.grammar.specs.Records.{bits, pad, words, height_bytes, message_bytes, place_bytes, sighting_bytes, cited_bytes}
 use Rattle.grammar.specs.Gives.{record_bytes}
 use Rattle.std.specs.Int.{to_le_bytes, byte_at, bytes_low_first}
 use native.Mathlib.Nat.{div-div-eq-div-mul, div-one, pow-suc}
@@ -58,41 +58,41 @@ unfolding word_bytes
 height-length None = refl
 height-length (Some z) = refl
 
-place-length : (time lat lon : ℕ) (h : List ℕ) → length h ≡ 5 → length (placeBytes time lat lon h) ≡ 21
+place-length : (time lat lon : ℕ) (h : List ℕ) → length h ≡ 5 → length (place_bytes time lat lon h) ≡ 21
 place-length time lat lon h e =
     length-append (word_bytes 8 time) (word_bytes 4 lat ++ (word_bytes 4 lon ++ h))
     ∙ omega (arith, length-word-bytes 8 time, length-append (word_bytes 4 lat) (word_bytes 4 lon ++ h), length-word-bytes 4 lat, length-append (word_bytes 4 lon) h, length-word-bytes 4 lon, e)
 
-sighting-length : (message tags : List ℕ) (count used : ℕ) → length message ≡ 15 → length tags ≡ 16 → length (sightingBytes message count used tags) ≡ 146
+sighting-length : (message tags : List ℕ) (count used : ℕ) → length message ≡ 15 → length tags ≡ 16 → length (sighting_bytes message count used tags) ≡ 146
 sighting-length message tags count used e f =
     length-append message (count ∷ (word_bytes 2 used ++ words 8 tags))
     ∙ omega (arith, e, length-append (word_bytes 2 used) (words 8 tags), length-word-bytes 2 used, length-words 8 tags, f)
 
-cited-length : (models cov : List ℕ) (count spec : ℕ) → length models ≡ 4 → length cov ≡ 48 → length (citedBytes count models spec cov) ≡ 55
+cited-length : (models cov : List ℕ) (count spec : ℕ) → length models ≡ 4 → length cov ≡ 48 → length (cited_bytes count models spec cov) ≡ 55
 cited-length models cov count spec e f =
     let a = length-append (words 1 models) (word_bytes 2 spec ++ cov) in
     let b = length-append (word_bytes 2 spec) cov in
     let d = length-words 1 models in
     omega (arith, a, b, d, length-word-bytes 2 spec, e, f)
 
-pub record-length : (r : Report) → length r.message.items ≤ longMessage → length r.tags.items ≤ maxTags → length r.models.items ≤ maxModels → length r.covariance ≡ 48
-    → length (record_bytes r) ≡ recordSize
+pub record-length : (r : Report) → length r.message.items ≤ long_message → length r.tags.items ≤ max_tags → length r.models.items ≤ max_models → length r.covariance ≡ 48
+    → length (record_bytes r) ≡ record_size
 record-length r m t k c =
-    let place = placeBytes r.time (bits r.lat) (bits r.lon) (height_bytes r.height) in
-    let sighting = sightingBytes (message_bytes r.message.items) (length r.tags.items) r.used (pad maxTags r.tags.items) in
-    let cited = citedBytes (length r.models.items) (pad maxModels r.models.items) r.spec r.covariance in
-    let n : length (message_bytes r.message.items) ≡ 15 = ap (λ (n : ℕ). suc n) (length-pad longMessage r.message.items m) in
+    let place = place_bytes r.time (bits r.lat) (bits r.lon) (height_bytes r.height) in
+    let sighting = sighting_bytes (message_bytes r.message.items) (length r.tags.items) r.used (pad max_tags r.tags.items) in
+    let cited = cited_bytes (length r.models.items) (pad max_models r.models.items) r.spec r.covariance in
+    let n : length (message_bytes r.message.items) ≡ 15 = ap (λ (n : ℕ). suc n) (length-pad long_message r.message.items m) in
     length-append place (sighting ++ cited)
     ∙ omega (
       arith,
       length-append sighting cited,
       place-length r.time (bits r.lat) (bits r.lon) (height_bytes r.height) (height-length r.height),
-      sighting-length (message_bytes r.message.items) (pad maxTags r.tags.items) (length r.tags.items) r.used n (length-pad maxTags r.tags.items t),
-      cited-length (pad maxModels r.models.items) r.covariance (length r.models.items) r.spec (length-pad maxModels r.models.items k) c,
+      sighting-length (message_bytes r.message.items) (pad max_tags r.tags.items) (length r.tags.items) r.used n (length-pad max_tags r.tags.items t),
+      cited-length (pad max_models r.models.items) r.covariance (length r.models.items) r.spec (length-pad max_models r.models.items k) c,
     )
 
 -- a text that takes a whole buffer
-pub whole-buffer : (l t l' : List ℕ) (r : ℕ) → length l ≡ recordSize → length t ≡ recordSize → Put l 0 t r l' → l' ≡ t
+pub whole-buffer : (l t l' : List ℕ) (r : ℕ) → length l ≡ record_size → length t ≡ record_size → Put l 0 t r l' → l' ≡ t
 whole-buffer l t l' r a b p =
     Puts.put_whole p (omega (arith, a, b))
     ∙ ap (λ (z : List ℕ). t ++ z) (drop_of_length-le l (let z : length l ≤ 0 + length t = omega (arith, a, b) in z))

@@ -76,30 +76,30 @@ step_below d read s n k h f = go (value d read s) (value_below d read s n h)
 
 conviction_below : (s : At) (n : ℕ) → length s.rest ≤ n → Below n (conviction_at s)
 unfolding conviction_at
-conviction_below s n h = step_below due.Engine (Val.readNumber 255) s n _ h λ e h₁. h₁
+conviction_below s n h = step_below due.Engine (Val.read_number 255) s n _ h λ e h₁. h₁
 
 summary_below : (s : At) (n : ℕ) → length s.rest ≤ n → Below n (summary_at s)
 unfolding summary_at
 summary_below s n h =
-    step_below due.Engine (Val.readNumber 255) s n _ h λ e h₁.
-    step_below due.Model (Val.readNumber 255) e.1 n _ (omega arith) λ m h₂.
-    step_below due.Spec (Val.readNumber 0xffff) m.1 n _ (omega arith) λ p h₃.
-    step_below due.Inputs (Val.readHex 32) p.1 n _ (omega arith) λ i h₄. h₄
+    step_below due.Engine (Val.read_number 255) s n _ h λ e h₁.
+    step_below due.Model (Val.read_number 255) e.1 n _ (omega arith) λ m h₂.
+    step_below due.Spec (Val.read_number 0xffff) m.1 n _ (omega arith) λ p h₃.
+    step_below due.Inputs (Val.read_hex 32) p.1 n _ (omega arith) λ i h₄. h₄
 
 report_below : (s : At) (n : ℕ) → length s.rest ≤ n → Below n (report_at s)
 unfolding report_at
 report_below s n h =
-    step_below due.Engine (Val.readNumber 255) s n _ h λ e h₁.
-    step_below due.Time (Val.readNumber Val.u64) e.1 n _ (omega arith) λ t h₂.
-    step_below due.Lat Val.readSigned t.1 n _ (omega arith) λ a h₃.
-    step_below due.Lon Val.readSigned a.1 n _ (omega arith) λ o h₄.
-    step_below due.Height Val.readHeight o.1 n _ (omega arith) λ z h₅.
-    step_below due.Message Val.readMessage z.1 n _ (omega arith) λ m h₆.
-    step_below due.Tags Val.readTags m.1 n _ (omega arith) λ g h₇.
-    step_below due.Used (Val.readNumber 0xffff) g.1 n _ (omega arith) λ u h₈.
-    step_below due.Models Val.readModels u.1 n _ (omega arith) λ l h₉.
-    step_below due.Spec (Val.readNumber 0xffff) l.1 n _ (omega arith) λ p h₁₀.
-    step_below due.Cov Val.readCovariance p.1 n _ (omega arith) λ v h₁₁. h₁₁
+    step_below due.Engine (Val.read_number 255) s n _ h λ e h₁.
+    step_below due.Time (Val.read_number Val.u64) e.1 n _ (omega arith) λ t h₂.
+    step_below due.Lat Val.read_signed t.1 n _ (omega arith) λ a h₃.
+    step_below due.Lon Val.read_signed a.1 n _ (omega arith) λ o h₄.
+    step_below due.Height Val.read_height o.1 n _ (omega arith) λ z h₅.
+    step_below due.Message Val.read_message z.1 n _ (omega arith) λ m h₆.
+    step_below due.Tags Val.read_tags m.1 n _ (omega arith) λ g h₇.
+    step_below due.Used (Val.read_number 0xffff) g.1 n _ (omega arith) λ u h₈.
+    step_below due.Models Val.read_models u.1 n _ (omega arith) λ l h₉.
+    step_below due.Spec (Val.read_number 0xffff) l.1 n _ (omega arith) λ p h₁₀.
+    step_below due.Cov Val.read_covariance p.1 n _ (omega arith) λ v h₁₁. h₁₁
 
 pub operands_below : (k : Kind) (s : At) (n : ℕ) → length s.rest ≤ n → Below n (operands_at k s)
 operands_below kind.Summary s n h = summary_below s n h

@@ -1,7 +1,7 @@
 -- What is due is what the grammar reads, and the line that is due in an operation with a bad line is the one that is bad.
 use Rattle.std.proofs.Common.{◌≡◌, ◌∙◌, sym, ap, refl, ℕ, ◌+◌, Bool, true, false, cond, List, [], ◌∷◌, Option, Some, None, Result, Ok, Err, ok_or, arith}
 use Rattle.std.specs.Prelude.{is_some}
-use Rattle.models.specs.Summary.{inputsSize}
+use Rattle.models.specs.Summary.{inputs_size}
 use Rattle.grammar.specs.declared.lines.BadLine.{BadLine}
 use Rattle.grammar.specs.declared.lines.Due.{Due}
 use Rattle.grammar.specs.declared.lines.Due.TheVariants as due
@@ -50,30 +50,30 @@ none-passes s = refl
 
 conviction-passes : (s : At) → lines_only (conviction_at s) ≡ pass_lines (lines_after kind.Conviction) s
 unfolding conviction_at
-conviction-passes s = more-passes due.Engine (Val.readNumber Val.u8) (λ t. refl) s [] _ λ e. none-passes e.1
+conviction-passes s = more-passes due.Engine (Val.read_number Val.u8) (λ t. refl) s [] _ λ e. none-passes e.1
 
 summary-passes : (s : At) → lines_only (summary_at s) ≡ pass_lines (lines_after kind.Summary) s
 unfolding summary_at
 summary-passes s =
-    more-passes due.Engine (Val.readNumber Val.u8) (λ t. refl) s (due.Model ∷ due.Spec ∷ due.Inputs ∷ []) _ λ e.
-    more-passes due.Model (Val.readNumber Val.u8) (λ t. refl) e.1 (due.Spec ∷ due.Inputs ∷ []) _ λ m.
-    more-passes due.Spec (Val.readNumber Val.u16) (λ t. refl) m.1 (due.Inputs ∷ []) _ λ p.
-    more-passes due.Inputs (Val.readHex inputsSize) (λ t. refl) p.1 [] _ λ i. none-passes i.1
+    more-passes due.Engine (Val.read_number Val.u8) (λ t. refl) s (due.Model ∷ due.Spec ∷ due.Inputs ∷ []) _ λ e.
+    more-passes due.Model (Val.read_number Val.u8) (λ t. refl) e.1 (due.Spec ∷ due.Inputs ∷ []) _ λ m.
+    more-passes due.Spec (Val.read_number Val.u16) (λ t. refl) m.1 (due.Inputs ∷ []) _ λ p.
+    more-passes due.Inputs (Val.read_hex inputs_size) (λ t. refl) p.1 [] _ λ i. none-passes i.1
 
 report-passes : (s : At) → lines_only (report_at s) ≡ pass_lines (lines_after kind.Report) s
 unfolding report_at
 report-passes s =
-    more-passes due.Engine (Val.readNumber Val.u8) (λ t. refl) s (due.Time ∷ due.Lat ∷ due.Lon ∷ due.Height ∷ due.Message ∷ due.Tags ∷ due.Used ∷ due.Models ∷ due.Spec ∷ due.Cov ∷ []) _ λ e.
-    more-passes due.Time (Val.readNumber Val.u64) (λ t. refl) e.1 (due.Lat ∷ due.Lon ∷ due.Height ∷ due.Message ∷ due.Tags ∷ due.Used ∷ due.Models ∷ due.Spec ∷ due.Cov ∷ []) _ λ t.
-    more-passes due.Lat Val.readSigned (λ t. refl) t.1 (due.Lon ∷ due.Height ∷ due.Message ∷ due.Tags ∷ due.Used ∷ due.Models ∷ due.Spec ∷ due.Cov ∷ []) _ λ a.
-    more-passes due.Lon Val.readSigned (λ t. refl) a.1 (due.Height ∷ due.Message ∷ due.Tags ∷ due.Used ∷ due.Models ∷ due.Spec ∷ due.Cov ∷ []) _ λ o.
-    more-passes due.Height Val.readHeight (λ t. refl) o.1 (due.Message ∷ due.Tags ∷ due.Used ∷ due.Models ∷ due.Spec ∷ due.Cov ∷ []) _ λ h.
-    more-passes due.Message Val.readMessage (λ t. refl) h.1 (due.Tags ∷ due.Used ∷ due.Models ∷ due.Spec ∷ due.Cov ∷ []) _ λ m.
-    more-passes due.Tags Val.readTags (λ t. refl) m.1 (due.Used ∷ due.Models ∷ due.Spec ∷ due.Cov ∷ []) _ λ g.
-    more-passes due.Used (Val.readNumber Val.u16) (λ t. refl) g.1 (due.Models ∷ due.Spec ∷ due.Cov ∷ []) _ λ u.
-    more-passes due.Models Val.readModels (λ t. refl) u.1 (due.Spec ∷ due.Cov ∷ []) _ λ l.
-    more-passes due.Spec (Val.readNumber Val.u16) (λ t. refl) l.1 (due.Cov ∷ []) _ λ p.
-    more-passes due.Cov Val.readCovariance (λ t. refl) p.1 [] _ λ v. none-passes v.1
+    more-passes due.Engine (Val.read_number Val.u8) (λ t. refl) s (due.Time ∷ due.Lat ∷ due.Lon ∷ due.Height ∷ due.Message ∷ due.Tags ∷ due.Used ∷ due.Models ∷ due.Spec ∷ due.Cov ∷ []) _ λ e.
+    more-passes due.Time (Val.read_number Val.u64) (λ t. refl) e.1 (due.Lat ∷ due.Lon ∷ due.Height ∷ due.Message ∷ due.Tags ∷ due.Used ∷ due.Models ∷ due.Spec ∷ due.Cov ∷ []) _ λ t.
+    more-passes due.Lat Val.read_signed (λ t. refl) t.1 (due.Lon ∷ due.Height ∷ due.Message ∷ due.Tags ∷ due.Used ∷ due.Models ∷ due.Spec ∷ due.Cov ∷ []) _ λ a.
+    more-passes due.Lon Val.read_signed (λ t. refl) a.1 (due.Height ∷ due.Message ∷ due.Tags ∷ due.Used ∷ due.Models ∷ due.Spec ∷ due.Cov ∷ []) _ λ o.
+    more-passes due.Height Val.read_height (λ t. refl) o.1 (due.Message ∷ due.Tags ∷ due.Used ∷ due.Models ∷ due.Spec ∷ due.Cov ∷ []) _ λ h.
+    more-passes due.Message Val.read_message (λ t. refl) h.1 (due.Tags ∷ due.Used ∷ due.Models ∷ due.Spec ∷ due.Cov ∷ []) _ λ m.
+    more-passes due.Tags Val.read_tags (λ t. refl) m.1 (due.Used ∷ due.Models ∷ due.Spec ∷ due.Cov ∷ []) _ λ g.
+    more-passes due.Used (Val.read_number Val.u16) (λ t. refl) g.1 (due.Models ∷ due.Spec ∷ due.Cov ∷ []) _ λ u.
+    more-passes due.Models Val.read_models (λ t. refl) u.1 (due.Spec ∷ due.Cov ∷ []) _ λ l.
+    more-passes due.Spec (Val.read_number Val.u16) (λ t. refl) l.1 (due.Cov ∷ []) _ λ p.
+    more-passes due.Cov Val.read_covariance (λ t. refl) p.1 [] _ λ v. none-passes v.1
 
 pub first-line : FirstLine
 first-line s = line-passes due.Op kind_of (λ t. refl) s

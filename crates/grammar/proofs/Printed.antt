@@ -11,34 +11,34 @@ use lib.IntN.{pos, negsuc}
 use lib.ListN.{length, get_or, get_or-append}
 use Rattle.std.specs.Prelude.{Some, None, option_map, option_and_then}
 use Rattle.ranges.proofs.Bools.{by, and_left, and_right, and_both}
-use Rattle.text.specs.Numbers.{digits, signed, decimalValue}
+use Rattle.text.specs.Numbers.{digits, signed, decimal_value}
 use Rattle.text.proofs.Shapes.{digits-one}
 use Rattle.text.proofs.Readback.{digits_value, digits-width, no-leading-zero, zero-text}
-use Rattle.grammar.specs.Numbers.{isDigit, allDigits, digitsAfter, readNumber, readSigned, negative}
+use Rattle.grammar.specs.Numbers.{is_digit, all_digits, digits_after, read_number, read_signed, negative}
 use Rattle.grammar.specs.Claims.{ReadAsItself, OneText, SignedReadAsItself}
 
-abbrev leadingZero : List ℕ → Bool
-leadingZero t = ltb 1 (length t) && eqb (get_or t 0 0) 48
+abbrev leading_zero : List ℕ → Bool
+leading_zero t = ltb 1 (length t) && eqb (get_or t 0 0) 48
 
 -- ---- every number below the bound is read as itself
 
-all_append : (s t : List ℕ) → allDigits s ≡ true → allDigits t ≡ true → allDigits (s ++ t) ≡ true
-unfolding allDigits
+all_append : (s t : List ℕ) → all_digits s ≡ true → all_digits t ≡ true → all_digits (s ++ t) ≡ true
+unfolding all_digits
 all_append [] t h k = k
-all_append (d ∷ s) t h k = and_both (isDigit d) (allDigits (s ++ t)) (and_left (isDigit d) (allDigits s) h) (all_append s t (and_right (isDigit d) (allDigits s) h) k)
+all_append (d ∷ s) t h k = and_both (is_digit d) (all_digits (s ++ t)) (and_left (is_digit d) (all_digits s) h) (all_append s t (and_right (is_digit d) (all_digits s) h) k)
 
-one-digit : (d : ℕ) → d < 10 → allDigits ((48 + d) ∷ []) ≡ true
-unfolding allDigits
+one-digit : (d : ℕ) → d < 10 → all_digits ((48 + d) ∷ []) ≡ true
+unfolding all_digits
 one-digit d h = rw (le-leb 48 (48 + d) (omega arith), le-leb (48 + d) 57 (omega arith)) refl
 
-digits-all : (k n : ℕ) → allDigits (digits k n) ≡ true
+digits-all : (k n : ℕ) → all_digits (digits k n) ≡ true
 unfolding digits
 digits-all zero n = one-digit (n % 10) (omega arith)
 digits-all (suc k) n =
     by (ltb n 10) (λ e. rw e (one-digit (n % 10) (omega arith)))
     (λ e. rw e (all_append (digits k (n / 10)) ((48 + n % 10) ∷ []) (digits-all k (n / 10)) (one-digit (n % 10) (omega arith))))
 
-digits-lead : (k n : ℕ) → n < 10 ^ suc k → leadingZero (digits k n) ≡ false
+digits-lead : (k n : ℕ) → n < 10 ^ suc k → leading_zero (digits k n) ≡ false
 digits-lead k n h =
     by (eqb n 0)
     (λ e. let z = eqb-true n 0 e in rw (z, zero-text k) refl)
@@ -53,8 +53,8 @@ digits-lead k n h =
     and-false true = refl
     and-false false = refl
 
-pub number-printed : (most k n : ℕ) → n < 10 ^ suc k → n ≤ most → readNumber most (digits k n) ≡ Some n
-unfolding readNumber digitsAfter
+pub number-printed : (most k n : ℕ) → n < 10 ^ suc k → n ≤ most → read_number most (digits k n) ≡ Some n
+unfolding read_number digits_after
 number-printed most k n h l =
     let w = digits-width k n in
     rw (ne_eqb (length (digits k n)) 0 (λ z. omega arith), digits-lead k n h, digits-all k n, digits_value k n h, le-leb n most l) refl
@@ -73,13 +73,13 @@ first-digit (suc k) n =
     let q = get_or-append (digits k (n / 10)) ((48 + n % 10) ∷ []) 0 0 (omega arith) in rw e (omega arith))
 
 -- a text without a minus, and one with it
-signed-plain : (t : List ℕ) → (get_or t 0 0 ≡ 45 → ⊥) → readSigned t ≡ option_map pos (readNumber 0x7fff_ffff t)
-unfolding readSigned
+signed-plain : (t : List ℕ) → (get_or t 0 0 ≡ 45 → ⊥) → read_signed t ≡ option_map pos (read_number 0x7fff_ffff t)
+unfolding read_signed
 signed-plain [] f = refl
 signed-plain (d ∷ t) f = rw (ne_eqb d 45 f) refl
 
-signed-minus : (t : List ℕ) → readSigned (45 ∷ t) ≡ option_and_then negative (readNumber 0x8000_0000 t)
-unfolding readSigned
+signed-minus : (t : List ℕ) → read_signed (45 ∷ t) ≡ option_and_then negative (read_number 0x8000_0000 t)
+unfolding read_signed
 signed-minus t = refl
 
 pub signed-printed : SignedReadAsItself
@@ -102,38 +102,38 @@ prints-more k a d p h l u f m =
     let r : 48 + (a * 10 + (d - 48)) % 10 ≡ d = omega arith in
     rw (add-suc m k, le-ltb (a * 10 + (d - 48)) 10 (omega arith), q, r, f m) refl
 
-prints-all : (k a : ℕ) (p t : List ℕ) → 0 < a → allDigits t ≡ true → Prints k a p → Prints (k + length t) (decimalValue a t) (p ++ t)
-unfolding allDigits decimalValue
+prints-all : (k a : ℕ) (p t : List ℕ) → 0 < a → all_digits t ≡ true → Prints k a p → Prints (k + length t) (decimal_value a t) (p ++ t)
+unfolding all_digits decimal_value
 prints-all k a p [] h e f m = let z : k + 0 ≡ k = omega arith in rw z (f m ∙ sym (append-nil p))
 prints-all k a p (d ∷ t) h e f m =
-    let x = and_left (isDigit d) (allDigits t) e in
+    let x = and_left (is_digit d) (all_digits t) e in
     let l = leb-true 48 d (and_left (leb 48 d) (leb d 57) x) in
     let u = leb-true d 57 (and_right (leb 48 d) (leb d 57) x) in
     let z : k + suc (length t) ≡ suc k + length t = omega arith in
-    rw z (prints-all (suc k) (a * 10 + (d - 48)) (p ++ (d ∷ [])) t (omega arith) (and_right (isDigit d) (allDigits t) e) (prints-more k a d p h l u f) m ∙ append_assoc p (d ∷ []) t)
+    rw z (prints-all (suc k) (a * 10 + (d - 48)) (p ++ (d ∷ [])) t (omega arith) (and_right (is_digit d) (all_digits t) e) (prints-more k a d p h l u f) m ∙ append_assoc p (d ∷ []) t)
 
 never : {A : Type 0} {n : A} → None ≡ Some n → ⊥
 never e = let z : ◌≡◌ {A = ℕ} 0 1 = cc in omega arith
 
 -- what a text that is read must be
 module _ (most n : ℕ) (t : List ℕ) where
-  plain : readNumber most t ≡ Some n → (eqb (length t) 0 || leadingZero t) ≡ false
-  unfolding readNumber
-  plain e = by (eqb (length t) 0 || leadingZero t) (λ k. absurd (never (rw k at e))) (λ k. k)
+  plain : read_number most t ≡ Some n → (eqb (length t) 0 || leading_zero t) ≡ false
+  unfolding read_number
+  plain e = by (eqb (length t) 0 || leading_zero t) (λ k. absurd (never (rw k at e))) (λ k. k)
 
-  taken : readNumber most t ≡ Some n → digitsAfter most 0 t ≡ Some n
-  unfolding readNumber
+  taken : read_number most t ≡ Some n → digits_after most 0 t ≡ Some n
+  unfolding read_number
   taken e = rw (plain e) at e
 
-  its-digits : readNumber most t ≡ Some n → allDigits t ≡ true
-  unfolding digitsAfter
-  its-digits e = by (allDigits t) (λ k. k) (λ k. absurd (never (rw k at (taken e))))
+  its-digits : read_number most t ≡ Some n → all_digits t ≡ true
+  unfolding digits_after
+  its-digits e = by (all_digits t) (λ k. k) (λ k. absurd (never (rw k at (taken e))))
 
-  its-value : readNumber most t ≡ Some n → decimalValue 0 t ≡ n
-  unfolding digitsAfter
+  its-value : read_number most t ≡ Some n → decimal_value 0 t ≡ n
+  unfolding digits_after
   its-value e =
-      by (leb (decimalValue 0 t) most)
-      (λ k. let q : Some (decimalValue 0 t) ≡ Some n = rw (its-digits e, k) at (taken e) in cc)
+      by (leb (decimal_value 0 t) most)
+      (λ k. let q : Some (decimal_value 0 t) ≡ Some n = rw (its-digits e, k) at (taken e) in cc)
       (λ k. absurd (never (rw (its-digits e, k) at (taken e))))
 
 or_left : (a b : Bool) → (a || b) ≡ false → a ≡ false
@@ -144,34 +144,34 @@ or_right : (a b : Bool) → (a || b) ≡ false → b ≡ false
 or_right false b h = h
 or_right true b h = absurd (let z : ◌≡◌ {A = ℕ} 0 1 = cc in omega arith)
 
-first-prints : (d : ℕ) → isDigit d ≡ true → Prints 0 (0 * 10 + (d - 48)) (d ∷ [])
+first-prints : (d : ℕ) → is_digit d ≡ true → Prints 0 (0 * 10 + (d - 48)) (d ∷ [])
 first-prints d h m =
     let l = leb-true 48 d (and_left (leb 48 d) (leb d 57) h) in
     let u = leb-true d 57 (and_right (leb 48 d) (leb d 57) h) in
     let z : 48 + (0 * 10 + (d - 48)) % 10 ≡ d = omega arith in
     digits-one (m + 0) (0 * 10 + (d - 48)) (omega arith) ∙ ap (λ (x : ℕ). x ∷ []) z
 
-shape : (t : List ℕ) → eqb (length t) 0 ≡ false → leadingZero t ≡ false → allDigits t ≡ true → Prints (length t) (decimalValue 0 t) t
-unfolding allDigits decimalValue
+shape : (t : List ℕ) → eqb (length t) 0 ≡ false → leading_zero t ≡ false → all_digits t ≡ true → Prints (length t) (decimal_value 0 t) t
+unfolding all_digits decimal_value
 shape [] e z a m = absurd (eqb-false 0 0 e refl)
 shape (d ∷ []) e z a m =
     let y : m + 1 ≡ m + 1 + 0 = omega arith in
-    rw y (first-prints d (and_left (isDigit d) true a) (m + 1))
+    rw y (first-prints d (and_left (is_digit d) true a) (m + 1))
 shape (d ∷ c ∷ t) e z a m =
-    let x = and_left (isDigit d) (allDigits (c ∷ t)) a in
+    let x = and_left (is_digit d) (all_digits (c ∷ t)) a in
     let l = leb-true 48 d (and_left (leb 48 d) (leb d 57) x) in
     let f : eqb d 48 ≡ false = rw (lt-ltb 1 (suc (suc (length t))) (omega arith)) at z in
     let p : 0 < 0 * 10 + (d - 48) = (let g = eqb-false d 48 f in other d l g) in
     let y : m + suc (suc (length t)) ≡ m + 1 + (0 + suc (length t)) = omega arith in
-    rw y (prints-all 0 (0 * 10 + (d - 48)) (d ∷ []) (c ∷ t) p (and_right (isDigit d) (allDigits (c ∷ t)) a) (first-prints d x) (m + 1))
+    rw y (prints-all 0 (0 * 10 + (d - 48)) (d ∷ []) (c ∷ t) p (and_right (is_digit d) (all_digits (c ∷ t)) a) (first-prints d x) (m + 1))
   where
     other : (d : ℕ) → 48 ≤ d → (d ≡ 48 → ⊥) → 0 < 0 * 10 + (d - 48)
     other d l f = by (eqb d 48) (λ k. absurd (f (eqb-true d 48 k))) (λ k. let g = eqb-false d 48 k in omega arith)
 
-pub text-printed : (most n : ℕ) (t : List ℕ) → readNumber most t ≡ Some n → (m : ℕ) → digits (m + length t) n ≡ t
+pub text-printed : (most n : ℕ) (t : List ℕ) → read_number most t ≡ Some n → (m : ℕ) → digits (m + length t) n ≡ t
 text-printed most n t e m =
     ap (digits (m + length t)) (sym (its-value most n t e))
-    ∙ shape t (or_left (eqb (length t) 0) (leadingZero t) (plain most n t e)) (or_right (eqb (length t) 0) (leadingZero t) (plain most n t e)) (its-digits most n t e) m
+    ∙ shape t (or_left (eqb (length t) 0) (leading_zero t) (plain most n t e)) (or_right (eqb (length t) 0) (leading_zero t) (plain most n t e)) (its-digits most n t e) m
 
 pub one-text : OneText
 one-text most n t u e f =

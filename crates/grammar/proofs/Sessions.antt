@@ -11,7 +11,7 @@ use Rattle.grammar.specs.Claims.{and_then, ReadsSessions, SessionsRead, NoOtherR
 use Rattle.grammar.proofs.Forward.{Below, operation_below, left_less, nothing_left, one_more, later, session-empty, session-here, session-step}
 
 pub sessions-read : SessionsRead
-sessions-read = record { empty = session-empty; bad-operation = session-here; good-operation = session-step }
+sessions-read = record { empty = session-empty; bad_operation = session-here; good_operation = session-step }
 
 -- ---- nothing else reads sessions so
 
@@ -19,8 +19,8 @@ module _ (read : At → Result (List Call) BadLine) (w : ReadsSessions read) whe
   -- by what the first operation was read as, where shorter sessions are read alike
   first_alike : (s : At) → 0 < length s.rest → (m : Reading Call) → operation_at s ≡ m
       → ((c : Call) (r : At) → operation_at s ≡ Ok (c, r) → read r ≡ session_at r) → read s ≡ session_at s
-  first_alike s h (Err e) q f = w.bad-operation s e h q ∙ sym (session-here s e h q)
-  first_alike s h (Ok c) q f = w.good-operation s c.0 c.1 q ∙ ap (and_then c.0) (f c.0 c.1 q) ∙ sym (session-step s c.0 c.1 q)
+  first_alike s h (Err e) q f = w.bad_operation s e h q ∙ sym (session-here s e h q)
+  first_alike s h (Ok c) q f = w.good_operation s c.0 c.1 q ∙ ap (and_then c.0) (f c.0 c.1 q) ∙ sym (session-step s c.0 c.1 q)
 
   none_alike : (s : At) → length s.rest ≡ 0 → read s ≡ session_at s
   none_alike s h = w.empty s h ∙ sym (session-empty s h)

@@ -8,7 +8,7 @@ use lib.Dec.{ltb}
 use lib.ListN.{length, take, drop, get_or, drop_of_length-le, length-drop, length-append, length-reverse, get_or-append}
 use lib.Seq.{take_all, length-take-le, get_or-take, get_or-drop, get_or-append-add}
 use Rattle.ranges.proofs.Bools.{by}
-use Rattle.grammar.specs.Numbers.{swapBytes}
+use Rattle.grammar.specs.Numbers.{swap_bytes}
 
 aux-high : (l r : List ℕ) (j : ℕ) → get_or (reverse_aux l r) (length l + j) 0 ≡ get_or r j 0
 aux-high [] r j = let z : 0 + j ≡ j = omega arith in rw z refl
@@ -24,17 +24,17 @@ aux-low (a ∷ l) r i h =
     let z : suc (length l) - 1 - i ≡ 0 = omega arith in
     let y : i ≡ length l + 0 = omega arith in rw (z, y) (aux-high l (a ∷ r) 0))
 
-pub length-swap : (n : ℕ) (s : List ℕ) → length s ≡ 8 * n → length (swapBytes n s) ≡ 8 * n
-unfolding swapBytes
+pub length-swap : (n : ℕ) (s : List ℕ) → length s ≡ 8 * n → length (swap_bytes n s) ≡ 8 * n
+unfolding swap_bytes
 length-swap zero s h = refl
 length-swap (suc n) s h =
     let ih = length-swap n (drop 8 s) (rw length-drop (omega arith)) in
     let l = length-take-le 8 s (omega arith) in
     let r = length-reverse (take 8 s) in
-    length-append (reverse (take 8 s)) (swapBytes n (drop 8 s)) ∙ omega arith
+    length-append (reverse (take 8 s)) (swap_bytes n (drop 8 s)) ∙ omega arith
 
-pub swap_at : (n : ℕ) (s : List ℕ) (i : ℕ) → length s ≡ 8 * n → i < 8 * n → get_or (swapBytes n s) i 0 ≡ get_or s (i + 7 - 2 * (i % 8)) 0
-unfolding swapBytes
+pub swap_at : (n : ℕ) (s : List ℕ) (i : ℕ) → length s ≡ 8 * n → i < 8 * n → get_or (swap_bytes n s) i 0 ≡ get_or s (i + 7 - 2 * (i % 8)) 0
+unfolding swap_bytes
 swap_at zero s i h k = absurd (omega arith)
 swap_at (suc n) s i h k =
     let l : length (take 8 s) ≡ 8 = length-take-le 8 s (omega arith) in
@@ -42,14 +42,14 @@ swap_at (suc n) s i h k =
     by (ltb i 8)
     (λ e. let q = ltb-true i 8 e in
     let z : length (take 8 s) - 1 - i ≡ i + 7 - 2 * (i % 8) = omega arith in
-    get_or-append (reverse (take 8 s)) (swapBytes n (drop 8 s)) 0 i (omega arith)
+    get_or-append (reverse (take 8 s)) (swap_bytes n (drop 8 s)) 0 i (omega arith)
     ∙ aux-low (take 8 s) [] i (omega arith) ∙ get_or-take 8 s (length (take 8 s) - 1 - i) 0 (omega arith) ∙ ap (λ (j : ℕ). get_or s j 0) z)
     (λ e. let q = ltb-false i 8 e in
     let j = i - 8 in
     let z : i ≡ length (reverse (take 8 s)) + j = omega arith in
     let y : 8 + (j + 7 - 2 * (j % 8)) ≡ i + 7 - 2 * (i % 8) = omega arith in
-    ap (λ (m : ℕ). get_or (reverse (take 8 s) ++ swapBytes n (drop 8 s)) m 0) z
-    ∙ get_or-append-add (reverse (take 8 s)) (swapBytes n (drop 8 s)) j 0
+    ap (λ (m : ℕ). get_or (reverse (take 8 s) ++ swap_bytes n (drop 8 s)) m 0) z
+    ∙ get_or-append-add (reverse (take 8 s)) (swap_bytes n (drop 8 s)) j 0
     ∙ swap_at n (drop 8 s) j (rw length-drop (omega arith)) (omega arith)
     ∙ get_or-drop 8 s (j + 7 - 2 * (j % 8)) 0 ∙ ap (λ (m : ℕ). get_or s m 0) y)
 

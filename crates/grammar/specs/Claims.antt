@@ -2,14 +2,14 @@
 -- proofs/Forward, proofs/Sessions, proofs/Named and proofs/Printed.
 use Rattle.std.specs.Prelude.{ℕ, zero, suc, ◌+◌, ◌≤◌, ◌<◌, ◌≡◌, Bool, cond, List, [], ◌∷◌, ◌++◌, ◌==◌, length, Some, is_some, Result, Ok, Err, ℤ, pos, negsuc}
 use Rattle.text.specs.Numbers.{decimal, signed}
-use Rattle.models.specs.Summary.{inputsSize}
+use Rattle.models.specs.Summary.{inputs_size}
 use Rattle.register.specs.Calls.{Call}
 use Rattle.grammar.specs.declared.lines.BadLine.{BadLine}
 use Rattle.grammar.specs.declared.lines.Due.{Due}
 use Rattle.grammar.specs.declared.lines.Due.TheVariants as due
 use Rattle.grammar.specs.declared.lines.Kind.{Kind}
 use Rattle.grammar.specs.declared.lines.Kind.TheVariants as kind
-use Rattle.grammar.specs.Numbers.{u8, u16, u64, readNumber, readSigned, readHeight, readMessage, readTags, readModels, readHex, readCovariance}
+use Rattle.grammar.specs.Numbers.{u8, u16, u64, read_number, read_signed, read_height, read_message, read_tags, read_models, read_hex, read_covariance}
 use Rattle.grammar.specs.Lines.{At, Reading, ◌>>=◌, bad, text, value}
 use Rattle.grammar.specs.Operations.{kind_of, operands_at, operation_at}
 use Rattle.grammar.specs.Session.{start, session_at, session_of, bad_of}
@@ -25,9 +25,9 @@ pub record ReadsSessions (read : At → Result (List Call) BadLine) : Type 0 whe
   -- where no byte is left there is no call
   pub empty : (s : At) → length s.rest ≡ 0 → read s ≡ Ok []
   -- where bytes are left, and the operation due has a bad line, that is the first bad line
-  pub bad-operation : (s : At) (e : BadLine) → 0 < length s.rest → operation_at s ≡ Err e → read s ≡ Err e
+  pub bad_operation : (s : At) (e : BadLine) → 0 < length s.rest → operation_at s ≡ Err e → read s ≡ Err e
   -- where it is good, its call is the first, and the rest is a session
-  pub good-operation : (s : At) (c : Call) (rest : At) → operation_at s ≡ Ok (c, rest) → read s ≡ and_then c (read rest)
+  pub good_operation : (s : At) (c : Call) (rest : At) → operation_at s ≡ Ok (c, rest) → read s ≡ and_then c (read rest)
 
 -- `session_at` reads so, and nothing else does: the bound on operations has no part in what it says
 abbrev pub SessionsRead : Type 0
@@ -58,19 +58,19 @@ OnlyEmptyMoved = (s : List ℕ) → 0 < length s → session_of s ≡ (some_oper
 -- the texts that are a value of each line
 abbrev pub is_value : Due → List ℕ → Bool
 is_value due.Op t = is_some (kind_of t)
-is_value due.Engine t = is_some (readNumber u8 t)
-is_value due.Model t = is_some (readNumber u8 t)
-is_value due.Spec t = is_some (readNumber u16 t)
-is_value due.Inputs t = is_some (readHex inputsSize t)
-is_value due.Time t = is_some (readNumber u64 t)
-is_value due.Lat t = is_some (readSigned t)
-is_value due.Lon t = is_some (readSigned t)
-is_value due.Height t = is_some (readHeight t)
-is_value due.Message t = is_some (readMessage t)
-is_value due.Tags t = is_some (readTags t)
-is_value due.Used t = is_some (readNumber u16 t)
-is_value due.Models t = is_some (readModels t)
-is_value due.Cov t = is_some (readCovariance t)
+is_value due.Engine t = is_some (read_number u8 t)
+is_value due.Model t = is_some (read_number u8 t)
+is_value due.Spec t = is_some (read_number u16 t)
+is_value due.Inputs t = is_some (read_hex inputs_size t)
+is_value due.Time t = is_some (read_number u64 t)
+is_value due.Lat t = is_some (read_signed t)
+is_value due.Lon t = is_some (read_signed t)
+is_value due.Height t = is_some (read_height t)
+is_value due.Message t = is_some (read_message t)
+is_value due.Tags t = is_some (read_tags t)
+is_value due.Used t = is_some (read_number u16 t)
+is_value due.Models t = is_some (read_models t)
+is_value due.Cov t = is_some (read_covariance t)
 
 -- the lines of an operation after its first
 abbrev pub lines_after : Kind → List Due
@@ -129,11 +129,11 @@ DueLater = (s : At) (c : Call) (rest : At) → operation_at s ≡ Ok (c, rest) �
 
 -- a number of 64 bits that is within a bound is read from its decimal text as itself
 abbrev pub ReadAsItself : Type 0
-ReadAsItself = (most n : ℕ) → n ≤ u64 → n ≤ most → readNumber most (decimal n) ≡ Some n
+ReadAsItself = (most n : ℕ) → n ≤ u64 → n ≤ most → read_number most (decimal n) ≡ Some n
 
 -- no number has two texts
 abbrev pub OneText : Type 0
-OneText = (most n : ℕ) (t u : List ℕ) → readNumber most t ≡ Some n → readNumber most u ≡ Some n → t ≡ u
+OneText = (most n : ℕ) (t u : List ℕ) → read_number most t ≡ Some n → read_number most u ≡ Some n → t ≡ u
 
 -- a signed number of 32 bits is one from -2 ^ 31 to 2 ^ 31 - 1
 abbrev pub InRange : ℤ → Type 0
@@ -142,4 +142,4 @@ InRange (negsuc n) = n < 0x8000_0000
 
 -- and is read from its text as itself
 abbrev pub SignedReadAsItself : Type 0
-SignedReadAsItself = (v : ℤ) → InRange v → readSigned (signed v) ≡ Some v
+SignedReadAsItself = (v : ℤ) → InRange v → read_signed (signed v) ≡ Some v

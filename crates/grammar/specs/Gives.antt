@@ -1,8 +1,8 @@
 -- What the code's reader gives is what reading gives.
 use Rattle.std.specs.Prelude.{ℕ, ◌≡◌, ◌++◌, List, length, Result, Ok, Err}
-use Rattle.record.specs.Layout.{maxTags, maxModels}
+use Rattle.record.specs.Layout.{max_tags, max_models}
 use Rattle.register.specs.Calls as calls
-use Rattle.grammar.specs.Records.{bits, pad, height_bytes, message_bytes, placeBytes, sightingBytes, citedBytes}
+use Rattle.grammar.specs.Records.{bits, pad, height_bytes, message_bytes, place_bytes, sighting_bytes, cited_bytes}
 use Rattle.grammar.specs.declared.lines.Lines.{Lines}
 use Rattle.grammar.specs.declared.lines.BadLine.{BadLine}
 use Rattle.grammar.specs.declared.lines.Report.{Report}
@@ -21,9 +21,9 @@ Gives view (Err e) new m = m ≡ Err e
 -- a report as the bytes of a record
 abbrev pub record_bytes : Report → List ℕ
 record_bytes r =
-    placeBytes r.time (bits r.lat) (bits r.lon) (height_bytes r.height)
-    ++ (sightingBytes (message_bytes r.message.items) (length r.tags.items) r.used (pad maxTags r.tags.items)
-    ++ citedBytes (length r.models.items) (pad maxModels r.models.items) r.spec r.covariance)
+    place_bytes r.time (bits r.lat) (bits r.lon) (height_bytes r.height)
+    ++ (sighting_bytes (message_bytes r.message.items) (length r.tags.items) r.used (pad max_tags r.tags.items)
+    ++ cited_bytes (length r.models.items) (pad max_models r.models.items) r.spec r.covariance)
 
 abbrev pub call_of : Call → calls.Call
 call_of (call.Summary engine model spec inputs) = calls.summary engine model spec inputs

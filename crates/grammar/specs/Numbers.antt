@@ -1,8 +1,8 @@
 -- The values of a session's lines: what each text stands for, or nothing where it is bad.
 use Rattle.std.specs.Prelude.{ℕ, zero, suc, ◌+◌, ◌-◌, ◌*◌, ◌/◌, Bool, true, cond, ◌&&◌, ◌||◌, List, [], ◌∷◌, ◌++◌, leb, length, get_or, take, drop, reverse, Option, Some, None, option_map, option_and_then, position, ◌==◌, nat_lt, if◌then◌else◌, codes, ℤ, pos, neg_ℤ}
 use Rattle.std.specs.Str.{bytes_eq}
-use Rattle.text.specs.Numbers.{decimalValue}
-use Rattle.record.specs.Layout.{maxTags, maxModels, shortMessage, longMessage}
+use Rattle.text.specs.Numbers.{decimal_value}
+use Rattle.record.specs.Layout.{max_tags, max_models, short_message, long_message}
 
 -- ---- parts of a text
 
@@ -30,90 +30,90 @@ u16 = 0xffff
 abbrev pub u64 : ℕ
 u64 = 0xffff_ffff_ffff_ffff
 
-abbrev pub isDigit : ℕ → Bool
-isDigit d = leb 48 d && leb d 57
+abbrev pub is_digit : ℕ → Bool
+is_digit d = leb 48 d && leb d 57
 
-unfoldable pub allDigits : List ℕ → Bool
-allDigits [] = true
-allDigits (d ∷ t) = isDigit d && allDigits t
+unfoldable pub all_digits : List ℕ → Bool
+all_digits [] = true
+all_digits (d ∷ t) = is_digit d && all_digits t
 
 -- digits that follow those of a, if the whole is at most `most`
-unfoldable pub digitsAfter : ℕ → ℕ → List ℕ → Option ℕ
-digitsAfter most a t = cond (allDigits t && leb (decimalValue a t) most) (Some (decimalValue a t)) None
+unfoldable pub digits_after : ℕ → ℕ → List ℕ → Option ℕ
+digits_after most a t = cond (all_digits t && leb (decimal_value a t) most) (Some (decimal_value a t)) None
 
 -- decimal without leading zeros: one digit or more, at most `most`
-unfoldable pub readNumber : ℕ → List ℕ → Option ℕ
-readNumber most t = cond (length t == 0 || (nat_lt 1 (length t) && get_or t 0 0 == 48)) None (digitsAfter most 0 t)
+unfoldable pub read_number : ℕ → List ℕ → Option ℕ
+read_number most t = cond (length t == 0 || (nat_lt 1 (length t) && get_or t 0 0 == 48)) None (digits_after most 0 t)
 
 -- a minus stands only before a number that is not zero
 abbrev pub negative : ℕ → Option ℤ
 negative n = if n == 0 then None else Some (neg_ℤ (pos n))
 
 -- a signed number of 32 bits
-abbrev pub signedBy : List ℕ → Option (List ℕ) → Option ℤ
-signedBy t None = option_map pos (readNumber 0x7fff_ffff t)
-signedBy t (Some magnitude) = do
-  n ← readNumber 0x8000_0000 magnitude
+abbrev pub signed_by : List ℕ → Option (List ℕ) → Option ℤ
+signed_by t None = option_map pos (read_number 0x7fff_ffff t)
+signed_by t (Some magnitude) = do
+  n ← read_number 0x8000_0000 magnitude
   negative n
 
-unfoldable pub readSigned : List ℕ → Option ℤ
-readSigned t = signedBy t (strip_prefix (codes "-") t)
+unfoldable pub read_signed : List ℕ → Option ℤ
+read_signed t = signed_by t (strip_prefix (codes "-") t)
 
 -- a height may be unknown
-unfoldable pub readHeight : List ℕ → Option (Option ℤ)
-readHeight t = if bytes_eq t (codes "none") then Some None else option_map Some (readSigned t)
+unfoldable pub read_height : List ℕ → Option (Option ℤ)
+read_height t = if bytes_eq t (codes "none") then Some None else option_map Some (read_signed t)
 
 -- ---- lists of numbers
 
 -- a number, and what others there are behind a comma
-abbrev pub numbersBy : ℕ → List ℕ → (List ℕ → Option (List ℕ)) → Option (List ℕ × List ℕ) → Option (List ℕ)
-numbersBy most t others None = option_map (λ (x : ℕ). x ∷ []) (readNumber most t)
-numbersBy most t others (Some p) = readNumber most p.0 >>= λ (x : ℕ). option_map (λ (l : List ℕ). x ∷ l) (others p.1)
+abbrev pub numbers_by : ℕ → List ℕ → (List ℕ → Option (List ℕ)) → Option (List ℕ × List ℕ) → Option (List ℕ)
+numbers_by most t others None = option_map (λ (x : ℕ). x ∷ []) (read_number most t)
+numbers_by most t others (Some p) = read_number most p.0 >>= λ (x : ℕ). option_map (λ (l : List ℕ). x ∷ l) (others p.1)
 
 -- numbers with commas between them, at least one and no more than there is room for
-unfoldable pub readNumbers : ℕ → ℕ → List ℕ → Option (List ℕ)
-readNumbers most zero t = None
-readNumbers most (suc room) t = numbersBy most t (readNumbers most room) (split_once 44 t)
+unfoldable pub read_numbers : ℕ → ℕ → List ℕ → Option (List ℕ)
+read_numbers most zero t = None
+read_numbers most (suc room) t = numbers_by most t (read_numbers most room) (split_once 44 t)
 
 -- models with commas between, or the word `none`
-unfoldable pub readModels : List ℕ → Option (List ℕ)
-readModels t = if bytes_eq t (codes "none") then Some [] else readNumbers u8 maxModels t
+unfoldable pub read_models : List ℕ → Option (List ℕ)
+read_models t = if bytes_eq t (codes "none") then Some [] else read_numbers u8 max_models t
 
-abbrev pub readTags : List ℕ → Option (List ℕ)
-readTags t = readNumbers u64 maxTags t
+abbrev pub read_tags : List ℕ → Option (List ℕ)
+read_tags t = read_numbers u64 max_tags t
 
 -- ---- hex
 
 -- the value of a lowercase hex digit
 abbrev pub nibble : ℕ → Option ℕ
-nibble c = cond (isDigit c) (Some (c - 48)) (cond (leb 97 c && leb c 102) (Some (c - 87)) None)
+nibble c = cond (is_digit c) (Some (c - 48)) (cond (leb 97 c && leb c 102) (Some (c - 87)) None)
 
 -- two digits make a byte
-abbrev pub hexByte : ℕ → ℕ → Option ℕ
-hexByte a b = nibble a >>= λ (x : ℕ). option_map (λ (y : ℕ). x * 16 + y) (nibble b)
+abbrev pub hex_byte : ℕ → ℕ → Option ℕ
+hex_byte a b = nibble a >>= λ (x : ℕ). option_map (λ (y : ℕ). x * 16 + y) (nibble b)
 
-unfoldable pub hexBytes : List ℕ → Option (List ℕ)
-hexBytes [] = Some []
-hexBytes (a ∷ []) = None
-hexBytes (a ∷ b ∷ t) = hexByte a b >>= λ (x : ℕ). option_map (λ (l : List ℕ). x ∷ l) (hexBytes t)
+unfoldable pub hex_bytes : List ℕ → Option (List ℕ)
+hex_bytes [] = Some []
+hex_bytes (a ∷ []) = None
+hex_bytes (a ∷ b ∷ t) = hex_byte a b >>= λ (x : ℕ). option_map (λ (l : List ℕ). x ∷ l) (hex_bytes t)
 
 -- at most n bytes
-abbrev pub hexUpTo : ℕ → List ℕ → Option (List ℕ)
-hexUpTo n t = if nat_lt n (length t / 2) then None else hexBytes t
+abbrev pub hex_up_to : ℕ → List ℕ → Option (List ℕ)
+hex_up_to n t = if nat_lt n (length t / 2) then None else hex_bytes t
 
 -- n bytes
-unfoldable pub readHex : ℕ → List ℕ → Option (List ℕ)
-readHex n t = if length t == 2 * n then hexBytes t else None
+unfoldable pub read_hex : ℕ → List ℕ → Option (List ℕ)
+read_hex n t = if length t == 2 * n then hex_bytes t else None
 
 -- a message has 7 or 14 bytes
-unfoldable pub readMessage : List ℕ → Option (List ℕ)
-readMessage t = if length t == 2 * shortMessage || length t == 2 * longMessage then hexBytes t else None
+unfoldable pub read_message : List ℕ → Option (List ℕ)
+read_message t = if length t == 2 * short_message || length t == 2 * long_message then hex_bytes t else None
 
 -- n numbers of 8 bytes each, from the highest byte first to the lowest first
-unfoldable pub swapBytes : ℕ → List ℕ → List ℕ
-swapBytes zero s = []
-swapBytes (suc n) s = reverse (take 8 s) ++ swapBytes n (drop 8 s)
+unfoldable pub swap_bytes : ℕ → List ℕ → List ℕ
+swap_bytes zero s = []
+swap_bytes (suc n) s = reverse (take 8 s) ++ swap_bytes n (drop 8 s)
 
 -- the bits of six numbers, 16 hex digits each, the highest first
-unfoldable pub readCovariance : List ℕ → Option (List ℕ)
-readCovariance t = option_map (swapBytes 6) (readHex 48 t)
+unfoldable pub read_covariance : List ℕ → Option (List ℕ)
+read_covariance t = option_map (swap_bytes 6) (read_hex 48 t)

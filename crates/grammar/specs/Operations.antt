@@ -1,10 +1,10 @@
 -- A session's bytes as calls on a register.
 use Rattle.std.specs.Prelude.{ℕ, cond, List, ◌++◌, length, Option, Some, None, Ok, codes}
 use Rattle.std.specs.Str.{bytes_eq}
-use Rattle.record.specs.Layout.{maxTags, maxModels}
-use Rattle.models.specs.Summary.{inputsSize}
+use Rattle.record.specs.Layout.{max_tags, max_models}
+use Rattle.models.specs.Summary.{inputs_size}
 use Rattle.register.specs.Calls.{Call, report, summary, conviction}
-use Rattle.grammar.specs.Records.{bits, pad, height_bytes, message_bytes, placeBytes, sightingBytes, citedBytes}
+use Rattle.grammar.specs.Records.{bits, pad, height_bytes, message_bytes, place_bytes, sighting_bytes, cited_bytes}
 use Rattle.grammar.specs.declared.lines.Due.TheVariants as due
 use Rattle.grammar.specs.declared.lines.Kind.{Kind}
 use Rattle.grammar.specs.declared.lines.Kind.TheVariants as kind
@@ -13,34 +13,34 @@ use Rattle.grammar.specs.Lines.{At, Reading, ◌>>=◌, value}
 
 unfoldable pub conviction_at : At → Reading Call
 conviction_at s = do
-  engine ← value due.Engine (Val.readNumber Val.u8) s
+  engine ← value due.Engine (Val.read_number Val.u8) s
   Ok (conviction engine.0, engine.1)
 
 unfoldable pub summary_at : At → Reading Call
 summary_at s = do
-  engine ← value due.Engine (Val.readNumber Val.u8) s
-  model ← value due.Model (Val.readNumber Val.u8) engine.1
-  spec ← value due.Spec (Val.readNumber Val.u16) model.1
-  inputs ← value due.Inputs (Val.readHex inputsSize) spec.1
+  engine ← value due.Engine (Val.read_number Val.u8) s
+  model ← value due.Model (Val.read_number Val.u8) engine.1
+  spec ← value due.Spec (Val.read_number Val.u16) model.1
+  inputs ← value due.Inputs (Val.read_hex inputs_size) spec.1
   Ok (summary engine.0 model.0 spec.0 inputs.0, inputs.1)
 
 unfoldable pub report_at : At → Reading Call
 report_at s = do
-  engine ← value due.Engine (Val.readNumber Val.u8) s
-  time ← value due.Time (Val.readNumber Val.u64) engine.1
-  lat ← value due.Lat Val.readSigned time.1
-  lon ← value due.Lon Val.readSigned lat.1
-  height ← value due.Height Val.readHeight lon.1
-  message ← value due.Message Val.readMessage height.1
-  tags ← value due.Tags Val.readTags message.1
-  used ← value due.Used (Val.readNumber Val.u16) tags.1
-  models ← value due.Models Val.readModels used.1
-  spec ← value due.Spec (Val.readNumber Val.u16) models.1
-  cov ← value due.Cov Val.readCovariance spec.1
+  engine ← value due.Engine (Val.read_number Val.u8) s
+  time ← value due.Time (Val.read_number Val.u64) engine.1
+  lat ← value due.Lat Val.read_signed time.1
+  lon ← value due.Lon Val.read_signed lat.1
+  height ← value due.Height Val.read_height lon.1
+  message ← value due.Message Val.read_message height.1
+  tags ← value due.Tags Val.read_tags message.1
+  used ← value due.Used (Val.read_number Val.u16) tags.1
+  models ← value due.Models Val.read_models used.1
+  spec ← value due.Spec (Val.read_number Val.u16) models.1
+  cov ← value due.Cov Val.read_covariance spec.1
   Ok (
-    report engine.0 (placeBytes time.0 (bits lat.0) (bits lon.0) (height_bytes height.0)
-        ++ (sightingBytes (message_bytes message.0) (length tags.0) used.0 (pad maxTags tags.0)
-        ++ citedBytes (length models.0) (pad maxModels models.0) spec.0 cov.0)),
+    report engine.0 (place_bytes time.0 (bits lat.0) (bits lon.0) (height_bytes height.0)
+        ++ (sighting_bytes (message_bytes message.0) (length tags.0) used.0 (pad max_tags tags.0)
+        ++ cited_bytes (length models.0) (pad max_models models.0) spec.0 cov.0)),
     cov.1,
   )
 

@@ -2,7 +2,7 @@
 use Rattle.std.specs.Prelude.{ℕ, ◌-◌, List, ◌∷◌, ◌++◌, length, replicate, flat_map, Option, Some, None, ℤ}
 use Rattle.std.specs.Int.{w32, cast_unsigned}
 use Rattle.octets.specs.Words.{word_bytes}
-use Rattle.record.specs.Layout.{longMessage}
+use Rattle.record.specs.Layout.{long_message}
 
 -- a signed number of 32 bits as the number that its bits are
 abbrev pub bits : ℤ → ℕ
@@ -23,16 +23,16 @@ height_bytes (Some z) = 1 ∷ word_bytes 4 (bits z)
 
 -- a message's length and its bytes
 abbrev pub message_bytes : List ℕ → List ℕ
-message_bytes m = length m ∷ pad longMessage m
+message_bytes m = length m ∷ pad long_message m
 
 -- when and where: the first 21 bytes
-abbrev pub placeBytes : ℕ → ℕ → ℕ → List ℕ → List ℕ
-placeBytes time lat lon height = word_bytes 8 time ++ (word_bytes 4 lat ++ (word_bytes 4 lon ++ height))
+abbrev pub place_bytes : ℕ → ℕ → ℕ → List ℕ → List ℕ
+place_bytes time lat lon height = word_bytes 8 time ++ (word_bytes 4 lat ++ (word_bytes 4 lon ++ height))
 
 -- the message and the tags: the next 146
-abbrev pub sightingBytes : List ℕ → ℕ → ℕ → List ℕ → List ℕ
-sightingBytes message count used tags = message ++ (count ∷ (word_bytes 2 used ++ words 8 tags))
+abbrev pub sighting_bytes : List ℕ → ℕ → ℕ → List ℕ → List ℕ
+sighting_bytes message count used tags = message ++ (count ∷ (word_bytes 2 used ++ words 8 tags))
 
 -- the models, spec and covariance: the last 55
-abbrev pub citedBytes : ℕ → List ℕ → ℕ → List ℕ → List ℕ
-citedBytes count models spec cov = count ∷ (words 1 models ++ (word_bytes 2 spec ++ cov))
+abbrev pub cited_bytes : ℕ → List ℕ → ℕ → List ℕ → List ℕ
+cited_bytes count models spec cov = count ∷ (words 1 models ++ (word_bytes 2 spec ++ cov))

@@ -26,7 +26,7 @@ pub fn split_once(bytes: &[u8], separator: u8) -> Option<(&[u8], &[u8])>
 // The digits of a number of at most `most`.
 #[tactic(auto, using(crate::proofs::Texts::digits_steps))]
 fn digits(text: &[u8], most: u64) -> Option<u64>
-    ensures value { result ≡ Val.digitsAfter most 0 text.now }
+    ensures value { result ≡ Val.digits_after most 0 text.now }
     ensures bound { IfSome result (λ n. n ≤ most) }
 {
     let mut value: u64 = 0;
@@ -51,9 +51,9 @@ fn has_leading_zero(text: &[u8]) -> bool
 }
 
 // A number of at most `most`, in decimal without leading zeros.
-#[tactic(auto, unfolding(crate::specs::Numbers::readNumber))]
+#[tactic(auto, unfolding(crate::specs::Numbers::read_number))]
 pub fn number(text: &[u8], most: u64) -> Option<u64>
-    ensures value { result ≡ Val.readNumber most text.now }
+    ensures value { result ≡ Val.read_number most text.now }
     ensures bound { IfSome result (λ n. n ≤ most) }
 {
     if text.is_empty() || has_leading_zero(text) {
@@ -63,9 +63,9 @@ pub fn number(text: &[u8], most: u64) -> Option<u64>
 }
 
 // A number of 32 bits, with a minus only where it is negative.
-#[tactic(auto, unfolding(crate::specs::Numbers::readSigned))]
+#[tactic(auto, unfolding(crate::specs::Numbers::read_signed))]
 pub fn signed(text: &[u8]) -> Option<i32>
-    ensures { result ≡ Val.readSigned text.now }
+    ensures { result ≡ Val.read_signed text.now }
 {
     match text.strip_prefix(b"-") {
         Some(magnitude) => match number(magnitude, 0x8000_0000)? {
@@ -77,9 +77,9 @@ pub fn signed(text: &[u8]) -> Option<i32>
 }
 
 // A height, which may be unknown.
-#[tactic(auto, unfolding(crate::specs::Numbers::readHeight))]
+#[tactic(auto, unfolding(crate::specs::Numbers::read_height))]
 pub fn height(text: &[u8]) -> Option<Option<i32>>
-    ensures { result ≡ Val.readHeight text.now }
+    ensures { result ≡ Val.read_height text.now }
 {
     if text == b"none".as_slice() {
         return Some(None);
@@ -101,14 +101,14 @@ fn nibble(c: u8) -> Option<u8>
 
 // The byte that two hex digits make.
 fn hex_byte(high: u8, low: u8) -> Option<u8>
-    ensures { result ≡ Val.hexByte high low }
+    ensures { result ≡ Val.hex_byte high low }
 {
     Some(nibble(high)? * 16 + nibble(low)?)
 }
 
 // Hex of no more bytes than there is room for.
 fn hex<const ROOM: usize>(text: &[u8]) -> Option<ArrayVec<u8, ROOM>>
-    ensures { option_map (λ v. v.items) result ≡ Val.hexUpTo ROOM text.now }
+    ensures { option_map (λ v. v.items) result ≡ Val.hex_up_to ROOM text.now }
 {
     if ROOM < text.len() / 2 {
         return None;
@@ -123,10 +123,10 @@ fn hex<const ROOM: usize>(text: &[u8]) -> Option<ArrayVec<u8, ROOM>>
 }
 
 // Hex of a due number of bytes.
-#[tactic(auto, unfolding(crate::specs::Numbers::readHex))]
+#[tactic(auto, unfolding(crate::specs::Numbers::read_hex))]
 pub fn hex_array<const SIZE: usize>(text: &[u8]) -> Option<[u8; SIZE]>
     requires { SIZE ≤ 65536 }
-    ensures { result ≡ Val.readHex SIZE text.now }
+    ensures { result ≡ Val.read_hex SIZE text.now }
 {
     match hex::<SIZE>(text)?.into_inner() {
         Ok(bytes) => Some(bytes),
@@ -135,9 +135,9 @@ pub fn hex_array<const SIZE: usize>(text: &[u8]) -> Option<[u8; SIZE]>
 }
 
 // A message of 7 or 14 bytes.
-#[tactic(auto, unfolding(crate::specs::Numbers::readMessage))]
+#[tactic(auto, unfolding(crate::specs::Numbers::read_message))]
 pub fn message(text: &[u8]) -> Option<ArrayVec<u8, 14>>
-    ensures { option_map (λ v. v.items) result ≡ Val.readMessage text.now }
+    ensures { option_map (λ v. v.items) result ≡ Val.read_message text.now }
 {
     if text.len() == 14 || text.len() == 28 {
         return hex(text);
@@ -147,7 +147,7 @@ pub fn message(text: &[u8]) -> Option<ArrayVec<u8, 14>>
 
 // Numbers with commas between, each of at most `most`: at least one, and no more than there is room for.
 pub fn list<const ROOM: usize>(text: &[u8], most: u64) -> Option<ArrayVec<u64, ROOM>>
-    ensures { option_map (λ v. v.items) result ≡ Val.readNumbers most ROOM text.now }
+    ensures { option_map (λ v. v.items) result ≡ Val.read_numbers most ROOM text.now }
 {
     let mut numbers = ArrayVec::new();
     let mut rest = text;
@@ -167,9 +167,9 @@ pub fn list<const ROOM: usize>(text: &[u8], most: u64) -> Option<ArrayVec<u64, R
 }
 
 // Models, of which there may be none.
-#[tactic(auto, unfolding(crate::specs::Numbers::readModels))]
+#[tactic(auto, unfolding(crate::specs::Numbers::read_models))]
 pub fn models(text: &[u8]) -> Option<ArrayVec<u64, 4>>
-    ensures { option_map (λ v. v.items) result ≡ Val.readModels text.now }
+    ensures { option_map (λ v. v.items) result ≡ Val.read_models text.now }
 {
     if text == b"none".as_slice() {
         return Some(ArrayVec::new());
@@ -180,7 +180,7 @@ pub fn models(text: &[u8]) -> Option<ArrayVec<u64, 4>>
 // Six numbers of 8 bytes each, from the highest byte first to the lowest first.
 fn swap_bytes(s: &[u8]) -> [u8; 48]
     requires { length s.now ≡ 48 }
-    ensures { result ≡ Val.swapBytes 6 s.now }
+    ensures { result ≡ Val.swap_bytes 6 s.now }
 {
     let mut out = [0u8; 48];
     let mut i: usize = 0;
@@ -192,9 +192,9 @@ fn swap_bytes(s: &[u8]) -> [u8; 48]
 }
 
 // The bits of a covariance's six numbers, as they stand in memory.
-#[tactic(auto, unfolding(crate::specs::Numbers::readCovariance))]
+#[tactic(auto, unfolding(crate::specs::Numbers::read_covariance))]
 pub fn covariance(text: &[u8]) -> Option<[u8; 48]>
-    ensures { result ≡ Val.readCovariance text.now }
+    ensures { result ≡ Val.read_covariance text.now }
 {
     Some(swap_bytes(&hex_array::<48>(text)?))
 }

@@ -1,6 +1,6 @@
 // Reading the lines.
 ghost use Rattle.std.specs.Prelude.{◌≡◌, ◌≤◌, ◌+◌, ◌<◌, length, List, ℕ, take, drop, MatchOption, IfOk};
-ghost use Rattle.models.specs.Summary.{inputsSize};
+ghost use Rattle.models.specs.Summary.{inputs_size};
 ghost use Rattle.grammar.specs.Numbers as Val;
 ghost use Rattle.grammar.specs.Operations as G;
 ghost use Rattle.grammar.specs.Lines as R;
@@ -92,7 +92,7 @@ impl<'a> Lines<'a> {
     // The number of at most `most` on the line due.
     #[tactic(auto, unfolding(crate::specs::Lines::value))]
     fn number(&mut self, due: Due, most: u64) -> Result<u64, BadLine>
-        ensures value { Gives (λ n. n) result self.new (R.value due (Val.readNumber most) (at self.old)) }
+        ensures value { Gives (λ n. n) result self.new (R.value due (Val.read_number most) (at self.old)) }
         ensures bound { IfOk result (λ n. n ≤ most) }
     {
         let bad = self.bad(due);
@@ -103,7 +103,7 @@ impl<'a> Lines<'a> {
     // The signed number on the line due.
     #[tactic(auto, unfolding(crate::specs::Lines::value))]
     fn signed(&mut self, due: Due) -> Result<i32, BadLine>
-        ensures { Gives (λ z. z) result self.new (R.value due Val.readSigned (at self.old)) }
+        ensures { Gives (λ z. z) result self.new (R.value due Val.read_signed (at self.old)) }
     {
         let bad = self.bad(due);
         let text = self.text(due)?;
@@ -113,7 +113,7 @@ impl<'a> Lines<'a> {
     // The height on the line due.
     #[tactic(auto, unfolding(crate::specs::Lines::value))]
     fn height(&mut self, due: Due) -> Result<Option<i32>, BadLine>
-        ensures { Gives (λ h. h) result self.new (R.value due Val.readHeight (at self.old)) }
+        ensures { Gives (λ h. h) result self.new (R.value due Val.read_height (at self.old)) }
     {
         let bad = self.bad(due);
         let text = self.text(due)?;
@@ -123,7 +123,7 @@ impl<'a> Lines<'a> {
     // The message on the line due.
     #[tactic(auto, unfolding(crate::specs::Lines::value))]
     fn message(&mut self, due: Due) -> Result<ArrayVec<u8, 14>, BadLine>
-        ensures { Gives (λ v. v.items) result self.new (R.value due Val.readMessage (at self.old)) }
+        ensures { Gives (λ v. v.items) result self.new (R.value due Val.read_message (at self.old)) }
     {
         let bad = self.bad(due);
         let text = self.text(due)?;
@@ -133,7 +133,7 @@ impl<'a> Lines<'a> {
     // The tags on the line due.
     #[tactic(auto, unfolding(crate::specs::Lines::value))]
     fn tags(&mut self, due: Due) -> Result<ArrayVec<u64, 16>, BadLine>
-        ensures { Gives (λ v. v.items) result self.new (R.value due Val.readTags (at self.old)) }
+        ensures { Gives (λ v. v.items) result self.new (R.value due Val.read_tags (at self.old)) }
     {
         let bad = self.bad(due);
         let text = self.text(due)?;
@@ -143,7 +143,7 @@ impl<'a> Lines<'a> {
     // The models on the line due.
     #[tactic(auto, unfolding(crate::specs::Lines::value))]
     fn models(&mut self, due: Due) -> Result<ArrayVec<u64, 4>, BadLine>
-        ensures { Gives (λ v. v.items) result self.new (R.value due Val.readModels (at self.old)) }
+        ensures { Gives (λ v. v.items) result self.new (R.value due Val.read_models (at self.old)) }
     {
         let bad = self.bad(due);
         let text = self.text(due)?;
@@ -153,7 +153,7 @@ impl<'a> Lines<'a> {
     // The inputs on the line due.
     #[tactic(auto, unfolding(crate::specs::Lines::value))]
     fn inputs(&mut self, due: Due) -> Result<[u8; 32], BadLine>
-        ensures { Gives (λ v. v) result self.new (R.value due (Val.readHex inputsSize) (at self.old)) }
+        ensures { Gives (λ v. v) result self.new (R.value due (Val.read_hex inputs_size) (at self.old)) }
     {
         let bad = self.bad(due);
         let text = self.text(due)?;
@@ -163,7 +163,7 @@ impl<'a> Lines<'a> {
     // The covariance on the line due.
     #[tactic(auto, unfolding(crate::specs::Lines::value))]
     fn covariance(&mut self, due: Due) -> Result<[u8; 48], BadLine>
-        ensures { Gives (λ v. v) result self.new (R.value due Val.readCovariance (at self.old)) }
+        ensures { Gives (λ v. v) result self.new (R.value due Val.read_covariance (at self.old)) }
     {
         let bad = self.bad(due);
         let text = self.text(due)?;

@@ -4,7 +4,7 @@ ghost use Rattle.octets.specs.Words.{word_bytes};
 ghost use Rattle.text.specs.Texts.{append};
 ghost use Rattle.grammar.specs.Records.{bits, pad, words, height_bytes, message_bytes};
 ghost use Rattle.grammar.specs.Gives.{record_bytes};
-ghost use Rattle.record.specs.Layout.{recordSize, maxTags, maxModels, longMessage};
+ghost use Rattle.record.specs.Layout.{record_size, max_tags, max_models, long_message};
 
 use crate::lines::Report;
 use arrayvec::ArrayVec;
@@ -34,7 +34,7 @@ fn push_height(out: &mut Text, height: &Option<i32>)
 // A message's length, and its bytes with zeros behind them.
 fn push_message(out: &mut Text, message: &ArrayVec<u8, 14>)
     ensures text { out.new ≡ append out.old (message_bytes message.now.items) }
-    ensures fits { length message.now.items ≤ longMessage }
+    ensures fits { length message.now.items ≤ long_message }
 {
     let bytes = message.as_slice();
     out.push_byte(bytes.len() as u8);
@@ -53,8 +53,8 @@ fn push_words(out: &mut Text, values: &[u64])
 
 // How many tags there are, which of them were used, and the tags with zeros behind them.
 fn push_tags(out: &mut Text, tags: &ArrayVec<u64, MAX_TAGS>, used: u16)
-    ensures text { out.new ≡ append out.old (length tags.now.items ∷ (word_bytes 2 used ++ words 8 (pad maxTags tags.now.items))) }
-    ensures fits { length tags.now.items ≤ maxTags }
+    ensures text { out.new ≡ append out.old (length tags.now.items ∷ (word_bytes 2 used ++ words 8 (pad max_tags tags.now.items))) }
+    ensures fits { length tags.now.items ≤ max_tags }
 {
     let tags = tags.as_slice();
     out.push_byte(tags.len() as u8);
@@ -74,8 +74,8 @@ fn push_low_bytes(out: &mut Text, values: &[u64])
 
 // How many models there are, and the models with zeros behind them.
 fn push_models(out: &mut Text, models: &ArrayVec<u64, MAX_MODELS>)
-    ensures text { out.new ≡ append out.old (length models.now.items ∷ words 1 (pad maxModels models.now.items)) }
-    ensures fits { length models.now.items ≤ maxModels }
+    ensures text { out.new ≡ append out.old (length models.now.items ∷ words 1 (pad max_models models.now.items)) }
+    ensures fits { length models.now.items ≤ max_models }
 {
     let models = models.as_slice();
     out.push_byte(models.len() as u8);
@@ -87,7 +87,7 @@ impl Report {
     // The fields one after another. They take as much whatever they say.
     fn push_fields(&self, out: &mut Text)
         ensures text { out.new ≡ append out.old (record_bytes self.now) }
-        ensures size { length (record_bytes self.now) ≡ recordSize }
+        ensures size { length (record_bytes self.now) ≡ record_size }
     {
         out.push_bytes(&self.time.to_le_bytes());
         push_signed(out, &self.lat);
@@ -102,7 +102,7 @@ impl Report {
 
     // Writes the record that says this.
     fn write_to(&self, bytes: &mut [u8])
-        requires { length bytes.old ≡ recordSize }
+        requires { length bytes.old ≡ record_size }
         ensures { bytes.new ≡ record_bytes self.now }
     {
         let mut out = Text::new(bytes);

@@ -1,6 +1,6 @@
 // The compression function F (RFC 7693, 3.2), over the bytes of a block.
 ghost use Rattle.std.specs.Prelude.{◌≡◌, length};
-ghost use Rattle.hashing.specs.Blake2s.{words_of, startState, foldState, compressBlock, blockBytes};
+ghost use Rattle.hashing.specs.Blake2s.{words_of, start_state, fold_state, compress_block, block_bytes};
 
 use crate::rounds::all_rounds;
 use octets::words::u32_at;
@@ -25,7 +25,7 @@ pub const IV7: u32 = 0x5be0cd19;
 
 // The sixteen words of a block.
 fn message_words(b: &[u8]) -> [u32; 16]
-    requires { length b.now ≡ blockBytes }
+    requires { length b.now ≡ block_bytes }
     ensures { result ≡ words_of b.now }
 {
     [
@@ -50,7 +50,7 @@ fn message_words(b: &[u8]) -> [u32; 16]
 
 // The state that a block starts from.
 fn start(h: &[u32; 8], t: u64, f: u32) -> [u32; 16]
-    ensures { result ≡ startState h.now t f }
+    ensures { result ≡ start_state h.now t f }
 {
     let low = (t % 0x1_0000_0000) as u32;
     let high = (t / 0x1_0000_0000) as u32;
@@ -76,7 +76,7 @@ fn start(h: &[u32; 8], t: u64, f: u32) -> [u32; 16]
 
 // Both folded of the state, xored into h.
 fn fold(h: &[u32; 8], v: &[u32; 16]) -> [u32; 8]
-    ensures { result ≡ foldState h.now v.now }
+    ensures { result ≡ fold_state h.now v.now }
 {
     [
         h[0] ^ v[0] ^ v[8],
@@ -92,8 +92,8 @@ fn fold(h: &[u32; 8], v: &[u32; 16]) -> [u32; 8]
 
 // F on a block of 64 bytes: t bytes are hashed with it, and f is all ones if it is the last.
 pub fn compress(h: &[u32; 8], b: &[u8], t: u64, f: u32) -> [u32; 8]
-    requires { length b.now ≡ blockBytes }
-    ensures { result ≡ compressBlock h.now (words_of b.now) t f }
+    requires { length b.now ≡ block_bytes }
+    ensures { result ≡ compress_block h.now (words_of b.now) t f }
 {
     let m = message_words(b);
     let v = all_rounds(start(h, t, f), &m);

@@ -7,7 +7,7 @@ mod mixing;
 mod rounds;
 
 ghost use Rattle.std.specs.Prelude.{◌≡◌, ◌-◌, ◌*◌, ◌/◌, ◌≤◌, length};
-ghost use Rattle.hashing.specs.Blake2s.{padBlock, chainBlocks, hashWords, bytesOfWords, blake2s256, blockBytes};
+ghost use Rattle.hashing.specs.Blake2s.{pad_block, chain_blocks, hash_words, bytes_of_words, blake2s256, block_bytes};
 
 use compression::compress;
 use octets::words::put_u32;
@@ -25,7 +25,7 @@ const NOT_LAST: u32 = 0;
 
 // How many blocks stand before the last one. There is always a last one, even of no bytes.
 fn before_last(len: usize) -> usize
-    ensures { result ≡ (len - 1) / blockBytes }
+    ensures { result ≡ (len - 1) / block_bytes }
 {
     if len == 0 {
         return 0;
@@ -35,8 +35,8 @@ fn before_last(len: usize) -> usize
 
 // Filled up with zeros to a whole block.
 fn padded_block(s: &[u8]) -> [u8; BLOCK]
-    requires { length s.now ≤ blockBytes }
-    ensures { result ≡ padBlock s.now }
+    requires { length s.now ≤ block_bytes }
+    ensures { result ≡ pad_block s.now }
 {
     let mut b = [0; BLOCK];
     octets::runs::copy(s, &mut b);
@@ -45,8 +45,8 @@ fn padded_block(s: &[u8]) -> [u8; BLOCK]
 
 // The state after the first n blocks, of which none is the last.
 fn chain(s: &[u8], n: usize) -> [u32; 8]
-    requires { n * blockBytes ≤ length s.now }
-    ensures { result ≡ chainBlocks n s.now }
+    requires { n * block_bytes ≤ length s.now }
+    ensures { result ≡ chain_blocks n s.now }
 {
     let mut h = [
         compression::IV0 ^ PARAMETERS,
@@ -68,7 +68,7 @@ fn chain(s: &[u8], n: usize) -> [u32; 8]
 
 // The eight words of the hash.
 fn hash_words(s: &[u8]) -> [u32; 8]
-    ensures { result ≡ hashWords s.now }
+    ensures { result ≡ hash_words s.now }
 {
     let n = before_last(s.len());
     let h = chain(s, n);
@@ -79,7 +79,7 @@ fn hash_words(s: &[u8]) -> [u32; 8]
 
 // Eight words as bytes, lowest first.
 fn word_bytes(h: [u32; 8]) -> [u8; 32]
-    ensures { result ≡ bytesOfWords h }
+    ensures { result ≡ bytes_of_words h }
 {
     let mut out = [0; 32];
     for i in 0..8 {

@@ -1,6 +1,6 @@
 // The mixing function G and the halves of a round (RFC 7693, 3.1 and 3.2).
 ghost use Rattle.std.specs.Prelude.{◌≡◌, ◌<◌};
-ghost use Rattle.hashing.specs.Blake2s.{at, rotateRight, addWord, turnWord, halfMix, mixWords, mixColumns, mixDiagonals};
+ghost use Rattle.hashing.specs.Blake2s.{at, rotate_right, add_word, turn_word, half_mix, mix_words, mix_columns, mix_diagonals};
 
 // The rotations of G (2.1).
 const R1: u32 = 16;
@@ -13,7 +13,7 @@ const R4: u32 = 7;
 
 fn rotate_right(w: u32, n: u32) -> u32
     requires { (0 < n) × (n < 32) }
-    ensures { result ≡ rotateRight w n }
+    ensures { result ≡ rotate_right w n }
 {
     (w >> n) ^ (w << (32 - n))
 }
@@ -21,7 +21,7 @@ fn rotate_right(w: u32, n: u32) -> u32
 // v[i] := v[i] + v[j] + x, modulo 2^32.
 fn add(v: &mut [u32; 16], i: usize, j: usize, x: u32)
     requires { (i < 16) × (j < 16) }
-    ensures { v.new ≡ addWord v.old i j x }
+    ensures { v.new ≡ add_word v.old i j x }
 {
     v[i] = std::num::wrapping_add_u32(std::num::wrapping_add_u32(v[i], v[j]), x);
 }
@@ -29,7 +29,7 @@ fn add(v: &mut [u32; 16], i: usize, j: usize, x: u32)
 // v[i] := v[i] ^ v[j], rotated by n.
 fn turn(v: &mut [u32; 16], i: usize, j: usize, n: u32)
     requires { (i < 16) × (j < 16) × (0 < n) × (n < 32) }
-    ensures { v.new ≡ turnWord v.old i j n }
+    ensures { v.new ≡ turn_word v.old i j n }
 {
     v[i] = rotate_right(v[i] ^ v[j], n);
 }
@@ -37,7 +37,7 @@ fn turn(v: &mut [u32; 16], i: usize, j: usize, n: u32)
 // Four of the eight statements of G.
 fn half_mix(v: &mut [u32; 16], a: usize, b: usize, c: usize, d: usize, x: u32, r: u32, s: u32)
     requires { (a < 16) × (b < 16) × (c < 16) × (d < 16) × (0 < r) × (r < 32) × (0 < s) × (s < 32) }
-    ensures { v.new ≡ halfMix v.old a b c d x r s }
+    ensures { v.new ≡ half_mix v.old a b c d x r s }
 {
     add(v, a, b, x);
     turn(v, d, a, r);
@@ -48,7 +48,7 @@ fn half_mix(v: &mut [u32; 16], a: usize, b: usize, c: usize, d: usize, x: u32, r
 // G with the words i and j of the message.
 fn mix(v: &mut [u32; 16], m: &[u32; 16], a: usize, b: usize, c: usize, d: usize, i: usize, j: usize)
     requires { (a < 16) × (b < 16) × (c < 16) × (d < 16) × (i < 16) × (j < 16) }
-    ensures { v.new ≡ mixWords v.old a b c d (at m.now i) (at m.now j) }
+    ensures { v.new ≡ mix_words v.old a b c d (at m.now i) (at m.now j) }
 {
     half_mix(v, a, b, c, d, m[i], R1, R2);
     half_mix(v, a, b, c, d, m[j], R3, R4);
@@ -68,7 +68,7 @@ pub fn columns(
     s7: usize,
 )
     requires { (s0 < 16) × (s1 < 16) × (s2 < 16) × (s3 < 16) × (s4 < 16) × (s5 < 16) × (s6 < 16) × (s7 < 16) }
-    ensures { v.new ≡ mixColumns v.old m.now s0 s1 s2 s3 s4 s5 s6 s7 }
+    ensures { v.new ≡ mix_columns v.old m.now s0 s1 s2 s3 s4 s5 s6 s7 }
 {
     mix(v, m, 0, 4, 8, 12, s0, s1);
     mix(v, m, 1, 5, 9, 13, s2, s3);
@@ -90,7 +90,7 @@ pub fn diagonals(
     s7: usize,
 )
     requires { (s0 < 16) × (s1 < 16) × (s2 < 16) × (s3 < 16) × (s4 < 16) × (s5 < 16) × (s6 < 16) × (s7 < 16) }
-    ensures { v.new ≡ mixDiagonals v.old m.now s0 s1 s2 s3 s4 s5 s6 s7 }
+    ensures { v.new ≡ mix_diagonals v.old m.now s0 s1 s2 s3 s4 s5 s6 s7 }
 {
     mix(v, m, 0, 5, 10, 15, s0, s1);
     mix(v, m, 1, 6, 11, 12, s2, s3);

@@ -7,7 +7,7 @@ use lib.ListN.{length, take, drop, take-append-drop, length-append, length-drop}
 use lib.Seq.{take_at, drop_at, drop-drop, length-take-le}
 use Rattle.octets.specs.Bytes.{Bytes}
 use Rattle.octets.specs.Words.{word_bytes, word_at}
-use Rattle.octets.specs.Writes.{putWord}
+use Rattle.octets.specs.Writes.{put_word}
 use Rattle.octets.proofs.Numbers.{bytes_take, bytes_drop, bytes-of-word, word_lt}
 
 module _ (a b z : List ℕ) (at n : ℕ) (p : length a ≡ at) (q : length b ≡ n) where
@@ -20,7 +20,7 @@ module _ (a b z : List ℕ) (at n : ℕ) (p : length a ≡ at) (q : length b ≡
   pub mid-after : drop (at + n) (a ++ (b ++ z)) ≡ z
   mid-after = ap (drop (at + n)) (sym (append_assoc a b z)) ∙ drop_at (a ++ b) z (at + n) ab
 
-  pub mid-put : (x : ℕ) → putWord n at x (a ++ (b ++ z)) ≡ a ++ (word_bytes n x ++ z)
+  pub mid-put : (x : ℕ) → put_word n at x (a ++ (b ++ z)) ≡ a ++ (word_bytes n x ++ z)
   mid-put x = rw (take_at a (b ++ z) at p, mid-after) refl
 
 -- bytes from one on, in two parts

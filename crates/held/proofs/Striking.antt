@@ -7,7 +7,7 @@ use native.Mathlib.Omega.{arith}
 use native.Mathlib.Nat.{mul-le-mul_right, mul_comm, mul-sub}
 use lib.ListN.{length, get_or, take, drop, replicate, length-drop}
 use lib.Seq.{take_all, length-take-le}
-use Rattle.places.specs.Places.{places, flat, table_of, keepPlaces}
+use Rattle.places.specs.Places.{places, flat, table_of, keep_places}
 use Rattle.places.proofs.Walks.{room, next-room, place_of}
 use Rattle.places.proofs.Tables.{length-places}
 use Rattle.places.proofs.Keeping.{Compacted, compact-none, compact-gone, compact-stays, changed-length}
@@ -23,8 +23,8 @@ pub record Strike : Type 0 where
   pub fitting : (v : List ℕ) → key + length v ≡ width → key + length (change v) ≡ width
 
 -- those that stay, changed
-abbrev pub keptBy : Strike → List (List ℕ) → List (List ℕ)
-keptBy x ps = keepPlaces x.key x.stays x.change ps
+abbrev pub kept_by : Strike → List (List ℕ) → List (List ℕ)
+kept_by x ps = keep_places x.key x.stays x.change ps
 
 -- i of n places of t₀ are looked at, and the j that stay are in the front of t
 pub record Left (x : Strike) (n : ℕ) (t₀ t : List ℕ) (i j : ℕ) : Type 0 where
@@ -45,12 +45,12 @@ module _ {x : Strike} {n : ℕ} {t₀ t : List ℕ} {i j : ℕ} (l : Left x n t�
   left-lower = mul-le-mul_right x.width l.moved.few
 
   -- the rest cleared
-  pub left-cleared : n ≤ i → (t' : List ℕ) → t' ≡ take (j * x.width) t ++ replicate (length t - j * x.width) 0 → Struck x.width (keptBy x (places x.width n t₀)) t₀ j t'
+  pub left-cleared : n ≤ i → (t' : List ℕ) → t' ≡ take (j * x.width) t ++ replicate (length t - j * x.width) 0 → Struck x.width (kept_by x (places x.width n t₀)) t₀ j t'
   left-cleared h t' q =
       let all : take i (places x.width n t₀) ≡ places x.width n t₀ = take_all i (places x.width n t₀) (rw (length-places x.width n t₀) h) in
       record {
-        count = l.moved.count ∙ ap (λ (r : List (List ℕ)). length (keptBy x r)) all;
-        bytes = q ∙ ap₂ (λ (a b : List ℕ). a ++ b) (l.moved.done ∙ ap (λ (r : List (List ℕ)). flat (keptBy x r)) all) (ap (λ (r : ℕ). replicate (r - j * x.width) 0) l.moved.size);
+        count = l.moved.count ∙ ap (λ (r : List (List ℕ)). length (kept_by x r)) all;
+        bytes = q ∙ ap₂ (λ (a b : List ℕ). a ++ b) (l.moved.done ∙ ap (λ (r : List (List ℕ)). flat (kept_by x r)) all) (ap (λ (r : ℕ). replicate (r - j * x.width) 0) l.moved.size);
       }
 
   -- a turn, on place i

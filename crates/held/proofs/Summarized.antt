@@ -9,60 +9,60 @@ use lib.Dec.{eqb}
 use lib.ListN.{length, get_or, take, drop, length-append}
 use lib.Seq.{take-take, get_or-take, get_or-drop}
 use borrow.Author.Tests.{eq-eqb, ne_eqb, eqb-false, not-true}
-use Rattle.octets.specs.Masks.{withBit}
+use Rattle.octets.specs.Masks.{with_bit}
 use Rattle.octets.proofs.Lookup.{bit-set}
 use Rattle.octets.proofs.Numbers.{length-word-bytes}
 use Rattle.places.proofs.Keeping.{changed}
-use Rattle.models.specs.Summary.{engineOf, modelOf, summaryOf, summarySize, inputsSize}
-use Rattle.held.specs.Summaries.{summaryFormed, isOfAnother, noValue}
+use Rattle.models.specs.Summary.{engine_of, model_of, summary_of, summary_size, inputs_size}
+use Rattle.held.specs.Summaries.{summary_formed, is_of_another, no_value}
 use Rattle.held.proofs.Striking.{Strike}
 
-pub summary-length : (e model spec : ℕ) (inputs : List ℕ) → length inputs ≡ inputsSize → length (summaryOf e model spec inputs) ≡ summarySize
+pub summary-length : (e model spec : ℕ) (inputs : List ℕ) → length inputs ≡ inputs_size → length (summary_of e model spec inputs) ≡ summary_size
 summary-length e model spec inputs h = rw (length-append, length-word-bytes 2 spec, h) refl
 
-pub summary-longer : (e model spec : ℕ) (inputs : List ℕ) → length (summaryOf e model spec inputs) ≡ 4 + length inputs
+pub summary-longer : (e model spec : ℕ) (inputs : List ℕ) → length (summary_of e model spec inputs) ≡ 4 + length inputs
 summary-longer e model spec inputs = rw (length-append, length-word-bytes 2 spec) (omega arith)
 
 -- ---- a conviction
 
-pub all_of : summarySize ≤ summarySize
+pub all_of : summary_size ≤ summary_size
 all_of = omega arith
 
-pub none_more : (v : List ℕ) → summarySize + length v ≡ summarySize → summarySize + length (noValue v) ≡ summarySize
+pub none_more : (v : List ℕ) → summary_size + length v ≡ summary_size → summary_size + length (no_value v) ≡ summary_size
 none_more v h = refl
 
 -- those of other engines stay, as they are
-abbrev pub summariesWithout : ℕ → Strike
-summariesWithout e = record { key = summarySize; width = summarySize; stays = isOfAnother e; change = noValue; narrow = all_of; fitting = none_more }
+abbrev pub summaries_without : ℕ → Strike
+summaries_without e = record { key = summary_size; width = summary_size; stays = is_of_another e; change = no_value; narrow = all_of; fitting = none_more }
 
 module _ (e : ℕ) (t : List ℕ) (at : ℕ) where
   -- the engine of a summary is its first byte
-  first_byte : engineOf (take summarySize (drop at t)) ≡ get_or t at 0
-  first_byte = get_or-take summarySize (drop at t) 0 0 (omega arith) ∙ get_or-drop at t 0 0 ∙ ap (λ (x : ℕ). get_or t x 0) (add-zero at)
+  first_byte : engine_of (take summary_size (drop at t)) ≡ get_or t at 0
+  first_byte = get_or-take summary_size (drop at t) 0 0 (omega arith) ∙ get_or-drop at t 0 0 ∙ ap (λ (x : ℕ). get_or t x 0) (add-zero at)
 
-  pub of-engine : get_or t at 0 ≡ e → isOfAnother e (take summarySize (drop at t)) ≡ false
-  of-engine z = ap not (eq-eqb (engineOf (take summarySize (drop at t))) e (first_byte ∙ z))
+  pub of-engine : get_or t at 0 ≡ e → is_of_another e (take summary_size (drop at t)) ≡ false
+  of-engine z = ap not (eq-eqb (engine_of (take summary_size (drop at t))) e (first_byte ∙ z))
 
-  pub of-another : (get_or t at 0 ≡ e → ⊥) → isOfAnother e (take summarySize (drop at t)) ≡ true
-  of-another z = ap not (ne_eqb (engineOf (take summarySize (drop at t))) e (λ y. z (sym first_byte ∙ y)))
+  pub of-another : (get_or t at 0 ≡ e → ⊥) → is_of_another e (take summary_size (drop at t)) ≡ true
+  of-another z = ap not (ne_eqb (engine_of (take summary_size (drop at t))) e (λ y. z (sym first_byte ∙ y)))
 
 -- a summary moved down is its key moved down
-pub whole-moved : (t t' : List ℕ) (from to : ℕ) → t' ≡ take to t ++ (take summarySize (drop from t) ++ drop (to + summarySize) t)
-    → t' ≡ take to t ++ ((take summarySize (take summarySize (drop from t)) ++ []) ++ drop (to + summarySize) t)
-whole-moved t t' from to h = rw (append-nil, take-take summarySize summarySize (drop from t) all_of) h
+pub whole-moved : (t t' : List ℕ) (from to : ℕ) → t' ≡ take to t ++ (take summary_size (drop from t) ++ drop (to + summary_size) t)
+    → t' ≡ take to t ++ ((take summary_size (take summary_size (drop from t)) ++ []) ++ drop (to + summary_size) t)
+whole-moved t t' from to h = rw (append-nil, take-take summary_size summary_size (drop from t) all_of) h
 
-engine-kept : (p : List ℕ) → engineOf (take summarySize p ++ []) ≡ engineOf p
+engine-kept : (p : List ℕ) → engine_of (take summary_size p ++ []) ≡ engine_of p
 engine-kept [] = refl
 engine-kept (x ∷ p) = refl
 
-model-kept : (p : List ℕ) → modelOf (take summarySize p ++ []) ≡ modelOf p
+model-kept : (p : List ℕ) → model_of (take summary_size p ++ []) ≡ model_of p
 model-kept [] = refl
 model-kept (x ∷ []) = refl
 model-kept (x ∷ (y ∷ p)) = refl
 
 -- one that is formed and stays is formed when the engine is convicted
-pub kept-summary : (c e : ℕ) (p : List ℕ) → summaryFormed c p ≡ true → isOfAnother e p ≡ true → summaryFormed (withBit c e) (changed summarySize (isOfAnother e) noValue p) ≡ true
+pub kept-summary : (c e : ℕ) (p : List ℕ) → summary_formed c p ≡ true → is_of_another e p ≡ true → summary_formed (with_bit c e) (changed summary_size (is_of_another e) no_value p) ≡ true
 kept-summary c e p h o =
-    let x = engineOf p in
+    let x = engine_of p in
     let n : eqb e x ≡ false = ne_eqb e x (λ z. eqb-false x e (not-true (eqb x e) o) (sym z)) in
     rw (engine-kept p, model-kept p, bit-set c e x, n) h

@@ -6,9 +6,9 @@ use native.Mathlib.Omega.{arith}
 use lib.ListN.{length, drop}
 use Rattle.octets.specs.Put.{Put}
 use Rattle.octets.proofs.Puts.{put_whole}
-use Rattle.held.specs.After.{after, writeText}
+use Rattle.held.specs.After.{after, write_text}
 
-pub put_written : (l l' t : List ℕ) (r : ℕ) → Put l 0 t r l' → length t ≤ length l → after r l' ≡ writeText t l
+pub put_written : (l l' t : List ℕ) (r : ℕ) → Put l 0 t r l' → length t ≤ length l → after r l' ≡ write_text t l
 put_written l l' t r p h =
     let e : 0 + length t ≡ length t = omega arith in
     ap₂ (λ (k : ℕ) (x : List ℕ). after k x) (p.next ∙ e) (put_whole p (omega arith) ∙ ap (λ (k : ℕ). t ++ drop k l) e)

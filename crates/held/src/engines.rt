@@ -1,6 +1,6 @@
 // Engines, and sets of them.
 ghost use Rattle.std.specs.Prelude.{◌≡◌, ◌<◌, IfSome, is_some, nat_lt, nat_eq, bit_and};
-ghost use Rattle.octets.specs.Masks.{bit, withBit, withoutBit};
+ghost use Rattle.octets.specs.Masks.{bit, with_bit, without_bit};
 
 use crate::layout;
 
@@ -48,14 +48,14 @@ impl Signers {
 
     // The set with an engine.
     pub fn with(self, engine: Engine) -> Signers
-        ensures { result.0 ≡ withBit self.0 engine.number }
+        ensures { result.0 ≡ with_bit self.0 engine.number }
     {
         Signers(octets::masks::with_u32(self.0, engine.number as u32))
     }
 
     // The set without an engine.
     pub fn without(self, engine: Engine) -> Signers
-        ensures { result.0 ≡ withoutBit self.0 engine.number }
+        ensures { result.0 ≡ without_bit self.0 engine.number }
     {
         Signers(octets::masks::without_u32(self.0, engine.number as u32))
     }

@@ -1,11 +1,11 @@
 // Which bytes are summaries and records with signers.
 ghost use Rattle.std.specs.Prelude.{◌≡◌, ◌&&◌, ◌*◌, ◌≤◌, length};
-ghost use Rattle.places.specs.Places.{places, isTable, allPlaces};
+ghost use Rattle.places.specs.Places.{places, is_table, all_places};
 ghost use Rattle.models.specs.Answers.{listed};
-ghost use Rattle.models.specs.Summary.{summarySize};
-ghost use Rattle.held.specs.Limits.{placeSize};
-ghost use Rattle.held.specs.Summaries.{summaryFormed};
-ghost use Rattle.held.specs.Signed.{placeFormed, beginFormed};
+ghost use Rattle.models.specs.Summary.{summary_size};
+ghost use Rattle.held.specs.Limits.{place_size};
+ghost use Rattle.held.specs.Summaries.{summary_formed};
+ghost use Rattle.held.specs.Signed.{place_formed, begin_formed};
 
 use crate::engines::{Engine, Signers};
 use crate::layout;
@@ -17,7 +17,7 @@ use record::layout::RECORD_SIZE;
 
 // Whether a summary is within the limits, of an engine that is not convicted.
 fn summary_formed(s: Summary, convicted: Signers) -> bool
-    ensures { result ≡ summaryFormed convicted.0 s.entry.bytes.now }
+    ensures { result ≡ summary_formed convicted.0 s.entry.bytes.now }
 {
     let Some(engine) = Engine::new(s.bytes[models::layout::ENGINE_AT] as u32) else {
         return false;
@@ -27,22 +27,22 @@ fn summary_formed(s: Summary, convicted: Signers) -> bool
 
 // Whether all of these summaries are.
 fn summaries_formed(mut all: Summaries, convicted: Signers) -> bool
-    ensures { result ≡ allPlaces (summaryFormed convicted.0) (listed all.entry) }
+    ensures { result ≡ all_places (summary_formed convicted.0) (listed all.entry) }
 {
     all.all(|s| summary_formed(s, convicted))
 }
 
 // Whether these summaries are, they are ordered by their first KEY bytes, and the rest of their table is zero.
 pub fn summary_table_formed<const KEY: usize>(all: Summaries, convicted: Signers) -> bool
-    ensures { result ≡ (isTable KEY summarySize all.entry.count all.entry.table.now && allPlaces (summaryFormed convicted.0) (listed all.entry)) }
+    ensures { result ≡ (is_table KEY summary_size all.entry.count all.entry.table.now && all_places (summary_formed convicted.0) (listed all.entry)) }
 {
     is_table::<SUMMARY_SIZE, KEY>(all.table, all.count) && summaries_formed(all, convicted)
 }
 
 // Whether a place holds a record with signers, none of them convicted.
 fn place_formed(p: &[u8], convicted: Signers) -> bool
-    requires { length p.now ≡ placeSize }
-    ensures { result ≡ placeFormed convicted.0 p.now }
+    requires { length p.now ≡ place_size }
+    ensures { result ≡ place_formed convicted.0 p.now }
 {
     if Record::parse(&p[..RECORD_SIZE]).is_none() {
         return false;
@@ -54,8 +54,8 @@ fn place_formed(p: &[u8], convicted: Signers) -> bool
 // Whether each of the first n places, of w bytes each, begins with such a record.
 pub fn places_formed(t: &[u8], n: usize, w: usize, convicted: Signers) -> bool
     requires w_in_bounds { n * w ≤ length t.now }
-    requires place_size_le_w { placeSize ≤ w }
-    ensures { result ≡ allPlaces (beginFormed convicted.0) (places w n t.now) }
+    requires place_size_le_w { place_size ≤ w }
+    ensures { result ≡ all_places (begin_formed convicted.0) (places w n t.now) }
 {
     for i in 0..n {
         let at = i * w;

@@ -1,8 +1,8 @@
 // A conviction over a table: those that stay are moved down, and the rest is cleared.
 ghost use Rattle.std.specs.Prelude.{◌≡◌, ◌++◌, ◌*◌, ◌-◌, ◌≤◌, length, take, replicate};
-ghost use Rattle.places.specs.Places.{places, keepPlaces};
-ghost use Rattle.models.specs.Summary.{summarySize};
-ghost use Rattle.held.specs.Summaries.{isOfAnother, noValue};
+ghost use Rattle.places.specs.Places.{places, keep_places};
+ghost use Rattle.models.specs.Summary.{summary_size};
+ghost use Rattle.held.specs.Summaries.{is_of_another, no_value};
 ghost use Rattle.held.specs.Strikes.{Struck};
 
 use crate::engines::Engine;
@@ -19,8 +19,8 @@ pub fn clear_rest(t: &mut [u8], n: usize, w: usize)
 
 // Takes an engine's summaries out of the first n of a table, and returns how many are left.
 pub fn strike_summaries(t: &mut [u8], n: usize, engine: Engine) -> usize
-    requires { n * summarySize ≤ length t.old }
-    ensures { Struck summarySize (keepPlaces summarySize (isOfAnother engine.number) noValue (places summarySize n t.old)) t.old result t.new }
+    requires { n * summary_size ≤ length t.old }
+    ensures { Struck summary_size (keep_places summary_size (is_of_another engine.number) no_value (places summary_size n t.old)) t.old result t.new }
 {
     let mut j = 0;
     for i in 0..n {

@@ -1,6 +1,6 @@
 // A summary's bytes.
 ghost use Rattle.std.specs.Prelude.{◌≡◌};
-ghost use Rattle.models.specs.Summary.{summaryOf};
+ghost use Rattle.models.specs.Summary.{summary_of};
 
 use crate::engines::Engine;
 use models::layout::{INPUTS_SIZE, SUMMARY_SIZE};
@@ -12,7 +12,7 @@ pub fn new_summary(
     spec: u16,
     inputs: &[u8; INPUTS_SIZE],
 ) -> [u8; SUMMARY_SIZE]
-    ensures { result ≡ summaryOf engine.number model spec inputs.now }
+    ensures { result ≡ summary_of engine.number model spec inputs.now }
 {
     let mut p = [0u8; SUMMARY_SIZE];
     p[models::layout::ENGINE_AT] = engine.number;

@@ -6,12 +6,12 @@ use Rattle.record.specs.Fields as F
 use Rattle.arithmetic.specs.declared.standing.Claimed.{Claimed}
 use Rattle.geometry.specs.declared.linalg.Covariance.{Covariance}
 
-abbrev pub varianceAt : List ℕ → ℕ → Float
-varianceAt r k = of_bits binary64 (F.covarianceBits r k)
+abbrev pub variance_at : List ℕ → ℕ → Float
+variance_at r k = of_bits binary64 (F.covariance_bits r k)
 
-abbrev pub covarianceOf : List ℕ → Covariance
-covarianceOf r =
-    record { xx = varianceAt r 0; xy = varianceAt r 1; xz = varianceAt r 2; yy = varianceAt r 3; yz = varianceAt r 4; zz = varianceAt r 5 }
+abbrev pub covariance_of : List ℕ → Covariance
+covariance_of r =
+    record { xx = variance_at r 0; xy = variance_at r 1; xz = variance_at r 2; yy = variance_at r 3; yz = variance_at r 4; zz = variance_at r 5 }
 
 unfoldable pub claim_of : List ℕ → Claimed
 claim_of r =
@@ -19,9 +19,9 @@ claim_of r =
       lat = F.latitude r;
       lon = F.longitude r;
       height = F.height r;
-      covariance = covarianceOf r;
+      covariance = covariance_of r;
     }
 
 -- the more of a number first, then as another test says
-abbrev pub moreFirst : ℕ → ℕ → Bool → Bool
-moreFirst a b rest = cond (ltb b a) true (cond (ltb a b) false rest)
+abbrev pub more_first : ℕ → ℕ → Bool → Bool
+more_first a b rest = cond (ltb b a) true (cond (ltb a b) false rest)

@@ -1,110 +1,110 @@
 -- What the bytes of the items say (docs/REFERENCE.md, 'Item of a decision' and 'Agreement and decision'): an item's fields, and the relations between items that a decision goes by.
 use Rattle.std.specs.Prelude.{Bool, true, false, not, cond, ◌&&◌, List, ℕ, ◌+◌, ◌*◌, ltb, eqb, get_or, take, drop}
-use Rattle.octets.specs.Order.{isBefore, same}
+use Rattle.octets.specs.Order.{is_before, same}
 use Rattle.octets.specs.Words.{word_at}
-use Rattle.record.specs.Layout.{recordSize}
+use Rattle.record.specs.Layout.{record_size}
 use Rattle.record.specs.Fields as F
 use Rattle.record.specs.Relations.{subset}
-use Rattle.arithmetic.specs.Agree.{agreementOf, agreesOf}
+use Rattle.arithmetic.specs.Agree.{agreement_of, agrees_of}
 use Rattle.arithmetic.specs.declared.standing.Agreement.{Agreement}
 use Rattle.items.specs.declared.Candidate.{Candidate}
 use Rattle.items.specs.declared.Verified.{Verified}
 use Rattle.items.specs.declared.Verified.TheVariants.{Passed, Failed, Unjudged}
-use Rattle.items.specs.Claimed.{claim_of, moreFirst}
-use Rattle.items.specs.Layout.{hashSize, itemInputsAt, itemIdentityAt, standingAt, consistentAt, preferredAt, verifiedAt, itemSize}
+use Rattle.items.specs.Claimed.{claim_of, more_first}
+use Rattle.items.specs.Layout.{hash_size, item_inputs_at, item_identity_at, standing_at, consistent_at, preferred_at, verified_at, item_size}
 
 -- ---- the fields of item i
 
-abbrev pub itemRecord : List ℕ → ℕ → List ℕ
-itemRecord s i = take recordSize (drop (i * itemSize) s)
+abbrev pub item_record : List ℕ → ℕ → List ℕ
+item_record s i = take record_size (drop (i * item_size) s)
 
 -- a field of 32 bytes
-abbrev pub hashOf : ℕ → List ℕ → ℕ → List ℕ
-hashOf at s i = take hashSize (drop (i * itemSize + at) s)
+abbrev pub hash_of : ℕ → List ℕ → ℕ → List ℕ
+hash_of at s i = take hash_size (drop (i * item_size + at) s)
 
-abbrev pub itemInputs : List ℕ → ℕ → List ℕ
-itemInputs s i = hashOf itemInputsAt s i
+abbrev pub item_inputs : List ℕ → ℕ → List ℕ
+item_inputs s i = hash_of item_inputs_at s i
 
-abbrev pub itemIdentity : List ℕ → ℕ → List ℕ
-itemIdentity s i = hashOf itemIdentityAt s i
+abbrev pub item_identity : List ℕ → ℕ → List ℕ
+item_identity s i = hash_of item_identity_at s i
 
-abbrev pub itemStanding : List ℕ → ℕ → ℕ
-itemStanding s i = word_at 8 (i * itemSize + standingAt) s
+abbrev pub item_standing : List ℕ → ℕ → ℕ
+item_standing s i = word_at 8 (i * item_size + standing_at) s
 
 -- a flag is set unless its byte is zero
-abbrev pub flagOf : ℕ → List ℕ → ℕ → Bool
-flagOf at s i = not (eqb (get_or s (i * itemSize + at) 0) 0)
+abbrev pub flag_of : ℕ → List ℕ → ℕ → Bool
+flag_of at s i = not (eqb (get_or s (i * item_size + at) 0) 0)
 
-abbrev pub itemConsistent : List ℕ → ℕ → Bool
-itemConsistent s i = flagOf consistentAt s i
+abbrev pub item_consistent : List ℕ → ℕ → Bool
+item_consistent s i = flag_of consistent_at s i
 
-abbrev pub itemPreferred : List ℕ → ℕ → Bool
-itemPreferred s i = flagOf preferredAt s i
+abbrev pub item_preferred : List ℕ → ℕ → Bool
+item_preferred s i = flag_of preferred_at s i
 
 -- the case of a number: 1 passed, 2 failed, any other unjudged
-abbrev pub verifiedCase : ℕ → Verified
-verifiedCase b = cond (eqb b 1) Passed (cond (eqb b 2) Failed Unjudged)
+abbrev pub verified_case : ℕ → Verified
+verified_case b = cond (eqb b 1) Passed (cond (eqb b 2) Failed Unjudged)
 
-abbrev pub isPassed : Verified → Bool
-isPassed Passed = true
-isPassed Failed = false
-isPassed Unjudged = false
+abbrev pub is_passed : Verified → Bool
+is_passed Passed = true
+is_passed Failed = false
+is_passed Unjudged = false
 
-abbrev pub itemVerified : List ℕ → ℕ → Verified
-itemVerified s i = verifiedCase (get_or s (i * itemSize + verifiedAt) 0)
+abbrev pub item_verified : List ℕ → ℕ → Verified
+item_verified s i = verified_case (get_or s (i * item_size + verified_at) 0)
 
-abbrev pub itemWeight : List ℕ → ℕ → ℕ
-itemWeight s i = F.weight (itemRecord s i)
+abbrev pub item_weight : List ℕ → ℕ → ℕ
+item_weight s i = F.weight (item_record s i)
 
 -- what a decision goes by of an item, besides its record, its model inputs and its identity
-abbrev pub candidateOf : List ℕ → ℕ → Candidate
-candidateOf s i =
+abbrev pub candidate_of : List ℕ → ℕ → Candidate
+candidate_of s i =
     record {
-      standing = itemStanding s i;
-      weight = itemWeight s i;
-      consistent = itemConsistent s i;
-      preferred = itemPreferred s i;
-      verified = itemVerified s i;
+      standing = item_standing s i;
+      weight = item_weight s i;
+      consistent = item_consistent s i;
+      preferred = item_preferred s i;
+      verified = item_verified s i;
     }
 
 -- ---- the relations
 
-unfoldable pub subsetAt : List ℕ → ℕ → ℕ → Bool
-subsetAt s i j = subset (itemRecord s i) (itemRecord s j)
+unfoldable pub subset_at : List ℕ → ℕ → ℕ → Bool
+subset_at s i j = subset (item_record s i) (item_record s j)
 
 -- item i against its subset j
-unfoldable pub agreementAt : List ℕ → ℕ → ℕ → Agreement
-agreementAt s i j = agreementOf (claim_of (itemRecord s j)) (claim_of (itemRecord s i))
+unfoldable pub agreement_at : List ℕ → ℕ → ℕ → Agreement
+agreement_at s i j = agreement_of (claim_of (item_record s j)) (claim_of (item_record s i))
 
-unfoldable pub disagreesAt : List ℕ → ℕ → ℕ → Bool
-disagreesAt s i j = itemConsistent s j && (subsetAt s j i && not (agreesOf (agreementAt s i j)))
+unfoldable pub disagrees_at : List ℕ → ℕ → ℕ → Bool
+disagrees_at s i j = item_consistent s j && (subset_at s j i && not (agrees_of (agreement_at s i j)))
 
-abbrev pub sameInputs : List ℕ → ℕ → ℕ → Bool
-sameInputs s i j = same (itemInputs s i) (itemInputs s j)
+abbrev pub same_inputs : List ℕ → ℕ → ℕ → Bool
+same_inputs s i j = same (item_inputs s i) (item_inputs s j)
 
-abbrev pub sameIdentity : List ℕ → ℕ → ℕ → Bool
-sameIdentity s i j = same (itemIdentity s i) (itemIdentity s j)
+abbrev pub same_identity : List ℕ → ℕ → ℕ → Bool
+same_identity s i j = same (item_identity s i) (item_identity s j)
 
-unfoldable pub withinAt : List ℕ → ℕ → ℕ → Bool
-withinAt s i j = subsetAt s i j && sameInputs s i j
+unfoldable pub within_at : List ℕ → ℕ → ℕ → Bool
+within_at s i j = subset_at s i j && same_inputs s i j
 
 -- the first has strictly more standing
 abbrev pub outstands : Candidate → Candidate → Bool
 outstands a b = ltb b.standing a.standing
 
-abbrev pub outstandsAt : List ℕ → ℕ → ℕ → Bool
-outstandsAt s i j = outstands (candidateOf s i) (candidateOf s j)
+abbrev pub outstands_at : List ℕ → ℕ → ℕ → Bool
+outstands_at s i j = outstands (candidate_of s i) (candidate_of s j)
 
-abbrev pub lowerAt : List ℕ → ℕ → ℕ → Bool
-lowerAt s i j = isBefore (itemIdentity s i) (itemIdentity s j)
+abbrev pub lower_at : List ℕ → ℕ → ℕ → Bool
+lower_at s i j = is_before (item_identity s i) (item_identity s j)
 
 -- `rank`: preferred first, then more standing, then more weight, then the lower identity
-unfoldable pub aheadByWeight : List ℕ → ℕ → ℕ → Bool
-aheadByWeight s i j = moreFirst (itemWeight s i) (itemWeight s j) (lowerAt s i j)
+unfoldable pub ahead_by_weight : List ℕ → ℕ → ℕ → Bool
+ahead_by_weight s i j = more_first (item_weight s i) (item_weight s j) (lower_at s i j)
 
-unfoldable pub aheadByStanding : List ℕ → ℕ → ℕ → Bool
-aheadByStanding s i j = moreFirst (itemStanding s i) (itemStanding s j) (aheadByWeight s i j)
+unfoldable pub ahead_by_standing : List ℕ → ℕ → ℕ → Bool
+ahead_by_standing s i j = more_first (item_standing s i) (item_standing s j) (ahead_by_weight s i j)
 
-unfoldable pub aheadAt : List ℕ → ℕ → ℕ → Bool
-aheadAt s i j =
-    cond (itemPreferred s i) (cond (itemPreferred s j) (aheadByStanding s i j) true) (cond (itemPreferred s j) false (aheadByStanding s i j))
+unfoldable pub ahead_at : List ℕ → ℕ → ℕ → Bool
+ahead_at s i j =
+    cond (item_preferred s i) (cond (item_preferred s j) (ahead_by_standing s i j) true) (cond (item_preferred s j) false (ahead_by_standing s i j))

@@ -9,13 +9,13 @@ use record::Record;
 // The k-th number of the covariance.
 fn number(r: Record, k: usize) -> f64
     requires { k < 6 }
-    ensures { result ≡ C.varianceAt r.entry.bytes.now k }
+    ensures { result ≡ C.variance_at r.entry.bytes.now k }
 {
     floats::of_bits(r.covariance_bits(k))
 }
 
 fn covariance(r: Record) -> Covariance
-    ensures { result ≡ C.covarianceOf r.entry.bytes.now }
+    ensures { result ≡ C.covariance_of r.entry.bytes.now }
 {
     Covariance {
         xx: number(r, 0),

@@ -4,9 +4,9 @@
 
 ghost use Rattle.std.specs.Prelude.{◌≡◌, ◌+◌, ◌*◌, ◌≤◌, ◌<◌, length, is_some};
 ghost use Rattle.octets.specs.Order.{same};
-ghost use Rattle.record.specs.Layout.{recordSize};
-ghost use Rattle.record.specs.Formed.{wellFormed};
-ghost use Rattle.items.specs.Layout.{itemSize, hashSize};
+ghost use Rattle.record.specs.Layout.{record_size};
+ghost use Rattle.record.specs.Formed.{well_formed};
+ghost use Rattle.items.specs.Layout.{item_size, hash_size};
 ghost use Rattle.items.specs.Items as I;
 ghost use Rattle.items.specs.Pairs.{Whole};
 
@@ -36,7 +36,7 @@ pub struct Candidate {
 
 // The case of a number.
 pub fn verified_case(b: u8) -> Verified
-    ensures { result ≡ I.verifiedCase b }
+    ensures { result ≡ I.verified_case b }
 {
     if b == layout::PASSED {
         return Verified::Passed;
@@ -49,7 +49,7 @@ pub fn verified_case(b: u8) -> Verified
 
 // Whether an item was verified and passed.
 pub fn is_passed(v: Verified) -> bool
-    ensures { result ≡ I.isPassed v }
+    ensures { result ≡ I.is_passed v }
 {
     match v {
         Verified::Passed => true,
@@ -60,8 +60,8 @@ pub fn is_passed(v: Verified) -> bool
 
 // The bytes of item i's record, which are a record where the items are whole.
 pub fn record_bytes(s: &[u8], i: u8) -> &[u8]
-    requires { i * itemSize + itemSize ≤ length s.now }
-    ensures { (result.now ≡ I.itemRecord s.now i) × (length result.now ≡ recordSize) }
+    requires { i * item_size + item_size ≤ length s.now }
+    ensures { (result.now ≡ I.item_record s.now i) × (length result.now ≡ record_size) }
 {
     let a = i as usize * layout::ITEM_SIZE;
     let e = a + layout::INPUTS_AT;
@@ -70,8 +70,8 @@ pub fn record_bytes(s: &[u8], i: u8) -> &[u8]
 
 // The record of item i, if its bytes are one.
 pub fn parsed_record(s: &[u8], i: u8) -> Option<Record>
-    requires { i * itemSize + itemSize ≤ length s.now }
-    ensures { is_some result ≡ wellFormed (I.itemRecord s.now i) }
+    requires { i * item_size + item_size ≤ length s.now }
+    ensures { is_some result ≡ well_formed (I.item_record s.now i) }
 {
     Record::parse(record_bytes(s, i))
 }
@@ -79,15 +79,15 @@ pub fn parsed_record(s: &[u8], i: u8) -> Option<Record>
 // The record of item i of n whole items.
 pub fn record_of(s: &[u8], n: u8, i: u8) -> Record
     requires { (i < n) × Whole s.now n }
-    ensures { result.bytes.now ≡ I.itemRecord s.now i }
+    ensures { result.bytes.now ≡ I.item_record s.now i }
 {
     Record::of(record_bytes(s, i))
 }
 
 // The 32 bytes of item i from `at` on: its model inputs or its identity.
 pub fn hash_of(s: &[u8], i: u8, at: usize) -> &[u8]
-    requires { (i * itemSize + itemSize ≤ length s.now) × (at + hashSize ≤ itemSize) }
-    ensures { (result.now ≡ I.hashOf at s.now i) × (length result.now ≡ hashSize) }
+    requires { (i * item_size + item_size ≤ length s.now) × (at + hash_size ≤ item_size) }
+    ensures { (result.now ≡ I.hash_of at s.now i) × (length result.now ≡ hash_size) }
 {
     let a = i as usize * layout::ITEM_SIZE + at;
     let e = a + layout::HASH_SIZE;
@@ -96,16 +96,16 @@ pub fn hash_of(s: &[u8], i: u8, at: usize) -> &[u8]
 
 // Whether the byte of item i at `at` is set.
 fn flag(s: &[u8], i: u8, at: usize) -> bool
-    requires { (i * itemSize + itemSize ≤ length s.now) × (at < itemSize) }
-    ensures { result ≡ I.flagOf at s.now i }
+    requires { (i * item_size + item_size ≤ length s.now) × (at < item_size) }
+    ensures { result ≡ I.flag_of at s.now i }
 {
     let k = i as usize * layout::ITEM_SIZE + at;
     s[k] != 0
 }
 
 fn verified_at(s: &[u8], i: u8) -> Verified
-    requires { i * itemSize + itemSize ≤ length s.now }
-    ensures { result ≡ I.itemVerified s.now i }
+    requires { i * item_size + item_size ≤ length s.now }
+    ensures { result ≡ I.item_verified s.now i }
 {
     let at = i as usize * layout::ITEM_SIZE + layout::VERIFIED_AT;
     verified_case(s[at])
@@ -113,16 +113,16 @@ fn verified_at(s: &[u8], i: u8) -> Verified
 
 // Whether item i is consistent.
 pub fn consistent(s: &[u8], i: u8) -> bool
-    requires { i * itemSize + itemSize ≤ length s.now }
-    ensures { result ≡ I.itemConsistent s.now i }
+    requires { i * item_size + item_size ≤ length s.now }
+    ensures { result ≡ I.item_consistent s.now i }
 {
     flag(s, i, layout::CONSISTENT_AT)
 }
 
 // What a decision goes by of item i.
 pub fn candidate_at(s: &[u8], i: u8) -> Candidate
-    requires { i * itemSize + itemSize ≤ length s.now }
-    ensures { result ≡ I.candidateOf s.now i }
+    requires { i * item_size + item_size ≤ length s.now }
+    ensures { result ≡ I.candidate_of s.now i }
 {
     let standing = octets::words::u64_at(s, i as usize * layout::ITEM_SIZE + layout::STANDING_AT);
     let used = octets::words::u16_at(record_bytes(s, i), record::layout::USED_AT);
@@ -141,7 +141,7 @@ pub fn candidate_at(s: &[u8], i: u8) -> Candidate
 
 // Whether it is verified, and passed.
 pub fn passed(a: Candidate) -> bool
-    ensures { result ≡ I.isPassed a.verified }
+    ensures { result ≡ I.is_passed a.verified }
 {
     let v = a.verified;
     is_passed(v)
@@ -156,8 +156,8 @@ pub fn outstands(a: Candidate, b: Candidate) -> bool
 
 // Whether item i has the lower identity.
 pub fn lower(s: &[u8], i: u8, j: u8) -> bool
-    requires { (i * itemSize + itemSize ≤ length s.now) × (j * itemSize + itemSize ≤ length s.now) }
-    ensures { result ≡ I.lowerAt s.now i j }
+    requires { (i * item_size + item_size ≤ length s.now) × (j * item_size + item_size ≤ length s.now) }
+    ensures { result ≡ I.lower_at s.now i j }
 {
     octets::order::precedes(
         hash_of(s, i, layout::IDENTITY_AT),
@@ -167,34 +167,34 @@ pub fn lower(s: &[u8], i: u8, j: u8) -> bool
 
 // Whether items i and j have the same 32 bytes at `at`.
 fn same_hash(s: &[u8], i: u8, j: u8, at: usize) -> bool
-    requires { (i * itemSize + itemSize ≤ length s.now) × (j * itemSize + itemSize ≤ length s.now) × (at + hashSize ≤ itemSize) }
-    ensures { result ≡ same (I.hashOf at s.now i) (I.hashOf at s.now j) }
+    requires { (i * item_size + item_size ≤ length s.now) × (j * item_size + item_size ≤ length s.now) × (at + hash_size ≤ item_size) }
+    ensures { result ≡ same (I.hash_of at s.now i) (I.hash_of at s.now j) }
 {
     octets::order::equal(hash_of(s, i, at), hash_of(s, j, at))
 }
 
 // Whether two items have one identity.
 pub fn same_identity(s: &[u8], i: u8, j: u8) -> bool
-    requires { (i * itemSize + itemSize ≤ length s.now) × (j * itemSize + itemSize ≤ length s.now) }
-    ensures { result ≡ I.sameIdentity s.now i j }
+    requires { (i * item_size + item_size ≤ length s.now) × (j * item_size + item_size ≤ length s.now) }
+    ensures { result ≡ I.same_identity s.now i j }
 {
     same_hash(s, i, j, layout::IDENTITY_AT)
 }
 
 // Whether two items have the same model inputs.
 pub fn same_inputs(s: &[u8], i: u8, j: u8) -> bool
-    requires { (i * itemSize + itemSize ≤ length s.now) × (j * itemSize + itemSize ≤ length s.now) }
-    ensures { result ≡ I.sameInputs s.now i j }
+    requires { (i * item_size + item_size ≤ length s.now) × (j * item_size + item_size ≤ length s.now) }
+    ensures { result ≡ I.same_inputs s.now i j }
 {
     same_hash(s, i, j, layout::INPUTS_AT)
 }
 
-#[tactic(auto, unfolding(crate::specs::Items::aheadByWeight))]
+#[tactic(auto, unfolding(crate::specs::Items::ahead_by_weight))]
 // More weight first, then the lower identity.
 fn ahead_by_weight(s: &[u8], i: u8, j: u8, a: Candidate, b: Candidate) -> bool
-    requires item_size_in_bounds { (i * itemSize + itemSize ≤ length s.now) × (j * itemSize + itemSize ≤ length s.now) }
-    requires a_value { (a ≡ I.candidateOf s.now i) × (b ≡ I.candidateOf s.now j) }
-    ensures { result ≡ I.aheadByWeight s.now i j }
+    requires item_size_in_bounds { (i * item_size + item_size ≤ length s.now) × (j * item_size + item_size ≤ length s.now) }
+    requires a_value { (a ≡ I.candidate_of s.now i) × (b ≡ I.candidate_of s.now j) }
+    ensures { result ≡ I.ahead_by_weight s.now i j }
 {
     if b.weight < a.weight {
         return true;
@@ -205,12 +205,12 @@ fn ahead_by_weight(s: &[u8], i: u8, j: u8, a: Candidate, b: Candidate) -> bool
     lower(s, i, j)
 }
 
-#[tactic(auto, unfolding(crate::specs::Items::aheadByStanding))]
+#[tactic(auto, unfolding(crate::specs::Items::ahead_by_standing))]
 // More standing first, then as above.
 fn ahead_by_standing(s: &[u8], i: u8, j: u8, a: Candidate, b: Candidate) -> bool
-    requires item_size_in_bounds { (i * itemSize + itemSize ≤ length s.now) × (j * itemSize + itemSize ≤ length s.now) }
-    requires a_value { (a ≡ I.candidateOf s.now i) × (b ≡ I.candidateOf s.now j) }
-    ensures { result ≡ I.aheadByStanding s.now i j }
+    requires item_size_in_bounds { (i * item_size + item_size ≤ length s.now) × (j * item_size + item_size ≤ length s.now) }
+    requires a_value { (a ≡ I.candidate_of s.now i) × (b ≡ I.candidate_of s.now j) }
+    ensures { result ≡ I.ahead_by_standing s.now i j }
 {
     if outstands(a, b) {
         return true;
@@ -221,11 +221,11 @@ fn ahead_by_standing(s: &[u8], i: u8, j: u8, a: Candidate, b: Candidate) -> bool
     ahead_by_weight(s, i, j, a, b)
 }
 
-#[tactic(auto, unfolding(crate::specs::Items::aheadAt))]
+#[tactic(auto, unfolding(crate::specs::Items::ahead_at))]
 // Whether item i ranks before item j: preferred first, then as above.
 pub fn ahead(s: &[u8], i: u8, j: u8) -> bool
-    requires { (i * itemSize + itemSize ≤ length s.now) × (j * itemSize + itemSize ≤ length s.now) }
-    ensures { result ≡ I.aheadAt s.now i j }
+    requires { (i * item_size + item_size ≤ length s.now) × (j * item_size + item_size ≤ length s.now) }
+    ensures { result ≡ I.ahead_at s.now i j }
 {
     let a = candidate_at(s, i);
     let b = candidate_at(s, j);

@@ -2,9 +2,9 @@
 // no root and no sine or cosine, and each ordered pair is compared once: its code is kept. The chi-square of a pair is worked
 // out again where it is asked for: at most once for each item that is refused.
 ghost use Rattle.std.specs.Prelude.{◌≡◌, ◌+◌, ◌*◌, ◌≤◌, ◌<◌, length};
-ghost use Rattle.arithmetic.specs.Agree.{chiSquareIn};
-ghost use Rattle.items.specs.Items.{agreementAt};
-ghost use Rattle.items.specs.Pairs.{pairCode, stride, Whole, AllPrepared, Coded, CodedRow};
+ghost use Rattle.arithmetic.specs.Agree.{chi_square_in};
+ghost use Rattle.items.specs.Items.{agreement_at};
+ghost use Rattle.items.specs.Pairs.{pair_code, stride, Whole, AllPrepared, Coded, CodedRow};
 
 use crate::layout::MAX_ITEMS;
 use arithmetic::standing::{Agreement, ChiSquare, Prepared};
@@ -30,16 +30,16 @@ pub fn prepare_all(s: &[u8], n: u8, table: &mut [Prepared])
 // How item i compares with its subset j.
 fn compared(s: &[u8], n: u8, table: &[Prepared], i: u8, j: u8) -> Agreement
     requires { (i < n) × (j < n) × AllPrepared s.now table.now n }
-    ensures { result ≡ agreementAt s.now i j }
+    ensures { result ≡ agreement_at s.now i j }
 {
     arithmetic::compare(&table[j as usize], &table[i as usize])
 }
 
-#[tactic(auto, unfolding(crate::specs::Pairs::pairCode, crate::specs::Items::subsetAt))]
+#[tactic(auto, unfolding(crate::specs::Pairs::pair_code, crate::specs::Items::subset_at))]
 // The code of a pair.
 fn code_pair(s: &[u8], n: u8, table: &[Prepared], i: u8, j: u8) -> u8
     requires { (i < n) × (j < n) × Whole s.now n × AllPrepared s.now table.now n }
-    ensures { result ≡ pairCode s.now i j }
+    ensures { result ≡ pair_code s.now i j }
 {
     if !crate::record_of(s, n, j).is_subset_of(crate::record_of(s, n, i)) {
         return APART;
@@ -77,7 +77,7 @@ pub fn code_all(s: &[u8], n: u8, table: &[Prepared], codes: &mut [u8])
 // The chi-square of item i against its subset j.
 pub fn chi_square(s: &[u8], n: u8, table: &[Prepared], i: u8, j: u8) -> ChiSquare
     requires { (i < n) × (j < n) × AllPrepared s.now table.now n }
-    ensures { result ≡ chiSquareIn (agreementAt s.now i j) }
+    ensures { result ≡ chi_square_in (agreement_at s.now i j) }
 {
     arithmetic::chi_square(compared(s, n, table, i, j))
 }

@@ -17,9 +17,9 @@ use Rattle.ranges.proofs.Range.{first-le, first-is, first-not-past}
 use Rattle.ranges.proofs.Lists.{sort-in}
 use Rattle.decision.specs.declared.Refusal.{Refusal}
 use Rattle.shown.proofs.Indexed.{at_in, in-at}
-use Rattle.tracked.specs.Layout.{maxRefused}
+use Rattle.tracked.specs.Layout.{max_refused}
 use Rattle.keeping.specs.declared.Lowest.{Lowest}
-use Rattle.keeping.specs.Working.{lesser, unread, pushed, lowerRefusal, Lies, lowestIn, Sized, AllLie}
+use Rattle.keeping.specs.Working.{lesser, unread, pushed, lower_refusal, Lies, lowest_in, Sized, AllLie}
 
 pub lesser-right : (a b : ℕ) → lesser a b ≤ b
 lesser-right a b = by (ltb b a) (λ t. rw t (omega arith)) (λ t. let h = ltb-false b a t in rw t (omega arith))
@@ -168,29 +168,29 @@ module _ {A : Type 0} where
 -- ---- the loop that puts each in, from the last on
 
 module _ (s : List ℕ) (a : List Refusal) (n : ℕ) where
-  abbrev pub lowestFrom : ℕ → List Refusal
-  lowestFrom j = take maxRefused (sort (lowerRefusal s) (drop j (take n a)))
+  abbrev pub lowest_from : ℕ → List Refusal
+  lowest_from j = take max_refused (sort (lower_refusal s) (drop j (take n a)))
 
-  pub lowest-none : (j : ℕ) → n ≤ j → n ≤ length a → lowestFrom j ≡ []
+  pub lowest-none : (j : ℕ) → n ≤ j → n ≤ length a → lowest_from j ≡ []
   unfolding sort
   lowest-none j h f = rw (drop_of_length-le (take n a) {i = j} (let e = length-take-le n a f in omega arith)) refl
 
-  pub lowest-turn : (j : ℕ) → 0 < j → j ≤ n → n ≤ length a → take maxRefused (insert (lowerRefusal s) (get_or a (j - 1) unread) (lowestFrom j)) ≡ lowestFrom (j - 1)
+  pub lowest-turn : (j : ℕ) → 0 < j → j ≤ n → n ≤ length a → take max_refused (insert (lower_refusal s) (get_or a (j - 1) unread) (lowest_from j)) ≡ lowest_from (j - 1)
   unfolding sort
   lowest-turn j h g f =
       let e = length-take-le n a f in
       let z : suc (j - 1) ≡ j = omega arith in
       let k : j - 1 < length (take n a) = omega arith in
       let x = get_or a (j - 1) unread in
-      take-insert (lowerRefusal s) x maxRefused (sort (lowerRefusal s) (drop j (take n a)))
-      ∙ ap (λ (l : List Refusal). take maxRefused (sort (lowerRefusal s) l))
+      take-insert (lower_refusal s) x max_refused (sort (lower_refusal s) (drop j (take n a)))
+      ∙ ap (λ (l : List Refusal). take max_refused (sort (lower_refusal s) l))
       (sym (drop-cons (take n a) (j - 1) unread k ∙ ap₂ (λ (y : Refusal) (m : ℕ). y ∷ drop m (take n a)) (get_or-take n a (j - 1) unread (omega arith)) z))
 
   -- they lie in s
-  pub lowest-lies : (l : Lowest) (j : ℕ) → Sized l → n ≤ length a → lowestIn l ≡ lowestFrom j → AllLie s a n → AllLie s l.list l.count
+  pub lowest-lies : (l : Lowest) (j : ℕ) → Sized l → n ≤ length a → lowest_in l ≡ lowest_from j → AllLie s a n → AllLie s l.list l.count
   lowest-lies l j z f e w i h =
       let c : l.count ≤ length l.list = omega (arith, z.size, z.few) in
       let m = front_at unread l.count l.list i h c in
-      let k = take_in maxRefused (sort (lowerRefusal s) (drop j (take n a))) (subst (λ (y : List Refusal). Memᴰ (get_or l.list i unread) y) e m) in
+      let k = take_in max_refused (sort (lower_refusal s) (drop j (take n a))) (subst (λ (y : List Refusal). Memᴰ (get_or l.list i unread) y) e m) in
       front-all (λ (x : Refusal). Lies s x.refused) unread n a f w (get_or l.list i unread)
-      (drop-in j (take n a) (sort-in (lowerRefusal s) (drop j (take n a)) (get_or l.list i unread) k))
+      (drop-in j (take n a) (sort-in (lower_refusal s) (drop j (take n a)) (get_or l.list i unread) k))

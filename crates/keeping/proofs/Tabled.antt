@@ -8,7 +8,7 @@ use native.Mathlib.Numerals.{add-one}
 use lib.ListN.{length, get_or, take, drop, replicate, length-replicate, length-map, replicate-append-replicate}
 use lib.Seq.{sets-eq, take-suc, drop_at}
 use Rattle.octets.specs.Words.{word_bytes}
-use Rattle.octets.specs.Writes.{putWord}
+use Rattle.octets.specs.Writes.{put_word}
 use Rattle.octets.proofs.Numbers.{length-word-bytes}
 use Rattle.octets.specs.Put.{Put}
 use Rattle.octets.proofs.Puts.{put_whole}
@@ -16,8 +16,8 @@ use Rattle.places.specs.Places.{flat, table_of}
 use Rattle.places.proofs.Tables.{flat_append}
 
 -- a number that is written is its bytes
-pub put_word : (n at x : ℕ) (l : List ℕ) {m : List ℕ} → m ≡ putWord n at x l → at + n ≤ length l → Put l at (word_bytes n x) (at + n) m
-put_word n at x l q h =
+pub word-put : (n at x : ℕ) (l : List ℕ) {m : List ℕ} → m ≡ put_word n at x l → at + n ≤ length l → Put l at (word_bytes n x) (at + n) m
+word-put n at x l q h =
     let e = length-word-bytes n x in
     record {
       next = ap (λ (k : ℕ). at + k) (sym e);

@@ -7,12 +7,12 @@ ghost use Rattle.ranges.specs.Lists as Lists;
 ghost use Rattle.ranges.specs.Range.{first};
 ghost use Rattle.places.specs.Places.{flat, table_of};
 ghost use Rattle.octets.specs.Put.{Put};
-ghost use Rattle.items.specs.Layout.{hashSize, maxItems};
-ghost use Rattle.items.specs.Items.{itemIdentity};
+ghost use Rattle.items.specs.Layout.{hash_size, max_items};
+ghost use Rattle.items.specs.Items.{item_identity};
 ghost use Rattle.decision.specs.Answer.{bad};
 ghost use Rattle.tracked.specs.Layout as L;
-ghost use Rattle.tracked.specs.Bytes.{fixBytes, refusedBytes, transmissionBytes};
-ghost use Rattle.tracked.specs.Known.{knownSize};
+ghost use Rattle.tracked.specs.Bytes.{fix_bytes, refused_bytes, transmission_bytes};
+ghost use Rattle.tracked.specs.Known.{known_size};
 ghost use Rattle.keeping.specs.Working as K;
 
 use arithmetic::standing::ChiSquare;
@@ -48,7 +48,7 @@ pub fn at_most(a: u8, b: u8) -> u8
 fn place_in(s: &[u8], l: Lowest, x: Refusal) -> u8
     requires sized { K.Sized l }
     requires all_lie { K.AllLie s.now l.list l.count × K.Lies s.now x.refused }
-    ensures { result ≡ first (λ i. not (K.lowerRefusal s.now (get_or l.list i K.unread) x)) 0 l.count }
+    ensures { result ≡ first (λ i. not (K.lower_refusal s.now (get_or l.list i K.unread) x)) 0 l.count }
 {
     let list = l.list;
     let count = l.count;
@@ -63,7 +63,7 @@ fn place_in(s: &[u8], l: Lowest, x: Refusal) -> u8
 
 // Puts a refusal in before what stands at a place. The last is lost.
 fn push_in(l: [Refusal; MAX_REFUSED], at: u8, x: Refusal) -> [Refusal; MAX_REFUSED]
-    requires { (length l ≡ L.maxRefused) × (at ≤ L.maxRefused) }
+    requires { (length l ≡ L.max_refused) × (at ≤ L.max_refused) }
     ensures { result ≡ take at l ++ K.pushed x (drop at l) }
 {
     let mut list = l;
@@ -80,7 +80,7 @@ fn push_in(l: [Refusal; MAX_REFUSED], at: u8, x: Refusal) -> [Refusal; MAX_REFUS
 fn insert(s: &[u8], l: Lowest, x: Refusal) -> Lowest
     requires sized { K.Sized l }
     requires all_lie { K.AllLie s.now l.list l.count × K.Lies s.now x.refused }
-    ensures { K.Sized result × (K.lowestIn result ≡ take L.maxRefused (Lists.insert (K.lowerRefusal s.now) x (K.lowestIn l))) }
+    ensures { K.Sized result × (K.lowest_in result ≡ take L.max_refused (Lists.insert (K.lower_refusal s.now) x (K.lowest_in l))) }
 {
     let at = place_in(s, l, x);
     let old = l.list;
@@ -91,9 +91,9 @@ fn insert(s: &[u8], l: Lowest, x: Refusal) -> Lowest
 
 // The refused of lowest identity, the lowest first.
 fn lowest_of(s: &[u8], refusals: Refusals) -> Lowest
-    requires list_len { (length refusals.list ≡ maxItems) × (refusals.count ≤ maxItems) }
+    requires list_len { (length refusals.list ≡ max_items) × (refusals.count ≤ max_items) }
     requires all_lie { K.AllLie s.now refusals.list refusals.count }
-    ensures { K.Sized result × (K.lowestIn result ≡ take L.maxRefused (Lists.sort (K.lowerRefusal s.now) (K.refusedIn refusals))) }
+    ensures { K.Sized result × (K.lowest_in result ≡ take L.max_refused (Lists.sort (K.lower_refusal s.now) (K.refused_in refusals))) }
 {
     let refused = refusals.list;
     let none = Refusal {
@@ -133,9 +133,9 @@ pub fn keep(s: &[u8]) -> Kept
 
 // Writes item i as a fix.
 fn put_fix(t: &mut [u8], at: usize, s: &[u8], g: &[u32], i: u8) -> usize
-    requires at_in_bounds { at + L.fixSize ≤ length t.old }
+    requires at_in_bounds { at + L.fix_size ≤ length t.old }
     requires lies { K.Lies s.now i × K.Signed s.now g.now }
-    ensures { (result ≡ at + L.fixSize) × Put t.old at (fixBytes (K.itemFix s.now g.now i)) result t.new }
+    ensures { (result ≡ at + L.fix_size) × Put t.old at (fix_bytes (K.item_fix s.now g.now i)) result t.new }
 {
     let a = octets::runs::put_bytes(t, at, items::record_bytes(s, i));
     octets::words::put_u32(t, a, g[i as usize]);
@@ -144,9 +144,9 @@ fn put_fix(t: &mut [u8], at: usize, s: &[u8], g: &[u32], i: u8) -> usize
 
 // Writes a refused item as a refused fix.
 fn put_refusal(t: &mut [u8], at: usize, s: &[u8], g: &[u32], x: Refusal) -> usize
-    requires at_in_bounds { at + L.refusedSize ≤ length t.old }
+    requires at_in_bounds { at + L.refused_size ≤ length t.old }
     requires named { K.Named s.now x × K.Signed s.now g.now }
-    ensures { (result ≡ at + L.refusedSize) × Put t.old at (refusedBytes (K.itemRefused s.now g.now x)) result t.new }
+    ensures { (result ≡ at + L.refused_size) × Put t.old at (refused_bytes (K.item_refused s.now g.now x)) result t.new }
 {
     let a = put_fix(t, at, s, g, x.refused);
     let b = octets::runs::put_bytes(t, a, items::hash_of(s, x.kept, items::layout::IDENTITY_AT));
@@ -157,9 +157,9 @@ fn put_refusal(t: &mut [u8], at: usize, s: &[u8], g: &[u32], x: Refusal) -> usiz
 
 // Writes a table of the fixes that stand.
 fn write_fixes(t: &mut [u8], s: &[u8], g: &[u32], list: &[u8], count: u8)
-    requires t_len { length t.old ≡ L.fixesSize }
-    requires count_bound { (count ≤ L.maxStanding) × (count ≤ length list.now) × ((i : ℕ) → i < count → K.Lies s.now (get_or list.now i 0)) × K.Signed s.now g.now }
-    ensures { t.new ≡ table_of L.fixSize L.maxStanding (map fixBytes (map (K.itemFix s.now g.now) (take count list.now))) }
+    requires t_len { length t.old ≡ L.fixes_size }
+    requires count_bound { (count ≤ L.max_standing) × (count ≤ length list.now) × ((i : ℕ) → i < count → K.Lies s.now (get_or list.now i 0)) × K.Signed s.now g.now }
+    ensures { t.new ≡ table_of L.fix_size L.max_standing (map fix_bytes (map (K.item_fix s.now g.now) (take count list.now))) }
 {
     octets::runs::clear(t);
     let mut at = 0;
@@ -170,9 +170,9 @@ fn write_fixes(t: &mut [u8], s: &[u8], g: &[u32], list: &[u8], count: u8)
 
 // Writes a table of the refused.
 fn write_refused(t: &mut [u8], s: &[u8], g: &[u32], l: Lowest)
-    requires t_len { length t.old ≡ L.refusedTableSize }
+    requires t_len { length t.old ≡ L.refused_table_size }
     requires sized { K.Sized l × ((i : ℕ) → i < l.count → K.Named s.now (get_or l.list i K.unread)) × K.Signed s.now g.now }
-    ensures { t.new ≡ table_of L.refusedSize L.maxRefused (map refusedBytes (map (K.itemRefused s.now g.now) (K.lowestIn l))) }
+    ensures { t.new ≡ table_of L.refused_size L.max_refused (map refused_bytes (map (K.item_refused s.now g.now) (K.lowest_in l))) }
 {
     octets::runs::clear(t);
     let list = l.list;
@@ -185,9 +185,9 @@ fn write_refused(t: &mut [u8], s: &[u8], g: &[u32], l: Lowest)
 
 // Writes a transmission of the items that are kept.
 pub fn write(b: &mut [u8], s: &[u8], g: &[u32], k: Kept)
-    requires b_len { length b.old ≡ L.transmissionSize }
+    requires b_len { length b.old ≡ L.transmission_size }
     requires keeps { K.Keeps s.now k × K.Signed s.now g.now }
-    ensures { b.new ≡ transmissionBytes (K.keptIn s.now g.now k) }
+    ensures { b.new ≡ transmission_bytes (K.kept_in s.now g.now k) }
 {
     let ranked = k.ranked;
     let refused = k.refused;
@@ -200,7 +200,7 @@ pub fn write(b: &mut [u8], s: &[u8], g: &[u32], k: Kept)
 // The items of refusals.
 pub fn refused_items(l: Lowest) -> [u8; MAX_REFUSED]
     requires { K.Sized l }
-    ensures { (length result ≡ L.maxRefused) × (take l.count result ≡ map K.refusedOf (K.lowestIn l)) }
+    ensures { (length result ≡ L.max_refused) × (take l.count result ≡ map K.refused_of (K.lowest_in l)) }
 {
     let refusals = l.list;
     let count = l.count;
@@ -214,9 +214,9 @@ pub fn refused_items(l: Lowest) -> [u8; MAX_REFUSED]
 
 // Writes the identities of the first `count` items of a list.
 fn put_identities(t: &mut [u8], at: usize, s: &[u8], list: &[u8], count: u8) -> usize
-    requires hash_size_in_bounds { at + count * hashSize ≤ length t.old }
+    requires hash_size_in_bounds { at + count * hash_size ≤ length t.old }
     requires count_in_bounds { (count ≤ length list.now) × ((i : ℕ) → i < count → K.Lies s.now (get_or list.now i 0)) }
-    ensures { (result ≡ at + count * hashSize) × Put t.old at (flat (map (itemIdentity s.now) (take count list.now))) result t.new }
+    ensures { (result ≡ at + count * hash_size) × Put t.old at (flat (map (item_identity s.now) (take count list.now))) result t.new }
 {
     let mut a = at;
     for i in 0..count {
@@ -228,9 +228,9 @@ fn put_identities(t: &mut [u8], at: usize, s: &[u8], list: &[u8], count: u8) -> 
 
 // Writes the identities of the items that are kept, so that nothing of what was decided is hashed again.
 pub fn write_identities(t: &mut [u8], s: &[u8], k: Kept)
-    requires t_len { length t.old ≡ knownSize }
+    requires t_len { length t.old ≡ known_size }
     requires keeps { K.Keeps s.now k }
-    ensures { K.Names t.new (map (itemIdentity s.now) (K.heldItems k)) }
+    ensures { K.Names t.new (map (item_identity s.now) (K.held_items k)) }
 {
     let ranked = k.ranked;
     let refused = k.refused;

@@ -11,8 +11,8 @@ use Rattle.ranges.specs.Lists.{any_of, filter}
 use Rattle.ranges.proofs.Lists.{filter-in, filter-of, filter_same}
 use Rattle.ranges.proofs.Bools.{by, or, and_left, and_right, and_both, same_test}
 use Rattle.shown.specs.Fix.{Fix}
-use Rattle.shown.specs.Ages.{timeOf}
-use Rattle.links.specs.Transmissions.{linked, Chain, here, more, reach, transmissionOf}
+use Rattle.shown.specs.Ages.{time_of}
+use Rattle.links.specs.Transmissions.{linked, Chain, here, more, reach, transmission_of}
 use Rattle.links.specs.Bursts.{Pause, BurstsStayApart}
 use Rattle.links.proofs.Reaching.{SelfLinked, some_in, chain-in, transmission-is}
 use Rattle.links.proofs.Fitness.{self-linked}
@@ -50,14 +50,14 @@ module _ (fs : List Fix) (self : SelfLinked fs) (p : Fix → Bool)
   self-inside : SelfLinked (filter p fs)
   self-inside f m = self f (filter-in p fs f m).0
 
-  as-alone : (a : Fix) → Memᴰ a fs → p a ≡ true → transmissionOf fs a ≡ transmissionOf (filter p fs) a
+  as-alone : (a : Fix) → Memᴰ a fs → p a ≡ true → transmission_of fs a ≡ transmission_of (filter p fs) a
   as-alone a m h =
       let k = filter-of p fs a m h in
       let q = tested fs a (length fs) (some_in a fs m) in
       let r = tested (filter p fs) a (length (filter p fs)) (some_in a (filter p fs) k) in
       q.1 ∙ filter_same q.0 (λ x. p x && r.0 x) fs (agree k q r) ∙ sym (twice p r.0 fs) ∙ sym r.1
     where
-      agree : Memᴰ a (filter p fs) → (q : (t : Fix → Bool) × (transmissionOf fs a ≡ filter t fs)) (r : (t : Fix → Bool) × (transmissionOf (filter p fs) a ≡ filter t (filter p fs)))
+      agree : Memᴰ a (filter p fs) → (q : (t : Fix → Bool) × (transmission_of fs a ≡ filter t fs)) (r : (t : Fix → Bool) × (transmission_of (filter p fs) a ≡ filter t (filter p fs)))
           (x : Fix) → Memᴰ x fs → q.0 x ≡ (p x && r.0 x)
       agree k q r x n =
           same_test (q.0 x) (p x && r.0 x)
@@ -74,31 +74,31 @@ module _ (fs : List Fix) (self : SelfLinked fs) (p : Fix → Bool)
 -- ---- before and after a pause
 
 module _ (s : ℕ) (fs : List Fix) (pause : Pause s fs) where
-  stays-before : (f g : Fix) → Memᴰ f fs → Memᴰ g fs → linked g f ≡ true → leb (timeOf f) s ≡ true → leb (timeOf g) s ≡ true
+  stays-before : (f g : Fix) → Memᴰ f fs → Memᴰ g fs → linked g f ≡ true → leb (time_of f) s ≡ true → leb (time_of g) s ≡ true
   stays-before f g m n e h =
-      let t = ((link-exactly-when g.recordBytes f.recordBytes).0 e).1 in
-      let l = leb-true (timeOf f) s h in
-      or (pause g n) (λ k. le-leb (timeOf g) s k) (λ k. absurd (omega arith))
+      let t = ((link-exactly-when g.record_bytes f.record_bytes).0 e).1 in
+      let l = leb-true (time_of f) s h in
+      or (pause g n) (λ k. le-leb (time_of g) s k) (λ k. absurd (omega arith))
 
-  stays_after : (f g : Fix) → Memᴰ f fs → Memᴰ g fs → linked g f ≡ true → ltb s (timeOf f) ≡ true → ltb s (timeOf g) ≡ true
+  stays_after : (f g : Fix) → Memᴰ f fs → Memᴰ g fs → linked g f ≡ true → ltb s (time_of f) ≡ true → ltb s (time_of g) ≡ true
   stays_after f g m n e h =
-      let t = ((link-exactly-when g.recordBytes f.recordBytes).0 e).2 in
-      let l = ltb-true s (timeOf f) h in
-      or (pause f m) (λ k. absurd (omega arith)) (λ k. lt-ltb s (timeOf g) (omega arith))
+      let t = ((link-exactly-when g.record_bytes f.record_bytes).0 e).2 in
+      let l = ltb-true s (time_of f) h in
+      or (pause f m) (λ k. absurd (omega arith)) (λ k. lt-ltb s (time_of g) (omega arith))
 
 pub bursts-stay-apart : BurstsStayApart
 bursts-stay-apart fs parted formed s pause = record {
-  one-burst = λ c m f g u v h.
-      leb-true (timeOf g) s (chain-inside fs self early (stays-before s fs pause) (le-leb (timeOf f) s h) ((parted.whole c m f u g).0 v)).0;
-  before-alone = λ f m h. as-alone fs self early (stays-before s fs pause) f m (le-leb (timeOf f) s h);
-  after-alone = λ f m h. as-alone fs self late (stays_after s fs pause) f m (lt-ltb s (timeOf f) h);
+  one_burst = λ c m f g u v h.
+      leb-true (time_of g) s (chain-inside fs self early (stays-before s fs pause) (le-leb (time_of f) s h) ((parted.whole c m f u g).0 v)).0;
+  before_alone = λ f m h. as-alone fs self early (stays-before s fs pause) f m (le-leb (time_of f) s h);
+  after_alone = λ f m h. as-alone fs self late (stays_after s fs pause) f m (lt-ltb s (time_of f) h);
 }
   where
     self : SelfLinked fs
-    self f m = self-linked f.recordBytes (formed f m)
+    self f m = self-linked f.record_bytes (formed f m)
 
     early : Fix → Bool
-    early f = leb (timeOf f) s
+    early f = leb (time_of f) s
 
     late : Fix → Bool
-    late f = ltb s (timeOf f)
+    late f = ltb s (time_of f)

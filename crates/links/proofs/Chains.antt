@@ -11,9 +11,9 @@ use lib.Seq.{get_or-set_same}
 use borrow.Author.Tests.{eqb-true, eqb-false}
 use Rattle.ranges.proofs.Bools.{by, or, clash}
 use Rattle.ranges.specs.Tables.{marked}
-use Rattle.fixes.specs.Slots.{maxFixes}
+use Rattle.fixes.specs.Slots.{max_fixes}
 use Rattle.links.specs.Chains.{ChainAt, here, more, Symmetric}
-use Rattle.links.specs.Walk.{noMarks, unmarked, each, visit, reached}
+use Rattle.links.specs.Walk.{no_marks, unmarked, each, visit, reached}
 use Rattle.links.proofs.Marks.{unmarked-set, set-marks, no-marks, Grown, next, next-old, next-apart, next-new, next-grown, visit-grown}
 
 module _ {link : ℕ → ℕ → Bool} {n : ℕ} where
@@ -111,8 +111,8 @@ module _ (link : ℕ → ℕ → Bool) (n : ℕ) where
     complete m r f w (more {i} {j} c h e) = w.closed i j (f i c) (complete m r f w c) h e
 
     -- a mark is set exactly where a chain leads
-    pub reached-is : n ≤ maxFixes → s < n → (j : ℕ) → (marked (reached link n s) j ≡ true) ↔ ChainAt link n s j
+    pub reached-is : n ≤ max_fixes → s < n → (j : ℕ) → (marked (reached link n s) j ≡ true) ↔ ChainAt link n s j
     unfolding reached
     reached-is few h j =
-        let r = visit-visited (unmarked noMarks) s noMarks few h (no-marks maxFixes s) (omega arith) in
-        (λ e. or (r.sound j e) (λ q. clash q (no-marks maxFixes j)) (λ c. c), complete noMarks _ (λ i c. no-marks maxFixes i) r)
+        let r = visit-visited (unmarked no_marks) s no_marks few h (no-marks max_fixes s) (omega arith) in
+        (λ e. or (r.sound j e) (λ q. clash q (no-marks max_fixes j)) (λ c. c), complete no_marks _ (λ i c. no-marks max_fixes i) r)

@@ -10,7 +10,7 @@ use lib.ListN.{length, get_or}
 use borrow.Author.Tests.{eqb-true, eq-eqb, ltb-true, ltb-false}
 use Rattle.octets.specs.Order.{same}
 use Rattle.octets.proofs.Comparison.{same-eq, same_refl}
-use Rattle.fixes.specs.Slots.{maxFixes}
+use Rattle.fixes.specs.Slots.{max_fixes}
 use Rattle.ranges.specs.Range.{filt}
 use Rattle.ranges.proofs.Range.{filt-ext, filt-at}
 use Rattle.ranges.proofs.Bools.{by, same_test, no_true}
@@ -20,8 +20,8 @@ use Rattle.links.proofs.Naming.{label-le, label-below, label-label, label_same}
 use Rattle.links.proofs.Chains as C
 use Rattle.ranges.specs.Lists.{any_of, filter}
 use Rattle.shown.specs.Fix.{Fix}
-use Rattle.links.specs.Transmissions.{linked, Chain, here, more, reach, transmissionOf, leads, isFirst, transmissionsOf}
-use Rattle.shown.specs.Items.{noFix, at, Apart}
+use Rattle.links.specs.Transmissions.{linked, Chain, here, more, reach, transmission_of, leads, is_first, transmissions_of}
+use Rattle.shown.specs.Items.{no_fix, at, Apart}
 use Rattle.shown.proofs.Indexed.{at_in, in-at}
 use Rattle.ranges.proofs.Lists.{filter-in, filter-of}
 use Rattle.links.proofs.Reaching.{SelfLinked, transmission-is}
@@ -66,7 +66,7 @@ filt-first g k (suc f) h a b e n =
 
 -- ---- fixes in their list
 
-module _ (fs : List Fix) (few : length fs ≤ maxFixes) (self : SelfLinked fs) (apart : Apart fs)
+module _ (fs : List Fix) (few : length fs ≤ max_fixes) (self : SelfLinked fs) (apart : Apart fs)
     (link : ℕ → ℕ → Bool) (agrees : (i j : ℕ) → i < length fs → j < length fs → link i j ≡ linked (at fs i) (at fs j)) (turns : I.Symmetric link) where
   abbrev n : ℕ
   n = length fs
@@ -74,14 +74,14 @@ module _ (fs : List Fix) (few : length fs ≤ maxFixes) (self : SelfLinked fs) (
   -- ---- chains of fixes are chains of places
 
   to-fixes : {s j : ℕ} → I.ChainAt link n s j → Chain fs (at fs s) (at fs j)
-  to-fixes (I.here h) = here (at_in noFix fs _ h)
-  to-fixes (I.more {i} {j} c h e) = more (to-fixes c) (at_in noFix fs j h) (sym (agrees j i h (C.chain-to c)) ∙ turns.turned j i ∙ e)
+  to-fixes (I.here h) = here (at_in no_fix fs _ h)
+  to-fixes (I.more {i} {j} c h e) = more (to-fixes c) (at_in no_fix fs j h) (sym (agrees j i h (C.chain-to c)) ∙ turns.turned j i ∙ e)
 
   to-places : (s : ℕ) (a x : Fix) → s < n → at fs s ≡ a → Chain fs a x → (j : ℕ) × (j < n) × (at fs j ≡ x) × I.ChainAt link n s j
   to-places s a _ h e (here m) = (s, h, e, I.here h)
   to-places s a _ h e (more {f} {g} c m t) =
       let r = to-places s a f h e c in
-      let q = in-at noFix fs g m in
+      let q = in-at no_fix fs g m in
       let u = ap₂ linked q.2 r.2 ∙ t in
       (q.0, q.1, q.2, I.more r.3 q.1 (turns.turned r.0 q.0 ∙ agrees q.0 r.0 q.1 r.1 ∙ u))
 
@@ -101,16 +101,16 @@ module _ (fs : List Fix) (few : length fs ≤ maxFixes) (self : SelfLinked fs) (
   by-test a zero h = absurd (omega arith)
   by-test a (suc k) h = (λ g. any_of (linked g) (reach fs k a), refl)
 
-  pub transmission-at : (s : ℕ) → s < n → transmissionOf fs (at fs s) ≡ map (at fs) (W.members link n (W.label link n s))
+  pub transmission-at : (s : ℕ) → s < n → transmission_of fs (at fs s) ≡ map (at fs) (W.members link n (W.label link n s))
   unfolding W.members
   transmission-at s h =
       let r = by-test (at fs s) n (omega arith) in
-      r.1 ∙ filter-places noFix r.0 fs ∙ ap (map (at fs)) (filt-ext (λ i. r.0 (at fs i)) (W.isMember link n (W.label link n s)) 0 n (λ i _ b. tests r i (omega arith)))
+      r.1 ∙ filter-places no_fix r.0 fs ∙ ap (map (at fs)) (filt-ext (λ i. r.0 (at fs i)) (W.is_member link n (W.label link n s)) 0 n (λ i _ b. tests r i (omega arith)))
     where
       tests : (r : (p : Fix → Bool) × (reach fs n (at fs s) ≡ filter p fs)) (j : ℕ) → j < n → r.0 (at fs j) ≡ eqb (W.label link n j) (W.label link n s)
       tests r j k =
-          let there = at_in noFix fs j k in
-          let whole = transmission-is fs (at fs s) (at_in noFix fs s h) self (at fs j) in
+          let there = at_in no_fix fs j k in
+          let whole = transmission-is fs (at fs s) (at_in no_fix fs s h) self (at fs j) in
           same_test (r.0 (at fs j)) (eqb (W.label link n j) (W.label link n s))
           (λ t. eq-eqb (W.label link n j) (W.label link n s)
           (sym ((label_same link n few turns s j h k).1 ((same-chains s j h k).0 (whole.0 (subst (λ (l : List Fix). Memᴰ (at fs j) l) (sym r.1) (filter-of r.0 fs (at fs j) there t)))))))
@@ -120,23 +120,23 @@ module _ (fs : List Fix) (few : length fs ≤ maxFixes) (self : SelfLinked fs) (
 
   -- ---- each transmission once
 
-  first-is-head : (s : ℕ) → s < n → isFirst fs (at fs s) ≡ W.isHead link n s
+  first-is-head : (s : ℕ) → s < n → is_first fs (at fs s) ≡ W.is_head link n s
   unfolding W.members
   first-is-head s h =
       let l = W.label link n s in
       let b = label-below link n few s h in
-      let r = filt-first (W.isMember link n l) 0 n l (omega arith) (omega arith) (eq-eqb _ _ (label-label link n few s h))
-      (λ i k. no_true (W.isMember link n l i) (λ t. let z = eqb-true (W.label link n i) l t in let y = label-le link n few i (omega arith) in omega arith)) in
+      let r = filt-first (W.is_member link n l) 0 n l (omega arith) (omega arith) (eq-eqb _ _ (label-label link n few s h))
+      (λ i k. no_true (W.is_member link n l i) (λ t. let z = eqb-true (W.label link n i) l t in let y = label-le link n few i (omega arith) in omega arith)) in
       ap (leads (at fs s)) (transmission-at s h ∙ ap (map (at fs)) r.1)
       ∙ same_test (same (at fs s).identity (at fs l).identity) (eqb l s)
       (λ t. eq-eqb l s (sym (apart s l h b (same-eq (at fs s).identity (at fs l).identity t))))
       (λ t. rw (eqb-true l s t) (same_refl (at fs s).identity))
 
-  pub transmissions-are : transmissionsOf fs ≡ map (λ s. map (at fs) (W.members link n s)) (W.heads link n)
-  unfolding transmissionsOf W.heads
+  pub transmissions-are : transmissions_of fs ≡ map (λ s. map (at fs) (W.members link n s)) (W.heads link n)
+  unfolding transmissions_of W.heads
   transmissions-are =
-      ap (map (transmissionOf fs)) (filter-places noFix (isFirst fs) fs ∙ ap (map (at fs)) (filt-ext (λ i. isFirst fs (at fs i)) (W.isHead link n) 0 n (λ i _ b. first-is-head i (omega arith))))
-      ∙ map-map (transmissionOf fs) (at fs) (filt (W.isHead link n) 0 n)
-      ∙ map_same (λ s. transmissionOf fs (at fs s)) (λ s. map (at fs) (W.members link n s)) (filt (W.isHead link n) 0 n)
-      (λ s m. let z = filt-at (W.isHead link n) 0 n s m in
+      ap (map (transmission_of fs)) (filter-places no_fix (is_first fs) fs ∙ ap (map (at fs)) (filt-ext (λ i. is_first fs (at fs i)) (W.is_head link n) 0 n (λ i _ b. first-is-head i (omega arith))))
+      ∙ map-map (transmission_of fs) (at fs) (filt (W.is_head link n) 0 n)
+      ∙ map_same (λ s. transmission_of fs (at fs s)) (λ s. map (at fs) (W.members link n s)) (filt (W.is_head link n) 0 n)
+      (λ s m. let z = filt-at (W.is_head link n) 0 n s m in
       transmission-at s (omega arith) ∙ ap (λ (k : ℕ). map (at fs) (W.members link n k)) (eqb-true (W.label link n s) s z.2))

@@ -10,10 +10,10 @@ use lib.ListN.{length, get_or, set, replicate}
 use borrow.Author.Tests.{ltb-true, ltb-false, lt-ltb, le-ltb}
 use Rattle.ranges.proofs.Bools.{by, or, clash, same_test}
 use Rattle.ranges.specs.Tables.{Cached, marked}
-use Rattle.fixes.specs.Slots.{maxFixes}
+use Rattle.fixes.specs.Slots.{max_fixes}
 use Rattle.links.specs.Chains.{ChainAt, Symmetric}
 use Rattle.links.specs.Labels.{relabel}
-use Rattle.links.specs.Walk.{noMarks, unmarked, visit, label}
+use Rattle.links.specs.Walk.{no_marks, unmarked, visit, label}
 use Rattle.links.proofs.Marks.{Grown, no-marks, grown-none, grown-set, grown-more, visited-grown}
 use Rattle.links.proofs.Chains.{chain-to, Visited, visit-visited, complete}
 use Rattle.links.proofs.Naming.{label-le, label-below, label-label, label_same}
@@ -98,18 +98,18 @@ progress-end s m r l q i h e w =
 -- ---- all walks: before the one from s, those have a mark and their label whose label is below s
 
 pub record LabelledBelow (link : ℕ → ℕ → Bool) (n s : ℕ) (m : List Bool) (l : List ℕ) : Type 0 where
-  pub wide : length m ≡ maxFixes
-  pub long : length l ≡ maxFixes
+  pub wide : length m ≡ max_fixes
+  pub long : length l ≡ max_fixes
   pub who : (j : ℕ) → j < n → marked m j ≡ ltb (label link n j) s
   pub what : (j : ℕ) → j < n → marked m j ≡ true → get_or l j 0 ≡ label link n j
 
-module _ (link : ℕ → ℕ → Bool) (n : ℕ) (few : n ≤ maxFixes) where
-  pub labels-start : LabelledBelow link n 0 noMarks (replicate maxFixes 0)
+module _ (link : ℕ → ℕ → Bool) (n : ℕ) (few : n ≤ max_fixes) where
+  pub labels-start : LabelledBelow link n 0 no_marks (replicate max_fixes 0)
   labels-start = record {
     wide = refl;
     long = refl;
-    who = λ j h. no-marks maxFixes j ∙ sym (le-ltb (label link n j) 0 (omega arith));
-    what = λ j h e. clash e (no-marks maxFixes j);
+    who = λ j h. no-marks max_fixes j ∙ sym (le-ltb (label link n j) 0 (omega arith));
+    what = λ j h e. clash e (no-marks max_fixes j);
   }
 
   -- whose label is not s: it is below s exactly when it is below the next

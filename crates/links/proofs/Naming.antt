@@ -8,12 +8,12 @@ use native.Mathlib.Omega.{arith}
 use borrow.Author.Tests.{eqb-true, eq-eqb}
 use Rattle.ranges.proofs.Range.{first-is, first-not-past, filt-mem, filt-at}
 use Rattle.ranges.specs.Tables.{marked}
-use Rattle.fixes.specs.Slots.{maxFixes}
+use Rattle.fixes.specs.Slots.{max_fixes}
 use Rattle.links.specs.Chains.{ChainAt, here, Symmetric}
-use Rattle.links.specs.Walk.{reached, label, isHead, isMember, heads, members}
+use Rattle.links.specs.Walk.{reached, label, is_head, is_member, heads, members}
 use Rattle.links.proofs.Chains.{chain-from, chain-to, chain-joined, chain-turned, reached-is}
 
-module _ (link : ℕ → ℕ → Bool) (n : ℕ) (few : n ≤ maxFixes) where
+module _ (link : ℕ → ℕ → Bool) (n : ℕ) (few : n ≤ max_fixes) where
   -- no chain leads to j from one before its label
   pub label-first : (s j : ℕ) → ChainAt link n s j → label link n j ≤ s
   unfolding label
@@ -70,15 +70,15 @@ module _ (link : ℕ → ℕ → Bool) (n : ℕ) (few : n ≤ maxFixes) where
   pub head-is : (s : ℕ) → Memᴰ s (heads link n) ↔ ((s < n) × (label link n s ≡ s))
   unfolding heads
   head-is s = (
-    λ m. let z = filt-at (isHead link n) 0 n s m in (omega arith, eqb-true _ s z.2),
-    λ p. let z = p.0 in filt-mem (isHead link n) 0 n s (omega arith) (omega arith) (eq-eqb _ s p.1),
+    λ m. let z = filt-at (is_head link n) 0 n s m in (omega arith, eqb-true _ s z.2),
+    λ p. let z = p.0 in filt-mem (is_head link n) 0 n s (omega arith) (omega arith) (eq-eqb _ s p.1),
   )
 
   pub member_is : (s j : ℕ) → Memᴰ j (members link n s) ↔ ((j < n) × (label link n j ≡ s))
   unfolding members
   member_is s j = (
-    λ m. let z = filt-at (isMember link n s) 0 n j m in (omega arith, eqb-true _ s z.2),
-    λ p. let z = p.0 in filt-mem (isMember link n s) 0 n j (omega arith) (omega arith) (eq-eqb _ s p.1),
+    λ m. let z = filt-at (is_member link n s) 0 n j m in (omega arith, eqb-true _ s z.2),
+    λ p. let z = p.0 in filt-mem (is_member link n s) 0 n j (omega arith) (omega arith) (eq-eqb _ s p.1),
   )
 
   -- the first of a transmission is a member
@@ -100,7 +100,7 @@ pub record Belongs (link : ℕ → ℕ → Bool) (n j : ℕ) : Type 0 where
   pub member : Memᴰ j (members link n (label link n j))
   pub only : (s : ℕ) → Memᴰ j (members link n s) → s ≡ label link n j
 
-pub belongs : (link : ℕ → ℕ → Bool) (n : ℕ) → n ≤ maxFixes → (j : ℕ) → j < n → Belongs link n j
+pub belongs : (link : ℕ → ℕ → Bool) (n : ℕ) → n ≤ max_fixes → (j : ℕ) → j < n → Belongs link n j
 belongs link n few j h = record {
   head = (head-is link n few (label link n j)).1 (label-below link n few j h, label-label link n few j h);
   member = (member_is link n few (label link n j) j).1 (h, refl);

@@ -11,11 +11,11 @@ use Rattle.ranges.specs.Tables.{Cached, marked}
 use Rattle.ranges.specs.Range.{filt}
 use Rattle.ranges.proofs.Range.{filt-ext, filt-few, filt-at}
 use Rattle.ranges.proofs.Bools.{by, no_true}
-use Rattle.fixes.specs.Slots.{maxFixes}
+use Rattle.fixes.specs.Slots.{max_fixes}
 use Rattle.shown.specs.Fix.{Fix}
 use Rattle.shown.specs.Items.{at, AllFormed, Apart}
 use Rattle.shown.proofs.Indexed.{at_in}
-use Rattle.links.specs.Transmissions.{transmissionsOf}
+use Rattle.links.specs.Transmissions.{transmissions_of}
 use Rattle.links.specs.Walk as W
 use Rattle.links.proofs.Fitness.{self-linked}
 use Rattle.links.proofs.Naming.{label-le}
@@ -60,39 +60,39 @@ filt-none g = refl
 -- the walks from the fixes before s, the first fixes among these, and their labels
 pub record Walked (fs : List Fix) (s : ℕ) (m : List Bool) (l firsts : List ℕ) : Type 0 where
   pub below : LabelledBelow (link_at fs) (length fs) s m l
-  pub firsts-are : firsts ≡ filt (W.isHead (link_at fs) (length fs)) 0 s
+  pub firsts_are : firsts ≡ filt (W.is_head (link_at fs) (length fs)) 0 s
 
-module _ (fs : List Fix) (few : length fs ≤ maxFixes) (s : ℕ) (m : List Bool) (l : List ℕ) (w : LabelledBelow (link_at fs) (length fs) s m l) (h : s < length fs) where
-  pub is-first : marked m s ≡ false → W.isHead (link_at fs) (length fs) s ≡ true
+module _ (fs : List Fix) (few : length fs ≤ max_fixes) (s : ℕ) (m : List Bool) (l : List ℕ) (w : LabelledBelow (link_at fs) (length fs) s m l) (h : s < length fs) where
+  pub is-first : marked m s ≡ false → W.is_head (link_at fs) (length fs) s ≡ true
   is-first e =
       let a = label-le (link_at fs) (length fs) few s h in
       let b = ltb-false (W.label (link_at fs) (length fs) s) s (sym (w.who s h) ∙ e) in
       eq-eqb _ _ (omega arith)
 
-  pub not-first : marked m s ≡ true → W.isHead (link_at fs) (length fs) s ≡ false
+  pub not-first : marked m s ≡ true → W.is_head (link_at fs) (length fs) s ≡ false
   not-first e =
       let b = ltb-true (W.label (link_at fs) (length fs) s) s (sym (w.who s h) ∙ e) in
       no_true (eqb (W.label (link_at fs) (length fs) s) s) (λ t. let z = eqb-true (W.label (link_at fs) (length fs) s) s t in absurd (omega arith))
 
 -- ---- at their end
 
-module _ (fs : List Fix) (few : length fs ≤ maxFixes) (s : ℕ) (m : List Bool) (l firsts : List ℕ) (w : Walked fs s m l firsts) (most : s ≤ length fs) (all : length fs ≤ s) where
+module _ (fs : List Fix) (few : length fs ≤ max_fixes) (s : ℕ) (m : List Bool) (l firsts : List ℕ) (w : Walked fs s m l firsts) (most : s ≤ length fs) (all : length fs ≤ s) where
   labelled : Cached 0 l (W.label (link_at fs) (length fs)) (length fs)
   labelled = labels-end (link_at fs) (length fs) few s m l all w.below
 
   having-are : (k : ℕ) → having fs l k ≡ map (at fs) (W.members (link_at fs) (length fs) k)
   unfolding W.members Cached
-  having-are k = ap (map (at fs)) (filt-ext (has l k) (W.isMember (link_at fs) (length fs) k) 0 (length fs) (λ j _ h. ap (λ (x : ℕ). eqb x k) (labelled j (omega arith))))
+  having-are k = ap (map (at fs)) (filt-ext (has l k) (W.is_member (link_at fs) (length fs) k) 0 (length fs) (λ j _ h. ap (λ (x : ℕ). eqb x k) (labelled j (omega arith))))
 
   heads-are : firsts ≡ W.heads (link_at fs) (length fs)
   unfolding W.heads
-  heads-are = let z : s ≡ length fs = omega arith in w.firsts-are ∙ ap (filt (W.isHead (link_at fs) (length fs)) 0) z
+  heads-are = let z : s ≡ length fs = omega arith in w.firsts_are ∙ ap (filt (W.is_head (link_at fs) (length fs)) 0) z
 
-  pub parts-are : AllFormed fs → Apart fs → map (having fs l) firsts ≡ transmissionsOf fs
+  pub parts-are : AllFormed fs → Apart fs → map (having fs l) firsts ≡ transmissions_of fs
   parts-are formed apart =
       ap (map (having fs l)) heads-are
       ∙ map_same (having fs l) (λ k. map (at fs) (W.members (link_at fs) (length fs) k)) (W.heads (link_at fs) (length fs)) (λ k _. having-are k)
-      ∙ sym (transmissions-are fs few (λ f n. self-linked f.recordBytes (formed f n).form) apart (link_at fs) (λ i j h k. refl) (links-turned fs))
+      ∙ sym (transmissions-are fs few (λ f n. self-linked f.record_bytes (formed f n).form) apart (link_at fs) (λ i j h k. refl) (links-turned fs))
 
 -- ---- one transmission
 

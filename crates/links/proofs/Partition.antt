@@ -7,14 +7,14 @@ use mathlib.Core.List.Memᴰ
 use mathlib.Core.List.{List, [], ◌∷◌, map, Memᴰ}
 use lib.ListN.{length}
 use Rattle.ranges.proofs.Bools.{or}
-use Rattle.fixes.specs.Slots.{maxFixes}
+use Rattle.fixes.specs.Slots.{max_fixes}
 use Rattle.links.specs.Chains as I
 use Rattle.links.specs.Walk as W
 use Rattle.links.proofs.Symmetry.{linked-turned}
 use Rattle.links.proofs.Naming as X
 use Rattle.shown.specs.Fix.{Fix}
-use Rattle.links.specs.Transmissions.{linked, Chain, transmissionOf, transmissionsOf}
-use Rattle.shown.specs.Items.{noFix, at, Apart}
+use Rattle.links.specs.Transmissions.{linked, Chain, transmission_of, transmissions_of}
+use Rattle.shown.specs.Items.{no_fix, at, Apart}
 use Rattle.shown.proofs.Indexed.{at_in, in-at}
 use Rattle.links.proofs.Reaching.{SelfLinked, transmission-is}
 use Rattle.links.proofs.Indexed.{transmission-at, transmissions-are}
@@ -32,7 +32,7 @@ module _ {A B : Type 0} (f : A → B) where
       (λ e. (y, Memᴰ.head refl, e))
       (λ k. let r = map-from l z k in (r.0, Memᴰ.tail r.1, r.2))
 
-module _ (fs : List Fix) (few : length fs ≤ maxFixes) (self : SelfLinked fs) (apart : Apart fs) where
+module _ (fs : List Fix) (few : length fs ≤ max_fixes) (self : SelfLinked fs) (apart : Apart fs) where
   abbrev n : ℕ
   n = length fs
 
@@ -40,16 +40,16 @@ module _ (fs : List Fix) (few : length fs ≤ maxFixes) (self : SelfLinked fs) (
   link i j = linked (at fs i) (at fs j)
 
   turns : I.Symmetric link
-  turns = record { turned = λ i j. linked-turned (at fs i).recordBytes (at fs j).recordBytes }
+  turns = record { turned = λ i j. linked-turned (at fs i).record_bytes (at fs j).record_bytes }
 
   abbrev C : ℕ → List Fix
   C s = map (at fs) (W.members link n s)
 
-  all : transmissionsOf fs ≡ map C (W.heads link n)
+  all : transmissions_of fs ≡ map C (W.heads link n)
   all = transmissions-are fs few self apart link (λ i j h k. refl) turns
 
   -- a transmission is that of each of its fixes, which has a place
-  of-fix : (c : List Fix) → Memᴰ c (transmissionsOf fs) → (f : Fix) → Memᴰ f c → (j : ℕ) × (j < n) × (f ≡ at fs j) × (c ≡ transmissionOf fs (at fs j))
+  of-fix : (c : List Fix) → Memᴰ c (transmissions_of fs) → (f : Fix) → Memᴰ f c → (j : ℕ) × (j < n) × (f ≡ at fs j) × (c ≡ transmission_of fs (at fs j))
   of-fix c m f k =
       let r = map-from C (W.heads link n) c (subst (λ (z : List (List Fix)). Memᴰ c z) all m) in
       let q = map-from (at fs) (W.members link n r.0) f (subst (λ (z : List Fix). Memᴰ f z) r.2 k) in
@@ -59,7 +59,7 @@ module _ (fs : List Fix) (few : length fs ≤ maxFixes) (self : SelfLinked fs) (
   pub partition : Partition fs
   partition = record {
     each = λ f m.
-        let r = in-at noFix fs f m in
+        let r = in-at no_fix fs f m in
         let s = W.label link n r.0 in
         let b = X.belongs link n few r.0 r.1 in (
           C s,
@@ -68,11 +68,11 @@ module _ (fs : List Fix) (few : length fs ≤ maxFixes) (self : SelfLinked fs) (
         );
     whole = λ c m f k g.
         let r = of-fix c m f k in
-        let i = transmission-is fs (at fs r.0) (at_in noFix fs r.0 r.1) self g in
+        let i = transmission-is fs (at fs r.0) (at_in no_fix fs r.0 r.1) self g in
         subst (λ (z : Fix). Memᴰ g c ↔ Chain fs z g) (sym r.2) (subst (λ (z : List Fix). Memᴰ g z ↔ Chain fs (at fs r.0) g) (sym r.3) i);
     one = λ c d m k f u v.
         let r = of-fix c m f u in
         let q = of-fix d k f v in
         let e = apart r.0 q.0 r.1 q.1 (ap (λ (z : Fix). z.identity) (sym r.2 ∙ q.2)) in
-        r.3 ∙ ap (λ (i : ℕ). transmissionOf fs (at fs i)) e ∙ sym q.3;
+        r.3 ∙ ap (λ (i : ℕ). transmission_of fs (at fs i)) e ∙ sym q.3;
   }

@@ -3,24 +3,24 @@ use mathlib.Core.Path.{◌≡◌, refl}
 use mathlib.Core.Bool.{true}
 use mathlib.Core.List.{[], ◌∷◌}
 use Rattle.octets.specs.Words.{word, word_bytes}
-use Rattle.octets.specs.Order.{same, isBefore}
-use Rattle.octets.specs.Runs.{allZero}
-use Rattle.record.specs.Fields.{tagsFrom}
-use Rattle.record.specs.Formed.{wellFormed, ascends, ascendsFrom, allUpTo}
-use Rattle.record.specs.Relations.{sharesTag, anyIn, member, tied}
+use Rattle.octets.specs.Order.{same, is_before}
+use Rattle.octets.specs.Runs.{all_zero}
+use Rattle.record.specs.Fields.{tags_from}
+use Rattle.record.specs.Formed.{well_formed, ascends, ascends_from, all_up_to}
+use Rattle.record.specs.Relations.{shares_tag, any_in, member, tied}
 use Rattle.ranges.specs.Lists.{any_of, filter}
-use Rattle.links.specs.Transmissions.{recordsLink, reach, transmissionsOf}
+use Rattle.links.specs.Transmissions.{records_link, reach, transmissions_of}
 use Rattle.links.specs.Positions.{one, two, both, other}
 use Rattle.links.specs.Claims.{Position6}
 
-pub records-formed : (wellFormed one.recordBytes ≡ true) × (wellFormed two.recordBytes ≡ true) × (wellFormed both.recordBytes ≡ true) × (wellFormed other.recordBytes ≡ true)
-unfolding wellFormed ascends ascendsFrom allUpTo allZero tagsFrom word word_bytes
+pub records-formed : (well_formed one.record_bytes ≡ true) × (well_formed two.record_bytes ≡ true) × (well_formed both.record_bytes ≡ true) × (well_formed other.record_bytes ≡ true)
+unfolding well_formed ascends ascends_from all_up_to all_zero tags_from word word_bytes
 records-formed = (refl, refl, refl, refl)
 
 pub position-6 : Position6
-unfolding transmissionsOf reach filter any_of recordsLink tied sharesTag anyIn member same isBefore tagsFrom word word_bytes
+unfolding transmissions_of reach filter any_of records_link tied shares_tag any_in member same is_before tags_from word word_bytes
 position-6 = refl
 
-pub apart : transmissionsOf (one ∷ two ∷ other ∷ []) ≡ (one ∷ []) ∷ (two ∷ []) ∷ (other ∷ []) ∷ []
-unfolding transmissionsOf reach filter any_of recordsLink tied sharesTag anyIn member same isBefore tagsFrom word word_bytes
+pub apart : transmissions_of (one ∷ two ∷ other ∷ []) ≡ (one ∷ []) ∷ (two ∷ []) ∷ (other ∷ []) ∷ []
+unfolding transmissions_of reach filter any_of records_link tied shares_tag any_in member same is_before tags_from word word_bytes
 apart = refl

@@ -12,7 +12,7 @@ use borrow.Author.Tests.{ltb-true, ltb-false}
 use Rattle.ranges.proofs.Bools.{by, or}
 use Rattle.ranges.specs.Lists.{any_of, filter}
 use Rattle.shown.specs.Fix.{Fix}
-use Rattle.links.specs.Transmissions.{linked, Chain, here, more, reach, transmissionOf}
+use Rattle.links.specs.Transmissions.{linked, Chain, here, more, reach, transmission_of}
 use Rattle.ranges.proofs.Lists.{any-in, any-of, filter-in, filter-of}
 use Rattle.links.proofs.Listing.{filter-no-wider, filter-all}
 
@@ -96,7 +96,7 @@ module _ (fs : List Fix) (a : Fix) (a_in : Memᴰ a fs) (self : SelfLinked fs) w
   complete m e _ (more {f} {g} c h t) =
       filter-of (near m) fs g h (closed m e g h (any-of (linked g) (reach fs (suc m) a) f (complete m e f c) t))
 
-  pub transmission-is : (x : Fix) → Memᴰ x (transmissionOf fs a) ↔ Chain fs a x
+  pub transmission-is : (x : Fix) → Memᴰ x (transmission_of fs a) ↔ Chain fs a x
   transmission-is x = (sound (length fs) x, λ c. go (length fs) refl c)
     where
       go : (n : ℕ) → length fs ≡ n → Chain fs a x → Memᴰ x (reach fs n a)

@@ -6,20 +6,20 @@ use Prim.Native.Nat.{ℕ}
 use native.Mathlib.Omega.{arith}
 use lib.Dec.{ltb, leb}
 use borrow.Author.Tests.{ltb-true, ltb-false, le-ltb}
-use Rattle.octets.specs.Order.{isBefore, same}
+use Rattle.octets.specs.Order.{is_before, same}
 use Rattle.ranges.proofs.Bools.{by}
 use Rattle.record.specs.Fields.{time, message}
 use Rattle.record.specs.Relations.{tied}
 use Rattle.record.proofs.Laws.{shares-sym}
-use Rattle.links.specs.Transmissions.{linkSpan, difference, nearInTime, recordsLink}
+use Rattle.links.specs.Transmissions.{link_span, difference, near_in_time, records_link}
 use Rattle.links.specs.Bursts.{LinkGoesBothWays}
 
 same-turned : (a b : List ℕ) → same a b ≡ same b a
 unfolding same
 same-turned a b =
-    by (isBefore a b)
-    (λ p. by (isBefore b a) (λ q. rw (p, q) refl) (λ q. rw (p, q) refl))
-    (λ p. by (isBefore b a) (λ q. rw (p, q) refl) (λ q. rw (p, q) refl))
+    by (is_before a b)
+    (λ p. by (is_before b a) (λ q. rw (p, q) refl) (λ q. rw (p, q) refl))
+    (λ p. by (is_before b a) (λ q. rw (p, q) refl) (λ q. rw (p, q) refl))
 
 tied-turned : (a b : List ℕ) → tied a b ≡ tied b a
 unfolding tied
@@ -32,9 +32,9 @@ difference-turned s t =
     (λ p. let l = ltb-true s t p in rw (p, le-ltb t s (omega arith)) refl)
     (λ p. let l = ltb-false s t p in by (ltb t s) (λ q. rw (p, q) refl) (λ q. let k = ltb-false t s q in rw (p, q) (omega arith)))
 
-near-turned : (s t : ℕ) → nearInTime s t ≡ nearInTime t s
-near-turned s t = ap (λ (d : ℕ). leb d linkSpan) (difference-turned s t)
+near-turned : (s t : ℕ) → near_in_time s t ≡ near_in_time t s
+near-turned s t = ap (λ (d : ℕ). leb d link_span) (difference-turned s t)
 
 pub linked-turned : LinkGoesBothWays
-unfolding recordsLink
+unfolding records_link
 linked-turned a b = ap₂ ◌&&◌ (tied-turned a b) (near-turned (time a) (time b))

@@ -3,17 +3,17 @@
 use Rattle.std.specs.Prelude.{◌≡◌, ◌↔◌}
 use mathlib.Core.List.{List, [], ◌∷◌, Memᴰ}
 use Rattle.shown.specs.Fix.{Fix}
-use Rattle.links.specs.Transmissions.{Chain, transmissionsOf}
+use Rattle.links.specs.Transmissions.{Chain, transmissions_of}
 use Rattle.links.specs.Positions.{one, two, both}
 
 pub record Partition (fs : List Fix) : Type 0 where
   -- each fix is of a transmission
-  pub each : (f : Fix) → Memᴰ f fs → (c : List Fix) × Memᴰ c (transmissionsOf fs) × Memᴰ f c
+  pub each : (f : Fix) → Memᴰ f fs → (c : List Fix) × Memᴰ c (transmissions_of fs) × Memᴰ f c
   -- which is everything that a chain leads to from it
-  pub whole : (c : List Fix) → Memᴰ c (transmissionsOf fs) → (f : Fix) → Memᴰ f c → (g : Fix) → Memᴰ g c ↔ Chain fs f g
+  pub whole : (c : List Fix) → Memᴰ c (transmissions_of fs) → (f : Fix) → Memᴰ f c → (g : Fix) → Memᴰ g c ↔ Chain fs f g
   -- and of no other
-  pub one : (c d : List Fix) → Memᴰ c (transmissionsOf fs) → Memᴰ d (transmissionsOf fs) → (f : Fix) → Memᴰ f c → Memᴰ f d → c ≡ d
+  pub one : (c d : List Fix) → Memᴰ c (transmissions_of fs) → Memᴰ d (transmissions_of fs) → (f : Fix) → Memᴰ f c → Memᴰ f d → c ≡ d
 
 -- fixes of the tags {1}, {2} and {1,2} make one transmission
 abbrev pub Position6 : Type 0
-Position6 = transmissionsOf (one ∷ two ∷ both ∷ []) ≡ (one ∷ two ∷ both ∷ []) ∷ []
+Position6 = transmissions_of (one ∷ two ∷ both ∷ []) ≡ (one ∷ two ∷ both ∷ []) ∷ []

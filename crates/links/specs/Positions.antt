@@ -1,13 +1,13 @@
 -- Fixes all of one time: of tags {1}, {2} and {1,2}, and one of tag {3}. And fixes of any time.
 use Rattle.std.specs.Prelude.{List, [], ◌∷◌, ◌++◌, ℕ, drop}
 use Rattle.octets.specs.Words.{word_bytes}
-use Rattle.record.specs.Layout.{latAt}
-use Rattle.record.specs.Worked.{recordWith}
+use Rattle.record.specs.Layout.{lat_at}
+use Rattle.record.specs.Worked.{record_with}
 use Rattle.shown.specs.Fix.{Fix}
 
 -- a fix of these tags, without model inputs, signed by engine 0
 abbrev pub tagged : ℕ → List ℕ → Fix
-tagged identity tags = record { identity = identity ∷ []; recordBytes = recordWith tags 0; inputs = []; signers = 1 }
+tagged identity tags = record { identity = identity ∷ []; record_bytes = record_with tags 0; inputs = []; signers = 1 }
 
 abbrev pub one : Fix
 one = tagged 1 (1 ∷ [])
@@ -23,4 +23,4 @@ other = tagged 4 (3 ∷ [])
 
 -- a fix of these tags that was sent at time t: its record's first field is the time, up to where the latitude begins
 abbrev pub sent : ℕ → List ℕ → ℕ → Fix
-sent identity tags t = record { identity = identity ∷ []; recordBytes = word_bytes 8 t ++ drop latAt (recordWith tags 0); inputs = []; signers = 1 }
+sent identity tags t = record { identity = identity ∷ []; record_bytes = word_bytes 8 t ++ drop lat_at (record_with tags 0); inputs = []; signers = 1 }

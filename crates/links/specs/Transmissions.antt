@@ -9,23 +9,23 @@ use Rattle.ranges.specs.Lists.{any_of, filter}
 use Rattle.shown.specs.Fix.{Fix}
 
 -- how much the times of two that link may differ, in nanoseconds
-abbrev pub linkSpan : ℕ
-linkSpan = 2_000_000_000
+abbrev pub link_span : ℕ
+link_span = 2_000_000_000
 
 -- by how much two times differ: the larger less the smaller
 abbrev pub difference : ℕ → ℕ → ℕ
 difference s t = cond (ltb s t) (t - s) (s - t)
 
--- two times differ by at most linkSpan
-abbrev pub nearInTime : ℕ → ℕ → Bool
-nearInTime s t = leb (difference s t) linkSpan
+-- two times differ by at most link_span
+abbrev pub near_in_time : ℕ → ℕ → Bool
+near_in_time s t = leb (difference s t) link_span
 
 -- message and at least one tag are common, and the times are near
-unfoldable pub recordsLink : List ℕ → List ℕ → Bool
-recordsLink a b = tied a b && nearInTime (time a) (time b)
+unfoldable pub records_link : List ℕ → List ℕ → Bool
+records_link a b = tied a b && near_in_time (time a) (time b)
 
 abbrev pub linked : Fix → Fix → Bool
-linked f g = recordsLink f.recordBytes g.recordBytes
+linked f g = records_link f.record_bytes g.record_bytes
 
 -- a chain of links leads from a to a fix, through fixes of fs
 pub data Chain (fs : List Fix) (a : Fix) : Fix → Type 0 where
@@ -38,8 +38,8 @@ reach fs zero a = a ∷ []
 reach fs (suc n) a = let nearer = reach fs n a in filter (λ g. any_of (linked g) nearer) fs
 
 -- the transmission of a fix: no chain need be longer than there are fixes
-abbrev pub transmissionOf : List Fix → Fix → List Fix
-transmissionOf fs a = reach fs (length fs) a
+abbrev pub transmission_of : List Fix → Fix → List Fix
+transmission_of fs a = reach fs (length fs) a
 
 -- a is the first fix of the list
 abbrev pub leads : Fix → List Fix → Bool
@@ -47,9 +47,9 @@ leads a [] = false
 leads a (f ∷ fs) = same a.identity f.identity
 
 -- a is the first fix of its transmission
-abbrev pub isFirst : List Fix → Fix → Bool
-isFirst fs a = leads a (transmissionOf fs a)
+abbrev pub is_first : List Fix → Fix → Bool
+is_first fs a = leads a (transmission_of fs a)
 
 -- each transmission once, that of its first fix
-unfoldable pub transmissionsOf : List Fix → List (List Fix)
-transmissionsOf fs = map (transmissionOf fs) (filter (isFirst fs) fs)
+unfoldable pub transmissions_of : List Fix → List (List Fix)
+transmissions_of fs = map (transmission_of fs) (filter (is_first fs) fs)

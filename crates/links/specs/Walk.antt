@@ -3,12 +3,12 @@
 use Rattle.std.specs.Prelude.{Bool, true, false, cond, List, [], ◌∷◌, ℕ, zero, suc, ◌+◌, eqb, set, replicate}
 use Rattle.ranges.specs.Range.{first, filt}
 use Rattle.ranges.specs.Tables.{marked}
-use Rattle.fixes.specs.Slots.{maxFixes}
+use Rattle.fixes.specs.Slots.{max_fixes}
 
 -- ---- the walk: who is reached has a mark
 
-abbrev pub noMarks : List Bool
-noMarks = replicate maxFixes false
+abbrev pub no_marks : List Bool
+no_marks = replicate max_fixes false
 
 -- the number of places without a mark
 unfoldable pub unmarked : List Bool → ℕ
@@ -28,7 +28,7 @@ module _ (link : ℕ → ℕ → Bool) (n : ℕ) where
 
   -- who is reached from s
   unfoldable pub reached : ℕ → List Bool
-  reached s = visit (unmarked noMarks) s noMarks
+  reached s = visit (unmarked no_marks) s no_marks
 
   -- ---- a transmission is named by its first member
 
@@ -37,16 +37,16 @@ module _ (link : ℕ → ℕ → Bool) (n : ℕ) where
   label j = first (λ s. marked (reached s) j) 0 n
 
   -- s is the first of its transmission
-  abbrev pub isHead : ℕ → Bool
-  isHead s = eqb (label s) s
+  abbrev pub is_head : ℕ → Bool
+  is_head s = eqb (label s) s
 
   -- j is of transmission s
-  abbrev pub isMember : ℕ → ℕ → Bool
-  isMember s j = eqb (label j) s
+  abbrev pub is_member : ℕ → ℕ → Bool
+  is_member s j = eqb (label j) s
 
   -- the transmissions, and the members of one, ascending
   unfoldable pub heads : List ℕ
-  heads = filt isHead 0 n
+  heads = filt is_head 0 n
 
   unfoldable pub members : ℕ → List ℕ
-  members s = filt (isMember s) 0 n
+  members s = filt (is_member s) 0 n

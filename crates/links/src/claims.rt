@@ -1,6 +1,6 @@
 // What is claimed of links, of transmissions, and of bursts.
 ghost use Rattle.std.specs.Prelude.{List, ◌≤◌, length};
-ghost use Rattle.fixes.specs.Slots.{maxFixes};
+ghost use Rattle.fixes.specs.Slots.{max_fixes};
 ghost use Rattle.shown.specs.Fix.{Fix};
 ghost use Rattle.shown.specs.Items.{AllFormed, Apart};
 ghost use Rattle.links.specs.Claims.{Partition, Position6};
@@ -16,7 +16,7 @@ pub fn when_two_link()
 
 // The fixes of a board are parted: each is of one transmission, which is everything that a chain of links leads to.
 pub fn partition()
-    ensures parted { (fs : List Fix) → length fs ≤ maxFixes → AllFormed fs → Apart fs → Partition fs }
+    ensures parted { (fs : List Fix) → length fs ≤ max_fixes → AllFormed fs → Apart fs → Partition fs }
     ensures by_two_tags { Position6 }
 {}
 

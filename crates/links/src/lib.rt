@@ -26,7 +26,7 @@ const LINK_SPAN: u64 = 2_000_000_000;
 
 // Whether two times differ by at most that much.
 fn near_in_time(s: u64, t: u64) -> bool
-    ensures { result ≡ L.nearInTime s t }
+    ensures { result ≡ L.near_in_time s t }
 {
     s.abs_diff(t) <= LINK_SPAN
 }

@@ -1,7 +1,7 @@
 // The transmissions of fixes.
 ghost use Rattle.std.specs.Prelude.{◌≡◌, ◌≤◌, ◌<◌, length, slice_index_or, []};
 ghost use Rattle.shown.specs.Items.{AllFormed, Apart};
-ghost use Rattle.links.specs.Transmissions.{transmissionsOf};
+ghost use Rattle.links.specs.Transmissions.{transmissions_of};
 
 use crate::visit;
 use arrayvec::ArrayVec;
@@ -54,7 +54,7 @@ impl<'s, 'a> Transmissions<'s, 'a> {
         requires few { length fixes.now ≤ MAX_FIXES }
         requires formed { AllFormed fixes.now }
         requires apart { Apart fixes.now }
-        ensures { result ≡ transmissionsOf fixes.now }
+        ensures { result ≡ transmissions_of fixes.now }
     {
         let mut marks = [false; MAX_FIXES];
         let mut labels = [0u8; MAX_FIXES];

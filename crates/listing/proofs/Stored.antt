@@ -7,13 +7,13 @@ use lib.Dec.{eqb}
 use lib.Ieee.{Float, binary64, of_bits}
 use Rattle.ranges.proofs.Bools.{by}
 use Rattle.arithmetic.proofs.Outcomes.{read-infinity}
-use Rattle.arithmetic.specs.Bits.{infinity, storedChiSquare}
+use Rattle.arithmetic.specs.Bits.{infinity, stored_chi_square}
 use Rattle.arithmetic.specs.declared.standing.ChiSquare.TheVariants.{Measured, Unmeasured}
 use Rattle.drawing.proofs.Widths.{none-exactly-when}
 use Rattle.listing.specs.Claims.{ListedNoneExactlyWhen}
 
-number_read : (bits : ℕ) → storedChiSquare bits ≡ Unmeasured → bits ≡ infinity
-unfolding storedChiSquare
+number_read : (bits : ℕ) → stored_chi_square bits ≡ Unmeasured → bits ≡ infinity
+unfolding stored_chi_square
 number_read bits e = by (eqb bits infinity) (λ p. eqb-true bits infinity p) (λ p. let h : Measured (of_bits binary64 bits) ≡ Unmeasured = rw p at e in absurd (measured-apart h))
   where
     measured-apart : {x : Float} → Measured x ≡ Unmeasured → ⊥
@@ -21,5 +21,5 @@ number_read bits e = by (eqb bits infinity) (λ p. eqb-true bits infinity p) (λ
 
 pub listed-none-exactly-when : ListedNoneExactlyWhen
 listed-none-exactly-when bits =
-    let w = none-exactly-when (storedChiSquare bits) in
-    (λ e. number_read bits (w.0 e), λ e. w.1 (ap storedChiSquare e ∙ read-infinity))
+    let w = none-exactly-when (stored_chi_square bits) in
+    (λ e. number_read bits (w.0 e), λ e. w.1 (ap stored_chi_square e ∙ read-infinity))

@@ -3,36 +3,36 @@ use Rattle.std.specs.Prelude.{ℕ, suc, cond, ltb, length}
 use mathlib.Core.List.{List, [], ◌∷◌, ◌++◌, flat_map}
 use Rattle.octets.specs.Ascii.{ascii}
 use Rattle.text.specs.Numbers.{decimal}
-use Rattle.arithmetic.specs.Bits.{storedChiSquare}
-use Rattle.held.specs.After.{After, after, writeText}
+use Rattle.arithmetic.specs.Bits.{stored_chi_square}
+use Rattle.held.specs.After.{After, after, write_text}
 use Rattle.tracked.specs.Held.{RefusedFix, HeldTransmission}
-use Rattle.drawing.specs.Lines.{header, refusedLine}
-use Rattle.drawing.specs.Text.{rankedText, boardSize}
+use Rattle.drawing.specs.Lines.{header, refused_line}
+use Rattle.drawing.specs.Text.{ranked_text, board_size}
 use Rattle.stored.specs.Track.{Track}
-use Rattle.stored.specs.Memory.{wellFormed, decode}
+use Rattle.stored.specs.Memory.{well_formed, decode}
 
 -- `chi2=none` where the bits of the infinity are stored; any other bits are written as those of the number that they are, 7ff8000000000000 for every NaN
-abbrev pub refusedText : RefusedFix → List ℕ
-refusedText x = refusedLine x.fix.recordBytes x.fix.signers (storedChiSquare x.chi2)
+abbrev pub refused_text : RefusedFix → List ℕ
+refused_text x = refused_line x.fix.record_bytes x.fix.signers (stored_chi_square x.chi2)
 
 -- a transmission with its number
-unfoldable pub heldText : ℕ → HeldTransmission → List ℕ
-heldText number t =
-    header number (length t.fixes) 0 (length t.refused) ++ (flat_map rankedText t.fixes ++ flat_map refusedText t.refused)
+unfoldable pub held_text : ℕ → HeldTransmission → List ℕ
+held_text number t =
+    header number (length t.fixes) 0 (length t.refused) ++ (flat_map ranked_text t.fixes ++ flat_map refused_text t.refused)
 
 -- transmissions, the first with this number
-unfoldable pub heldFrom : ℕ → List HeldTransmission → List ℕ
-heldFrom number [] = []
-heldFrom number (t ∷ ts) = heldText number t ++ heldFrom (suc number) ts
+unfoldable pub held_from : ℕ → List HeldTransmission → List ℕ
+held_from number [] = []
+held_from number (t ∷ ts) = held_text number t ++ held_from (suc number) ts
 
 -- how many fixes entered a list of refused
-unfoldable pub contestedLine : ℕ → List ℕ
-contestedLine n = ascii "contested=" ++ (decimal n ++ ascii "\n")
+unfoldable pub contested_line : ℕ → List ℕ
+contested_line n = ascii "contested=" ++ (decimal n ++ ascii "\n")
 
-unfoldable pub listingOf : Track → List ℕ
-listingOf s = contestedLine s.contested ++ heldFrom 1 s.transmissions
+unfoldable pub listing_of : Track → List ℕ
+listing_of s = contested_line s.contested ++ held_from 1 s.transmissions
 
 -- 1 for bytes that are no track, 10 for an output that is too small; else the text and its length, and bytes past it are untouched
-unfoldable pub listTrack : List ℕ → List ℕ → After (List ℕ)
-listTrack m out =
-    cond (wellFormed m) (cond (ltb (length out) boardSize) (after 10 out) (writeText (listingOf (decode m)) out)) (after 1 out)
+unfoldable pub list_track : List ℕ → List ℕ → After (List ℕ)
+list_track m out =
+    cond (well_formed m) (cond (ltb (length out) board_size) (after 10 out) (write_text (listing_of (decode m)) out)) (after 1 out)

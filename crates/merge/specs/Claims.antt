@@ -3,9 +3,9 @@
 use Rattle.std.specs.Prelude.{◌≤◌, ◌≡◌, false, List, [], ◌∷◌}
 use Rattle.ranges.specs.Lists.{any_of, filter}
 use Rattle.shown.specs.Fix.{Fix}
-use Rattle.tracked.specs.Layout.{maxRefused}
-use Rattle.tracked.specs.Held.{HeldTransmission, heldIn, is_of, tiedTo}
-use Rattle.normalize.specs.Joining.{withFix, entered}
+use Rattle.tracked.specs.Layout.{max_refused}
+use Rattle.tracked.specs.Held.{HeldTransmission, held_in, is_of, tied_to}
+use Rattle.normalize.specs.Joining.{with_fix, entered}
 use Rattle.arrange.specs.Claims.{InOrder}
 use Rattle.merge.specs.Merged.{merged}
 
@@ -13,19 +13,19 @@ use Rattle.merge.specs.Merged.{merged}
 
 -- f is tied to t alone of the transmissions ts, and its identity is not held in t
 pub record Joins (f : Fix) (t : HeldTransmission) (ts : List HeldTransmission) : Type 0 where
-  pub alone : filter (tiedTo f) ts ≡ t ∷ []
-  pub new : any_of (is_of f) (heldIn t) ≡ false
+  pub alone : filter (tied_to f) ts ≡ t ∷ []
+  pub new : any_of (is_of f) (held_in t) ≡ false
 
 -- those refused of t with f that were not refused of t
 abbrev pub JoiningEnters : Type 0
-JoiningEnters = (f : Fix) (t : HeldTransmission) (ts : List HeldTransmission) → Joins f t ts → (merged f ts).entered ≡ entered t (withFix f t)
+JoiningEnters = (f : Fix) (t : HeldTransmission) (ts : List HeldTransmission) → Joins f t ts → (merged f ts).entered ≡ entered t (with_fix f t)
 
 -- a fix that joins none lets none enter: neither one that opens a transmission nor a duplicate
 abbrev pub OthersEnterNone : Type 0
 OthersEnterNone = (f : Fix) (ts : List HeldTransmission) → ((t : HeldTransmission) → Joins f t ts → ⊥) → (merged f ts).entered ≡ 0
 
 abbrev pub FewEnter : Type 0
-FewEnter = (f : Fix) (ts : List HeldTransmission) → (merged f ts).entered ≤ maxRefused
+FewEnter = (f : Fix) (ts : List HeldTransmission) → (merged f ts).entered ≤ max_refused
 
 -- ---- the order of the transmissions
 

@@ -2,9 +2,9 @@
 use Rattle.std.specs.Prelude.{ℕ, Bool, cond, ◌||◌, List, [], ◌∷◌, ◌++◌, map}
 use Rattle.ranges.specs.Lists.{any_of, filter}
 use Rattle.shown.specs.Fix.{Fix}
-use Rattle.tracked.specs.Held.{RefusedFix, HeldTransmission, heldIn, is_of, tiedTo}
-use Rattle.normalize.specs.Normal.{signedBy, signFirst, normalized}
-use Rattle.normalize.specs.Joining.{withFix, refuses, upholds, entered, leads, moved}
+use Rattle.tracked.specs.Held.{RefusedFix, HeldTransmission, held_in, is_of, tied_to}
+use Rattle.normalize.specs.Normal.{signed_by, sign_first, normalized}
+use Rattle.normalize.specs.Joining.{with_fix, refuses, upholds, entered, leads, moved}
 use Rattle.arrange.specs.Arranged.{arranged}
 use Rattle.merge.specs.declared.Merged.{Merged}
 use Rattle.merge.specs.declared.Merged.TheVariants.{Changed, Contested, Duplicate, Dropped}
@@ -37,22 +37,22 @@ opened f ts =
 -- ---- a fix that is tied to one
 
 -- u in the place of the transmission that f is tied to
-abbrev pub inPlace : Fix → HeldTransmission → List HeldTransmission → List HeldTransmission
-inPlace f u ts = map (λ t. cond (tiedTo f t) u t) ts
+abbrev pub in_place : Fix → HeldTransmission → List HeldTransmission → List HeldTransmission
+in_place f u ts = map (λ t. cond (tied_to f t) u t) ts
 
 -- the first refused that has the identity of f gains its signers
-unfoldable pub signRefused : Fix → List RefusedFix → List RefusedFix
-signRefused f [] = []
-signRefused f (x ∷ xs) =
-    let rest = signRefused f xs in
-    cond (is_of f x.fix) (record { fix = signedBy f x.fix; against = x.against; chi2 = x.chi2 } ∷ xs) (x ∷ rest)
+unfoldable pub sign_refused : Fix → List RefusedFix → List RefusedFix
+sign_refused f [] = []
+sign_refused f (x ∷ xs) =
+    let rest = sign_refused f xs in
+    cond (is_of f x.fix) (record { fix = signed_by f x.fix; against = x.against; chi2 = x.chi2 } ∷ xs) (x ∷ rest)
 
 -- its identity is held: the first that has it gains the signer, those that stand before the refused
-abbrev pub signIn : Fix → HeldTransmission → HeldTransmission
-signIn f t =
+abbrev pub sign_in : Fix → HeldTransmission → HeldTransmission
+sign_in f t =
     cond (upholds t f)
-    (record { fixes = signFirst f t.fixes; refused = t.refused })
-    (record { fixes = t.fixes; refused = signRefused f t.refused })
+    (record { fixes = sign_first f t.fixes; refused = t.refused })
+    (record { fixes = t.fixes; refused = sign_refused f t.refused })
 
 -- Contested goes before Changed
 abbrev pub answer_of : Fix → HeldTransmission → HeldTransmission → Merged
@@ -61,18 +61,18 @@ answer_of f t u =
 
 unfoldable pub joined : Fix → HeldTransmission → List HeldTransmission → Step
 joined f t ts =
-    let u = withFix f t in
-    cond (any_of (is_of f) (heldIn t))
-    (record { answer = Duplicate; entered = 0; left = inPlace f (signIn f t) ts })
-    (record { answer = answer_of f t u; entered = entered t u; left = arranged (inPlace f u ts) })
+    let u = with_fix f t in
+    cond (any_of (is_of f) (held_in t))
+    (record { answer = Duplicate; entered = 0; left = in_place f (sign_in f t) ts })
+    (record { answer = answer_of f t u; entered = entered t u; left = arranged (in_place f u ts) })
 
 -- ---- which of the two it is
 
 -- f, where these of the transmissions ts are tied to it
-abbrev pub mergedInto : Fix → List HeldTransmission → List HeldTransmission → Step
-mergedInto f ts [] = opened f ts
-mergedInto f ts (t ∷ []) = joined f t ts
-mergedInto f ts (t ∷ (u ∷ us)) = opened f ts
+abbrev pub merged_into : Fix → List HeldTransmission → List HeldTransmission → Step
+merged_into f ts [] = opened f ts
+merged_into f ts (t ∷ []) = joined f t ts
+merged_into f ts (t ∷ (u ∷ us)) = opened f ts
 
 unfoldable pub merged : Fix → List HeldTransmission → Step
-merged f ts = mergedInto f ts (filter (tiedTo f) ts)
+merged f ts = merged_into f ts (filter (tied_to f) ts)

@@ -4,12 +4,12 @@
 ghost use Rattle.std.specs.Prelude.{◌≡◌, true, [], ◌∷◌, map, ◌*◌, ◌<◌, ◌≤◌, length, get_or};
 ghost use Rattle.ranges.specs.Lists.{any_of};
 ghost use Rattle.places.specs.Places.{places};
-ghost use Rattle.items.specs.Layout.{hashSize};
-ghost use Rattle.tracked.specs.Layout.{fixSize};
-ghost use Rattle.tracked.specs.Bytes.{recordIn, fixIn, identityIn, fixCount, transmissionIn, transmissionBytes};
-ghost use Rattle.tracked.specs.Parts.{heldPlaces, heldCount, Sound};
-ghost use Rattle.tracked.specs.Known.{knownCount, Knows};
-ghost use Rattle.arrange.specs.Blocks.{blocks, blockTable, arrangedBlocks, Filled, Known, transmissionAt, Comparable, Still};
+ghost use Rattle.items.specs.Layout.{hash_size};
+ghost use Rattle.tracked.specs.Layout.{fix_size};
+ghost use Rattle.tracked.specs.Bytes.{record_in, fix_in, identity_in, fix_count, transmission_in, transmission_bytes};
+ghost use Rattle.tracked.specs.Parts.{held_places, held_count, Sound};
+ghost use Rattle.tracked.specs.Known.{known_count, Knows};
+ghost use Rattle.arrange.specs.Blocks.{blocks, block_table, arranged_blocks, Filled, Known, transmission_at, Comparable, Still};
 ghost use Rattle.merge.specs.Merged.{opened, merged};
 ghost use Rattle.merge.specs.Searching as S;
 
@@ -72,7 +72,7 @@ const IDS_SIZE: usize = (MAX_STANDING + MAX_REFUSED) * HASH_SIZE;
 // The first transmission from a place on that is tied to a record.
 fn next_tied(t: &[u8], n: usize, from: usize, r: Record) -> Found
     requires { Filled t.now n × (from ≤ n) }
-    ensures { S.First (S.tiesBlock r.entry.bytes.now) (blocks n t.now) [] from result }
+    ensures { S.First (S.ties_block r.entry.bytes.now) (blocks n t.now) [] from result }
 {
     for i in from..n {
         if tracked::ties(arrange::block(t, i), r) {
@@ -85,7 +85,7 @@ fn next_tied(t: &[u8], n: usize, from: usize, r: Record) -> Found
 // The transmissions that a record is tied to.
 fn tied_to(t: &[u8], n: usize, r: Record) -> Tied
     requires { Filled t.now n }
-    ensures { S.Ties (S.tiesBlock r.entry.bytes.now) (blocks n t.now) [] result }
+    ensures { S.Ties (S.ties_block r.entry.bytes.now) (blocks n t.now) [] result }
 {
     let first = next_tied(t, n, 0, r);
     let Found::At(i) = first else {
@@ -100,7 +100,7 @@ fn tied_to(t: &[u8], n: usize, r: Record) -> Tied
 
 // A transmission of one fix.
 fn alone(f: Fix) -> [u8; TRANSMISSION_SIZE]
-    ensures { result ≡ transmissionBytes (record { fixes = fixIn f.entry.bytes.now ∷ []; refused = [] }) }
+    ensures { result ≡ transmission_bytes (record { fixes = fix_in f.entry.bytes.now ∷ []; refused = [] }) }
 {
     let mut b = [0u8; TRANSMISSION_SIZE];
     b[tracked::layout::FIX_COUNT_AT] = 1;
@@ -111,7 +111,7 @@ fn alone(f: Fix) -> [u8; TRANSMISSION_SIZE]
 // Whether the fix kept of some transmission has the message, tags and inputs of f.
 fn keeps_set(t: &[u8], n: usize, f: Fix) -> bool
     requires { Filled t.now n × S.AllFixed (blocks n t.now) }
-    ensures { result ≡ any_of (S.keepsSet f.entry.bytes.now) (blocks n t.now) }
+    ensures { result ≡ any_of (S.keeps_set f.entry.bytes.now) (blocks n t.now) }
 {
     for i in 0..n {
         if tracked::held(arrange::block(t, i), 0).has_set_of(f) {
@@ -123,9 +123,9 @@ fn keeps_set(t: &[u8], n: usize, f: Fix) -> bool
 
 // Whether the fix kept of a transmission has an identity. That of the fix is worked out unless the sheet s has it.
 fn keeps_first(b: &[u8], s: &mut [u8], id: &Identity) -> bool
-    requires { Sound b.now × (1 ≤ fixCount b.now) × Knows b.now s.old }
-    ensures value { result ≡ S.keepsIdentity id.now.0 b.now }
-    ensures knows { Knows b.now s.new × (1 ≤ knownCount s.new) }
+    requires { Sound b.now × (1 ≤ fix_count b.now) × Knows b.now s.old }
+    ensures value { result ≡ S.keeps_identity id.now.0 b.now }
+    ensures knows { Knows b.now s.new × (1 ≤ known_count s.new) }
 {
     tracked::known::learn_first(b, s);
     octets::order::equal(tracked::known::identity_at(s, 0), &id.0)
@@ -134,7 +134,7 @@ fn keeps_first(b: &[u8], s: &mut [u8], id: &Identity) -> bool
 // The same of transmission i, whose sheet is in place i.
 fn keeps_at(t: &[u8], known: &mut [u8], i: usize, id: &Identity) -> bool
     requires { Comparable t.now known.old i }
-    ensures value { result ≡ S.keepsIdentity id.now.0 (transmissionAt t.now i) }
+    ensures value { result ≡ S.keeps_identity id.now.0 (transmission_at t.now i) }
     ensures still { Still t.now known.old known.new }
 {
     let a = i * KNOWN_SIZE;
@@ -145,7 +145,7 @@ fn keeps_at(t: &[u8], known: &mut [u8], i: usize, id: &Identity) -> bool
 // Whether the fix kept of some transmission has an identity.
 fn keeps_identity(t: &[u8], known: &mut [u8], n: usize, id: &Identity) -> bool
     requires { Filled t.now n × S.AllFixed (blocks n t.now) × Known t.now known.old n }
-    ensures { result ≡ any_of (S.keepsIdentity id.now.0) (blocks n t.now) }
+    ensures { result ≡ any_of (S.keeps_identity id.now.0) (blocks n t.now) }
 {
     for i in 0..n {
         if keeps_at(t, known, i, id) {
@@ -158,7 +158,7 @@ fn keeps_identity(t: &[u8], known: &mut [u8], n: usize, id: &Identity) -> bool
 // Whether the fix kept of some transmission has the identity of f. Mostly that is f itself, and nothing is hashed.
 fn keeps(t: &[u8], known: &mut [u8], n: usize, f: Fix) -> bool
     requires { Filled t.now n × S.AllFixed (blocks n t.now) × Known t.now known.old n }
-    ensures { result ≡ any_of (S.keepsIdentity (identityIn f.entry.bytes.now)) (blocks n t.now) }
+    ensures { result ≡ any_of (S.keeps_identity (identity_in f.entry.bytes.now)) (blocks n t.now) }
 {
     if keeps_set(t, n, f) {
         return true;
@@ -169,7 +169,7 @@ fn keeps(t: &[u8], known: &mut [u8], n: usize, f: Fix) -> bool
 // A fix that is tied to none or to several transmissions opens one of its own.
 fn open(t: &mut [u8], n: usize, f: Fix) -> Outcome
     requires { S.Ready t.old n }
-    ensures { S.Leaves (opened (fixIn f.entry.bytes.now) (map transmissionIn (blocks n t.old))) result t.new }
+    ensures { S.Leaves (opened (fix_in f.entry.bytes.now) (map transmission_in (blocks n t.old))) result t.new }
 {
     let b = alone(f);
     let mut known = [0u8; KNOWN_TABLE_SIZE];
@@ -191,8 +191,8 @@ fn open(t: &mut [u8], n: usize, f: Fix) -> Outcome
 
 // The first of n identities that is this one.
 fn find_identity(ids: &[u8], n: usize, id: &Identity) -> Found
-    requires { n * hashSize ≤ length ids.now }
-    ensures { S.First (S.isIdentity id.now.0) (places hashSize n ids.now) [] 0 result }
+    requires { n * hash_size ≤ length ids.now }
+    ensures { S.First (S.is_identity id.now.0) (places hash_size n ids.now) [] 0 result }
 {
     for k in 0..n {
         let at = k * HASH_SIZE;
@@ -207,7 +207,7 @@ fn find_identity(ids: &[u8], n: usize, id: &Identity) -> Found
 // The first held fix that has the message, tags and inputs of f.
 fn find_set(b: &[u8], f: Fix) -> Found
     requires { Sound b.now }
-    ensures { S.First (S.hasSet f.entry.bytes.now) (heldPlaces b.now) [] 0 result }
+    ensures { S.First (S.has_set f.entry.bytes.now) (held_places b.now) [] 0 result }
 {
     let n = tracked::held_count(b);
     for k in 0..n {
@@ -220,8 +220,8 @@ fn find_set(b: &[u8], f: Fix) -> Found
 
 // The first held fix that has the identity of f, which fix k has. Where that is the first of all, nothing is hashed.
 fn first_identified(b: &[u8], k: u8, f: Fix) -> u8
-    requires { Sound b.now × (k < heldCount b.now) × (identityIn (get_or (heldPlaces b.now) k []) ≡ identityIn f.bytes.now) }
-    ensures { S.First (S.isIdentity (identityIn f.entry.bytes.now)) (map identityIn (heldPlaces b.now)) [] 0 (Found.At result) }
+    requires { Sound b.now × (k < held_count b.now) × (identity_in (get_or (held_places b.now) k []) ≡ identity_in f.bytes.now) }
+    ensures { S.First (S.is_identity (identity_in f.entry.bytes.now)) (map identity_in (held_places b.now)) [] 0 (Found.At result) }
 {
     if k == 0 {
         return 0;
@@ -238,8 +238,8 @@ fn first_identified(b: &[u8], k: u8, f: Fix) -> u8
 // Adds the signers of f to the held fix k, the first that has its identity.
 fn sign_held(b: &mut [u8], k: u8, f: Fix)
     requires steady { S.Steady b.old }
-    requires first { S.First (S.isIdentity (identityIn f.bytes.now)) (map identityIn (heldPlaces b.old)) [] 0 (Found.At k) }
-    ensures { S.JointAs (fixIn f.entry.bytes.now) (transmissionIn b.old) Joint.Signed b.new }
+    requires first { S.First (S.is_identity (identity_in f.bytes.now)) (map identity_in (held_places b.old)) [] 0 (Found.At k) }
+    ensures { S.JointAs (fix_in f.entry.bytes.now) (transmission_in b.old) Joint.Signed b.new }
 {
     tracked::sign(b, k, f.signers());
 }
@@ -247,7 +247,7 @@ fn sign_held(b: &mut [u8], k: u8, f: Fix)
 // A fix in the transmission that it is tied to, by the identities of all that are held. s is the sheet of the transmission.
 fn join_identified(b: &mut [u8], f: Fix, s: &mut [u8]) -> Joint
     requires { S.Steady b.old × Knows b.old s.old }
-    ensures joint_as { S.JointAs (fixIn f.entry.bytes.now) (transmissionIn b.old) result b.new }
+    ensures joint_as { S.JointAs (fix_in f.entry.bytes.now) (transmission_in b.old) result b.new }
     ensures knows_decided { S.KnowsDecided result b.new s.new }
 {
     let id = f.identity();
@@ -266,7 +266,7 @@ fn join_identified(b: &mut [u8], f: Fix, s: &mut [u8]) -> Joint
 // s is the sheet of the transmission.
 fn join_block(b: &mut [u8], f: Fix, s: &mut [u8]) -> Joint
     requires { S.Steady b.old × Knows b.old s.old }
-    ensures joint_as { S.JointAs (fixIn f.entry.bytes.now) (transmissionIn b.old) result b.new }
+    ensures joint_as { S.JointAs (fix_in f.entry.bytes.now) (transmission_in b.old) result b.new }
     ensures knows_decided { S.KnowsDecided result b.new s.new }
 {
     let found = find_set(b, f);
@@ -297,8 +297,8 @@ fn answer_of(j: Joined) -> Merged
 // Brings the transmissions of a table into their order, where s is the sheet of transmission i.
 fn rearrange(t: &mut [u8], n: usize, i: usize, s: &[u8]) -> usize
     requires { Filled t.old n × (i < n) × Knows (get_or (blocks n t.old) i []) s.now }
-    ensures value { result ≡ length (arrangedBlocks (blocks n t.old)) }
-    ensures t_after { t.new ≡ blockTable (arrangedBlocks (blocks n t.old)) }
+    ensures value { result ≡ length (arranged_blocks (blocks n t.old)) }
+    ensures t_after { t.new ≡ block_table (arranged_blocks (blocks n t.old)) }
 {
     let mut known = [0u8; KNOWN_TABLE_SIZE];
     octets::runs::put_bytes(&mut known, i * KNOWN_SIZE, s);
@@ -308,8 +308,8 @@ fn rearrange(t: &mut [u8], n: usize, i: usize, s: &[u8]) -> usize
 // A fix that is tied to transmission i alone.
 fn join_at(t: &mut [u8], n: usize, i: usize, f: Fix) -> Outcome
     requires ready { S.Ready t.old n }
-    requires ties { S.Ties (S.tiesBlock (recordIn f.bytes.now)) (blocks n t.old) [] (Tied.One i) }
-    ensures { S.Leaves (merged (fixIn f.entry.bytes.now) (map transmissionIn (blocks n t.old))) result t.new }
+    requires ties { S.Ties (S.ties_block (record_in f.bytes.now)) (blocks n t.old) [] (Tied.One i) }
+    ensures { S.Leaves (merged (fix_in f.entry.bytes.now) (map transmission_in (blocks n t.old))) result t.new }
 {
     let a = i * TRANSMISSION_SIZE;
     let e = a + TRANSMISSION_SIZE;
@@ -333,7 +333,7 @@ fn join_at(t: &mut [u8], n: usize, i: usize, f: Fix) -> Outcome
 // Takes a further fix f in among n transmissions.
 pub fn merge(t: &mut [u8], n: usize, f: Fix) -> Outcome
     requires { S.Ready t.old n }
-    ensures { S.Leaves (merged (fixIn f.entry.bytes.now) (map transmissionIn (blocks n t.old))) result t.new }
+    ensures { S.Leaves (merged (fix_in f.entry.bytes.now) (map transmission_in (blocks n t.old))) result t.new }
 {
     match tied_to(t, n, f.record()) {
         Tied::One(i) => join_at(t, n, i, f),

@@ -6,53 +6,53 @@ use Rattle.std.specs.Fn.{CalledAt}
 use Rattle.std.specs.Iterator.{YieldsFirstBy, Yields, FindsItem}
 use Rattle.std.specs.List.{FoldsTo, list_all}
 use Rattle.ranges.proofs.Bools.{by}
-use Rattle.places.specs.Places.{allPlaces}
-use Rattle.models.specs.Summary.{modelOf, spec_of, summaryInputs}
-use Rattle.models.specs.Models.{summariesFor, claims, state_of, stateFrom, agreed, disputed}
+use Rattle.places.specs.Places.{all_places}
+use Rattle.models.specs.Summary.{model_of, spec_of, summary_inputs}
+use Rattle.models.specs.Models.{summaries_for, claims, state_of, state_from, agreed, disputed}
 use Rattle.models.specs.Answers.{listed, concurs}
 use Rattle.models.specs.declared.summaries.Summary.{Summary}
 use Rattle.models.specs.declared.summaries.Summaries.{Summaries}
 
 -- what a model's summaries have in common, looked for among all
-pub concur-all : (m s : ℕ) (h : List ℕ) (ps : List (List ℕ)) → allPlaces (claims s h) (summariesFor m ps) ≡ allPlaces (concurs m s h) ps
-unfolding allPlaces summariesFor
+pub concur-all : (m s : ℕ) (h : List ℕ) (ps : List (List ℕ)) → all_places (claims s h) (summaries_for m ps) ≡ all_places (concurs m s h) ps
+unfolding all_places summaries_for
 concur-all m s h [] = refl
-concur-all m s h (p ∷ ps) = by (eqb (modelOf p) m) (λ e. rw e (ap (λ (b : Bool). claims s h p && b) (concur-all m s h ps))) (λ e. rw e (concur-all m s h ps))
+concur-all m s h (p ∷ ps) = by (eqb (model_of p) m) (λ e. rw e (ap (λ (b : Bool). claims s h p && b) (concur-all m s h ps))) (λ e. rw e (concur-all m s h ps))
 
-pub as-places : (test : List ℕ → Bool) (ps : List (List ℕ)) → list_all test ps ≡ allPlaces test ps
-unfolding allPlaces
+pub as-places : (test : List ℕ → Bool) (ps : List (List ℕ)) → list_all test ps ≡ all_places test ps
+unfolding all_places
 as-places test [] = refl
 as-places test (p ∷ ps) = ap (λ (b : Bool). test p && b) (as-places test ps)
 
 -- the search for a model's first summary, by a test f that says whether a summary is of the model
 module _ (m : ℕ) {F : Type 0} (g : Mut F (Bor Summary × Unit {0}) Bool) where
   abbrev Tests : F → Type 0
-  Tests f = (x : Summary) (b : Bool) (q : F) → CalledAt g f x b q → (q ≡ f) × (b ≡ eqb (modelOf x.bytes.now) m)
+  Tests f = (x : Summary) (b : Bool) (q : F) → CalledAt g f x b q → (q ≡ f) × (b ≡ eqb (model_of x.bytes.now) m)
 
   -- what is passed over is of other models
   passed : (f : F) → Tests f → (xs : List Summary) (s t : Summaries) (q : F) → Yields (YieldsFirstBy (λ p. p.bytes.now) listed) s xs t → FoldsTo (λ p x r. CalledAt g p x false r) f xs q
-      → (q ≡ f) × (summariesFor m (listed s) ≡ summariesFor m (listed t))
-  unfolding summariesFor
-  passed f says [] s t q y k = (sym k, ap (λ (z : Summaries). summariesFor m (listed z)) y)
+      → (q ≡ f) × (summaries_for m (listed s) ≡ summaries_for m (listed t))
+  unfolding summaries_for
+  passed f says [] s t q y k = (sym k, ap (λ (z : Summaries). summaries_for m (listed z)) y)
   passed f says (x ∷ xs) s t q (j, e, y) (p, h, k) =
       let other = says x false p h in
       let kept = passed f says xs j t q y (rw other.0 at k) in
       (kept.0, rw (e, sym other.1) kept.1)
 
   module _ (f : F) (says : Tests f) (s u : Summaries) where
-    pub none-found : FindsItem (YieldsFirstBy (λ p. p.bytes.now) listed) g s f None u → summariesFor m (listed s) ≡ []
-    unfolding summariesFor
+    pub none-found : FindsItem (YieldsFirstBy (λ p. p.bytes.now) listed) g s f None u → summaries_for m (listed s) ≡ []
+    unfolding summaries_for
     none-found h = (passed f says h.0 s h.2.0 h.1 h.2.1 h.3).1 ∙ rw h.2.2.0 refl
 
-    pub one-found : (x : Summary) → FindsItem (YieldsFirstBy (λ p. p.bytes.now) listed) g s f (Some x) u → summariesFor m (listed s) ≡ x.bytes.now ∷ summariesFor m (listed u)
-    unfolding summariesFor
+    pub one-found : (x : Summary) → FindsItem (YieldsFirstBy (λ p. p.bytes.now) listed) g s f (Some x) u → summaries_for m (listed s) ≡ x.bytes.now ∷ summaries_for m (listed u)
+    unfolding summaries_for
     one-found x h =
         let p = passed f says h.0 s h.2.0 h.1 h.2.1 h.3 in
         let here = says x true h.4.0 (rw p.0 at h.4.1) in
         p.1 ∙ rw (h.2.2, sym here.1) refl
 
 -- the state, once a model's first summary is found and the others are compared with it
-pub settled : (m : ℕ) (all rest : List (List ℕ)) (p : List ℕ) (r : Bool) → summariesFor m all ≡ p ∷ summariesFor m rest
-    → r ≡ list_all (concurs m (spec_of p) (summaryInputs p)) rest → state_of m all ≡ cond r (agreed (spec_of p) (summaryInputs p)) disputed
-unfolding stateFrom
-settled m all rest p r e h = rw (e, h ∙ as-places (concurs m (spec_of p) (summaryInputs p)) rest ∙ sym (concur-all m (spec_of p) (summaryInputs p) rest)) refl
+pub settled : (m : ℕ) (all rest : List (List ℕ)) (p : List ℕ) (r : Bool) → summaries_for m all ≡ p ∷ summaries_for m rest
+    → r ≡ list_all (concurs m (spec_of p) (summary_inputs p)) rest → state_of m all ≡ cond r (agreed (spec_of p) (summary_inputs p)) disputed
+unfolding state_from
+settled m all rest p r e h = rw (e, h ∙ as-places (concurs m (spec_of p) (summary_inputs p)) rest ∙ sym (concur-all m (spec_of p) (summary_inputs p) rest)) refl

@@ -1,6 +1,6 @@
 // Hashes, each of a type of its own, and the bytes that they are worked out from.
 ghost use Rattle.std.specs.Prelude.{◌≡◌, ◌++◌, ◌+◌, ◌≤◌, length};
-ghost use Rattle.octets.specs.Order.{isBefore};
+ghost use Rattle.octets.specs.Order.{is_before};
 ghost use Rattle.arrayvec.specs.ArrayVec.{array_vec_len};
 
 use arrayvec::ArrayVec;
@@ -22,7 +22,7 @@ pub struct Identity(pub [u8; HASH_SIZE]);
 
 // Whether an identity comes before another, in the order of their bytes.
 pub fn precedes(a: &Identity, b: &Identity) -> bool
-    ensures { result ≡ isBefore a.now.0 b.now.0 }
+    ensures { result ≡ is_before a.now.0 b.now.0 }
 {
     octets::order::precedes(&a.0, &b.0)
 }

@@ -2,7 +2,7 @@
 ghost use Rattle.std.specs.Prelude.{◌≡◌, ◌*◌, ◌≤◌, length};
 ghost use Rattle.std.specs.Iterator.{YieldsFirstBy, item_count};
 ghost use Rattle.places.specs.Places.{places};
-ghost use Rattle.models.specs.Summary.{summarySize, inputsSize, modelOf, spec_of, summaryInputs};
+ghost use Rattle.models.specs.Summary.{summary_size, inputs_size, model_of, spec_of, summary_inputs};
 
 use crate::layout;
 
@@ -10,13 +10,13 @@ use crate::layout;
 #[derive(Clone, Copy)]
 pub struct Summary<'a> {
     pub bytes: &'a [u8],
-    ghost size: { length bytes.now ≡ summarySize },
+    ghost size: { length bytes.now ≡ summary_size },
 }
 
 impl<'a> Summary<'a> {
     // The model that it is of.
     pub fn model(self) -> u8
-        ensures { result ≡ modelOf self.entry.bytes.now }
+        ensures { result ≡ model_of self.entry.bytes.now }
     {
         self.bytes[layout::MODEL_AT]
     }
@@ -30,8 +30,8 @@ impl<'a> Summary<'a> {
 
     // The hash of the model's inputs that it states.
     pub fn inputs(self) -> &'a [u8]
-        ensures value { result.now ≡ summaryInputs self.entry.bytes.now }
-        ensures size { length result.now ≡ inputsSize }
+        ensures value { result.now ≡ summary_inputs self.entry.bytes.now }
+        ensures size { length result.now ≡ inputs_size }
     {
         let bytes = self.bytes;
         &bytes[layout::INPUTS_AT..layout::SUMMARY_SIZE]
@@ -43,15 +43,15 @@ impl<'a> Summary<'a> {
 pub struct Summaries<'a> {
     pub table: &'a [u8],
     pub count: usize,
-    ghost within: { count * summarySize ≤ length table.now },
+    ghost within: { count * summary_size ≤ length table.now },
 }
 
 impl<'a> Iterator for Summaries<'a> {
     type Item = Summary<'a>;
 
-    ghost next_gives = { YieldsFirstBy (λ p. p.bytes.now) (λ s. places summarySize s.count s.table.now) };
+    ghost next_gives = { YieldsFirstBy (λ p. p.bytes.now) (λ s. places summary_size s.count s.table.now) };
 
-    ghost remaining = { item_count (λ s. places summarySize s.count s.table.now) };
+    ghost remaining = { item_count (λ s. places summary_size s.count s.table.now) };
 
     fn next(&mut self) -> Option<Summary<'a>> {
         if self.count == 0 {

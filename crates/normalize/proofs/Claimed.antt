@@ -11,24 +11,24 @@ use Rattle.ranges.specs.Lists.{any_of, filter, insert, sort}
 use Rattle.ranges.proofs.Bools.{or, no_true, and_left}
 use Rattle.ranges.proofs.Lists.{any-in, sort-perm, sort-in}
 use Rattle.ranges.proofs.Orders.{perm-map, perm-mem}
-use Rattle.arithmetic.specs.Agree.{agreesOf}
+use Rattle.arithmetic.specs.Agree.{agrees_of}
 use Rattle.octets.specs.Order.{same}
-use Rattle.record.specs.Fields.{tagCount}
+use Rattle.record.specs.Fields.{tag_count}
 use Rattle.record.specs.Relations.{subset}
 use Rattle.record.proofs.Laws.{subset-fewer}
 use Rattle.rule.specs.Outcome.{Refused}
-use Rattle.decision.specs.Claims.{listedIn}
-use Rattle.decision.proofs.Laws.{Sound, listed-once, some-ranked}
+use Rattle.decision.specs.Claims.{listed_in}
+use Rattle.decision.proofs.Laws.{Sound, listed-once, some_ranked}
 use Rattle.shown.specs.Fix.{Fix}
-use Rattle.shown.specs.Shown.{Transmission, subsetOf, agreement, shown}
-use Rattle.shown.specs.Claims.{fixRelations}
+use Rattle.shown.specs.Shown.{Transmission, subset_of, agreement, shown}
+use Rattle.shown.specs.Claims.{fix_relations}
 use Rattle.shown.proofs.Plainly.{shown-is-decided}
-use Rattle.tracked.specs.Layout.{maxStanding, maxRefused}
-use Rattle.tracked.specs.Held.{fixOf, heldIn, is_of}
+use Rattle.tracked.specs.Layout.{max_standing, max_refused}
+use Rattle.tracked.specs.Held.{fix_of, held_in, is_of}
 use Rattle.keeping.proofs.Lowering.{take_in}
 use Rattle.keeping.proofs.Outcomes.{take-map}
-use Rattle.normalize.specs.Normal.{gatherAll, distinct, refusedFix, lowerRefused, normalized}
-use Rattle.normalize.specs.Claims.{SomeStand, FewKept, Differ, identityOf, IdentitiesDiffer, SignersUnited, AloneStands}
+use Rattle.normalize.specs.Normal.{gather_all, distinct, refused_fix, lower_refused, normalized}
+use Rattle.normalize.specs.Claims.{SomeStand, FewKept, Differ, identity_of, IdentitiesDiffer, SignersUnited, AloneStands}
 use Rattle.normalize.proofs.Differing.{perm-differ, take-differ, both-differ, front-differ, back-differ, cross-differ}
 use Rattle.normalize.proofs.United.{Gathered, gathered-all, gathered_none}
 use Rattle.arithmetic.specs.declared.standing.ChiSquare.{ChiSquare}
@@ -38,8 +38,8 @@ item_of x = x.item
 
 -- ---- what is shown lists every fix once
 
-pub once : (ks : List Fix) → Permᴰ (listedIn (shown ks)) ks
-once ks = subst (λ (o : Transmission). Permᴰ (listedIn o) ks) (sym (shown-is-decided ks)) (listed-once fixRelations ks)
+pub once : (ks : List Fix) → Permᴰ (listed_in (shown ks)) ks
+once ks = subst (λ (o : Transmission). Permᴰ (listed_in o) ks) (sym (shown-is-decided ks)) (listed-once fix_relations ks)
 
 module _ (fs : List Fix) where
   pub gathered : Gathered fs (distinct fs)
@@ -49,14 +49,14 @@ module _ (fs : List Fix) where
   o = shown (distinct fs)
 
   abbrev pub lows : List (Refused Fix ChiSquare)
-  lows = take maxRefused (sort lowerRefused o.refused)
+  lows = take max_refused (sort lower_refused o.refused)
 
-  pub kept-are : heldIn (normalized fs) ≡ take maxStanding o.ranked ++ map item_of lows
+  pub kept-are : held_in (normalized fs) ≡ take max_standing o.ranked ++ map item_of lows
   unfolding normalized
-  kept-are = ap (λ (l : List Fix). take maxStanding o.ranked ++ l) (map-map fixOf refusedFix lows)
+  kept-are = ap (λ (l : List Fix). take max_standing o.ranked ++ l) (map-map fix_of refused_fix lows)
 
   pub low-in : (x : Refused Fix ChiSquare) → Memᴰ x lows → Memᴰ x o.refused
-  low-in x m = sort-in lowerRefused o.refused x (take_in maxRefused (sort lowerRefused o.refused) m)
+  low-in x m = sort-in lower_refused o.refused x (take_in max_refused (sort lower_refused o.refused) m)
 
   -- what is kept is among those that were gathered
   pub ranked-in : (g : Fix) → Memᴰ g o.ranked → Memᴰ g (distinct fs)
@@ -65,49 +65,49 @@ module _ (fs : List Fix) where
   pub refused-in : (x : Refused Fix ChiSquare) → Memᴰ x o.refused → Memᴰ x.item (distinct fs)
   refused-in x m = perm-mem (Permᴰ.symm (once (distinct fs))) (Memᴰ.append_right o.ranked (Memᴰ.append_right o.dominated (Memᴰ.map item_of m)))
 
-  pub kept_in : (g : Fix) → Memᴰ g (heldIn (normalized fs)) → Memᴰ g (distinct fs)
+  pub kept_in : (g : Fix) → Memᴰ g (held_in (normalized fs)) → Memᴰ g (distinct fs)
   kept_in g m =
-      or (Memᴰ.append_cases (take maxStanding o.ranked) (subst (λ (l : List Fix). Memᴰ g l) kept-are m))
-      (λ k. ranked-in g (take_in maxStanding o.ranked k))
+      or (Memᴰ.append_cases (take max_standing o.ranked) (subst (λ (l : List Fix). Memᴰ g l) kept-are m))
+      (λ k. ranked-in g (take_in max_standing o.ranked k))
       (λ k. let r = Memᴰ.of_map item_of lows k in subst (λ (x : Fix). Memᴰ x (distinct fs)) r.2 (refused-in r.0 (low-in r.0 r.1)))
 
   -- ---- their identities differ
 
   abbrev ranks : List (List ℕ)
-  ranks = map identityOf o.ranked
+  ranks = map identity_of o.ranked
 
   abbrev falls : List (List ℕ)
-  falls = map identityOf (map item_of o.refused)
+  falls = map identity_of (map item_of o.refused)
 
-  parted : map identityOf (listedIn o) ≡ ranks ++ (map identityOf o.dominated ++ falls)
+  parted : map identity_of (listed_in o) ≡ ranks ++ (map identity_of o.dominated ++ falls)
   parted =
-      map-append identityOf o.ranked (o.dominated ++ map item_of o.refused)
-      ∙ ap (λ (l : List (List ℕ)). ranks ++ l) (map-append identityOf o.dominated (map item_of o.refused))
+      map-append identity_of o.ranked (o.dominated ++ map item_of o.refused)
+      ∙ ap (λ (l : List (List ℕ)). ranks ++ l) (map-append identity_of o.dominated (map item_of o.refused))
 
-  all-differ : Differ (ranks ++ (map identityOf o.dominated ++ falls))
-  all-differ = subst Differ parted (perm-differ (perm-map identityOf (Permᴰ.symm (once (distinct fs)))) gathered.differ)
+  all-differ : Differ (ranks ++ (map identity_of o.dominated ++ falls))
+  all-differ = subst Differ parted (perm-differ (perm-map identity_of (Permᴰ.symm (once (distinct fs)))) gathered.differ)
 
   abbrev sorted : List (List ℕ)
-  sorted = map identityOf (map item_of (sort lowerRefused o.refused))
+  sorted = map identity_of (map item_of (sort lower_refused o.refused))
 
   same-falls : Permᴰ falls sorted
-  same-falls = perm-map identityOf (perm-map item_of (Permᴰ.symm (sort-perm lowerRefused o.refused)))
+  same-falls = perm-map identity_of (perm-map item_of (Permᴰ.symm (sort-perm lower_refused o.refused)))
 
-  differ : Differ (take maxStanding ranks ++ take maxRefused sorted)
+  differ : Differ (take max_standing ranks ++ take max_refused sorted)
   differ =
-      let d = map identityOf o.dominated in
-      both-differ (take maxStanding ranks) (take maxRefused sorted)
-      (take-differ maxStanding ranks (front-differ ranks (d ++ falls) all-differ))
-      (take-differ maxRefused sorted (perm-differ same-falls (back-differ d falls (back-differ ranks (d ++ falls) all-differ))))
+      let d = map identity_of o.dominated in
+      both-differ (take max_standing ranks) (take max_refused sorted)
+      (take-differ max_standing ranks (front-differ ranks (d ++ falls) all-differ))
+      (take-differ max_refused sorted (perm-differ same-falls (back-differ d falls (back-differ ranks (d ++ falls) all-differ))))
       (λ x y p q e.
-      cross-differ ranks (d ++ falls) all-differ x y (take_in maxStanding ranks p) (Memᴰ.append_right d (perm-mem same-falls (take_in maxRefused sorted q))) e)
+      cross-differ ranks (d ++ falls) all-differ x y (take_in max_standing ranks p) (Memᴰ.append_right d (perm-mem same-falls (take_in max_refused sorted q))) e)
 
-  pub kept-identities : map identityOf (heldIn (normalized fs)) ≡ take maxStanding ranks ++ take maxRefused sorted
+  pub kept-identities : map identity_of (held_in (normalized fs)) ≡ take max_standing ranks ++ take max_refused sorted
   kept-identities =
-      ap (map identityOf) kept-are
-      ∙ map-append identityOf (take maxStanding o.ranked) (map item_of lows)
-      ∙ ap₂ ◌++◌ (take-map identityOf maxStanding o.ranked)
-      (ap (map identityOf) (take-map item_of maxRefused (sort lowerRefused o.refused)) ∙ take-map identityOf maxRefused (map item_of (sort lowerRefused o.refused)))
+      ap (map identity_of) kept-are
+      ∙ map-append identity_of (take max_standing o.ranked) (map item_of lows)
+      ∙ ap₂ ◌++◌ (take-map identity_of max_standing o.ranked)
+      (ap (map identity_of) (take-map item_of max_refused (sort lower_refused o.refused)) ∙ take-map identity_of max_refused (map item_of (sort lower_refused o.refused)))
 
 pub identities-differ : IdentitiesDiffer
 identities-differ fs = subst Differ (sym (kept-identities fs)) (differ fs)
@@ -121,18 +121,18 @@ pub few-kept : FewKept
 unfolding normalized
 few-kept fs =
     let r = (o fs).ranked in
-    let l = sort lowerRefused (o fs).refused in
-    let a = length-take maxStanding r in
-    let b = length-map (take maxRefused l) refusedFix ∙ length-take maxRefused l in
+    let l = sort lower_refused (o fs).refused in
+    let a = length-take max_standing r in
+    let b = length-map (take max_refused l) refused_fix ∙ length-take max_refused l in
     (omega arith, omega arith)
 
-fix-sound : Sound fixRelations
+fix-sound : Sound fix_relations
 fix-sound = record {
   standing = λ f. 0;
-  size = λ f. tagCount f.recordBytes;
+  size = λ f. tag_count f.record_bytes;
   over-is = λ f g e. absurd (true≢false (sym e));
-  dis-size = λ f g e. subset-fewer g.recordBytes f.recordBytes (and_left (subsetOf g f) (not (agreesOf (agreement f g))) e);
-  sub-size = λ f g e. subset-fewer f.recordBytes g.recordBytes (and_left (subsetOf f g) (same f.inputs g.inputs) e);
+  dis_size = λ f g e. subset-fewer g.record_bytes f.record_bytes (and_left (subset_of g f) (not (agrees_of (agreement f g))) e);
+  sub_size = λ f g e. subset-fewer f.record_bytes g.record_bytes (and_left (subset_of f g) (same f.inputs g.inputs) e);
 }
 
 pub some-stand : SomeStand
@@ -140,10 +140,10 @@ unfolding normalized
 some-stand f fs =
     let l = f ∷ fs in
     let a = any-in (is_of f) (distinct l) ((gathered l).covered f (Memᴰ.head refl)) in
-    let r = some-ranked fixRelations (distinct l) fix-sound a.0 a.1 in
+    let r = some_ranked fix_relations (distinct l) fix-sound a.0 a.1 in
     some (o l).ranked (subst (λ (x : Transmission). Memᴰ r.0 x.ranked) (sym (shown-is-decided (distinct l))) r.1)
   where
-    some : (l : List Fix) {g : Fix} → Memᴰ g l → 1 ≤ length (take maxStanding l)
+    some : (l : List Fix) {g : Fix} → Memᴰ g l → 1 ≤ length (take max_standing l)
     some [] m = absurd (Memᴰ.not-nil m)
     some (x ∷ l) m = omega arith
 
@@ -154,10 +154,10 @@ self-subset r = no_true (subset r r) (λ e. let h = subset-fewer r r e in omega 
 
 shown-alone : (f : Fix) → ((shown (f ∷ [])).ranked ≡ f ∷ []) × ((shown (f ∷ [])).refused ≡ [])
 unfolding shown any_of filter sort insert flat_map
-shown-alone f = (rw (self-subset f.recordBytes) refl, rw (self-subset f.recordBytes) refl)
+shown-alone f = (rw (self-subset f.record_bytes) refl, rw (self-subset f.record_bytes) refl)
 
 pub alone-stands : AloneStands
-unfolding normalized gatherAll any_of sort
+unfolding normalized gather_all any_of sort
 alone-stands f =
     let e = shown-alone f in
-    λ i. record { fixes = take maxStanding (e.0 i); refused = map refusedFix (take maxRefused (sort lowerRefused (e.1 i))) }
+    λ i. record { fixes = take max_standing (e.0 i); refused = map refused_fix (take max_refused (sort lower_refused (e.1 i))) }

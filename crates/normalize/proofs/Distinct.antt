@@ -16,43 +16,43 @@ use Rattle.ranges.specs.Lists.{any_of}
 use Rattle.ranges.proofs.Bools.{by, or, clash}
 use Rattle.ranges.proofs.Lists.{any-no}
 use Rattle.shown.specs.Fix.{Fix}
-use Rattle.shown.specs.Items.{noFix, at, Apart, Formed, AllFormed}
+use Rattle.shown.specs.Items.{no_fix, at, Apart, Formed, AllFormed}
 use Rattle.shown.proofs.Indexed.{at_in}
 use Rattle.tracked.specs.Held.{is_of}
-use Rattle.normalize.specs.Normal.{signedBy, signFirst, gather, gatherAll}
-use Rattle.normalize.specs.Working.{signersOf}
+use Rattle.normalize.specs.Normal.{signed_by, sign_first, gather, gather_all}
+use Rattle.normalize.specs.Working.{signers_of}
 
-abbrev identityOf : Fix → List ℕ
-identityOf f = f.identity
+abbrev identity_of : Fix → List ℕ
+identity_of f = f.identity
 
 module _ (f : Fix) where
   -- ---- the first of its identity gains its signers
 
   -- what does not depend on the signers stays
-  pub sign-keeps : {A : Type 0} (h : Fix → A) → ((g : Fix) → h (signedBy f g) ≡ h g) → (ks : List Fix) → map h (signFirst f ks) ≡ map h ks
-  unfolding signFirst
+  pub sign-keeps : {A : Type 0} (h : Fix → A) → ((g : Fix) → h (signed_by f g) ≡ h g) → (ks : List Fix) → map h (sign_first f ks) ≡ map h ks
+  unfolding sign_first
   sign-keeps {A} h e [] = refl
   sign-keeps {A} h e (g ∷ ks) =
       by (is_of f g)
       (λ t. rw t (ap (λ (x : A). x ∷ map h ks) (e g)))
       (λ t. rw t (ap (λ (m : List A). h g ∷ m) (sign-keeps h e ks)))
 
-  pub sign-length : (ks : List Fix) → length (signFirst f ks) ≡ length ks
-  unfolding signFirst
+  pub sign-length : (ks : List Fix) → length (sign_first f ks) ≡ length ks
+  unfolding sign_first
   sign-length [] = refl
   sign-length (g ∷ ks) = by (is_of f g) (λ t. rw t refl) (λ t. rw t (ap suc (sign-length ks)))
 
   -- where it stands
   pub sign_at : (ks : List Fix) (i : ℕ) → i < length ks → is_of f (at ks i) ≡ true → ((j : ℕ) → j < i → is_of f (at ks j) ≡ false)
-      → map signersOf (signFirst f ks) ≡ set (map signersOf ks) i (bit_or (at ks i).signers f.signers)
-  unfolding signFirst
+      → map signers_of (sign_first f ks) ≡ set (map signers_of ks) i (bit_or (at ks i).signers f.signers)
+  unfolding sign_first
   sign_at [] i h e p = absurd (omega arith)
   sign_at (g ∷ ks) zero h e p = rw e refl
   sign_at (g ∷ ks) (suc i) h e p =
       rw (p 0 (omega arith)) (ap (λ (m : List ℕ). g.signers ∷ m) (sign_at ks i (omega arith) e (λ j k. p (suc j) (omega arith))))
 
-  sign-formed : (ks : List Fix) → AllFormed ks → AllFormed (signFirst f ks)
-  unfolding signFirst
+  sign-formed : (ks : List Fix) → AllFormed ks → AllFormed (sign_first f ks)
+  unfolding sign_first
   sign-formed [] w = w
   sign-formed (g ∷ ks) w =
       let a = w g (Memᴰ.head refl) in
@@ -64,13 +64,13 @@ module _ (f : Fix) where
       (λ e. subst Formed (sym e) a)
       (λ k. sign-formed ks (λ y n. w y (Memᴰ.tail n)) x k)))
 
-  same-identity : (ks : List Fix) (i : ℕ) → (at (signFirst f ks) i).identity ≡ (at ks i).identity
+  same-identity : (ks : List Fix) (i : ℕ) → (at (sign_first f ks) i).identity ≡ (at ks i).identity
   same-identity ks i =
-      sym (get_or-map identityOf (signFirst f ks) i noFix)
-      ∙ ap (λ (m : List (List ℕ)). get_or m i []) (sign-keeps identityOf (λ g. refl) ks)
-      ∙ get_or-map identityOf ks i noFix
+      sym (get_or-map identity_of (sign_first f ks) i no_fix)
+      ∙ ap (λ (m : List (List ℕ)). get_or m i []) (sign-keeps identity_of (λ g. refl) ks)
+      ∙ get_or-map identity_of ks i no_fix
 
-  sign-apart : (ks : List Fix) → Apart ks → Apart (signFirst f ks)
+  sign-apart : (ks : List Fix) → Apart ks → Apart (sign_first f ks)
   sign-apart ks a i j h k e =
       let l = sign-length ks in
       a i j (omega arith) (omega arith) (sym (same-identity ks i) ∙ e ∙ same-identity ks j)
@@ -80,13 +80,13 @@ module _ (f : Fix) where
   module _ (ks : List Fix) (new : any_of (is_of f) ks ≡ false) where
     differs : (i : ℕ) → i < length ks → (at ks i).identity ≡ f.identity → ⊥
     differs i h e =
-        clash (ap (λ (x : List ℕ). same x f.identity) e ∙ same_refl f.identity) (any-no (is_of f) ks (at ks i) new (at_in noFix ks i h))
+        clash (ap (λ (x : List ℕ). same x f.identity) e ∙ same_refl f.identity) (any-no (is_of f) ks (at ks i) new (at_in no_fix ks i h))
 
     before : (i : ℕ) → i < length ks → at (ks ++ (f ∷ [])) i ≡ at ks i
-    before i h = get_or-append ks (f ∷ []) noFix i h
+    before i h = get_or-append ks (f ∷ []) no_fix i h
 
     last : (i : ℕ) → i ≡ length ks → at (ks ++ (f ∷ [])) i ≡ f
-    last i e = ap (at (ks ++ (f ∷ []))) e ∙ get_or-append_seam ks f [] noFix
+    last i e = ap (at (ks ++ (f ∷ []))) e ∙ get_or-append_seam ks f [] no_fix
 
     new_apart : Apart ks → Apart (ks ++ (f ∷ []))
     new_apart a i j h k e =
@@ -94,11 +94,11 @@ module _ (f : Fix) where
         by (ltb i (length ks))
         (λ t. let p = ltb-true i (length ks) t in
         by (ltb j (length ks))
-        (λ u. let q = ltb-true j (length ks) u in a i j p q (ap identityOf (sym (before i p)) ∙ e ∙ ap identityOf (before j q)))
-        (λ u. let q = ltb-false j (length ks) u in absurd (differs i p (ap identityOf (sym (before i p)) ∙ e ∙ ap identityOf (last j (omega arith))))))
+        (λ u. let q = ltb-true j (length ks) u in a i j p q (ap identity_of (sym (before i p)) ∙ e ∙ ap identity_of (before j q)))
+        (λ u. let q = ltb-false j (length ks) u in absurd (differs i p (ap identity_of (sym (before i p)) ∙ e ∙ ap identity_of (last j (omega arith))))))
         (λ t. let p = ltb-false i (length ks) t in
         by (ltb j (length ks))
-        (λ u. let q = ltb-true j (length ks) u in absurd (differs j q (ap identityOf (sym (before j q)) ∙ sym e ∙ ap identityOf (last i (omega arith)))))
+        (λ u. let q = ltb-true j (length ks) u in absurd (differs j q (ap identity_of (sym (before j q)) ∙ sym e ∙ ap identity_of (last i (omega arith)))))
         (λ u. let q = ltb-false j (length ks) u in omega arith))
 
   new-formed : (ks : List Fix) → Formed f → AllFormed ks → AllFormed (ks ++ (f ∷ []))
@@ -106,7 +106,7 @@ module _ (f : Fix) where
 
   -- ---- one or the other
 
-  pub gather-held : (ks : List Fix) → any_of (is_of f) ks ≡ true → gather ks f ≡ signFirst f ks
+  pub gather-held : (ks : List Fix) → any_of (is_of f) ks ≡ true → gather ks f ≡ sign_first f ks
   gather-held ks e = rw e refl
 
   pub gather-new : (ks : List Fix) → any_of (is_of f) ks ≡ false → gather ks f ≡ ks ++ (f ∷ [])
@@ -132,23 +132,23 @@ module _ (f : Fix) where
 
 -- ---- all of them
 
-pub all-few : (ks fs : List Fix) → length (gatherAll ks fs) ≤ length ks + length fs
-unfolding gatherAll
+pub all-few : (ks fs : List Fix) → length (gather_all ks fs) ≤ length ks + length fs
+unfolding gather_all
 all-few ks [] = omega arith
 all-few ks (f ∷ fs) = let r = all-few (gather ks f) fs in let g = gather-few f ks in omega arith
 
-pub all-formed : (ks fs : List Fix) → AllFormed ks → AllFormed fs → AllFormed (gatherAll ks fs)
-unfolding gatherAll
+pub all-formed : (ks fs : List Fix) → AllFormed ks → AllFormed fs → AllFormed (gather_all ks fs)
+unfolding gather_all
 all-formed ks [] v w = v
 all-formed ks (f ∷ fs) v w = all-formed (gather ks f) fs (gather-formed f ks (w f (Memᴰ.head refl)) v) (λ x m. w x (Memᴰ.tail m))
 
-pub all_apart : (ks fs : List Fix) → Apart ks → Apart (gatherAll ks fs)
-unfolding gatherAll
+pub all_apart : (ks fs : List Fix) → Apart ks → Apart (gather_all ks fs)
+unfolding gather_all
 all_apart ks [] a = a
 all_apart ks (f ∷ fs) a = all_apart (gather ks f) fs (gather-apart f ks a)
 
-pub all_append : (ks fs gs : List Fix) → gatherAll ks (fs ++ gs) ≡ gatherAll (gatherAll ks fs) gs
-unfolding gatherAll
+pub all_append : (ks fs gs : List Fix) → gather_all ks (fs ++ gs) ≡ gather_all (gather_all ks fs) gs
+unfolding gather_all
 all_append ks [] gs = refl
 all_append ks (f ∷ fs) gs = all_append (gather ks f) fs gs
 

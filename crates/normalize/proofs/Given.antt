@@ -10,16 +10,16 @@ use Rattle.ranges.proofs.Lists.{sort-perm}
 use Rattle.ranges.proofs.Orders.{perm-map}
 use Rattle.rule.specs.Outcome.{Refused}
 use Rattle.decision.proofs.Laws as D
-use Rattle.shown.specs.Fix.{Fix, withSigners}
+use Rattle.shown.specs.Fix.{Fix, with_signers}
 use Rattle.shown.specs.Shown.{agreement, disagrees}
-use Rattle.shown.specs.Claims.{fixRelations}
-use Rattle.tracked.specs.Layout.{maxStanding, maxRefused}
-use Rattle.normalize.specs.Normal.{signedBy, distinct, refusedFix, lowerRefused, normalized}
+use Rattle.shown.specs.Claims.{fix_relations}
+use Rattle.tracked.specs.Layout.{max_standing, max_refused}
+use Rattle.normalize.specs.Normal.{signed_by, distinct, refused_fix, lower_refused, normalized}
 use Rattle.normalize.specs.Claims.{OneOfEach, NoneLost, KeptAsGiven, Against, RefusedAgainst}
 use Rattle.normalize.proofs.Claimed.{item_of, once, gathered, o, lows, kept-are, low-in, kept_in}
 use Rattle.normalize.proofs.Validity.{all-distinct, named}
-use Rattle.arithmetic.specs.Agree.{chiSquareIn}
-use Rattle.arithmetic.specs.Bits.{storedBits}
+use Rattle.arithmetic.specs.Agree.{chi_square_in}
+use Rattle.arithmetic.specs.Bits.{stored_bits}
 use Rattle.arithmetic.specs.declared.standing.ChiSquare.{ChiSquare}
 
 pub one-of-each : OneOfEach
@@ -34,25 +34,25 @@ turned (x ∷ p) q r = Permᴰ.trans (Permᴰ.cons refl (turned p q r)) (Permᴰ
 
 module _ (fs : List Fix) where
   abbrev sorted : List (Refused Fix ChiSquare)
-  sorted = sort lowerRefused (o fs).refused
+  sorted = sort lower_refused (o fs).refused
 
   abbrev best : List Fix
-  best = take maxStanding (o fs).ranked
+  best = take max_standing (o fs).ranked
 
   abbrev behind : List Fix
-  behind = drop maxStanding (o fs).ranked
+  behind = drop max_standing (o fs).ranked
 
   abbrev low : List Fix
   low = map item_of (lows fs)
 
   abbrev high : List Fix
-  high = map item_of (drop maxRefused sorted)
+  high = map item_of (drop max_refused sorted)
 
   all-refused : Permᴰ (low ++ high) (map item_of (o fs).refused)
   all-refused =
       subst (λ (l : List Fix). Permᴰ l (map item_of (o fs).refused))
-      (ap (map item_of) (sym (take-append-drop maxRefused sorted)) ∙ map-append item_of (lows fs) (drop maxRefused sorted))
-      (perm-map item_of (sort-perm lowerRefused (o fs).refused))
+      (ap (map item_of) (sym (take-append-drop max_refused sorted)) ∙ map-append item_of (lows fs) (drop max_refused sorted))
+      (perm-map item_of (sort-perm lower_refused (o fs).refused))
 
   -- the refused that are kept go behind the dominated
   parts : Permᴰ ((best ++ low) ++ (behind ++ ((o fs).dominated ++ high))) (best ++ (behind ++ ((o fs).dominated ++ (low ++ high))))
@@ -63,7 +63,7 @@ module _ (fs : List Fix) where
 
   listed : Permᴰ (best ++ (behind ++ ((o fs).dominated ++ (low ++ high)))) (distinct fs)
   listed =
-      rw (← append_assoc best behind ((o fs).dominated ++ (low ++ high)), take-append-drop maxStanding (o fs).ranked)
+      rw (← append_assoc best behind ((o fs).dominated ++ (low ++ high)), take-append-drop max_standing (o fs).ranked)
       (Permᴰ.trans (Permᴰ.append_left (o fs).ranked (Permᴰ.append_left (o fs).dominated all-refused)) (once (distinct fs)))
 
 pub none-lost : NoneLost
@@ -73,13 +73,13 @@ none-lost fs = rw (kept-are fs) (Permᴰ.trans (parts fs) (listed fs))
 
 module _ (fs : List Fix) where
   abbrev AsGiven : Fix → Type 0
-  AsGiven g = (f : Fix) × Memᴰ f fs × (withSigners g.signers f ≡ g)
+  AsGiven g = (f : Fix) × Memᴰ f fs × (with_signers g.signers f ≡ g)
 
   given : (g : Fix) → Memᴰ g (distinct fs) → AsGiven g
   given =
-      all-distinct AsGiven (λ f g p q. (q.0, q.1, ap (withSigners (signedBy f g).signers) q.2)) fs (λ f m. (f, m, refl))
+      all-distinct AsGiven (λ f g p q. (q.0, q.1, ap (with_signers (signed_by f g).signers) q.2)) fs (λ f m. (f, m, refl))
 
-  against : (y : Refused Fix ChiSquare) → D.Named fixRelations (distinct fs) y → Against fs (refusedFix y)
+  against : (y : Refused Fix ChiSquare) → D.Named fix_relations (distinct fs) y → Against fs (refused_fix y)
   against y (D.opponent p c k d v) =
       let g = given y.against k in
       record {
@@ -87,7 +87,7 @@ module _ (fs : List Fix) where
         given = g.1;
         named = ap (λ (f : Fix). f.identity) (sym g.2);
         disagreeing = ap (disagrees y.item) g.2 ∙ d;
-        chi-square = ap storedBits c ∙ ap (λ (f : Fix). storedBits (chiSquareIn (agreement y.item f))) (sym g.2);
+        chi_square = ap stored_bits c ∙ ap (λ (f : Fix). stored_bits (chi_square_in (agreement y.item f))) (sym g.2);
       }
   against y (D.successor p c k d v q) = absurd (false≢true v)
 
@@ -96,4 +96,4 @@ kept-as-given fs g m = given fs g (kept_in fs g m)
 
 pub refused-against : RefusedAgainst
 unfolding normalized
-refused-against fs x m = let r = Memᴰ.of_map refusedFix _ m in subst (Against fs) r.2 (against fs r.0 (named fs r.0 (low-in fs r.0 r.1)))
+refused-against fs x m = let r = Memᴰ.of_map refused_fix _ m in subst (Against fs) r.2 (against fs r.0 (named fs r.0 (low-in fs r.0 r.1)))

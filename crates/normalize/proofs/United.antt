@@ -14,8 +14,8 @@ use Rattle.ranges.proofs.Bools.{by, or, clash, no_true, and_left, or_left, or_ri
 use Rattle.ranges.proofs.Lists.{any-no, any_none, any-map}
 use Rattle.shown.specs.Fix.{Fix}
 use Rattle.tracked.specs.Held.{is_of}
-use Rattle.normalize.specs.Normal.{signedBy, signFirst, gather, gatherAll}
-use Rattle.normalize.specs.Claims.{Differ, none, next, identityOf}
+use Rattle.normalize.specs.Normal.{signed_by, sign_first, gather, gather_all}
+use Rattle.normalize.specs.Claims.{Differ, none, next, identity_of}
 use Rattle.normalize.proofs.Distinct.{sign-keeps, gather-held, gather-new}
 use Rattle.normalize.proofs.Differing.{both-differ}
 
@@ -34,21 +34,21 @@ any_append test [] x = by (test x) (λ t. rw t refl) (λ t. rw t refl)
 any_append test (y ∷ l) x = by (test y) (λ t. rw t refl) (λ t. rw t (any_append test l x))
 
 -- whether an identity is held depends on the identities alone
-any_identity : (f : Fix) (ks : List Fix) → any_of (is_of f) ks ≡ any_of (λ i. same i f.identity) (map identityOf ks)
-any_identity f ks = sym (any-map identityOf (is_of f) (λ i. same i f.identity) ks (λ g m. refl))
+any_identity : (f : Fix) (ks : List Fix) → any_of (is_of f) ks ≡ any_of (λ i. same i f.identity) (map identity_of ks)
+any_identity f ks = sym (any-map identity_of (is_of f) (λ i. same i f.identity) ks (λ g m. refl))
 
 -- ---- who is changed where the first of an identity is signed
 
 module _ (f : Fix) where
-  pub sign-in : (ks : List Fix) → Differ (map identityOf ks) → (x : Fix) → Memᴰ x (signFirst f ks)
-      → ((g : Fix) × Memᴰ g ks × (x ≡ signedBy f g) × (is_of f g ≡ true)) ⊎ (Memᴰ x ks × (is_of f x ≡ false))
-  unfolding signFirst
+  pub sign-in : (ks : List Fix) → Differ (map identity_of ks) → (x : Fix) → Memᴰ x (sign_first f ks)
+      → ((g : Fix) × Memᴰ g ks × (x ≡ signed_by f g) × (is_of f g ≡ true)) ⊎ (Memᴰ x ks × (is_of f x ≡ false))
+  unfolding sign_first
   sign-in [] d x m = absurd (Memᴰ.not-nil m)
   sign-in (g ∷ ks) (next e d) x m =
       by (is_of f g)
       (λ t. or (Memᴰ.cases_cons (rw t at m))
       (λ q. inl (g, Memᴰ.head refl, q, t))
-      (λ k. inr (Memᴰ.tail k, not_same x.identity f.identity (λ q. e x.identity (Memᴰ.map identityOf k) (same-eq g.identity f.identity t ∙ sym q)))))
+      (λ k. inr (Memᴰ.tail k, not_same x.identity f.identity (λ q. e x.identity (Memᴰ.map identity_of k) (same-eq g.identity f.identity t ∙ sym q)))))
       (λ t. or (Memᴰ.cases_cons (rw t at m))
       (λ q. inr (Memᴰ.head q, ap (is_of f) q ∙ t))
       (λ k. or (sign-in ks d x k)
@@ -57,64 +57,64 @@ module _ (f : Fix) where
 
 -- ---- what holds of the fixes ks that were gathered of ps
 
-abbrev signedIn : Fix → ℕ → Fix → Bool
-signedIn g n f = is_of g f && bit f.signers n
+abbrev signed_in : Fix → ℕ → Fix → Bool
+signed_in g n f = is_of g f && bit f.signers n
 
 pub record Gathered (ps ks : List Fix) : Type 0 where
-  pub differ : Differ (map identityOf ks)
-  pub united : (g : Fix) → Memᴰ g ks → (n : ℕ) → bit g.signers n ≡ any_of (signedIn g n) ps
+  pub differ : Differ (map identity_of ks)
+  pub united : (g : Fix) → Memᴰ g ks → (n : ℕ) → bit g.signers n ≡ any_of (signed_in g n) ps
   pub covered : (f : Fix) → Memᴰ f ps → any_of (is_of f) ks ≡ true
 
 module _ (ps ks : List Fix) (f : Fix) (w : Gathered ps ks) where
   -- one that has another identity
-  other : (g : Fix) → Memᴰ g ks → is_of f g ≡ false → (n : ℕ) → bit g.signers n ≡ any_of (signedIn g n) (ps ++ (f ∷ []))
+  other : (g : Fix) → Memᴰ g ks → is_of f g ≡ false → (n : ℕ) → bit g.signers n ≡ any_of (signed_in g n) (ps ++ (f ∷ []))
   other g m e n =
-      w.united g m n ∙ sym (any_append (signedIn g n) ps f ∙ rw (sym (is_turned f g) ∙ e) (by (any_of (signedIn g n) ps) (λ t. rw t refl) (λ t. rw t refl)))
+      w.united g m n ∙ sym (any_append (signed_in g n) ps f ∙ rw (sym (is_turned f g) ∙ e) (by (any_of (signed_in g n) ps) (λ t. rw t refl) (λ t. rw t refl)))
 
   module _ (held : any_of (is_of f) ks ≡ true) where
-    held-united : (g : Fix) → Memᴰ g (signFirst f ks) → (n : ℕ) → bit g.signers n ≡ any_of (signedIn g n) (ps ++ (f ∷ []))
+    held-united : (g : Fix) → Memᴰ g (sign_first f ks) → (n : ℕ) → bit g.signers n ≡ any_of (signed_in g n) (ps ++ (f ∷ []))
     held-united g m n =
         or (sign-in f ks w.differ g m)
         (λ r. let h = r.0 in
         ap (λ (x : Fix). bit x.signers n) r.2
         ∙ bit-or h.signers f.signers n
         ∙ ap (λ (b : Bool). b || bit f.signers n) (w.united h r.1 n)
-        ∙ sym (ap (λ (x : Fix). any_of (signedIn x n) (ps ++ (f ∷ []))) r.2 ∙ any_append (signedIn h n) ps f ∙ rw (sym (is_turned f h) ∙ r.3) refl))
+        ∙ sym (ap (λ (x : Fix). any_of (signed_in x n) (ps ++ (f ∷ []))) r.2 ∙ any_append (signed_in h n) ps f ∙ rw (sym (is_turned f h) ∙ r.3) refl))
         (λ r. other g r.0 r.1 n)
 
-    held-gathered : Gathered (ps ++ (f ∷ [])) (signFirst f ks)
+    held-gathered : Gathered (ps ++ (f ∷ [])) (sign_first f ks)
     held-gathered = record {
-      differ = subst Differ (sym (sign-keeps f identityOf (λ g. refl) ks)) w.differ;
+      differ = subst Differ (sym (sign-keeps f identity_of (λ g. refl) ks)) w.differ;
       united = held-united;
       covered = λ x m.
-          any_identity x (signFirst f ks) ∙ ap (any_of (λ i. same i x.identity)) (sign-keeps f identityOf (λ g. refl) ks) ∙ sym (any_identity x ks)
+          any_identity x (sign_first f ks) ∙ ap (any_of (λ i. same i x.identity)) (sign-keeps f identity_of (λ g. refl) ks) ∙ sym (any_identity x ks)
           ∙ or (Memᴰ.append_cases ps m) (λ k. w.covered x k) (λ k. ap (λ (y : Fix). any_of (is_of y) ks) (Memᴰ.eq_of_singleton k) ∙ held);
     }
 
   module _ (new : any_of (is_of f) ks ≡ false) where
     -- none of its identity came before
-    unheard : (n : ℕ) → any_of (signedIn f n) ps ≡ false
+    unheard : (n : ℕ) → any_of (signed_in f n) ps ≡ false
     unheard n =
-        any_none (signedIn f n) ps
-        (λ x m. no_true (signedIn f n x) (λ t.
+        any_none (signed_in f n) ps
+        (λ x m. no_true (signed_in f n x) (λ t.
         let e = same-eq x.identity f.identity (and_left (is_of f x) (bit x.signers n) t) in
         clash (ap (λ (i : List ℕ). any_of (λ g. same g.identity i) ks) (sym e) ∙ w.covered x m) new))
 
-    new-united : (g : Fix) → Memᴰ g (ks ++ (f ∷ [])) → (n : ℕ) → bit g.signers n ≡ any_of (signedIn g n) (ps ++ (f ∷ []))
+    new-united : (g : Fix) → Memᴰ g (ks ++ (f ∷ [])) → (n : ℕ) → bit g.signers n ≡ any_of (signed_in g n) (ps ++ (f ∷ []))
     new-united g m n =
         or (Memᴰ.append_cases ks m)
         (λ k. other g k (any-no (is_of f) ks g new k) n)
         (λ k. let e = Memᴰ.eq_of_singleton k in
         ap (λ (x : Fix). bit x.signers n) e
-        ∙ sym (ap (λ (x : Fix). any_of (signedIn x n) (ps ++ (f ∷ []))) e ∙ any_append (signedIn f n) ps f ∙ rw (unheard n, same_refl f.identity) refl))
+        ∙ sym (ap (λ (x : Fix). any_of (signed_in x n) (ps ++ (f ∷ []))) e ∙ any_append (signed_in f n) ps f ∙ rw (unheard n, same_refl f.identity) refl))
 
     new-gathered : Gathered (ps ++ (f ∷ [])) (ks ++ (f ∷ []))
     new-gathered = record {
       differ =
-          subst Differ (sym (map-append identityOf ks (f ∷ [])))
-          (both-differ (map identityOf ks) (f.identity ∷ []) w.differ (next (λ y m q. Memᴰ.not-nil m) none)
+          subst Differ (sym (map-append identity_of ks (f ∷ [])))
+          (both-differ (map identity_of ks) (f.identity ∷ []) w.differ (next (λ y m q. Memᴰ.not-nil m) none)
           (λ x y p q e.
-          let r = Memᴰ.of_map identityOf ks p in
+          let r = Memᴰ.of_map identity_of ks p in
           let z = r.2 ∙ e ∙ Memᴰ.eq_of_singleton q in
           clash (ap (λ (i : List ℕ). same i f.identity) z ∙ same_refl f.identity) (any-no (is_of f) ks r.0 new r.1)));
       united = new-united;
@@ -131,11 +131,11 @@ module _ (ps ks : List Fix) (f : Fix) (w : Gathered ps ks) where
       (λ t. subst (Gathered (ps ++ (f ∷ []))) (sym (gather-held f ks t)) (held-gathered t))
       (λ t. subst (Gathered (ps ++ (f ∷ []))) (sym (gather-new f ks t)) (new-gathered t))
 
-pub gathered-all : (ps ks fs : List Fix) → Gathered ps ks → Gathered (ps ++ fs) (gatherAll ks fs)
-unfolding gatherAll
+pub gathered-all : (ps ks fs : List Fix) → Gathered ps ks → Gathered (ps ++ fs) (gather_all ks fs)
+unfolding gather_all
 gathered-all ps ks [] w = subst (λ (l : List Fix). Gathered l ks) (sym (append-nil ps)) w
 gathered-all ps ks (f ∷ fs) w =
-    subst (λ (l : List Fix). Gathered l (gatherAll (gather ks f) fs)) (append_assoc ps (f ∷ []) fs)
+    subst (λ (l : List Fix). Gathered l (gather_all (gather ks f) fs)) (append_assoc ps (f ∷ []) fs)
     (gathered-all (ps ++ (f ∷ [])) (gather ks f) fs (gathered-more ps ks f w))
 
 pub gathered_none : Gathered [] []

@@ -11,38 +11,38 @@ use lib.Seq.{take_at, length-take-le}
 use Rattle.octets.specs.Bytes.{Bytes}
 use Rattle.octets.specs.Words.{word}
 use Rattle.octets.proofs.Numbers.{word_lt, bytes_take, bytes_drop}
-use Rattle.places.specs.Places.{allPlaces}
+use Rattle.places.specs.Places.{all_places}
 use Rattle.ranges.specs.Lists.{any_of, filter}
 use Rattle.ranges.proofs.Bools.{by, or, and_both}
 use Rattle.ranges.proofs.Lists.{filter-in}
-use Rattle.arithmetic.specs.Bits.{storedBits}
+use Rattle.arithmetic.specs.Bits.{stored_bits}
 use Rattle.arithmetic.proofs.Outcomes.{stored-bounded}
-use Rattle.record.specs.Layout.{recordSize}
-use Rattle.record.specs.Formed.{wellFormed}
-use Rattle.items.specs.Layout.{hashSize}
+use Rattle.record.specs.Layout.{record_size}
+use Rattle.record.specs.Formed.{well_formed}
+use Rattle.items.specs.Layout.{hash_size}
 use Rattle.items.proofs.Pairing.{taken}
-use Rattle.models.specs.Identity.{setHash}
+use Rattle.models.specs.Identity.{set_hash}
 use Rattle.models.proofs.Sets.{identity-length}
 use Rattle.rule.specs.Outcome.{Refused}
 use Rattle.decision.proofs.Laws as D
 use Rattle.decision.proofs.Laws.{refused-names}
 use Rattle.shown.specs.Fix.{Fix}
 use Rattle.shown.specs.Shown.{Transmission, shown}
-use Rattle.shown.specs.Claims.{fixRelations}
+use Rattle.shown.specs.Claims.{fix_relations}
 use Rattle.shown.proofs.Indexed.{in-at}
 use Rattle.shown.proofs.Plainly.{shown-is-decided}
-use Rattle.tracked.specs.Layout.{maxStanding, fixSize, signersAt, inputsAt}
-use Rattle.tracked.specs.Held.{RefusedFix, HeldTransmission, fixOf, heldIn, is_of}
-use Rattle.tracked.specs.Bytes.{recordIn, identityIn, fixIn, fixBytes, refusedBytes, transmissionIn, transmissionBytes}
-use Rattle.tracked.specs.Parts.{heldPlaces, heldCount, Sound, heldPlace}
-use Rattle.tracked.specs.Known.{Knows, knownCount}
+use Rattle.tracked.specs.Layout.{max_standing, fix_size, signers_at, inputs_at}
+use Rattle.tracked.specs.Held.{RefusedFix, HeldTransmission, fix_of, held_in, is_of}
+use Rattle.tracked.specs.Bytes.{record_in, identity_in, fix_in, fix_bytes, refused_bytes, transmission_in, transmission_bytes}
+use Rattle.tracked.specs.Parts.{held_places, held_count, Sound, held_place}
+use Rattle.tracked.specs.Known.{Knows, known_count}
 use Rattle.tracked.proofs.Encoding.{ValidFix, ValidRefused, Valid, Bounded, fix-length, fix-back, bytes-length, fix-places-back, refused-places-back}
 use Rattle.tracked.proofs.Holding.{held-length, held_at, held-size, held-formed, held-are}
 use Rattle.keeping.specs.Working.{Names}
 use Rattle.keeping.proofs.Lowering.{take_in}
-use Rattle.normalize.specs.Normal.{signedBy, signFirst, gather, gatherAll, distinct, refusedFix, normalized}
+use Rattle.normalize.specs.Normal.{signed_by, sign_first, gather, gather_all, distinct, refused_fix, normalized}
 use Rattle.normalize.specs.Signed.{is_signed}
-use Rattle.normalize.specs.Claims.{identityOf}
+use Rattle.normalize.specs.Claims.{identity_of}
 use Rattle.normalize.proofs.Distinct.{gather-held, gather-new}
 use Rattle.normalize.proofs.Laying.{map_same}
 use Rattle.normalize.proofs.Listing.{map_at}
@@ -51,12 +51,12 @@ use Rattle.arithmetic.specs.declared.standing.ChiSquare.{ChiSquare}
 
 -- ---- what holds of all that are given holds of those that are gathered
 
-module _ (P : Fix → Type 0) (join : (f g : Fix) → P f → P g → P (signedBy f g)) where
+module _ (P : Fix → Type 0) (join : (f g : Fix) → P f → P g → P (signed_by f g)) where
   abbrev All : List Fix → Type 0
   All fs = (f : Fix) → Memᴰ f fs → P f
 
-  sign-all : (f : Fix) → P f → (ks : List Fix) → All ks → All (signFirst f ks)
-  unfolding signFirst
+  sign-all : (f : Fix) → P f → (ks : List Fix) → All ks → All (sign_first f ks)
+  unfolding sign_first
   sign-all f p [] v = v
   sign-all f p (g ∷ ks) v =
       let q = v g (Memᴰ.head refl) in
@@ -70,8 +70,8 @@ module _ (P : Fix → Type 0) (join : (f g : Fix) → P f → P g → P (signedB
       (λ t. subst All (sym (gather-held f ks t)) (sign-all f p ks v))
       (λ t. subst All (sym (gather-new f ks t)) (λ x m. or (Memᴰ.append_cases ks m) (λ k. v x k) (λ k. subst P (sym (Memᴰ.eq_of_singleton k)) p)))
 
-  pub all-gathered : (ks fs : List Fix) → All ks → All fs → All (gatherAll ks fs)
-  unfolding gatherAll
+  pub all-gathered : (ks fs : List Fix) → All ks → All fs → All (gather_all ks fs)
+  unfolding gather_all
   all-gathered ks [] v w = v
   all-gathered ks (f ∷ fs) v w = all-gathered (gather ks f) fs (gather-all f (w f (Memᴰ.head refl)) ks v) (λ x m. w x (Memᴰ.tail m))
 
@@ -82,9 +82,9 @@ module _ (P : Fix → Type 0) (join : (f g : Fix) → P f → P g → P (signedB
 
 pub record Holdable (f : Fix) : Type 0 where
   pub valid : ValidFix f
-  pub form : wellFormed f.recordBytes ≡ true
+  pub form : well_formed f.record_bytes ≡ true
 
-holdable-both : (f g : Fix) → Holdable f → Holdable g → Holdable (signedBy f g)
+holdable-both : (f g : Fix) → Holdable f → Holdable g → Holdable (signed_by f g)
 holdable-both f g p q = record {
   valid = record {
     record-size = q.valid.record-size;
@@ -96,14 +96,14 @@ holdable-both f g p q = record {
 }
 
 -- that which bytes hold is one
-pub holdable-in : (p : List ℕ) → Bytes p → length p ≡ fixSize → wellFormed (recordIn p) ≡ true → Holdable (fixIn p)
+pub holdable-in : (p : List ℕ) → Bytes p → length p ≡ fix_size → well_formed (record_in p) ≡ true → Holdable (fix_in p)
 holdable-in p b h e = record {
   valid = record {
-    record-size = length-take-le recordSize p (omega arith);
-    inputs-size = taken hashSize inputsAt p (omega arith);
+    record-size = length-take-le record_size p (omega arith);
+    inputs-size = taken hash_size inputs_at p (omega arith);
     signed =
-        let l : length (take 4 (drop signersAt p)) ≡ 4 = taken 4 signersAt p (omega arith) in
-        subst (λ (n : ℕ). word (take 4 (drop signersAt p)) < 256 ^ n) l (word_lt (take 4 (drop signersAt p)) (bytes_take 4 (drop signersAt p) (bytes_drop signersAt p b)));
+        let l : length (take 4 (drop signers_at p)) ≡ 4 = taken 4 signers_at p (omega arith) in
+        subst (λ (n : ℕ). word (take 4 (drop signers_at p)) < 256 ^ n) l (word_lt (take 4 (drop signers_at p)) (bytes_take 4 (drop signers_at p) (bytes_drop signers_at p b)));
     identified = refl;
   };
   form = e;
@@ -118,103 +118,103 @@ module _ (fs : List Fix) where
   abbrev o : Transmission
   o = shown (distinct fs)
 
-  pub named : (y : Refused Fix ChiSquare) → Memᴰ y o.refused → D.Named fixRelations (distinct fs) y
-  named y m = refused-names fixRelations (distinct fs) y (subst (λ (x : Transmission). Memᴰ y x.refused) (shown-is-decided (distinct fs)) m)
+  pub named : (y : Refused Fix ChiSquare) → Memᴰ y o.refused → D.Named fix_relations (distinct fs) y
+  named y m = refused-names fix_relations (distinct fs) y (subst (λ (x : Transmission). Memᴰ y x.refused) (shown-is-decided (distinct fs)) m)
 
-  against-in : (y : Refused Fix ChiSquare) → D.Named fixRelations (distinct fs) y → Memᴰ y.against (distinct fs)
+  against-in : (y : Refused Fix ChiSquare) → D.Named fix_relations (distinct fs) y → Memᴰ y.against (distinct fs)
   against-in y (D.opponent p c k d v) = k
   against-in y (D.successor p c k d v q) = k
 
-  bounded-by : (y : Refused Fix ChiSquare) → D.Named fixRelations (distinct fs) y → storedBits y.chi2 < 2 ^ 64
+  bounded-by : (y : Refused Fix ChiSquare) → D.Named fix_relations (distinct fs) y → stored_bits y.chi2 < 2 ^ 64
   bounded-by y (D.opponent p c k d v) = rw c (stored-bounded _ _)
   bounded-by y (D.successor p c k d v q) = rw c (stored-bounded _ _)
 
   pub normalized-bounded : Bounded (normalized fs)
   unfolding normalized
   normalized-bounded x m =
-      let r = Memᴰ.of_map refusedFix _ m in
+      let r = Memᴰ.of_map refused_fix _ m in
       subst (λ (z : RefusedFix). z.chi2 < 2 ^ 64) r.2 (bounded-by r.0 (named r.0 (low-in fs r.0 r.1)))
 
   module _ (w : (f : Fix) → Memᴰ f fs → Holdable f) where
     each : (g : Fix) → Memᴰ g (distinct fs) → Holdable g
     each = all-distinct Holdable holdable-both fs w
 
-    pub kept-holdable : (g : Fix) → Memᴰ g (heldIn (normalized fs)) → Holdable g
+    pub kept-holdable : (g : Fix) → Memᴰ g (held_in (normalized fs)) → Holdable g
     kept-holdable g m = each g (kept_in fs g m)
 
     pub normalized-valid : Valid (normalized fs)
     unfolding normalized
     normalized-valid = record {
       few = (few-kept fs).0;
-      few-refused = (few-kept fs).1;
-      fixes = λ g m. (each g (ranked-in fs g (take_in maxStanding o.ranked m))).valid;
+      few_refused = (few-kept fs).1;
+      fixes = λ g m. (each g (ranked-in fs g (take_in max_standing o.ranked m))).valid;
       refused = λ x m.
-          let r = Memᴰ.of_map refusedFix _ m in
+          let r = Memᴰ.of_map refused_fix _ m in
           let y = r.0 in
           let k = low-in fs y r.1 in
           let a = (each y.against (against-in y (named y k))).valid in
           subst ValidRefused r.2
           (record {
             fix = (each y.item (refused-in fs y k)).valid;
-            against-size = ap length a.identified ∙ identity-length (setHash y.against.recordBytes) y.against.inputs;
+            against_size = ap length a.identified ∙ identity-length (set_hash y.against.record_bytes) y.against.inputs;
           });
     }
 
 -- ---- the places in its bytes
 
-all-places : (test : List ℕ → Bool) (l : List Fix) → ((f : Fix) → Memᴰ f l → test (fixBytes f) ≡ true) → allPlaces test (map fixBytes l) ≡ true
-unfolding allPlaces
+all-places : (test : List ℕ → Bool) (l : List Fix) → ((f : Fix) → Memᴰ f l → test (fix_bytes f) ≡ true) → all_places test (map fix_bytes l) ≡ true
+unfolding all_places
 all-places test [] e = refl
-all-places test (f ∷ l) e = and_both (test (fixBytes f)) (allPlaces test (map fixBytes l)) (e f (Memᴰ.head refl)) (all-places test l (λ x m. e x (Memᴰ.tail m)))
+all-places test (f ∷ l) e = and_both (test (fix_bytes f)) (all_places test (map fix_bytes l)) (e f (Memᴰ.head refl)) (all-places test l (λ x m. e x (Memᴰ.tail m)))
 
 module _ (u : HeldTransmission) (v : Valid u) where
-  held_back : heldPlaces (transmissionBytes u) ≡ map fixBytes (heldIn u)
+  held_back : held_places (transmission_bytes u) ≡ map fix_bytes (held_in u)
   held_back =
-      ap₂ (λ (x y : List (List ℕ)). x ++ map (take fixSize) y) (fix-places-back u v) (refused-places-back u v)
-      ∙ ap (λ (x : List (List ℕ)). map fixBytes u.fixes ++ x)
-      (map-map (take fixSize) refusedBytes u.refused
-      ∙ map_same (λ x. take fixSize (refusedBytes x)) (λ x. fixBytes (fixOf x)) u.refused
-      (λ x m. take_at (fixBytes x.fix) _ fixSize (fix-length x.fix (v.refused x m).fix))
-      ∙ sym (map-map fixBytes fixOf u.refused))
-      ∙ sym (map-append fixBytes u.fixes (map fixOf u.refused))
+      ap₂ (λ (x y : List (List ℕ)). x ++ map (take fix_size) y) (fix-places-back u v) (refused-places-back u v)
+      ∙ ap (λ (x : List (List ℕ)). map fix_bytes u.fixes ++ x)
+      (map-map (take fix_size) refused_bytes u.refused
+      ∙ map_same (λ x. take fix_size (refused_bytes x)) (λ x. fix_bytes (fix_of x)) u.refused
+      (λ x m. take_at (fix_bytes x.fix) _ fix_size (fix-length x.fix (v.refused x m).fix))
+      ∙ sym (map-map fix_bytes fix_of u.refused))
+      ∙ sym (map-append fix_bytes u.fixes (map fix_of u.refused))
 
-  held-valid : (f : Fix) → Memᴰ f (heldIn u) → ValidFix f
+  held-valid : (f : Fix) → Memᴰ f (held_in u) → ValidFix f
   held-valid f m =
       or (Memᴰ.append_cases u.fixes m)
       (λ k. v.fixes f k)
-      (λ k. let r = Memᴰ.of_map fixOf u.refused k in subst ValidFix r.2 (v.refused r.0 r.1).fix)
+      (λ k. let r = Memᴰ.of_map fix_of u.refused k in subst ValidFix r.2 (v.refused r.0 r.1).fix)
 
   -- a test of what the places hold
-  pub held-pass : (test : Fix → Bool) → ((f : Fix) → Memᴰ f (heldIn u) → test f ≡ true) → allPlaces (λ p. test (fixIn p)) (heldPlaces (transmissionBytes u)) ≡ true
+  pub held-pass : (test : Fix → Bool) → ((f : Fix) → Memᴰ f (held_in u) → test f ≡ true) → all_places (λ p. test (fix_in p)) (held_places (transmission_bytes u)) ≡ true
   held-pass test e =
-      ap (allPlaces (λ p. test (fixIn p))) held_back
-      ∙ all-places (λ p. test (fixIn p)) (heldIn u)
-      (λ f m. ap test (ap fixIn (sym (append-nil (fixBytes f))) ∙ fix-back f (held-valid f m) []) ∙ e f m)
+      ap (all_places (λ p. test (fix_in p))) held_back
+      ∙ all-places (λ p. test (fix_in p)) (held_in u)
+      (λ f m. ap test (ap fix_in (sym (append-nil (fix_bytes f))) ∙ fix-back f (held-valid f m) []) ∙ e f m)
 
 module _ (fs : List Fix) (w : (f : Fix) → Memᴰ f fs → Holdable f) where
-  pub normalized-sound : Sound (transmissionBytes (normalized fs))
-  unfolding transmissionBytes
+  pub normalized-sound : Sound (transmission_bytes (normalized fs))
+  unfolding transmission_bytes
   normalized-sound = record {
     size = bytes-length (normalized fs) (normalized-valid fs w);
     few = (few-kept fs).0;
-    few-refused = (few-kept fs).1;
-    formed = held-pass (normalized fs) (normalized-valid fs w) (λ f. wellFormed f.recordBytes) (λ f m. (kept-holdable fs w f m).form);
+    few_refused = (few-kept fs).1;
+    formed = held-pass (normalized fs) (normalized-valid fs w) (λ f. well_formed f.record_bytes) (λ f m. (kept-holdable fs w f m).form);
   }
 
 -- ---- the identities of all that is kept are known
 
-module _ (u : HeldTransmission) (v : Valid u) (s : List ℕ) (z : Names s (map identityOf (heldIn u))) where
+module _ (u : HeldTransmission) (v : Valid u) (s : List ℕ) (z : Names s (map identity_of (held_in u))) where
   abbrev b : List ℕ
-  b = transmissionBytes u
+  b = transmission_bytes u
 
-  identities-are : map identityOf (heldIn u) ≡ map identityIn (heldPlaces b)
+  identities-are : map identity_of (held_in u) ≡ map identity_in (held_places b)
   identities-are =
-      sym (ap (map identityIn) (held_back u v) ∙ map-map identityIn fixBytes (heldIn u)
-      ∙ map_same (λ f. identityIn (fixBytes f)) identityOf (heldIn u)
-      (λ f m. ap identityOf (ap fixIn (sym (append-nil (fixBytes f))) ∙ fix-back f (held-valid u v f m) [])))
+      sym (ap (map identity_in) (held_back u v) ∙ map-map identity_in fix_bytes (held_in u)
+      ∙ map_same (λ f. identity_in (fix_bytes f)) identity_of (held_in u)
+      (λ f m. ap identity_of (ap fix_in (sym (append-nil (fix_bytes f))) ∙ fix-back f (held-valid u v f m) [])))
 
-  counted : knownCount s ≡ heldCount b
-  counted = z.count ∙ ap length identities-are ∙ length-map (heldPlaces b) identityIn ∙ held-length b
+  counted : known_count s ≡ held_count b
+  counted = z.count ∙ ap length identities-are ∙ length-map (held_places b) identity_in ∙ held-length b
 
   names-known : Knows b s
   names-known = record {
@@ -222,35 +222,35 @@ module _ (u : HeldTransmission) (v : Valid u) (s : List ℕ) (z : Names s (map i
     few = let e = counted in omega arith;
     right = λ k h.
         z.right k (let e = z.count in omega arith) ∙ ap (λ (x : List (List ℕ)). get_or x k []) identities-are
-        ∙ map_at identityIn (heldPlaces b) k (let e = counted in let l = held-length b in omega arith);
+        ∙ map_at identity_in (held_places b) k (let e = counted in let l = held-length b in omega arith);
   }
 
-pub all_known : (fs : List Fix) → ((f : Fix) → Memᴰ f fs → Holdable f) → (b s : List ℕ) → b ≡ transmissionBytes (normalized fs)
-    → Names s (map identityOf (heldIn (normalized fs))) → Knows b s × (knownCount s ≡ heldCount b)
+pub all_known : (fs : List Fix) → ((f : Fix) → Memᴰ f fs → Holdable f) → (b s : List ℕ) → b ≡ transmission_bytes (normalized fs)
+    → Names s (map identity_of (held_in (normalized fs))) → Knows b s × (known_count s ≡ held_count b)
 all_known fs w b s e z =
     let u = normalized fs in
     let v = normalized-valid fs w in
-    (subst (λ (x : List ℕ). Knows x s) (sym e) (names-known u v s z), counted u v s z ∙ ap heldCount (sym e))
+    (subst (λ (x : List ℕ). Knows x s) (sym e) (names-known u v s z), counted u v s z ∙ ap held_count (sym e))
 
 -- ---- the fixes that sound bytes hold
 
 module _ (b : List ℕ) (bytes : Bytes b) (s : Sound b) where
-  pub held-holdable : (f : Fix) → Memᴰ f (heldIn (transmissionIn b)) → Holdable f
+  pub held-holdable : (f : Fix) → Memᴰ f (held_in (transmission_in b)) → Holdable f
   held-holdable f m =
-      let r = Memᴰ.of_map fixIn (heldPlaces b) (subst (λ (l : List Fix). Memᴰ f l) (sym (held-are b)) m) in
-      let i = in-at [] (heldPlaces b) r.0 r.1 in
+      let r = Memᴰ.of_map fix_in (held_places b) (subst (λ (l : List Fix). Memᴰ f l) (sym (held-are b)) m) in
+      let i = in-at [] (held_places b) r.0 r.1 in
       let k = i.0 in
-      let h : k < heldCount b = omega (arith, i.1, held-length b) in
-      let p = get_or (heldPlaces b) k [] in
-      let c : Bytes p = subst Bytes (held_at b s k h) (bytes_take fixSize (drop (heldPlace b k) b) (bytes_drop (heldPlace b k) b bytes)) in
-      subst Holdable (ap fixIn i.2 ∙ r.2) (holdable-in p c (held-size b s k h) (held-formed b s k h))
+      let h : k < held_count b = omega (arith, i.1, held-length b) in
+      let p = get_or (held_places b) k [] in
+      let c : Bytes p = subst Bytes (held_at b s k h) (bytes_take fix_size (drop (held_place b k) b) (bytes_drop (held_place b k) b bytes)) in
+      subst Holdable (ap fix_in i.2 ∙ r.2) (holdable-in p c (held-size b s k h) (held-formed b s k h))
 
   -- those that are signed, and all with a further one
-  pub signed-holdable : (f : Fix) → Memᴰ f (filter is_signed (heldIn (transmissionIn b))) → Holdable f
-  signed-holdable f m = held-holdable f (filter-in is_signed (heldIn (transmissionIn b)) f m).0
+  pub signed-holdable : (f : Fix) → Memᴰ f (filter is_signed (held_in (transmission_in b))) → Holdable f
+  signed-holdable f m = held-holdable f (filter-in is_signed (held_in (transmission_in b)) f m).0
 
-  pub with-holdable : (f : Fix) → Holdable f → (g : Fix) → Memᴰ g ((transmissionIn b).fixes ++ (f ∷ map fixOf (transmissionIn b).refused)) → Holdable g
+  pub with-holdable : (f : Fix) → Holdable f → (g : Fix) → Memᴰ g ((transmission_in b).fixes ++ (f ∷ map fix_of (transmission_in b).refused)) → Holdable g
   with-holdable f h g m =
-      or (Memᴰ.append_cases (transmissionIn b).fixes m)
-      (λ k. held-holdable g (Memᴰ.append_left (map fixOf (transmissionIn b).refused) k))
-      (λ k. or (Memᴰ.cases_cons k) (λ e. subst Holdable (sym e) h) (λ q. held-holdable g (Memᴰ.append_right (transmissionIn b).fixes q)))
+      or (Memᴰ.append_cases (transmission_in b).fixes m)
+      (λ k. held-holdable g (Memᴰ.append_left (map fix_of (transmission_in b).refused) k))
+      (λ k. or (Memᴰ.cases_cons k) (λ e. subst Holdable (sym e) h) (λ q. held-holdable g (Memᴰ.append_right (transmission_in b).fixes q)))

@@ -2,16 +2,16 @@
 use Rattle.std.specs.Prelude.{ℕ, Bool, true, false, not, List, [], ◌∷◌, ◌++◌, map, length}
 use Rattle.ranges.specs.Lists.{any_of, filter}
 use Rattle.shown.specs.Fix.{Fix}
-use Rattle.tracked.specs.Held.{HeldTransmission, fixOf, is_of}
+use Rattle.tracked.specs.Held.{HeldTransmission, fix_of, is_of}
 use Rattle.normalize.specs.Normal.{normalized}
 
 -- t with f among its fixes, all decided again
-abbrev pub withFix : Fix → HeldTransmission → HeldTransmission
-withFix f t = normalized (t.fixes ++ (f ∷ map fixOf t.refused))
+abbrev pub with_fix : Fix → HeldTransmission → HeldTransmission
+with_fix f t = normalized (t.fixes ++ (f ∷ map fix_of t.refused))
 
 -- some refused fix has the identity of f
 abbrev pub refuses : HeldTransmission → Fix → Bool
-refuses t f = any_of (is_of f) (map fixOf t.refused)
+refuses t f = any_of (is_of f) (map fix_of t.refused)
 
 -- some fix that stands has it
 abbrev pub upholds : HeldTransmission → Fix → Bool
@@ -19,7 +19,7 @@ upholds t f = any_of (is_of f) t.fixes
 
 -- how many of the refused of u were not refused in t
 abbrev pub entered : HeldTransmission → HeldTransmission → ℕ
-entered t u = length (filter (λ g. not (refuses t g)) (map fixOf u.refused))
+entered t u = length (filter (λ g. not (refuses t g)) (map fix_of u.refused))
 
 -- the first of a list has the identity of f
 abbrev pub leads : Fix → List Fix → Bool

@@ -3,21 +3,21 @@
 #![tactic(auto)]
 
 ghost use Rattle.std.specs.Prelude.{◌≡◌, true, [], ◌++◌, map, ℕ, ◌+◌, ◌*◌, ◌-◌, ◌<◌, ◌≤◌, length, get_or, take, drop};
-ghost use Rattle.places.specs.Places.{allPlaces};
+ghost use Rattle.places.specs.Places.{all_places};
 ghost use Rattle.octets.specs.Put.{Put};
 ghost use Rattle.ranges.specs.Lists.{any_of, filter};
 ghost use Rattle.ranges.specs.Range.{first};
-ghost use Rattle.items.specs.Layout.{itemSize, hashSize};
+ghost use Rattle.items.specs.Layout.{item_size, hash_size};
 ghost use Rattle.tracked.specs.Layout as L;
-ghost use Rattle.tracked.specs.Held.{heldIn};
+ghost use Rattle.tracked.specs.Held.{held_in};
 ghost use Rattle.tracked.specs.Bytes as B;
 ghost use Rattle.tracked.specs.Parts as P;
-ghost use Rattle.tracked.specs.Known.{knownSize, Knows, knownCount};
+ghost use Rattle.tracked.specs.Known.{known_size, Knows, known_count};
 ghost use Rattle.keeping.specs.Working.{Lies, Keeps, Names};
 ghost use Rattle.normalize.specs.Normal as N;
-ghost use Rattle.normalize.specs.Joining.{withFix};
+ghost use Rattle.normalize.specs.Joining.{with_fix};
 ghost use Rattle.normalize.specs.Did.{did};
-ghost use Rattle.normalize.specs.Claims.{identityOf};
+ghost use Rattle.normalize.specs.Claims.{identity_of};
 ghost use Rattle.normalize.specs.Signed.{is_signed};
 ghost use Rattle.normalize.specs.Working as W;
 
@@ -43,9 +43,9 @@ pub struct Joined {
 
 // Writes the identity of the held fix k where it is signed; one that is not is never asked for. What s knows is not hashed again.
 fn put_identity(ids: &mut [u8], at: usize, b: &[u8], s: &[u8], k: u8) -> usize
-    requires hash_size_in_bounds { at + hashSize ≤ length ids.old }
-    requires sound { P.Sound b.now × Knows b.now s.now × (k < P.heldCount b.now) }
-    ensures { Put ids.old at (W.signedIdentity (get_or (P.heldPlaces b.now) k [])) result ids.new }
+    requires hash_size_in_bounds { at + hash_size ≤ length ids.old }
+    requires sound { P.Sound b.now × Knows b.now s.now × (k < P.held_count b.now) }
+    ensures { Put ids.old at (W.signed_identity (get_or (P.held_places b.now) k [])) result ids.new }
 {
     let f = tracked::held(b, k);
     if f.signers() == 0 {
@@ -60,8 +60,8 @@ fn put_identity(ids: &mut [u8], at: usize, b: &[u8], s: &[u8], k: u8) -> usize
 // The identities of the fixes that b holds, one after another.
 pub fn identities(b: &[u8], s: &[u8], ids: &mut [u8])
     requires sound { P.Sound b.now × Knows b.now s.now }
-    requires hash_size_in_bounds { P.heldCount b.now * hashSize ≤ length ids.old }
-    ensures { ids.new ≡ W.ids_of b.now ++ drop (P.heldCount b.now * hashSize) ids.old }
+    requires hash_size_in_bounds { P.held_count b.now * hash_size ≤ length ids.old }
+    ensures { ids.new ≡ W.ids_of b.now ++ drop (P.held_count b.now * hash_size) ids.old }
 {
     let n = tracked::held_count(b);
     let mut at = 0;
@@ -72,8 +72,8 @@ pub fn identities(b: &[u8], s: &[u8], ids: &mut [u8])
 
 // The identity k of those in ids.
 fn identity_at(ids: &[u8], k: u8) -> &[u8]
-    requires { k * hashSize + hashSize ≤ length ids.now }
-    ensures { (result.now ≡ W.id_at ids.now k) × (length result.now ≡ hashSize) }
+    requires { k * hash_size + hash_size ≤ length ids.now }
+    ensures { (result.now ≡ W.id_at ids.now k) × (length result.now ≡ hash_size) }
 {
     let a = k as usize * HASH_SIZE;
     let e = a + HASH_SIZE;
@@ -82,7 +82,7 @@ fn identity_at(ids: &[u8], k: u8) -> &[u8]
 
 // Where an identity goes among n items: the first that has it, or behind the last.
 fn seat_of(items: &[u8], n: u8, id: &[u8]) -> u8
-    requires { n * itemSize ≤ length items.now }
+    requires { n * item_size ≤ length items.now }
     ensures { result ≡ first (W.identified items.now id.now) 0 n }
 {
     for i in 0..n {
@@ -104,9 +104,9 @@ fn identity_room() -> [u8; MAX_GATHERED * HASH_SIZE] {
 
 // Gathers a fix among n items: the item of its identity gains its signers, or it becomes the last item.
 fn gather(items: &mut [u8], signers: &mut [u32], n: u8, f: Fix, id: &[u8]) -> u8
-    requires laid { W.Laid items.old signers.old n (W.fixesIn items.old signers.old n) }
-    requires n_bound { (n < W.maxGathered) × (id.now ≡ B.identityIn f.bytes.now) }
-    ensures { W.Laid items.new signers.new result (N.gather (W.fixesIn items.old signers.old n) (B.fixIn f.entry.bytes.now)) }
+    requires laid { W.Laid items.old signers.old n (W.fixes_in items.old signers.old n) }
+    requires n_bound { (n < W.max_gathered) × (id.now ≡ B.identity_in f.bytes.now) }
+    ensures { W.Laid items.new signers.new result (N.gather (W.fixes_in items.old signers.old n) (B.fix_in f.entry.bytes.now)) }
 {
     let i = seat_of(items, n, id);
     if i < n {
@@ -128,10 +128,10 @@ fn gather_held(
     from: u8,
     to: u8,
 ) -> u8
-    requires laid { W.Laid items.old signers.old n (W.fixesIn items.old signers.old n) }
+    requires laid { W.Laid items.old signers.old n (W.fixes_in items.old signers.old n) }
     requires sound { P.Sound b.now × W.Listed b.now ids.now }
-    requires from_le_to { (from ≤ to) × (to ≤ P.heldCount b.now) × (n + (to - from) ≤ W.maxGathered) }
-    ensures { W.Laid items.new signers.new result (N.gatherAll (W.fixesIn items.old signers.old n) (W.signedIn b.now from to)) }
+    requires from_le_to { (from ≤ to) × (to ≤ P.held_count b.now) × (n + (to - from) ≤ W.max_gathered) }
+    ensures { W.Laid items.new signers.new result (N.gather_all (W.fixes_in items.old signers.old n) (W.signed_in b.now from to)) }
 {
     let mut m = n;
     for k in from..to {
@@ -146,9 +146,9 @@ fn gather_held(
 
 // Decides n items, and writes what is kept of them into b, and their identities into s.
 fn settle(b: &mut [u8], items: &[u8], signers: &[u32], n: u8, s: &mut [u8]) -> Kept
-    requires b_len { (length b.old ≡ L.transmissionSize) × (length s.old ≡ knownSize) }
-    requires laid { W.Laid items.now signers.now n (W.fixesIn items.now signers.now n) }
-    ensures { (b.new ≡ B.transmissionBytes (W.kept (W.fixesIn items.now signers.now n))) × Keeps (take (n * itemSize) items.now) result × Names s.new (map identityOf (heldIn (W.kept (W.fixesIn items.now signers.now n)))) }
+    requires b_len { (length b.old ≡ L.transmission_size) × (length s.old ≡ known_size) }
+    requires laid { W.Laid items.now signers.now n (W.fixes_in items.now signers.now n) }
+    ensures { (b.new ≡ B.transmission_bytes (W.kept (W.fixes_in items.now signers.now n))) × Keeps (take (n * item_size) items.now) result × Names s.new (map identity_of (held_in (W.kept (W.fixes_in items.now signers.now n)))) }
 {
     let end = n as usize * ITEM_SIZE;
     let kept = keeping::keep(&items[..end]);
@@ -175,8 +175,8 @@ fn among(s: &[u8], list: &[u8], count: u8, id: &[u8]) -> bool
 
 // Whether one of the identities k to e - 1 is this one.
 fn is_listed(ids: &[u8], k: u8, e: u8, id: &[u8]) -> bool
-    requires { e * hashSize ≤ length ids.now }
-    ensures { result ≡ W.isListed ids.now k e id.now }
+    requires { e * hash_size ≤ length ids.now }
+    ensures { result ≡ W.is_listed ids.now k e id.now }
 {
     for j in k..e {
         if octets::order::equal(identity_at(ids, j), id) {
@@ -189,7 +189,7 @@ fn is_listed(ids: &[u8], k: u8, e: u8, id: &[u8]) -> bool
 // How many of the first `count` items of a list are none of the identities k to e - 1.
 fn unlisted(s: &[u8], list: &[u8], count: u8, ids: &[u8], k: u8, e: u8) -> u8
     requires count_in_bounds { (count ≤ length list.now) × ((i : ℕ) → i < count → Lies s.now (get_or list.now i 0)) }
-    requires hash_size_in_bounds { e * hashSize ≤ length ids.now }
+    requires hash_size_in_bounds { e * hash_size ≤ length ids.now }
     ensures { result ≡ W.unlisted s.now ids.now k e (take count list.now) }
 {
     let mut n: u8 = 0;
@@ -206,7 +206,7 @@ fn unlisted(s: &[u8], list: &[u8], count: u8, ids: &[u8], k: u8, e: u8) -> u8
 // What a fix with this identity did, where k was kept of items s, and ids had the identities of c fixes that stood and of the refused, up to e.
 fn tell(s: &[u8], k: Kept, id: &[u8], ids: &[u8], c: u8, e: u8) -> Joined
     requires keeps { Keeps s.now k }
-    requires hash_size_in_bounds { (e * hashSize ≤ length ids.now) × (1 ≤ e) }
+    requires hash_size_in_bounds { (e * hash_size ≤ length ids.now) × (1 ≤ e) }
     ensures { result ≡ W.told s.now k id.now ids.now c e }
 {
     let ranked = k.ranked;
@@ -229,8 +229,8 @@ fn tell(s: &[u8], k: Kept, id: &[u8], ids: &[u8], c: u8, e: u8) -> Joined
 fn gather_with(items: &mut [u8], signers: &mut [u32], b: &[u8], f: Fix, id: &[u8], ids: &[u8]) -> u8
     requires laid { W.Laid items.old signers.old 0 [] }
     requires sound { P.Sound b.now × W.Listed b.now ids.now }
-    requires identified { id.now ≡ B.identityIn f.bytes.now }
-    ensures { W.Laid items.new signers.new result (N.distinct (W.signedWith b.now (B.fixIn f.entry.bytes.now))) }
+    requires identified { id.now ≡ B.identity_in f.bytes.now }
+    ensures { W.Laid items.new signers.new result (N.distinct (W.signed_with b.now (B.fix_in f.entry.bytes.now))) }
 {
     let c = tracked::fix_count(b);
     let e = tracked::held_count(b);
@@ -243,7 +243,7 @@ fn gather_with(items: &mut [u8], signers: &mut [u32], b: &[u8], f: Fix, id: &[u8
 // What s knows is not hashed again, and then it knows all that is kept.
 pub fn normalize(b: &mut [u8], s: &mut [u8])
     requires { P.Sound b.old × Knows b.old s.old }
-    ensures { (b.new ≡ B.transmissionBytes (N.normalized (filter is_signed (heldIn (B.transmissionIn b.old))))) × Knows b.new s.new × (knownCount s.new ≡ P.heldCount b.new) }
+    ensures { (b.new ≡ B.transmission_bytes (N.normalized (filter is_signed (held_in (B.transmission_in b.old))))) × Knows b.new s.new × (known_count s.new ≡ P.held_count b.new) }
 {
     let mut ids = identity_room();
     let mut items = item_room();
@@ -256,10 +256,10 @@ pub fn normalize(b: &mut [u8], s: &mut [u8])
 
 // Puts a further fix among the fixes of b, which are signed, and decides all again; s knows then all that is kept.
 pub fn join(b: &mut [u8], f: Fix, id: &Identity, ids: &[u8], s: &mut [u8]) -> Joined
-    requires sound { P.Sound b.old × (1 ≤ B.fixCount b.old) × (allPlaces W.signedPlace (P.heldPlaces b.old) ≡ true) × W.Listed b.old ids.now }
-    requires identified { id.now.0 ≡ B.identityIn f.bytes.now }
-    requires s_len { length s.old ≡ knownSize }
-    ensures { (b.new ≡ B.transmissionBytes (withFix (B.fixIn f.entry.bytes.now) (B.transmissionIn b.old))) × (result ≡ did (B.fixIn f.entry.bytes.now) (B.transmissionIn b.old) (withFix (B.fixIn f.entry.bytes.now) (B.transmissionIn b.old))) × Knows b.new s.new × (knownCount s.new ≡ P.heldCount b.new) }
+    requires sound { P.Sound b.old × (1 ≤ B.fix_count b.old) × (all_places W.signed_place (P.held_places b.old) ≡ true) × W.Listed b.old ids.now }
+    requires identified { id.now.0 ≡ B.identity_in f.bytes.now }
+    requires s_len { length s.old ≡ known_size }
+    ensures { (b.new ≡ B.transmission_bytes (with_fix (B.fix_in f.entry.bytes.now) (B.transmission_in b.old))) × (result ≡ did (B.fix_in f.entry.bytes.now) (B.transmission_in b.old) (with_fix (B.fix_in f.entry.bytes.now) (B.transmission_in b.old))) × Knows b.new s.new × (known_count s.new ≡ P.held_count b.new) }
 {
     let mut items = item_room();
     let mut signers = [0u32; MAX_GATHERED];

@@ -11,24 +11,24 @@ use lib.Dec.{ltb}
 use lib.ListN.{length, get_or, take, drop, length-drop, drop_of_length-le}
 use lib.Seq.{take-add, take_all, take-take, drop-cons, length-take-le}
 use borrow.Author.Tests.{lt-ltb, le-ltb, ltb-true, ltb-false}
-use Rattle.octets.specs.Order.{isBefore, same}
-use Rattle.octets.specs.Lesser.{lesserOf}
+use Rattle.octets.specs.Order.{is_before, same}
+use Rattle.octets.specs.Lesser.{lesser_of}
 use Rattle.octets.specs.Words.{word_bytes, word, word_at}
 use Rattle.ranges.proofs.Bools.{by}
 use Rattle.octets.specs.Bytes.{Bytes}
 use Rattle.octets.proofs.Numbers.{bytes_take, bytes_drop, bytes-of-word}
 
 module _ (x y : ℕ) (xs ys : List ℕ) where
-  first : x < y → isBefore (x ∷ xs) (y ∷ ys) ≡ true
-  unfolding isBefore
+  first : x < y → is_before (x ∷ xs) (y ∷ ys) ≡ true
+  unfolding is_before
   first h = rw (lt-ltb x y h) refl
 
-  rest : x ≡ y → isBefore (x ∷ xs) (y ∷ ys) ≡ isBefore xs ys
-  unfolding isBefore
+  rest : x ≡ y → is_before (x ∷ xs) (y ∷ ys) ≡ is_before xs ys
+  unfolding is_before
   rest e = rw (le-ltb x y (omega arith), le-ltb y x (omega arith)) refl
 
-  never : y < x → isBefore (x ∷ xs) (y ∷ ys) ≡ false
-  unfolding isBefore
+  never : y < x → is_before (x ∷ xs) (y ∷ ys) ≡ false
+  unfolding is_before
   never h = rw (le-ltb x y (omega arith), lt-ltb y x h) refl
 
   either : (x < y) ⊎ ((x ≡ y) ⊎ (y < x))
@@ -42,11 +42,11 @@ module _ (x y : ℕ) (xs ys : List ℕ) where
       go true e = inl (ltb-true x y e)
       go false e = inr (lower (ltb y x) refl (ltb-false x y e))
 
-  cases : isBefore (x ∷ xs) (y ∷ ys) ≡ true → (x < y) ⊎ ((x ≡ y) × (isBefore xs ys ≡ true))
+  cases : is_before (x ∷ xs) (y ∷ ys) ≡ true → (x < y) ⊎ ((x ≡ y) × (is_before xs ys ≡ true))
   cases h = ⊎_elim inl (⊎_elim (λ e. inr (e, sym (rest e) ∙ h)) (λ l. absurd (false≢true (sym (never l) ∙ h)))) either
 
-pub before-trans : (a b c : List ℕ) → isBefore a b ≡ true → isBefore b c ≡ true → isBefore a c ≡ true
-unfolding isBefore
+pub before-trans : (a b c : List ℕ) → is_before a b ≡ true → is_before b c ≡ true → is_before a c ≡ true
+unfolding is_before
 before-trans a [] c p q = absurd (false≢true p)
 before-trans a (y ∷ ys) [] p q = absurd (false≢true q)
 before-trans [] (y ∷ ys) (z ∷ zs) p q = refl
@@ -56,20 +56,20 @@ before-trans (x ∷ xs) (y ∷ ys) (z ∷ zs) p q =
     (λ l. ⊎_elim (λ k. let e = l.0 in first x z xs zs (omega arith)) (λ k. rest x z xs zs (l.0 ∙ k.0) ∙ ih l.1 k.1) (cases y z ys zs q))
     (cases x y xs ys p)
 
-pub before-irrefl : (a : List ℕ) → isBefore a a ≡ false
-unfolding isBefore
+pub before-irrefl : (a : List ℕ) → is_before a a ≡ false
+unfolding is_before
 before-irrefl [] = refl
 before-irrefl (x ∷ xs) = rest x x xs xs refl ∙ before-irrefl xs
 
-pub before-asym : (a b : List ℕ) → isBefore a b ≡ true → isBefore b a ≡ false
-before-asym a b p = go (isBefore b a) refl
+pub before-asym : (a b : List ℕ) → is_before a b ≡ true → is_before b a ≡ false
+before-asym a b p = go (is_before b a) refl
   where
-    go : (t : Bool) → isBefore b a ≡ t → t ≡ false
+    go : (t : Bool) → is_before b a ≡ t → t ≡ false
     go false e = refl
     go true e = absurd (false≢true (sym (before-irrefl a) ∙ before-trans a b a p e))
 
-pub before_same : (a b : List ℕ) → isBefore a b ≡ false → isBefore b a ≡ false → a ≡ b
-unfolding isBefore
+pub before_same : (a b : List ℕ) → is_before a b ≡ false → is_before b a ≡ false → a ≡ b
+unfolding is_before
 before_same [] [] p q = refl
 before_same [] (y ∷ ys) p q = absurd (true≢false p)
 before_same (x ∷ xs) [] p q = absurd (true≢false q)
@@ -81,22 +81,22 @@ before_same (x ∷ xs) (y ∷ ys) p q =
     (either x y xs ys)
 
 -- exactly one of three
-pub tri : (a b : List ℕ) → (isBefore a b ≡ true) ⊎ ((a ≡ b) ⊎ (isBefore b a ≡ true))
-tri a b = by (isBefore a b) inl (λ p. inr (by (isBefore b a) inr (λ q. inl (before_same a b p q))))
+pub tri : (a b : List ℕ) → (is_before a b ≡ true) ⊎ ((a ≡ b) ⊎ (is_before b a ≡ true))
+tri a b = by (is_before a b) inl (λ p. inr (by (is_before b a) inr (λ q. inl (before_same a b p q))))
 
 -- a is not after b, and b is before c
-pub before-le : (a b c : List ℕ) → isBefore b a ≡ false → isBefore b c ≡ true → isBefore a c ≡ true
+pub before-le : (a b c : List ℕ) → is_before b a ≡ false → is_before b c ≡ true → is_before a c ≡ true
 before-le a b c p q = ⊎_elim (λ l. before-trans a b c l q) (⊎_elim (λ e. rw e q) (λ l. absurd (false≢true (sym p ∙ l)))) (tri a b)
 
 pub same_refl : (a : List ℕ) → same a a ≡ true
 unfolding same
 same_refl a = rw (before-irrefl a) refl
 
-pub less-same : (a b : List ℕ) → isBefore a b ≡ true → same a b ≡ false
+pub less-same : (a b : List ℕ) → is_before a b ≡ true → same a b ≡ false
 unfolding same
 less-same a b h = rw h refl
 
-pub more_same : (a b : List ℕ) → isBefore b a ≡ true → same a b ≡ false
+pub more_same : (a b : List ℕ) → is_before b a ≡ true → same a b ≡ false
 unfolding same
 more_same a b h = rw (before-asym b a h, h) refl
 
@@ -104,18 +104,18 @@ pub same-eq : (a b : List ℕ) → same a b ≡ true → a ≡ b
 same-eq a b h = ⊎_elim (λ l. absurd (false≢true (sym (less-same a b l) ∙ h))) (⊎_elim (λ e. e) (λ l. absurd (false≢true (sym (more_same a b l) ∙ h)))) (tri a b)
 
 -- the lesser of two is one of them, and neither of them comes before it
-pub lesser-least : (a b : List ℕ) → (isBefore a (lesserOf a b) ≡ false) × (isBefore b (lesserOf a b) ≡ false)
+pub lesser-least : (a b : List ℕ) → (is_before a (lesser_of a b) ≡ false) × (is_before b (lesser_of a b) ≡ false)
 lesser-least a b =
-    by (isBefore b a)
+    by (is_before b a)
     (λ h. rw h (before-asym b a h, before-irrefl b))
     (λ h. rw h (before-irrefl a, h))
 
 -- which of the two is lent first does not matter
-pub lesser-comm : (a b : List ℕ) → lesserOf a b ≡ lesserOf b a
+pub lesser-comm : (a b : List ℕ) → lesser_of a b ≡ lesser_of b a
 lesser-comm a b =
-    by (isBefore a b)
+    by (is_before a b)
     (λ h. rw (before-asym a b h, h) refl)
-    (λ h. by (isBefore b a) (λ k. rw (k, h) refl) (λ k. rw (k, h) (before_same a b h k)))
+    (λ h. by (is_before b a) (λ k. rw (k, h) refl) (λ k. rw (k, h) (before_same a b h k)))
 
 -- ---- sameness, byte by byte
 
@@ -132,14 +132,14 @@ same-nil = same_refl []
 -- ---- the comparison from a place on
 
 module _ (a b : List ℕ) (i : ℕ) (h : i < length a) (k : i < length b) where
-  pub before_here : (get_or a i 0 ≡ get_or b i 0 → ⊥) → isBefore (drop i a) (drop i b) ≡ ltb (get_or a i 0) (get_or b i 0)
+  pub before_here : (get_or a i 0 ≡ get_or b i 0 → ⊥) → is_before (drop i a) (drop i b) ≡ ltb (get_or a i 0) (get_or b i 0)
   before_here f =
       let x = get_or a i 0 in
       let y = get_or b i 0 in
       rw (drop-cons a i 0 h, drop-cons b i 0 k)
       (⊎_elim (λ l. first x y _ _ l ∙ sym (lt-ltb x y l)) (⊎_elim (λ e. absurd (f e)) (λ l. never x y _ _ l ∙ sym (le-ltb x y (omega arith)))) (either x y [] []))
 
-  pub before-next : get_or a i 0 ≡ get_or b i 0 → isBefore (drop i a) (drop i b) ≡ isBefore (drop (i + 1) a) (drop (i + 1) b)
+  pub before-next : get_or a i 0 ≡ get_or b i 0 → is_before (drop i a) (drop i b) ≡ is_before (drop (i + 1) a) (drop (i + 1) b)
   before-next e = rw (add-one i, drop-cons a i 0 h, drop-cons b i 0 k) (rest _ _ _ _ e)
 
   pub same_here : (get_or a i 0 ≡ get_or b i 0 → ⊥) → same (drop i a) (drop i b) ≡ false
@@ -149,12 +149,12 @@ module _ (a b : List ℕ) (i : ℕ) (h : i < length a) (k : i < length b) where
   same_next e = rw (add-one i, drop-cons a i 0 h, drop-cons b i 0 k, e) (same-cons (get_or b i 0) (drop (suc i) a) (drop (suc i) b))
 
 -- one of them ends there
-pub before-ended : (a b : List ℕ) (i : ℕ) → length a ≤ i → i < length b → isBefore (drop i a) (drop i b) ≡ true
-unfolding isBefore
+pub before-ended : (a b : List ℕ) (i : ℕ) → length a ≤ i → i < length b → is_before (drop i a) (drop i b) ≡ true
+unfolding is_before
 before-ended a b i h k = rw (drop_of_length-le a h, drop-cons b i 0 k) refl
 
-pub before-past : (a b : List ℕ) (i : ℕ) → length b ≤ i → isBefore a (drop i b) ≡ false
-unfolding isBefore
+pub before-past : (a b : List ℕ) (i : ℕ) → length b ≤ i → is_before a (drop i b) ≡ false
+unfolding is_before
 before-past a b i h = rw (drop_of_length-le b h) refl
 
 pub same-past : (a b : List ℕ) (i : ℕ) → length a ≤ i → length b ≤ i → same (drop i a) (drop i b) ≡ true
@@ -168,7 +168,7 @@ head-eq x y a b e = ap (λ (l : List ℕ). get_or l 0 0) e
 tail-eq : (x y : ℕ) (a b : List ℕ) → x ∷ a ≡ y ∷ b → a ≡ b
 tail-eq x y a b e = ap (drop 1) e
 
-pub before-drop : (i : ℕ) (a b : List ℕ) → take i a ≡ take i b → isBefore a b ≡ isBefore (drop i a) (drop i b)
+pub before-drop : (i : ℕ) (a b : List ℕ) → take i a ≡ take i b → is_before a b ≡ is_before (drop i a) (drop i b)
 before-drop zero a b e = refl
 before-drop (suc i) [] [] e = refl
 before-drop (suc i) [] (y ∷ b) e = absurd (omega (arith, ap length e))

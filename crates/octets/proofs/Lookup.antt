@@ -12,7 +12,7 @@ use lib.Arith.{bin_ind}
 use lib.Count.{ones, ones_in, ones_step}
 use Rattle.ranges.proofs.Bools.{by}
 use borrow.Author.Tests.{eq-eqb, ne_eqb, eqb-true, eqb-false, ltb-true, ltb-false}
-use Rattle.octets.specs.Masks.{bit, withBit, withoutBit, bits}
+use Rattle.octets.specs.Masks.{bit, with_bit, without_bit, bits}
 
 -- ---- the machine's operations
 
@@ -24,39 +24,39 @@ unfolding bit
 bit-of m zero = let p : m / 1 ≡ m = omega arith in rw p refl
 bit-of m (suc e) = ap (λ (x : ℕ). eqb (x % 2) 1) (ap (λ (k : ℕ). m / 2 ^ k) (sym (one-add e)) ∙ sym (shr-shr m 1 e)) ∙ bit-of (m / 2) e
 
-pub or_set : (m e : ℕ) → bit_or m (2 ^ e) ≡ withBit m e
-unfolding withBit
+pub or_set : (m e : ℕ) → bit_or m (2 ^ e) ≡ with_bit m e
+unfolding with_bit
 or_set m zero = or_step m 1 ∙ (rw or_zero_r (omega arith))
 or_set m (suc e) =
     let p : 2 ^ suc e / 2 ≡ 2 ^ e = omega (arith, pow-suc 2 e) in
     let q : 2 ^ suc e % 2 ≡ 0 = omega (arith, pow-suc 2 e) in
     or_step m (2 ^ suc e) ∙ rw (p, q, or_set (m / 2) e) (omega arith)
 
-pub clear-set : (m e : ℕ) → bit m e ≡ true → withoutBit m e + 2 ^ e ≡ m
-unfolding bit withoutBit
+pub clear-set : (m e : ℕ) → bit m e ≡ true → without_bit m e + 2 ^ e ≡ m
+unfolding bit without_bit
 clear-set m zero h = omega (arith, eqb-true (m % 2) 1 h)
 clear-set m (suc e) h = omega (arith, clear-set (m / 2) e h, pow-suc 2 e)
 
-pub clear-unset : (m e : ℕ) → bit m e ≡ false → withoutBit m e ≡ m
-unfolding bit withoutBit
+pub clear-unset : (m e : ℕ) → bit m e ≡ false → without_bit m e ≡ m
+unfolding bit without_bit
 clear-unset m zero h = let n = eqb-false (m % 2) 1 h in omega arith
 clear-unset m (suc e) h = omega (arith, clear-unset (m / 2) e h)
 
 -- ---- the bits after an operation
 
-pub bit-set : (m e k : ℕ) → bit (withBit m e) k ≡ (eqb e k || bit m k)
-unfolding bit withBit
+pub bit-set : (m e k : ℕ) → bit (with_bit m e) k ≡ (eqb e k || bit m k)
+unfolding bit with_bit
 bit-set m zero zero = eq-eqb ((m / 2 * 2 + 1) % 2) 1 (omega arith)
 bit-set m zero (suc k) = let p : (m / 2 * 2 + 1) / 2 ≡ m / 2 = omega arith in rw (eqb-zero-suc k, p) refl
-bit-set m (suc e) zero = let p : (withBit (m / 2) e * 2 + m % 2) % 2 ≡ m % 2 = omega arith in rw (eqb-suc-zero e, p) refl
-bit-set m (suc e) (suc k) = let p : (withBit (m / 2) e * 2 + m % 2) / 2 ≡ withBit (m / 2) e = omega arith in rw (eqb-suc-suc e k, p) (bit-set (m / 2) e k)
+bit-set m (suc e) zero = let p : (with_bit (m / 2) e * 2 + m % 2) % 2 ≡ m % 2 = omega arith in rw (eqb-suc-zero e, p) refl
+bit-set m (suc e) (suc k) = let p : (with_bit (m / 2) e * 2 + m % 2) / 2 ≡ with_bit (m / 2) e = omega arith in rw (eqb-suc-suc e k, p) (bit-set (m / 2) e k)
 
-pub bit-clear : (m e k : ℕ) → bit (withoutBit m e) k ≡ (not (eqb e k) && bit m k)
-unfolding bit withoutBit
+pub bit-clear : (m e k : ℕ) → bit (without_bit m e) k ≡ (not (eqb e k) && bit m k)
+unfolding bit without_bit
 bit-clear m zero zero = ne_eqb (m / 2 * 2 % 2) 1 (omega arith)
 bit-clear m zero (suc k) = let p : m / 2 * 2 / 2 ≡ m / 2 = omega arith in rw (eqb-zero-suc k, p) refl
-bit-clear m (suc e) zero = let p : (withoutBit (m / 2) e * 2 + m % 2) % 2 ≡ m % 2 = omega arith in rw (eqb-suc-zero e, p) refl
-bit-clear m (suc e) (suc k) = let p : (withoutBit (m / 2) e * 2 + m % 2) / 2 ≡ withoutBit (m / 2) e = omega arith in rw (eqb-suc-suc e k, p) (bit-clear (m / 2) e k)
+bit-clear m (suc e) zero = let p : (without_bit (m / 2) e * 2 + m % 2) % 2 ≡ m % 2 = omega arith in rw (eqb-suc-zero e, p) refl
+bit-clear m (suc e) (suc k) = let p : (without_bit (m / 2) e * 2 + m % 2) / 2 ≡ without_bit (m / 2) e = omega arith in rw (eqb-suc-suc e k, p) (bit-clear (m / 2) e k)
 
 pub bit-zero : (k : ℕ) → bit 0 k ≡ false
 unfolding bit
@@ -124,14 +124,14 @@ count_ones zero m h = let z : m ≡ 0 = omega arith in rw z (unfold ones ones_in
 count_ones (suc n) m h = ones_step m ∙ ap (λ (k : ℕ). m % 2 + k) (count_ones n (m / 2) (omega (arith, pow-suc 2 n)))
 
 -- a mask stays below a power of two above its bits
-pub with-lt : (w m e : ℕ) → e < w → m < 2 ^ w → withBit m e < 2 ^ w
-unfolding withBit
+pub with-lt : (w m e : ℕ) → e < w → m < 2 ^ w → with_bit m e < 2 ^ w
+unfolding with_bit
 with-lt zero m e h k = absurd (omega arith)
 with-lt (suc w) m zero h k = omega (arith, pow-suc 2 w)
 with-lt (suc w) m (suc e) h k = omega (arith, pow-suc 2 w, with-lt w (m / 2) e (omega arith) (omega (arith, pow-suc 2 w)))
 
-pub without-le : (m e : ℕ) → withoutBit m e ≤ m
-unfolding withoutBit
+pub without-le : (m e : ℕ) → without_bit m e ≤ m
+unfolding without_bit
 without-le m zero = omega arith
 without-le m (suc e) = omega (arith, without-le (m / 2) e)
 
@@ -143,27 +143,27 @@ bit_below w m e h z =
     (λ q. let p : 2 ^ w ≤ 2 ^ e = pow_mono (ltb-false e w q) in omega (arith, p, clear-set m e z, h))
 
 -- setting a bit that is clear counts one more, and one that is set no more
-pub bits-with : (n m e : ℕ) → e < n → bits n (withBit m e) ≡ bits n m + cond (bit m e) 0 1
-unfolding bits withBit bit
+pub bits-with : (n m e : ℕ) → e < n → bits n (with_bit m e) ≡ bits n m + cond (bit m e) 0 1
+unfolding bits with_bit bit
 bits-with zero m e h = absurd (omega arith)
 bits-with (suc n) m zero h =
     let p : (m / 2 * 2 + 1) % 2 ≡ 1 = omega arith in
     let q : (m / 2 * 2 + 1) / 2 ≡ m / 2 = omega arith in
     rw (p, q) (by (eqb (m % 2) 1) (λ t. let o = eqb-true (m % 2) 1 t in rw t (omega arith)) (λ t. let o = eqb-false (m % 2) 1 t in rw t (omega arith)))
 bits-with (suc n) m (suc e) h =
-    let p : (withBit (m / 2) e * 2 + m % 2) % 2 ≡ m % 2 = omega arith in
-    let q : (withBit (m / 2) e * 2 + m % 2) / 2 ≡ withBit (m / 2) e = omega arith in
+    let p : (with_bit (m / 2) e * 2 + m % 2) % 2 ≡ m % 2 = omega arith in
+    let q : (with_bit (m / 2) e * 2 + m % 2) / 2 ≡ with_bit (m / 2) e = omega arith in
     rw (p, q, bits-with n (m / 2) e (omega arith)) (omega arith)
 
-pub bits-without : (n m e : ℕ) → e < n → bits n (withoutBit m e) + cond (bit m e) 1 0 ≡ bits n m
-unfolding bits withoutBit bit
+pub bits-without : (n m e : ℕ) → e < n → bits n (without_bit m e) + cond (bit m e) 1 0 ≡ bits n m
+unfolding bits without_bit bit
 bits-without zero m e h = absurd (omega arith)
 bits-without (suc n) m zero h =
     let p : m / 2 * 2 % 2 ≡ 0 = omega arith in
     let q : m / 2 * 2 / 2 ≡ m / 2 = omega arith in
     rw (p, q) (by (eqb (m % 2) 1) (λ t. let o = eqb-true (m % 2) 1 t in rw t (omega arith)) (λ t. let o = eqb-false (m % 2) 1 t in rw t (omega arith)))
 bits-without (suc n) m (suc e) h =
-    let p : (withoutBit (m / 2) e * 2 + m % 2) % 2 ≡ m % 2 = omega arith in
-    let q : (withoutBit (m / 2) e * 2 + m % 2) / 2 ≡ withoutBit (m / 2) e = omega arith in
+    let p : (without_bit (m / 2) e * 2 + m % 2) % 2 ≡ m % 2 = omega arith in
+    let q : (without_bit (m / 2) e * 2 + m % 2) / 2 ≡ without_bit (m / 2) e = omega arith in
     let ih = bits-without n (m / 2) e (omega arith) in
     rw (p, q) (omega arith)

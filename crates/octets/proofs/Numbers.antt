@@ -10,7 +10,7 @@ use lib.ListN.{length, get_or, set, take, drop, length-append, length-take, leng
 use lib.Seq.{sets-eq, take-add, drop-drop, drop-cons, take_at, drop_at, length-take-le}
 use Rattle.octets.specs.Bytes.{Bytes}
 use Rattle.octets.specs.Words.{word, word_bytes, word_at}
-use Rattle.octets.specs.Writes.{putWord}
+use Rattle.octets.specs.Writes.{put_word}
 
 -- a slice's elements are bytes, place by place
 pub all-bytes : (s : List ℕ) → ((i : ℕ) → get_or s i 0 < 256) → Bytes s
@@ -106,36 +106,36 @@ bytes_low (suc m) x =
     pos-pow (suc m) = omega (arith, pos-pow m, pow-suc 256 m)
 
 -- a number written in two parts, the lower first
-pub put-halves : (m n at x : ℕ) (s : List ℕ) → at + m ≤ length s → putWord n (at + m) (x / 256 ^ m) (putWord m at (x % 256 ^ m) s) ≡ putWord (m + n) at x s
+pub put-halves : (m n at x : ℕ) (s : List ℕ) → at + m ≤ length s → put_word n (at + m) (x / 256 ^ m) (put_word m at (x % 256 ^ m) s) ≡ put_word (m + n) at x s
 put-halves m n at x s h =
     let low = word_bytes m (x % 256 ^ m) in
     let p = take at s ++ low in
     let l : length p ≡ at + m = rw (length-append, length-take-le at s (omega arith), length-word-bytes m (x % 256 ^ m)) refl in
-    let e : putWord m at (x % 256 ^ m) s ≡ p ++ drop (at + m) s = sym (append_assoc (take at s) low (drop (at + m) s)) in
+    let e : put_word m at (x % 256 ^ m) s ≡ p ++ drop (at + m) s = sym (append_assoc (take at s) low (drop (at + m) s)) in
     let d : drop (at + m + n) (p ++ drop (at + m) s) ≡ drop (at + (m + n)) s =
     sym (drop-drop n (at + m) (p ++ drop (at + m) s)) ∙ ap (drop n) (drop_at p (drop (at + m) s) (at + m) l) ∙ drop-drop n (at + m) s ∙ ap (λ (k : ℕ). drop k s) (add_assoc at m n) in
     rw (e, take_at p (drop (at + m) s) (at + m) l, d, bytes_low m x, bytes_halves m n x)
     (append_assoc (take at s) (word_bytes m x) (word_bytes n (x / 256 ^ m) ++ drop (at + (m + n)) s) ∙ ap (λ (t : List ℕ). take at s ++ t) (sym (append_assoc (word_bytes m x) (word_bytes n (x / 256 ^ m)) (drop (at + (m + n)) s))))
 
 -- two bytes stored one after the other
-pub put_two : (at x : ℕ) (s : List ℕ) → at + 2 ≤ length s → x < 256 ^ 2 → set (set s at (x % 256)) (at + 1) (x / 256) ≡ putWord 2 at x s
+pub put_two : (at x : ℕ) (s : List ℕ) → at + 2 ≤ length s → x < 256 ^ 2 → set (set s at (x % 256)) (at + 1) (x / 256) ≡ put_word 2 at x s
 unfolding word_bytes
 put_two at x s h b =
     let e : x / 256 % 256 ≡ x / 256 = omega arith in
     ap (λ (k : ℕ). set (set s at (x % 256)) k (x / 256)) (add-one at) ∙ sets-eq (x % 256 ∷ x / 256 ∷ []) s at h ∙ rw e (append_assoc (take at s) (x % 256 ∷ x / 256 ∷ []) (drop (at + 2) s))
 
 -- what is put at a place is read there
-pub put-read : (n at x : ℕ) (s : List ℕ) → at + n ≤ length s → x < 256 ^ n → word_at n at (putWord n at x s) ≡ x
+pub put-read : (n at x : ℕ) (s : List ℕ) → at + n ≤ length s → x < 256 ^ n → word_at n at (put_word n at x s) ≡ x
 put-read n at x s h b =
     let l : length (take at s) ≡ at = length-take-le at s (omega arith) in
     rw (drop_at (take at s) (word_bytes n x ++ drop (at + n) s) at l, take_at (word_bytes n x) (drop (at + n) s) n (length-word-bytes n x)) (word-of-bytes n x b)
 
 -- putting what is read leaves all bytes as they are
-pub read-put : (n at : ℕ) (s : List ℕ) → at + n ≤ length s → Bytes s → putWord n at (word_at n at s) s ≡ s
+pub read-put : (n at : ℕ) (s : List ℕ) → at + n ≤ length s → Bytes s → put_word n at (word_at n at s) s ≡ s
 read-put n at s h b =
     let l : length (take n (drop at s)) ≡ n = length-take-le n (drop at s) (rw length-drop (omega arith)) in
     let e : word_bytes n (word_at n at s) ≡ take n (drop at s) = ap (λ (k : ℕ). word_bytes k (word_at n at s)) (sym l) ∙ bytes-of-word (take n (drop at s)) (bytes_take n (drop at s) (bytes_drop at s b)) in
     rw (e, ← drop-drop n at s, take-append-drop n (drop at s), take-append-drop at s) refl
 
-pub length-put : (n at x : ℕ) (s : List ℕ) → at + n ≤ length s → length (putWord n at x s) ≡ length s
+pub length-put : (n at x : ℕ) (s : List ℕ) → at + n ≤ length s → length (put_word n at x s) ≡ length s
 length-put n at x s h = simp (length-append, length-take, length-word-bytes, length-drop) (omega arith)

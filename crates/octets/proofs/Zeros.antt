@@ -8,16 +8,16 @@ use lib.Dec.{eqb}
 use lib.Bits.{bit_or, or_add_and, and_le_l, and_le_r}
 use lib.ListN.{length, replicate}
 use borrow.Author.Tests.{eq-eqb, ne_eqb, eqb-true, eqb-false}
-use Rattle.octets.specs.Runs.{allZero}
+use Rattle.octets.specs.Runs.{all_zero}
 use Rattle.ranges.proofs.Bools.{by, and_left, and_right}
 
-pub zero-run : (s : List ℕ) → allZero s ≡ true → s ≡ replicate (length s) 0
-unfolding allZero
+pub zero-run : (s : List ℕ) → all_zero s ≡ true → s ≡ replicate (length s) 0
+unfolding all_zero
 zero-run [] h = refl
-zero-run (b ∷ s) h = ap (λ (x : ℕ). x ∷ s) (eqb-true b 0 (and_left (eqb b 0) (allZero s) h)) ∙ ap (λ (l : List ℕ). 0 ∷ l) (zero-run s (and_right (eqb b 0) (allZero s) h))
+zero-run (b ∷ s) h = ap (λ (x : ℕ). x ∷ s) (eqb-true b 0 (and_left (eqb b 0) (all_zero s) h)) ∙ ap (λ (l : List ℕ). 0 ∷ l) (zero-run s (and_right (eqb b 0) (all_zero s) h))
 
-pub run-zero : (n : ℕ) → allZero (replicate n 0) ≡ true
-unfolding allZero
+pub run-zero : (n : ℕ) → all_zero (replicate n 0) ≡ true
+unfolding all_zero
 run-zero zero = refl
 run-zero (suc n) = run-zero n
 

@@ -1,7 +1,7 @@
 -- Which of two lent slices is handed back: the one whose bytes come first.
 use Rattle.std.specs.Prelude.{ℕ, cond, List}
-use Rattle.octets.specs.Order.{isBefore}
+use Rattle.octets.specs.Order.{is_before}
 
 -- the one that comes first
-abbrev pub lesserOf : List ℕ → List ℕ → List ℕ
-lesserOf a b = cond (isBefore b a) b a
+abbrev pub lesser_of : List ℕ → List ℕ → List ℕ
+lesser_of a b = cond (is_before b a) b a

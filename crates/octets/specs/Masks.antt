@@ -7,14 +7,14 @@ bit mask zero = eqb (mask % 2) 1
 bit mask (suc n) = bit (mask / 2) n
 
 -- the mask with bit n set
-unfoldable pub withBit : ℕ → ℕ → ℕ
-withBit mask zero = mask / 2 * 2 + 1
-withBit mask (suc n) = withBit (mask / 2) n * 2 + mask % 2
+unfoldable pub with_bit : ℕ → ℕ → ℕ
+with_bit mask zero = mask / 2 * 2 + 1
+with_bit mask (suc n) = with_bit (mask / 2) n * 2 + mask % 2
 
 -- the mask with bit n clear
-unfoldable pub withoutBit : ℕ → ℕ → ℕ
-withoutBit mask zero = mask / 2 * 2
-withoutBit mask (suc n) = withoutBit (mask / 2) n * 2 + mask % 2
+unfoldable pub without_bit : ℕ → ℕ → ℕ
+without_bit mask zero = mask / 2 * 2
+without_bit mask (suc n) = without_bit (mask / 2) n * 2 + mask % 2
 
 -- how many of the n lowest bits are set
 unfoldable pub bits : ℕ → ℕ → ℕ

@@ -3,11 +3,11 @@
 use Rattle.std.specs.Prelude.{ℕ, Bool, true, false, cond, not, ◌&&◌, List, [], ◌∷◌, ltb}
 
 -- the first comes before the second, strictly
-unfoldable pub isBefore : List ℕ → List ℕ → Bool
-isBefore a [] = false
-isBefore [] (y ∷ b) = true
-isBefore (x ∷ a) (y ∷ b) = cond (ltb x y) true (cond (ltb y x) false (isBefore a b))
+unfoldable pub is_before : List ℕ → List ℕ → Bool
+is_before a [] = false
+is_before [] (y ∷ b) = true
+is_before (x ∷ a) (y ∷ b) = cond (ltb x y) true (cond (ltb y x) false (is_before a b))
 
 -- neither comes before the other
 unfoldable pub same : List ℕ → List ℕ → Bool
-same a b = not (isBefore a b) && not (isBefore b a)
+same a b = not (is_before a b) && not (is_before b a)

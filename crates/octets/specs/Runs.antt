@@ -2,6 +2,6 @@
 use Rattle.std.specs.Prelude.{ℕ, Bool, true, ◌&&◌, List, [], ◌∷◌, eqb}
 
 -- every byte is zero
-unfoldable pub allZero : List ℕ → Bool
-allZero [] = true
-allZero (b ∷ bs) = eqb b 0 && allZero bs
+unfoldable pub all_zero : List ℕ → Bool
+all_zero [] = true
+all_zero (b ∷ bs) = eqb b 0 && all_zero bs

@@ -20,5 +20,5 @@ abbrev pub signed_of : ℕ → ℤ
 signed_of x = cond (ltb x 0x8000_0000) (pos x) (negsuc (0xffff_ffff - x))
 
 -- the signed number in the 4 bytes of s at a place
-abbrev pub signedAt : ℕ → List ℕ → ℤ
-signedAt at s = signed_of (word_at 4 at s)
+abbrev pub signed_at : ℕ → List ℕ → ℤ
+signed_at at s = signed_of (word_at 4 at s)

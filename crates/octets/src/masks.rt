@@ -1,7 +1,7 @@
 // Sets of small numbers as the bits of a mask: bit n stands for n. A mask of 16 bits is handled as
 // one of 32 whose upper half is zero.
 ghost use Rattle.std.specs.Prelude.{◌≡◌, ◌<◌};
-ghost use Rattle.octets.specs.Masks.{bit, withBit, withoutBit, bits};
+ghost use Rattle.octets.specs.Masks.{bit, with_bit, without_bit, bits};
 
 // Whether bit n is set.
 pub fn has_u32(mask: u32, n: u32) -> bool
@@ -14,7 +14,7 @@ pub fn has_u32(mask: u32, n: u32) -> bool
 // The mask with bit n set.
 pub fn with_u32(mask: u32, n: u32) -> u32
     requires { n < 32 }
-    ensures { result ≡ withBit mask n }
+    ensures { result ≡ with_bit mask n }
 {
     mask | (1 << n)
 }
@@ -22,7 +22,7 @@ pub fn with_u32(mask: u32, n: u32) -> u32
 // The mask with bit n clear.
 pub fn without_u32(mask: u32, n: u32) -> u32
     requires { n < 32 }
-    ensures { result ≡ withoutBit mask n }
+    ensures { result ≡ without_bit mask n }
 {
     if has_u32(mask, n) {
         mask - (1 << n)

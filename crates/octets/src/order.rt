@@ -1,6 +1,6 @@
 // Byte order: strings are compared by their first differing byte.
 ghost use Rattle.std.specs.Prelude.{◌≡◌, ◌≤◌, length, take, drop};
-ghost use Rattle.octets.specs.Order.{isBefore, same};
+ghost use Rattle.octets.specs.Order.{is_before, same};
 
 use crate::words::u64_at;
 
@@ -29,7 +29,7 @@ fn alike(a: &[u8], b: &[u8]) -> usize
 
 // Whether what a has from a place on comes before what b has from there on.
 fn precedes_from(a: &[u8], b: &[u8], at: usize) -> bool
-    ensures { result ≡ isBefore (drop at a.now) (drop at b.now) }
+    ensures { result ≡ is_before (drop at a.now) (drop at b.now) }
 {
     for i in at..b.len() {
         if a.len() <= i {
@@ -44,7 +44,7 @@ fn precedes_from(a: &[u8], b: &[u8], at: usize) -> bool
 
 // Whether a comes before b. Most strings differ in their first byte: it is looked at alone.
 pub fn precedes(a: &[u8], b: &[u8]) -> bool
-    ensures { result ≡ isBefore a.now b.now }
+    ensures { result ≡ is_before a.now b.now }
 {
     if b.len() == 0 {
         return false;

@@ -1,11 +1,11 @@
 // Runs of zeros, and moves within a slice.
 ghost use Rattle.std.specs.Prelude.{◌≡◌, ◌++◌, ◌+◌, ◌-◌, ◌≤◌, length, take, drop, replicate};
-ghost use Rattle.octets.specs.Runs.{allZero};
+ghost use Rattle.octets.specs.Runs.{all_zero};
 ghost use Rattle.octets.specs.Put.{Put};
 
 // Whether every byte is zero. Looks at all of them, without a branch for each.
 pub fn is_zero(s: &[u8]) -> bool
-    ensures { result ≡ allZero s.now }
+    ensures { result ≡ all_zero s.now }
 {
     let mut any = 0;
     for byte in s {

@@ -4,8 +4,8 @@
 use Rattle.std.specs.Prelude.{ℕ, ◌≤◌, ◌≡◌, true, length}
 use mathlib.Core.List.{List, [], ◌∷◌, map, Permᴰ}
 use Rattle.decision.specs.Positions.{S, M, L}
-use Rattle.register.specs.Layout.{maxRecords}
-use Rattle.register.specs.Calls.{Call, report, summary, conviction, noneFull}
+use Rattle.register.specs.Layout.{max_records}
+use Rattle.register.specs.Calls.{Call, report, summary, conviction, none_full}
 use Rattle.register.specs.Memory as R
 use Rattle.merge.specs.Merged.{number_of}
 use Rattle.merge.specs.declared.Merged.TheVariants.{Changed}
@@ -18,64 +18,64 @@ use Rattle.board.specs.Claims.{SameInBothRooms}
 -- ---- calls on a track
 
 -- a track has the calls of a register
-abbrev pub onTrack : Call → C.Call
-onTrack (report e r) = C.report e r
-onTrack (summary e model spec inputs) = C.summary e model spec inputs
-onTrack (conviction e) = C.conviction e
+abbrev pub on_track : Call → C.Call
+on_track (report e r) = C.report e r
+on_track (summary e model spec inputs) = C.summary e model spec inputs
+on_track (conviction e) = C.conviction e
 
 -- the bytes of a fresh track after the calls of a list
-abbrev pub trackBytes : List Call → List ℕ
-trackBytes cs = C.runs T.fresh (map onTrack cs)
+abbrev pub track_bytes : List Call → List ℕ
+track_bytes cs = C.runs T.fresh (map on_track cs)
 
 -- the track that they are
-abbrev pub trackAfter : List Call → Track
-trackAfter cs = T.decode (trackBytes cs)
+abbrev pub track_after : List Call → Track
+track_after cs = T.decode (track_bytes cs)
 
 -- what each call is answered, first to last
-unfoldable pub trackAnswers : List ℕ → List Call → List ℕ
-trackAnswers m [] = []
-trackAnswers m (c ∷ cs) = (T.on_memory (C.act (onTrack c)) m).answer ∷ trackAnswers (T.on_memory (C.act (onTrack c)) m).left cs
+unfoldable pub track_answers : List ℕ → List Call → List ℕ
+track_answers m [] = []
+track_answers m (c ∷ cs) = (T.on_memory (C.act (on_track c)) m).answer ∷ track_answers (T.on_memory (C.act (on_track c)) m).left cs
 
 -- the record of the fix that a track serves, if it serves one
 abbrev pub serves : Track → List (List ℕ)
-serves s = map (λ f. f.recordBytes) (served s)
+serves s = map (λ f. f.record_bytes) (served s)
 
 -- ---- three nested fixes of one transmission, reported by one engine in two orders
 
 abbrev pub growing : List Call
 growing = report 1 S ∷ report 1 M ∷ report 1 L ∷ []
 
-abbrev pub largestFirst : List Call
-largestFirst = report 1 L ∷ report 1 S ∷ report 1 M ∷ []
+abbrev pub largest_first : List Call
+largest_first = report 1 L ∷ report 1 S ∷ report 1 M ∷ []
 
 -- a track that takes S, M, L serves L, and one that takes L, S, M serves M
 pub record Position9 : Type 0 where
-  pub serves-l : serves (trackAfter growing) ≡ L ∷ []
-  pub serves-m : serves (trackAfter largestFirst) ≡ M ∷ []
+  pub serves_l : serves (track_after growing) ≡ L ∷ []
+  pub serves_m : serves (track_after largest_first) ≡ M ∷ []
   -- in the second order L was refused, against an S that is no longer held
-  pub none-contested : (trackAfter growing).contested ≡ 0
-  pub one-contested : (trackAfter largestFirst).contested ≡ 1
+  pub none_contested : (track_after growing).contested ≡ 0
+  pub one_contested : (track_after largest_first).contested ≡ 1
   -- the answers do not tell: each is Changed
-  pub growing-answers : trackAnswers T.fresh growing ≡ number_of Changed ∷ number_of Changed ∷ number_of Changed ∷ []
-  pub largest-first-answers : trackAnswers T.fresh largestFirst ≡ number_of Changed ∷ number_of Changed ∷ number_of Changed ∷ []
+  pub growing_answers : track_answers T.fresh growing ≡ number_of Changed ∷ number_of Changed ∷ number_of Changed ∷ []
+  pub largest_first_answers : track_answers T.fresh largest_first ≡ number_of Changed ∷ number_of Changed ∷ number_of Changed ∷ []
 
 -- ---- the claim
 
 -- any two orders of any list, where no call is refused as full, leave the same register and show the same board
 abbrev pub OrderFreeBoard : Type 0
 OrderFreeBoard =
-    (north south : List Call) → Permᴰ north south → noneFull R.fresh north ≡ true → noneFull R.fresh south ≡ true → SameInBothRooms north south
+    (north south : List Call) → Permᴰ north south → none_full R.fresh north ≡ true → none_full R.fresh south ≡ true → SameInBothRooms north south
 
 -- of at most 96 calls none is
 abbrev pub FewAlwaysFit : Type 0
-FewAlwaysFit = (cs : List Call) → length cs ≤ maxRecords → noneFull R.fresh cs ≡ true
+FewAlwaysFit = (cs : List Call) → length cs ≤ max_records → none_full R.fresh cs ≡ true
 
 pub record OrderMatters : Type 0 where
-  pub position-9 : Position9
+  pub position_9 : Position9
   -- the two lists are one list in two orders; the tracks differ, and the boards do not
-  pub one_list : Permᴰ growing largestFirst
-  pub tracks-differ : trackBytes growing ≡ trackBytes largestFirst → ⊥
-  pub boards-agree : SameInBothRooms growing largestFirst
+  pub one_list : Permᴰ growing largest_first
+  pub tracks_differ : track_bytes growing ≡ track_bytes largest_first → ⊥
+  pub boards_agree : SameInBothRooms growing largest_first
   -- the boards do not, whatever the list
-  pub board-in-any-order : OrderFreeBoard
-  pub few-always-fit : FewAlwaysFit
+  pub board_in_any_order : OrderFreeBoard
+  pub few_always_fit : FewAlwaysFit

@@ -1,4 +1,4 @@
--- Laws of keptPlaces, for every key width: what is held and what follows each key afterwards, and the loop that moves the places that stay down over
+-- Laws of kept_places, for every key width: what is held and what follows each key afterwards, and the loop that moves the places that stay down over
 -- those that go.
 use Prim.Native.Nat.{ℕ, ◌+◌, ◌*◌, ◌-◌, ◌≤◌, ◌<◌}
 use mathlib.Core.Path.{◌≡◌, refl, sym, ap, ap₂, ◌∙◌}
@@ -12,7 +12,7 @@ use lib.Seq.{take_at, drop_at, take_all, take-suc, drop-drop, length-take-le}
 use Rattle.octets.specs.Order.{same}
 use Rattle.ranges.proofs.Bools.{by, and_left, and_right, and_both}
 use Rattle.octets.proofs.Comparison.{before-irrefl, same-eq}
-use Rattle.places.specs.Places.{flat, table_of, ascendingFrom, ascending, holds, lookup, keepPlaces, allPlaces}
+use Rattle.places.specs.Places.{flat, table_of, ascending_from, ascending, holds, lookup, keep_places, all_places}
 use Rattle.places.proofs.Tables.{wide, flat_append}
 use Rattle.places.proofs.Keys.{holds-none, holds-here, holds_later, lookup-here, lookup-later, from-head, from_tail, from_cons, from-weaken, ascending-from, from-ascending, none_below, absent}
 
@@ -21,43 +21,43 @@ module _ (k : ℕ) (test : List ℕ → Bool) (f : List ℕ → List ℕ) where
   abbrev pub changed : List ℕ → List ℕ
   changed p = take k p ++ f (drop k p)
 
-  kept-gone : (p : List ℕ) (ps : List (List ℕ)) → test p ≡ false → keepPlaces k test f (p ∷ ps) ≡ keepPlaces k test f ps
-  unfolding keepPlaces
+  kept-gone : (p : List ℕ) (ps : List (List ℕ)) → test p ≡ false → keep_places k test f (p ∷ ps) ≡ keep_places k test f ps
+  unfolding keep_places
   kept-gone p ps h = rw h refl
 
-  kept-stays : (p : List ℕ) (ps : List (List ℕ)) → test p ≡ true → keepPlaces k test f (p ∷ ps) ≡ changed p ∷ keepPlaces k test f ps
-  unfolding keepPlaces
+  kept-stays : (p : List ℕ) (ps : List (List ℕ)) → test p ≡ true → keep_places k test f (p ∷ ps) ≡ changed p ∷ keep_places k test f ps
+  unfolding keep_places
   kept-stays p ps h = rw h refl
 
-  kept-none : keepPlaces k test f [] ≡ []
-  unfolding keepPlaces
+  kept-none : keep_places k test f [] ≡ []
+  unfolding keep_places
   kept-none = refl
 
-  pub kept-length : (ps : List (List ℕ)) → length (keepPlaces k test f ps) ≤ length ps
+  pub kept-length : (ps : List (List ℕ)) → length (keep_places k test f ps) ≤ length ps
   kept-length [] = rw kept-none (omega arith)
   kept-length (p ∷ ps) =
       let ih = kept-length ps in
       by (test p) (λ b. rw (kept-stays p ps b) (omega arith)) (λ b. rw (kept-gone p ps b) (omega arith))
 
-  kept_append : (ps qs : List (List ℕ)) → keepPlaces k test f (ps ++ qs) ≡ keepPlaces k test f ps ++ keepPlaces k test f qs
-  kept_append [] qs = sym (ap (λ (l : List (List ℕ)). l ++ keepPlaces k test f qs) kept-none)
+  kept_append : (ps qs : List (List ℕ)) → keep_places k test f (ps ++ qs) ≡ keep_places k test f ps ++ keep_places k test f qs
+  kept_append [] qs = sym (ap (λ (l : List (List ℕ)). l ++ keep_places k test f qs) kept-none)
   kept_append (p ∷ ps) qs =
       let ih = kept_append ps qs in
       by (test p)
-      (λ b. kept-stays p (ps ++ qs) b ∙ ap (λ (l : List (List ℕ)). changed p ∷ l) ih ∙ ap (λ (l : List (List ℕ)). l ++ keepPlaces k test f qs) (sym (kept-stays p ps b)))
-      (λ b. kept-gone p (ps ++ qs) b ∙ ih ∙ ap (λ (l : List (List ℕ)). l ++ keepPlaces k test f qs) (sym (kept-gone p ps b)))
+      (λ b. kept-stays p (ps ++ qs) b ∙ ap (λ (l : List (List ℕ)). changed p ∷ l) ih ∙ ap (λ (l : List (List ℕ)). l ++ keep_places k test f qs) (sym (kept-stays p ps b)))
+      (λ b. kept-gone p (ps ++ qs) b ∙ ih ∙ ap (λ (l : List (List ℕ)). l ++ keep_places k test f qs) (sym (kept-gone p ps b)))
 
   -- a test that each changed place passes is passed by all that stay
   pub kept-all : (before after : List ℕ → Bool) → ((p : List ℕ) → before p ≡ true → test p ≡ true → after (changed p) ≡ true)
-      → (ps : List (List ℕ)) → allPlaces before ps ≡ true → allPlaces after (keepPlaces k test f ps) ≡ true
-  unfolding allPlaces
-  kept-all before after g [] a = ap (allPlaces after) kept-none
+      → (ps : List (List ℕ)) → all_places before ps ≡ true → all_places after (keep_places k test f ps) ≡ true
+  unfolding all_places
+  kept-all before after g [] a = ap (all_places after) kept-none
   kept-all before after g (p ∷ ps) a =
-      let ih = kept-all before after g ps (and_right (before p) (allPlaces before ps) a) in
-      let x = and_left (before p) (allPlaces before ps) a in
+      let ih = kept-all before after g ps (and_right (before p) (all_places before ps) a) in
+      let x = and_left (before p) (all_places before ps) a in
       by (test p)
-      (λ b. ap (allPlaces after) (kept-stays p ps b) ∙ and_both (after (changed p)) (allPlaces after (keepPlaces k test f ps)) (g p x b) ih)
-      (λ b. ap (allPlaces after) (kept-gone p ps b) ∙ ih)
+      (λ b. ap (all_places after) (kept-stays p ps b) ∙ and_both (after (changed p)) (all_places after (keep_places k test f ps)) (g p x b) ih)
+      (λ b. ap (all_places after) (kept-gone p ps b) ∙ ih)
 
   module _ (w : ℕ) (m : k ≤ w) (g : (v : List ℕ) → k + length v ≡ w → k + length (f v) ≡ w) where
     key-length : (p : List ℕ) → length p ≡ w → length (take k p) ≡ k
@@ -75,78 +75,78 @@ module _ (k : ℕ) (test : List ℕ → Bool) (f : List ℕ → List ℕ) where
         let d : k + length (drop k p) ≡ w = ap (λ (n : ℕ). n + length (drop k p)) (sym c) ∙ sym (length-append (take k p) (drop k p)) ∙ ap length (take-append-drop k p) ∙ e in
         rw (length-append, c) (g (drop k p) d)
 
-    pub kept-wide : (ps : List (List ℕ)) → wide w ps → wide w (keepPlaces k test f ps)
+    pub kept-wide : (ps : List (List ℕ)) → wide w ps → wide w (keep_places k test f ps)
     kept-wide [] x = rw kept-none tt
     kept-wide (p ∷ ps) x =
         let ih = kept-wide ps x.1 in
         by (test p) (λ b. rw (kept-stays p ps b) (changed-length p x.0, ih)) (λ b. rw (kept-gone p ps b) ih)
 
-    kept_from : (from : List ℕ) (ps : List (List ℕ)) → wide w ps → ascendingFrom k from ps ≡ true → ascendingFrom k from (keepPlaces k test f ps) ≡ true
-    kept_from from [] x a = ap (ascendingFrom k from) kept-none ∙ a
+    kept_from : (from : List ℕ) (ps : List (List ℕ)) → wide w ps → ascending_from k from ps ≡ true → ascending_from k from (keep_places k test f ps) ≡ true
+    kept_from from [] x a = ap (ascending_from k from) kept-none ∙ a
     kept_from from (p ∷ ps) x a =
         let ih = kept_from (take k p) ps x.1 (from_tail k from p ps a) in
         let u = from-head k from p ps a in
         by (test p)
-        (λ b. ap (ascendingFrom k from) (kept-stays p ps b) ∙ from_cons k from (changed p) (keepPlaces k test f ps) (rw (changed-key p x.0) u) (rw (changed-key p x.0) ih))
-        (λ b. ap (ascendingFrom k from) (kept-gone p ps b) ∙ from-weaken k from (take k p) (keepPlaces k test f ps) u ih)
+        (λ b. ap (ascending_from k from) (kept-stays p ps b) ∙ from_cons k from (changed p) (keep_places k test f ps) (rw (changed-key p x.0) u) (rw (changed-key p x.0) ih))
+        (λ b. ap (ascending_from k from) (kept-gone p ps b) ∙ from-weaken k from (take k p) (keep_places k test f ps) u ih)
 
     -- the order is kept
-    pub kept-ascending : (ps : List (List ℕ)) → wide w ps → ascending k ps ≡ true → ascending k (keepPlaces k test f ps) ≡ true
+    pub kept-ascending : (ps : List (List ℕ)) → wide w ps → ascending k ps ≡ true → ascending k (keep_places k test f ps) ≡ true
     kept-ascending [] x a = ap (ascending k) kept-none ∙ a
     kept-ascending (p ∷ ps) x a =
-        let t : ascendingFrom k (take k p) ps ≡ true = sym (ascending-from k p ps) ∙ a in
+        let t : ascending_from k (take k p) ps ≡ true = sym (ascending-from k p ps) ∙ a in
         let ih = kept_from (take k p) ps x.1 t in
         by (test p)
-        (λ b. ap (ascending k) (kept-stays p ps b) ∙ ascending-from k (changed p) (keepPlaces k test f ps) ∙ rw (changed-key p x.0) ih)
-        (λ b. ap (ascending k) (kept-gone p ps b) ∙ from-ascending k (take k p) (keepPlaces k test f ps) ih)
+        (λ b. ap (ascending k) (kept-stays p ps b) ∙ ascending-from k (changed p) (keep_places k test f ps) ∙ rw (changed-key p x.0) ih)
+        (λ b. ap (ascending k) (kept-gone p ps b) ∙ from-ascending k (take k p) (keep_places k test f ps) ih)
 
     -- a key stays held where its place passes
     pub holds_kept : (key : List ℕ) (ps : List (List ℕ)) → wide w ps → ascending k ps ≡ true
-        → holds k key (keepPlaces k test f ps) ≡ (holds k key ps && test (key ++ lookup k key ps))
+        → holds k key (keep_places k test f ps) ≡ (holds k key ps && test (key ++ lookup k key ps))
     holds_kept key [] x a = ap (holds k key) kept-none ∙ holds-none k key ∙ sym (rw (holds-none k key) refl)
     holds_kept key (p ∷ ps) x a =
-        let t : ascendingFrom k (take k p) ps ≡ true = sym (ascending-from k p ps) ∙ a in
+        let t : ascending_from k (take k p) ps ≡ true = sym (ascending-from k p ps) ∙ a in
         let ih = holds_kept key ps x.1 (from-ascending k (take k p) ps t) in
         by (same (take k p) key)
         (λ s.
         let e = same-eq (take k p) key s in
-        let n : holds k key (keepPlaces k test f ps) ≡ false = none_below k key (take k p) (keepPlaces k test f ps) (rw e (before-irrefl key)) (kept_from (take k p) ps x.1 t) in
+        let n : holds k key (keep_places k test f ps) ≡ false = none_below k key (take k p) (keep_places k test f ps) (rw e (before-irrefl key)) (kept_from (take k p) ps x.1 t) in
         let q : key ++ lookup k key (p ∷ ps) ≡ p = ap₂ (λ (u v : List ℕ). u ++ v) (sym e) (lookup-here k key p ps s) ∙ take-append-drop k p in
         rw (holds-here k key p ps s, q)
         (by (test p)
-        (λ b. rw b (ap (holds k key) (kept-stays p ps b) ∙ holds-here k key (changed p) (keepPlaces k test f ps) (rw (changed-key p x.0) s)))
+        (λ b. rw b (ap (holds k key) (kept-stays p ps b) ∙ holds-here k key (changed p) (keep_places k test f ps) (rw (changed-key p x.0) s)))
         (λ b. rw b (ap (holds k key) (kept-gone p ps b) ∙ n))))
         (λ s. rw (holds_later k key p ps s, lookup-later k key p ps s)
         (by (test p)
-        (λ b. ap (holds k key) (kept-stays p ps b) ∙ holds_later k key (changed p) (keepPlaces k test f ps) (rw (changed-key p x.0) s) ∙ ih)
+        (λ b. ap (holds k key) (kept-stays p ps b) ∙ holds_later k key (changed p) (keep_places k test f ps) (rw (changed-key p x.0) s) ∙ ih)
         (λ b. ap (holds k key) (kept-gone p ps b) ∙ ih)))
 
     -- and what follows it is changed
     pub lookup-kept : (key : List ℕ) (ps : List (List ℕ)) → wide w ps → ascending k ps ≡ true
-        → lookup k key (keepPlaces k test f ps) ≡ cond (holds k key ps && test (key ++ lookup k key ps)) (f (lookup k key ps)) []
+        → lookup k key (keep_places k test f ps) ≡ cond (holds k key ps && test (key ++ lookup k key ps)) (f (lookup k key ps)) []
     lookup-kept key [] x a = ap (lookup k key) kept-none ∙ absent k key [] (holds-none k key) ∙ sym (rw (holds-none k key) refl)
     lookup-kept key (p ∷ ps) x a =
-        let t : ascendingFrom k (take k p) ps ≡ true = sym (ascending-from k p ps) ∙ a in
+        let t : ascending_from k (take k p) ps ≡ true = sym (ascending-from k p ps) ∙ a in
         let ih = lookup-kept key ps x.1 (from-ascending k (take k p) ps t) in
         by (same (take k p) key)
         (λ s.
         let e = same-eq (take k p) key s in
-        let n : holds k key (keepPlaces k test f ps) ≡ false = none_below k key (take k p) (keepPlaces k test f ps) (rw e (before-irrefl key)) (kept_from (take k p) ps x.1 t) in
+        let n : holds k key (keep_places k test f ps) ≡ false = none_below k key (take k p) (keep_places k test f ps) (rw e (before-irrefl key)) (kept_from (take k p) ps x.1 t) in
         let q : key ++ lookup k key (p ∷ ps) ≡ p = ap₂ (λ (u v : List ℕ). u ++ v) (sym e) (lookup-here k key p ps s) ∙ take-append-drop k p in
         rw (holds-here k key p ps s, q, lookup-here k key p ps s)
         (by (test p)
-        (λ b. rw b (ap (lookup k key) (kept-stays p ps b) ∙ lookup-here k key (changed p) (keepPlaces k test f ps) (rw (changed-key p x.0) s) ∙ changed-rest p x.0))
-        (λ b. rw b (ap (lookup k key) (kept-gone p ps b) ∙ absent k key (keepPlaces k test f ps) n))))
+        (λ b. rw b (ap (lookup k key) (kept-stays p ps b) ∙ lookup-here k key (changed p) (keep_places k test f ps) (rw (changed-key p x.0) s) ∙ changed-rest p x.0))
+        (λ b. rw b (ap (lookup k key) (kept-gone p ps b) ∙ absent k key (keep_places k test f ps) n))))
         (λ s. rw (holds_later k key p ps s, lookup-later k key p ps s)
         (by (test p)
-        (λ b. ap (lookup k key) (kept-stays p ps b) ∙ lookup-later k key (changed p) (keepPlaces k test f ps) (rw (changed-key p x.0) s) ∙ ih)
+        (λ b. ap (lookup k key) (kept-stays p ps b) ∙ lookup-later k key (changed p) (keep_places k test f ps) (rw (changed-key p x.0) s) ∙ ih)
         (λ b. ap (lookup k key) (kept-gone p ps b) ∙ ih)))
 
     -- ---- the loop: i places of t₀ are seen, and the j that stay stand in front
 
     pub record Compacted (ps : List (List ℕ)) (t₀ t : List ℕ) (i j : ℕ) : Type 0 where
-      pub done : take (j * w) t ≡ flat (keepPlaces k test f (take i ps))
-      pub count : j ≡ length (keepPlaces k test f (take i ps))
+      pub done : take (j * w) t ≡ flat (keep_places k test f (take i ps))
+      pub count : j ≡ length (keep_places k test f (take i ps))
       pub rest : drop (i * w) t ≡ drop (i * w) t₀
       pub few : j ≤ i
       pub size : length t ≡ length t₀
@@ -178,8 +178,8 @@ module _ (k : ℕ) (test : List ℕ → Bool) (f : List ℕ → List ℕ) where
       -- a place that goes
       pub compact-gone : test (get_or ps i []) ≡ false → Compacted ps t₀ t (i + 1) j
       compact-gone b =
-          let e : keepPlaces k test f (take (i + 1) ps) ≡ keepPlaces k test f (take i ps) =
-          ap (keepPlaces k test f) next ∙ kept_append (take i ps) (get_or ps i [] ∷ []) ∙ ap (λ (l : List (List ℕ)). keepPlaces k test f (take i ps) ++ l) (kept-gone (get_or ps i []) [] b ∙ kept-none) ∙ append-nil (keepPlaces k test f (take i ps)) in
+          let e : keep_places k test f (take (i + 1) ps) ≡ keep_places k test f (take i ps) =
+          ap (keep_places k test f) next ∙ kept_append (take i ps) (get_or ps i [] ∷ []) ∙ ap (λ (l : List (List ℕ)). keep_places k test f (take i ps) ++ l) (kept-gone (get_or ps i []) [] b ∙ kept-none) ∙ append-nil (keep_places k test f (take i ps)) in
           let fw = c.few in
           record { done = c.done ∙ ap flat (sym e); count = c.count ∙ ap length (sym e); rest = further; few = omega arith; size = c.size }
 
@@ -195,14 +195,14 @@ module _ (k : ℕ) (test : List ℕ → Bool) (f : List ℕ → List ℕ) where
           let p = take (j * w) t ++ y in
           let pl : length p ≡ (j + 1) * w = rw (length-append, front, l) (sym jw) in
           let q' : t' ≡ p ++ drop (j * w + w) t = q ∙ sym (append_assoc (take (j * w) t) y (drop (j * w + w) t)) in
-          let e : keepPlaces k test f (take (i + 1) ps) ≡ keepPlaces k test f (take i ps) ++ (y ∷ []) =
-          ap (keepPlaces k test f) next ∙ kept_append (take i ps) (get_or ps i [] ∷ []) ∙ ap (λ (l : List (List ℕ)). keepPlaces k test f (take i ps) ++ l) (kept-stays (get_or ps i []) [] b ∙ ap (λ (l : List (List ℕ)). y ∷ l) kept-none) in
+          let e : keep_places k test f (take (i + 1) ps) ≡ keep_places k test f (take i ps) ++ (y ∷ []) =
+          ap (keep_places k test f) next ∙ kept_append (take i ps) (get_or ps i [] ∷ []) ∙ ap (λ (l : List (List ℕ)). keep_places k test f (take i ps) ++ l) (kept-stays (get_or ps i []) [] b ∙ ap (λ (l : List (List ℕ)). y ∷ l) kept-none) in
           let z : (i + 1) * w ≡ (j + 1) * w + ((i + 1) * w - (j + 1) * w) = omega arith in
           record {
             done = ap (take ((j + 1) * w)) q' ∙ take_at p (drop (j * w + w) t) ((j + 1) * w) pl
                 ∙ ap (λ (x : List ℕ). x ++ y) c.done
-                ∙ sym (ap flat e ∙ flat_append (keepPlaces k test f (take i ps)) (y ∷ []) ∙ ap (λ (x : List ℕ). flat (keepPlaces k test f (take i ps)) ++ x) (single y));
-            count = ap (λ (n : ℕ). n + 1) c.count ∙ sym (ap length e ∙ length-append (keepPlaces k test f (take i ps)) (y ∷ []));
+                ∙ sym (ap flat e ∙ flat_append (keep_places k test f (take i ps)) (y ∷ []) ∙ ap (λ (x : List ℕ). flat (keep_places k test f (take i ps)) ++ x) (single y));
+            count = ap (λ (n : ℕ). n + 1) c.count ∙ sym (ap length e ∙ length-append (keep_places k test f (take i ps)) (y ∷ []));
             rest = ap (drop ((i + 1) * w)) q'
                 ∙ ap (λ (n : ℕ). drop n (p ++ drop (j * w + w) t)) z
                 ∙ sym (drop-drop ((i + 1) * w - (j + 1) * w) ((j + 1) * w) (p ++ drop (j * w + w) t))
@@ -220,15 +220,15 @@ module _ (k : ℕ) (test : List ℕ → Bool) (f : List ℕ → List ℕ) where
 
     -- the rest cleared: the table of those that stay
     pub compact-end : (cap : ℕ) (ps : List (List ℕ)) (t₀ t : List ℕ) (i j : ℕ) → length t₀ ≡ cap * w → length ps ≤ i → length ps ≤ cap → Compacted ps t₀ t i j
-        → take (j * w) t ++ replicate (length t - j * w) 0 ≡ table_of w cap (keepPlaces k test f ps)
+        → take (j * w) t ++ replicate (length t - j * w) 0 ≡ table_of w cap (keep_places k test f ps)
     compact-end cap ps t₀ t i j e h l c =
         let all : take i ps ≡ ps = take_all i ps h in
-        let n : j ≡ length (keepPlaces k test f ps) = c.count ∙ ap (λ (x : List (List ℕ)). length (keepPlaces k test f x)) all in
+        let n : j ≡ length (keep_places k test f ps) = c.count ∙ ap (λ (x : List (List ℕ)). length (keep_places k test f x)) all in
         let m = kept-length ps in
         let s : length t ≡ cap * w = c.size ∙ e in
         let z : cap * w ≡ j * w + (cap - j) * w = ap (λ (x : ℕ). x * w) (whole cap j (omega arith)) ∙ add-mul j (cap - j) w in
         let r : length t - j * w ≡ (cap - j) * w = omega arith in
-        ap₂ (λ (x y : List ℕ). x ++ y) (c.done ∙ ap (λ (x : List (List ℕ)). flat (keepPlaces k test f x)) all) (ap (λ (x : ℕ). replicate x 0) (r ∙ ap (λ (x : ℕ). (cap - x) * w) n))
+        ap₂ (λ (x y : List ℕ). x ++ y) (c.done ∙ ap (λ (x : List (List ℕ)). flat (keep_places k test f x)) all) (ap (λ (x : ℕ). replicate x 0) (r ∙ ap (λ (x : ℕ). (cap - x) * w) n))
       where
         whole : (c j : ℕ) → j ≤ c → c ≡ j + (c - j)
         whole c j h = omega arith

@@ -10,11 +10,11 @@ use native.Mathlib.Nat.{not-suc-le-zero, le_of_suc-le-suc}
 use borrow.Author.Tests.{ltb-true, ltb-false}
 use lib.Dec.{ltb, leb-suc-suc, leb-zero}
 use lib.ListN.{length, get_or, take, drop, take-append-drop}
-use Rattle.octets.specs.Order.{isBefore, same}
+use Rattle.octets.specs.Order.{is_before, same}
 use Rattle.ranges.proofs.Bools.{by, and_left, and_right, and_both}
 use Rattle.octets.proofs.Comparison.{before-trans, before-irrefl, before-asym, before-le, tri, same_refl, less-same, more_same, same-eq}
-use Rattle.places.specs.Places.{ascendingFrom, ascending, holds, lookup}
-use Rattle.places.specs.Positions.{rank, withPlace}
+use Rattle.places.specs.Places.{ascending_from, ascending, holds, lookup}
+use Rattle.places.specs.Positions.{rank, with_place}
 
 or-false : (b : Bool) → (b || false) ≡ b
 or-false true = refl
@@ -27,23 +27,23 @@ unfolding holds
 holds-none k key = refl
 
 module _ (k : ℕ) (key p : List ℕ) (ps : List (List ℕ)) where
-  pub from-head : ascendingFrom k key (p ∷ ps) ≡ true → isBefore key (take k p) ≡ true
-  unfolding ascendingFrom
-  from-head h = and_left (isBefore key (take k p)) (ascendingFrom k (take k p) ps) h
+  pub from-head : ascending_from k key (p ∷ ps) ≡ true → is_before key (take k p) ≡ true
+  unfolding ascending_from
+  from-head h = and_left (is_before key (take k p)) (ascending_from k (take k p) ps) h
 
-  pub from_tail : ascendingFrom k key (p ∷ ps) ≡ true → ascendingFrom k (take k p) ps ≡ true
-  unfolding ascendingFrom
-  from_tail h = and_right (isBefore key (take k p)) (ascendingFrom k (take k p) ps) h
+  pub from_tail : ascending_from k key (p ∷ ps) ≡ true → ascending_from k (take k p) ps ≡ true
+  unfolding ascending_from
+  from_tail h = and_right (is_before key (take k p)) (ascending_from k (take k p) ps) h
 
-  pub from_cons : isBefore key (take k p) ≡ true → ascendingFrom k (take k p) ps ≡ true → ascendingFrom k key (p ∷ ps) ≡ true
-  unfolding ascendingFrom
-  from_cons g h = and_both (isBefore key (take k p)) (ascendingFrom k (take k p) ps) g h
+  pub from_cons : is_before key (take k p) ≡ true → ascending_from k (take k p) ps ≡ true → ascending_from k key (p ∷ ps) ≡ true
+  unfolding ascending_from
+  from_cons g h = and_both (is_before key (take k p)) (ascending_from k (take k p) ps) g h
 
-  pub rank-more : isBefore (take k p) key ≡ true → rank k key (p ∷ ps) ≡ suc (rank k key ps)
+  pub rank-more : is_before (take k p) key ≡ true → rank k key (p ∷ ps) ≡ suc (rank k key ps)
   unfolding rank
   rank-more h = rw h refl
 
-  pub rank-here : isBefore (take k p) key ≡ false → rank k key (p ∷ ps) ≡ 0
+  pub rank-here : is_before (take k p) key ≡ false → rank k key (p ∷ ps) ≡ 0
   unfolding rank
   rank-here h = rw h refl
 
@@ -64,23 +64,23 @@ module _ (k : ℕ) (key p : List ℕ) (ps : List (List ℕ)) where
   lookup-later h = rw h refl
 
 -- places that ascend from a key hold no key at or before it
-pub none_below : (k : ℕ) (key from : List ℕ) (ps : List (List ℕ)) → isBefore from key ≡ false → ascendingFrom k from ps ≡ true → holds k key ps ≡ false
+pub none_below : (k : ℕ) (key from : List ℕ) (ps : List (List ℕ)) → is_before from key ≡ false → ascending_from k from ps ≡ true → holds k key ps ≡ false
 none_below k key from [] g h = unfold holds in refl
 none_below k key from (p ∷ ps) g h =
-    let l : isBefore key (take k p) ≡ true = before-le key from (take k p) g (from-head k from p ps h) in
+    let l : is_before key (take k p) ≡ true = before-le key from (take k p) g (from-head k from p ps h) in
     holds_later k key p ps (more_same (take k p) key l) ∙ none_below k key (take k p) ps (before-asym key (take k p) l) (from_tail k from p ps h)
 
 -- a lower start does as well
-pub from-weaken : (k : ℕ) (a b : List ℕ) (ps : List (List ℕ)) → isBefore a b ≡ true → ascendingFrom k b ps ≡ true → ascendingFrom k a ps ≡ true
-from-weaken k a b [] g h = unfold ascendingFrom in refl
+pub from-weaken : (k : ℕ) (a b : List ℕ) (ps : List (List ℕ)) → is_before a b ≡ true → ascending_from k b ps ≡ true → ascending_from k a ps ≡ true
+from-weaken k a b [] g h = unfold ascending_from in refl
 from-weaken k a b (p ∷ ps) g h = from_cons k a p ps (before-trans a b (take k p) g (from-head k b p ps h)) (from_tail k b p ps h)
 
-pub ascending-from : (k : ℕ) (p : List ℕ) (ps : List (List ℕ)) → ascending k (p ∷ ps) ≡ ascendingFrom k (take k p) ps
+pub ascending-from : (k : ℕ) (p : List ℕ) (ps : List (List ℕ)) → ascending k (p ∷ ps) ≡ ascending_from k (take k p) ps
 unfolding ascending
 ascending-from k p ps = refl
 
 -- what ascends from a key ascends
-pub from-ascending : (k : ℕ) (from : List ℕ) (ps : List (List ℕ)) → ascendingFrom k from ps ≡ true → ascending k ps ≡ true
+pub from-ascending : (k : ℕ) (from : List ℕ) (ps : List (List ℕ)) → ascending_from k from ps ≡ true → ascending k ps ≡ true
 from-ascending k from [] h = unfold ascending in refl
 from-ascending k from (p ∷ ps) h = ascending-from k p ps ∙ from_tail k from p ps h
 
@@ -90,20 +90,20 @@ pub rank-le : (k : ℕ) (key : List ℕ) (ps : List (List ℕ)) → rank k key p
 rank-le k key [] = unfold rank in omega arith
 rank-le k key (p ∷ ps) =
     let ih = rank-le k key ps in
-    by (isBefore (take k p) key) (λ b. rw (rank-more k key p ps b) (omega arith)) (λ b. rw (rank-here k key p ps b) (omega arith))
+    by (is_before (take k p) key) (λ b. rw (rank-more k key p ps b) (omega arith)) (λ b. rw (rank-here k key p ps b) (omega arith))
 
 -- each place below the position comes before the key
-pub rank-before : (k : ℕ) (key : List ℕ) (ps : List (List ℕ)) (i : ℕ) → i < rank k key ps → isBefore (take k (get_or ps i [])) key ≡ true
+pub rank-before : (k : ℕ) (key : List ℕ) (ps : List (List ℕ)) (i : ℕ) → i < rank k key ps → is_before (take k (get_or ps i [])) key ≡ true
 rank-before k key [] i h = absurd (none i (unfold rank in h))
   where
     none : (i : ℕ) → i < 0 → ⊥
     none i h = omega arith
-rank-before k key (p ∷ ps) zero h = by (isBefore (take k p) key) (λ b. b) (λ b. absurd (none (rw (rank-here k key p ps b) at h)))
+rank-before k key (p ∷ ps) zero h = by (is_before (take k p) key) (λ b. b) (λ b. absurd (none (rw (rank-here k key p ps b) at h)))
   where
     none : 0 < 0 → ⊥
     none h = omega arith
 rank-before k key (p ∷ ps) (suc i) h =
-    by (isBefore (take k p) key)
+    by (is_before (take k p) key)
     (λ b. rank-before k key ps i (less (rank k key ps) (rw (rank-more k key p ps b) at h)))
     (λ b. absurd (none (rw (rank-here k key p ps b) at h)))
   where
@@ -114,13 +114,13 @@ rank-before k key (p ∷ ps) (suc i) h =
     less r h = omega arith
 
 -- the place at the position does not
-pub rank-stops : (k : ℕ) (key : List ℕ) (ps : List (List ℕ)) → rank k key ps < length ps → isBefore (take k (get_or ps (rank k key ps) [])) key ≡ false
+pub rank-stops : (k : ℕ) (key : List ℕ) (ps : List (List ℕ)) → rank k key ps < length ps → is_before (take k (get_or ps (rank k key ps) [])) key ≡ false
 rank-stops k key [] h = absurd (none (unfold rank in h))
   where
     none : 0 < 0 → ⊥
     none h = omega arith
 rank-stops k key (p ∷ ps) h =
-    by (isBefore (take k p) key)
+    by (is_before (take k p) key)
     (λ b. rw (rank-more k key p ps b) (rank-stops k key ps (less (rank k key ps) (rw (rank-more k key p ps b) at h))))
     (λ b. rw (rank-here k key p ps b) b)
   where
@@ -128,13 +128,13 @@ rank-stops k key (p ∷ ps) h =
     less r h = omega arith
 
 -- places that ascend from a key all come after it
-from_each : (k : ℕ) (from : List ℕ) (ps : List (List ℕ)) (i : ℕ) → ascendingFrom k from ps ≡ true → i < length ps → isBefore from (take k (get_or ps i [])) ≡ true
+from_each : (k : ℕ) (from : List ℕ) (ps : List (List ℕ)) (i : ℕ) → ascending_from k from ps ≡ true → i < length ps → is_before from (take k (get_or ps i [])) ≡ true
 from_each k from [] i h l = absurd (not-suc-le-zero l)
 from_each k from (p ∷ ps) zero h l = from-head k from p ps h
 from_each k from (p ∷ ps) (suc i) h l = from_each k from ps i (from-weaken k from (take k p) ps (from-head k from p ps h) (from_tail k from p ps h)) (le_of_suc-le-suc l)
 
 -- where places ascend, the key of an earlier one comes before that of a later
-pub keys-ascend : (k : ℕ) (ps : List (List ℕ)) (i j : ℕ) → ascending k ps ≡ true → i < j → j < length ps → isBefore (take k (get_or ps i [])) (take k (get_or ps j [])) ≡ true
+pub keys-ascend : (k : ℕ) (ps : List (List ℕ)) (i j : ℕ) → ascending k ps ≡ true → i < j → j < length ps → is_before (take k (get_or ps i [])) (take k (get_or ps j [])) ≡ true
 keys-ascend k [] i j h u l = absurd (not-suc-le-zero l)
 keys-ascend k (p ∷ ps) i zero h u l = absurd (not-suc-le-zero u)
 keys-ascend k (p ∷ ps) zero (suc j) h u l = from_each k (take k p) ps j (sym (ascending-from k p ps) ∙ h) (le_of_suc-le-suc l)
@@ -142,17 +142,17 @@ keys-ascend k (p ∷ ps) (suc i) (suc j) h u l =
     keys-ascend k ps i j (from-ascending k (take k p) ps (sym (ascending-from k p ps) ∙ h)) (le_of_suc-le-suc u) (le_of_suc-le-suc l)
 
 -- where places ascend, one that comes before the key lies below its position
-pub rank-above : (k : ℕ) (key : List ℕ) (ps : List (List ℕ)) (i : ℕ) → ascending k ps ≡ true → i < length ps → isBefore (take k (get_or ps i [])) key ≡ true → i < rank k key ps
+pub rank-above : (k : ℕ) (key : List ℕ) (ps : List (List ℕ)) (i : ℕ) → ascending k ps ≡ true → i < length ps → is_before (take k (get_or ps i [])) key ≡ true → i < rank k key ps
 rank-above k key [] i h l b = absurd (not-suc-le-zero l)
 rank-above k key (p ∷ ps) zero h l b = rw (rank-more k key p ps b) (omega arith)
 rank-above k key (p ∷ ps) (suc i) h l b =
-    let t : ascendingFrom k (take k p) ps ≡ true = sym (ascending-from k p ps) ∙ h in
+    let t : ascending_from k (take k p) ps ≡ true = sym (ascending-from k p ps) ∙ h in
     let f = before-trans (take k p) (take k (get_or ps i [])) key (from_each k (take k p) ps i t (le_of_suc-le-suc l)) b in
     let ih = rank-above k key ps i (from-ascending k (take k p) ps t) (le_of_suc-le-suc l) b in
     rw (rank-more k key p ps f) (omega arith)
 
 -- and one that does not, at it or after it
-pub rank_below : (k : ℕ) (key : List ℕ) (ps : List (List ℕ)) (i : ℕ) → isBefore (take k (get_or ps i [])) key ≡ false → rank k key ps ≤ i
+pub rank_below : (k : ℕ) (key : List ℕ) (ps : List (List ℕ)) (i : ℕ) → is_before (take k (get_or ps i [])) key ≡ false → rank k key ps ≤ i
 rank_below k key ps i b =
     by (ltb i (rank k key ps))
     (λ l. absurd (true≢false (sym (rank-before k key ps i (ltb-true i (rank k key ps) l)) ∙ b)))
@@ -162,7 +162,7 @@ rank_below k key ps i b =
 abbrev pub has_key : ℕ → List ℕ → List (List ℕ) → ℕ → Bool
 has_key k key ps i = ltb i (length ps) && same (take k (get_or ps i [])) key
 
-held_first : (k : ℕ) (key p : List ℕ) (ps : List (List ℕ)) → isBefore (take k p) key ≡ false → ascendingFrom k (take k p) ps ≡ true → holds k key (p ∷ ps) ≡ same (take k p) key
+held_first : (k : ℕ) (key p : List ℕ) (ps : List (List ℕ)) → is_before (take k p) key ≡ false → ascending_from k (take k p) ps ≡ true → holds k key (p ∷ ps) ≡ same (take k p) key
 unfolding holds
 held_first k key p ps b t = rw (none_below k key (take k p) ps b t) (or-false (same (take k p) key))
 
@@ -170,36 +170,36 @@ held_first k key p ps b t = rw (none_below k key (take k p) ps b t) (or-false (s
 pub holds-at-rank : (k : ℕ) (key : List ℕ) (ps : List (List ℕ)) → ascending k ps ≡ true → holds k key ps ≡ has_key k key ps (rank k key ps)
 holds-at-rank k key [] h = unfold holds rank in refl
 holds-at-rank k key (p ∷ ps) h =
-    let t : ascendingFrom k (take k p) ps ≡ true = sym (ascending-from k p ps) ∙ h in
-    by (isBefore (take k p) key)
+    let t : ascending_from k (take k p) ps ≡ true = sym (ascending-from k p ps) ∙ h in
+    by (is_before (take k p) key)
     (λ b. holds_later k key p ps (less-same (take k p) key b) ∙ holds-at-rank k key ps (from-ascending k (take k p) ps t) ∙ sym (rw (rank-more k key p ps b, leb-suc-suc (suc (rank k key ps)) (length ps)) refl))
     (λ b. rw (rank-here k key p ps b, leb-suc-suc 0 (length ps), leb-zero (length ps)) (held_first k key p ps b t))
 
 -- ---- insertion and removal keep the order
 
 -- a place that does not come before a key that is not held comes after it
-pub comes-after : (k : ℕ) (key p : List ℕ) (ps : List (List ℕ)) → holds k key (p ∷ ps) ≡ false → isBefore (take k p) key ≡ false → isBefore key (take k p) ≡ true
+pub comes-after : (k : ℕ) (key p : List ℕ) (ps : List (List ℕ)) → holds k key (p ∷ ps) ≡ false → is_before (take k p) key ≡ false → is_before key (take k p) ≡ true
 comes-after k key p ps n b =
     ⊎_elim (λ l. l)
     (⊎_elim (λ e. absurd (true≢false (sym (holds-here k key p ps (rw e (same_refl (take k p)))) ∙ n))) (λ l. absurd (false≢true (sym b ∙ l))))
     (tri key (take k p))
 
-insert-from : (k : ℕ) (from x : List ℕ) (ps : List (List ℕ)) → isBefore from (take k x) ≡ true → ascendingFrom k from ps ≡ true → holds k (take k x) ps ≡ false
-    → ascendingFrom k from (withPlace (rank k (take k x) ps) x ps) ≡ true
-insert-from k from x [] g h n = unfold rank in from_cons k from x [] g (unfold ascendingFrom in refl)
+insert-from : (k : ℕ) (from x : List ℕ) (ps : List (List ℕ)) → is_before from (take k x) ≡ true → ascending_from k from ps ≡ true → holds k (take k x) ps ≡ false
+    → ascending_from k from (with_place (rank k (take k x) ps) x ps) ≡ true
+insert-from k from x [] g h n = unfold rank in from_cons k from x [] g (unfold ascending_from in refl)
 insert-from k from x (p ∷ ps) g h n =
-    by (isBefore (take k p) (take k x))
-    (λ b. rw (rank-more k (take k x) p ps b) (from_cons k from p (withPlace (rank k (take k x) ps) x ps) (from-head k from p ps h)
+    by (is_before (take k p) (take k x))
+    (λ b. rw (rank-more k (take k x) p ps b) (from_cons k from p (with_place (rank k (take k x) ps) x ps) (from-head k from p ps h)
     (insert-from k (take k p) x ps b (from_tail k from p ps h) (sym (holds_later k (take k x) p ps (less-same (take k p) (take k x) b)) ∙ n))))
     (λ b. rw (rank-here k (take k x) p ps b) (from_cons k from x (p ∷ ps) g (from_cons k (take k x) p ps (comes-after k (take k x) p ps n b) (from_tail k from p ps h))))
 
 -- a place whose key is not held, put in at its position
-pub insert-ascending : (k : ℕ) (x : List ℕ) (ps : List (List ℕ)) → ascending k ps ≡ true → holds k (take k x) ps ≡ false → ascending k (withPlace (rank k (take k x) ps) x ps) ≡ true
-insert-ascending k x [] h n = unfold rank ascending ascendingFrom in refl
+pub insert-ascending : (k : ℕ) (x : List ℕ) (ps : List (List ℕ)) → ascending k ps ≡ true → holds k (take k x) ps ≡ false → ascending k (with_place (rank k (take k x) ps) x ps) ≡ true
+insert-ascending k x [] h n = unfold rank ascending ascending_from in refl
 insert-ascending k x (p ∷ ps) h n =
-    let t : ascendingFrom k (take k p) ps ≡ true = sym (ascending-from k p ps) ∙ h in
-    by (isBefore (take k p) (take k x))
-    (λ b. rw (rank-more k (take k x) p ps b) (ascending-from k p (withPlace (rank k (take k x) ps) x ps)
+    let t : ascending_from k (take k p) ps ≡ true = sym (ascending-from k p ps) ∙ h in
+    by (is_before (take k p) (take k x))
+    (λ b. rw (rank-more k (take k x) p ps b) (ascending-from k p (with_place (rank k (take k x) ps) x ps)
     ∙ insert-from k (take k p) x ps b t (sym (holds_later k (take k x) p ps (less-same (take k p) (take k x) b)) ∙ n)))
     (λ b. rw (rank-here k (take k x) p ps b) (ascending-from k x (p ∷ ps) ∙ from_cons k (take k x) p ps (comes-after k (take k x) p ps n b) t))
 
@@ -213,15 +213,15 @@ absent k key (p ∷ ps) h =
     (λ b. lookup-later k key p ps b ∙ absent k key ps (sym (holds_later k key p ps b) ∙ h))
 
 -- the first of two tables in which the same keys are held
-first_key : (k : ℕ) (p q : List ℕ) (ps qs : List (List ℕ)) → ascendingFrom k (take k q) qs ≡ true
-    → ((key : List ℕ) → holds k key (p ∷ ps) ≡ holds k key (q ∷ qs)) → isBefore (take k p) (take k q) ≡ true → ⊥
+first_key : (k : ℕ) (p q : List ℕ) (ps qs : List (List ℕ)) → ascending_from k (take k q) qs ≡ true
+    → ((key : List ℕ) → holds k key (p ∷ ps) ≡ holds k key (q ∷ qs)) → is_before (take k p) (take k q) ≡ true → ⊥
 first_key k p q ps qs h e l =
     true≢false (sym (holds-here k (take k p) p ps (same_refl (take k p))) ∙ e (take k p) ∙ holds_later k (take k p) q qs (more_same (take k q) (take k p) l)
     ∙ none_below k (take k p) (take k q) qs (before-asym (take k p) (take k q) l) h)
 
 -- the rest of two tables with the same first key
 module _ (k : ℕ) (p q : List ℕ) (ps qs : List (List ℕ)) (z : take k p ≡ take k q)
-    (u : ascendingFrom k (take k p) ps ≡ true) (v : ascendingFrom k (take k q) qs ≡ true)
+    (u : ascending_from k (take k p) ps ≡ true) (v : ascending_from k (take k q) qs ≡ true)
     (e : (key : List ℕ) → holds k key (p ∷ ps) ≡ holds k key (q ∷ qs)) (f : (key : List ℕ) → lookup k key (p ∷ ps) ≡ lookup k key (q ∷ qs)) where
   same_first : p ≡ q
   same_first =
@@ -249,8 +249,8 @@ ascending-ext k [] [] g h e f = refl
 ascending-ext k [] (q ∷ qs) g h e f = absurd (false≢true (sym (holds-none k (take k q)) ∙ e (take k q) ∙ holds-here k (take k q) q qs (same_refl (take k q))))
 ascending-ext k (p ∷ ps) [] g h e f = absurd (true≢false (sym (holds-here k (take k p) p ps (same_refl (take k p))) ∙ e (take k p) ∙ holds-none k (take k p)))
 ascending-ext k (p ∷ ps) (q ∷ qs) g h e f =
-    let u : ascendingFrom k (take k p) ps ≡ true = sym (ascending-from k p ps) ∙ g in
-    let v : ascendingFrom k (take k q) qs ≡ true = sym (ascending-from k q qs) ∙ h in
+    let u : ascending_from k (take k p) ps ≡ true = sym (ascending-from k p ps) ∙ g in
+    let v : ascending_from k (take k q) qs ≡ true = sym (ascending-from k q qs) ∙ h in
     ⊎_elim (λ l. absurd (first_key k p q ps qs v e l))
     (⊎_elim
     (λ z. ap₂ (λ (x : List ℕ) (l : List (List ℕ)). x ∷ l) (same_first k p q ps qs z u v e f)

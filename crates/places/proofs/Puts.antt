@@ -6,13 +6,13 @@ use lib.ListN.{set, take-append-drop, length-drop}
 use lib.Seq.{length-take-le}
 use borrow.Author.Tests.{leb-false}
 use Rattle.ranges.proofs.Bools.{by, and_left}
-use Rattle.octets.specs.Runs.{allZero}
+use Rattle.octets.specs.Runs.{all_zero}
 use Rattle.places.specs.Places.{places, table_of, ascending, holds}
-use Rattle.places.specs.Positions.{rank, insertAt, withPlace}
+use Rattle.places.specs.Positions.{rank, insert_at, with_place}
 use Rattle.places.proofs.Tables.{wide, length-places, places-wide, table-length, insert-used, replace-table, table_is, is-table-of}
 use Rattle.places.proofs.Keys.{rank-le}
 use Rattle.places.proofs.Putting.{held_at, new-length, put-new, put-held, put-ascending, put-length-held, put-wide}
-use Rattle.places.specs.Tables.{sought, full, putIn, Sorted}
+use Rattle.places.specs.Tables.{sought, full, put_in, Sorted}
 
 -- what a search tells
 pub told_found : (k : ℕ) (key : List ℕ) (ps : List (List ℕ)) (i : ℕ) → Ok i ≡ sought k key ps → (holds k key ps ≡ true) × (i ≡ rank k key ps)
@@ -38,7 +38,7 @@ module _ (w k cap n : ℕ) (t : List ℕ) (s : Sorted w k cap n t) where
   counted = length-places w n t
 
   pub in-order : ascending k held ≡ true
-  in-order = and_left (ascending k held) (allZero (drop (n * w) t)) s.table
+  in-order = and_left (ascending k held) (all_zero (drop (n * w) t)) s.table
 
   -- a place of so many bytes
   module _ (x : List ℕ) (l : length x ≡ w) where
@@ -52,16 +52,16 @@ module _ (w k cap n : ℕ) (t : List ℕ) (s : Sorted w k cap n t) where
     rest-length = let m = s.key in rw length-drop (omega arith)
 
     -- what is left is sorted
-    pub stays : length (putIn k x held) ≤ cap → Sorted w k cap (length (putIn k x held)) (table_of w cap (putIn k x held))
+    pub stays : length (put_in k x held) ≤ cap → Sorted w k cap (length (put_in k x held)) (table_of w cap (put_in k x held))
     stays few =
-        let wd : wide w (putIn k x held) = put-wide k (λ v. drop k x) key key-length w (λ v z. rest-length) (λ v z. rest-length) held s.key all-wide in
+        let wd : wide w (put_in k x held) = put-wide k (λ v. drop k x) key key-length w (λ v z. rest-length) (λ v z. rest-length) held s.key all-wide in
         record {
           width = s.width;
           room = s.room;
           key = s.key;
-          size = table-length w cap (putIn k x held) wd few;
+          size = table-length w cap (put_in k x held) wd few;
           few = few;
-          table = is-table-of w cap k (putIn k x held) wd (put-ascending k (λ v. drop k x) key key-length held in-order);
+          table = is-table-of w cap k (put_in k x held) wd (put-ascending k (λ v. drop k x) key key-length held in-order);
         }
 
     module _ (i : ℕ) (f : Ok i ≡ sought k key held) where
@@ -74,14 +74,14 @@ module _ (w k cap n : ℕ) (t : List ℕ) (s : Sorted w k cap n t) where
       pub found-room : i * w + w ≤ length t
       found-room = let h = found-within in let m : suc i * w ≤ n * w = mul-le-mul_right w (omega arith) in omega (arith, used, suc-mul i w)
 
-      pub replaced : take (i * w) t ++ (x ++ drop w (drop (i * w) t)) ≡ table_of w cap (putIn k x held)
+      pub replaced : take (i * w) t ++ (x ++ drop w (drop (i * w) t)) ≡ table_of w cap (put_in k x held)
       replaced =
           let e = (told_found k key held i f).1 in
           ap (λ (y : List ℕ). take (i * w) y ++ (x ++ drop w (drop (i * w) y))) is
           ∙ replace-table w cap held i x all-wide l (rw counted found-within)
           ∙ ap (table_of w cap) (ap₂ (set held) e (sym (ap (λ (y : List ℕ). y ++ drop k x) at-rank.1 ∙ take-append-drop k x)) ∙ sym (put-held k (λ v. drop k x) key held at-rank.0 at-rank.1))
 
-      pub replaced-count : n ≡ length (putIn k x held)
+      pub replaced-count : n ≡ length (put_in k x held)
       replaced-count = sym (put-length-held k (λ v. drop k x) key key-length held in-order (told_found k key held i f).0 ∙ counted)
 
     module _ (i : ℕ) (f : Err i ≡ sought k key held) (free : n < cap) where
@@ -94,18 +94,18 @@ module _ (w k cap n : ℕ) (t : List ℕ) (s : Sorted w k cap n t) where
       pub next-room : (n + 1) * w ≤ length t
       next-room = rw s.size (mul-le-mul_right w (omega arith))
 
-      pub inserted : insertAt (i * w) x (take ((n + 1) * w) t) ++ drop ((n + 1) * w) t ≡ table_of w cap (putIn k x held)
+      pub inserted : insert_at (i * w) x (take ((n + 1) * w) t) ++ drop ((n + 1) * w) t ≡ table_of w cap (put_in k x held)
       inserted =
           let o = told_none k key held i f in
           let h = new-within in
-          ap₂ (λ (j : ℕ) (y : List ℕ). insertAt (i * w) x (take ((j + 1) * w) y) ++ drop ((j + 1) * w) y) (sym counted) is
+          ap₂ (λ (j : ℕ) (y : List ℕ). insert_at (i * w) x (take ((j + 1) * w) y) ++ drop ((j + 1) * w) y) (sym counted) is
           ∙ insert-used w cap held i x all-wide l (rw counted h) (rw counted free)
-          ∙ ap (table_of w cap) (ap₂ (λ (j : ℕ) (y : List ℕ). withPlace j y held) o.1 (sym (take-append-drop k x)) ∙ sym (put-new k (λ v. drop k x) key held o.0))
+          ∙ ap (table_of w cap) (ap₂ (λ (j : ℕ) (y : List ℕ). with_place j y held) o.1 (sym (take-append-drop k x)) ∙ sym (put-new k (λ v. drop k x) key held o.0))
 
-      pub inserted-count : n + 1 ≡ length (putIn k x held)
+      pub inserted-count : n + 1 ≡ length (put_in k x held)
       inserted-count = sym (new-length k (λ v. drop k x) key held (told_none k key held i f).0 ∙ ap (λ (j : ℕ). j + 1) counted)
 
-    pub few-after : (r : Result ℕ ℕ) → r ≡ sought k key held → full cap n r ≡ false → length (putIn k x held) ≤ cap
+    pub few-after : (r : Result ℕ ℕ) → r ≡ sought k key held → full cap n r ≡ false → length (put_in k x held) ≤ cap
     few-after (Ok i) f h = omega (arith, replaced-count i f, s.few)
     few-after (Err i) f h = let free = leb-false cap n h in omega (arith, inserted-count i f free)
 

@@ -10,9 +10,9 @@ use Rattle.std.specs.List.Sorted.{IsPartitionPoint, IsPartitionedBy}
 use Rattle.std.specs.Simd.{first_chunks}
 use Rattle.std.proofs.lemmas.List.{get_or_default}
 use Rattle.ranges.proofs.Bools.{by}
-use Rattle.octets.specs.Order.{isBefore, same}
+use Rattle.octets.specs.Order.{is_before, same}
 use Rattle.octets.proofs.Comparison.{before-trans}
-use Rattle.places.specs.Places.{places, ascending, ascendingFrom}
+use Rattle.places.specs.Places.{places, ascending, ascending_from}
 use Rattle.places.specs.Positions.{rank}
 use Rattle.places.proofs.Keys.{rank-le, rank-above, rank_below, keys-ascend, holds-at-rank, ascending-from, from_cons}
 use Rattle.places.specs.Tables.{sought}
@@ -26,19 +26,19 @@ first-places w (suc n) (suc m) t h = ap (λ (ps : List (List ℕ)). take w t ∷
 
 -- ---- neighbours
 
-abbrev pub keysAscend : ℕ → List ℕ → List ℕ → Bool
-keysAscend k x y = isBefore (take k x) (take k y)
+abbrev pub keys_ascend : ℕ → List ℕ → List ℕ → Bool
+keys_ascend k x y = is_before (take k x) (take k y)
 
-ascends_from : (k : ℕ) (p : List ℕ) (ps : List (List ℕ)) → ((i : ℕ) (d : List ℕ) → i + 1 < suc (length ps) → true ≡ keysAscend k (get_or (p ∷ ps) i d) (get_or ps i d)) → ascendingFrom k (take k p) ps ≡ true
-ascends_from k p [] h = unfold ascendingFrom in refl
+ascends_from : (k : ℕ) (p : List ℕ) (ps : List (List ℕ)) → ((i : ℕ) (d : List ℕ) → i + 1 < suc (length ps) → true ≡ keys_ascend k (get_or (p ∷ ps) i d) (get_or ps i d)) → ascending_from k (take k p) ps ≡ true
+ascends_from k p [] h = unfold ascending_from in refl
 ascends_from k p (q ∷ ps) h = from_cons k (take k p) q ps (sym (h 0 [] (omega arith))) (ascends_from k q ps (λ i d l. h (suc i) d (omega arith)))
 
 -- places whose neighbours ascend ascend
-pub ascends : (k : ℕ) (ps : List (List ℕ)) (r : Bool) → IsAllAdjacentAnswer (λ x y b. b ≡ keysAscend k x y) ps r → r ≡ ascending k ps
+pub ascends : (k : ℕ) (ps : List (List ℕ)) (r : Bool) → IsAllAdjacentAnswer (λ x y b. b ≡ keys_ascend k x y) ps r → r ≡ ascending k ps
 ascends k [] true h = unfold ascending in refl
 ascends k (p ∷ ps) true h = sym (ascending-from k p ps ∙ ascends_from k p ps (λ i d l. neighbours i d l))
   where
-    neighbours : (i : ℕ) (d : List ℕ) → i + 1 < suc (length ps) → true ≡ keysAscend k (get_or (p ∷ ps) i d) (get_or ps i d)
+    neighbours : (i : ℕ) (d : List ℕ) → i + 1 < suc (length ps) → true ≡ keys_ascend k (get_or (p ∷ ps) i d) (get_or ps i d)
     neighbours i d l = let e = h i d l in rw (add-one i) at e
 ascends k ps false h =
     by (ascending k ps)
@@ -49,7 +49,7 @@ ascends k ps false h =
 
 module _ (k : ℕ) (key : List ℕ) (ps : List (List ℕ)) (a : ascending k ps ≡ true) where
   abbrev pub before : List ℕ → Bool
-  before y = isBefore (take k y) key
+  before y = is_before (take k y) key
 
   -- those before a key come first
   pub parted : IsPartitionedBy before ps

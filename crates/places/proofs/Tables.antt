@@ -9,9 +9,9 @@ use native.Mathlib.Nat.{suc-mul, zero-mul, mul-le-mul_right, add-mul, mul_comm, 
 use native.Mathlib.Numerals.{add-one}
 use lib.ListN.{length, get_or, take, drop, set, replicate, length-append, length-drop, length-take, length-replicate, length-set, take-append-drop, replicate-append-replicate}
 use lib.Seq.{take_at, drop_at, take-add, take-append-add, length-take-le, split_at, set_split}
-use Rattle.places.specs.Places.{places, flat, table_of, isTable, ascending}
-use Rattle.places.specs.Positions.{insertAt, withPlace}
-use Rattle.octets.specs.Runs.{allZero}
+use Rattle.places.specs.Places.{places, flat, table_of, is_table, ascending}
+use Rattle.places.specs.Positions.{insert_at, with_place}
+use Rattle.octets.specs.Runs.{all_zero}
 use Rattle.ranges.proofs.Bools.{and_right, and_both}
 use Rattle.octets.proofs.Zeros.{zero-run, run-zero}
 
@@ -62,7 +62,7 @@ zeros-front i j = rw (← replicate-append-replicate {A = ℕ} i j 0) (take_at (
 
 -- a place put in before place k
 put_in : (w cap : ℕ) (ps : List (List ℕ)) (k : ℕ) (x : List ℕ) → wide w ps → k ≤ length ps → length ps < cap
-    → take (k * w) (table_of w cap ps) ++ (x ++ take (cap * w - k * w - w) (drop (k * w) (table_of w cap ps))) ≡ table_of w cap (withPlace k x ps)
+    → take (k * w) (table_of w cap ps) ++ (x ++ take (cap * w - k * w - w) (drop (k * w) (table_of w cap ps))) ≡ table_of w cap (with_place k x ps)
 put_in w cap ps k x h l g =
     let pre = take k ps in
     let post = drop k ps in
@@ -107,7 +107,7 @@ table-length w cap ps h l =
 
 -- insertion of a place's bytes is insertion of the place
 pub insert-table : (w cap : ℕ) (ps : List (List ℕ)) (k : ℕ) (x : List ℕ) → wide w ps → length x ≡ w → k ≤ length ps → length ps < cap
-    → insertAt (k * w) x (table_of w cap ps) ≡ table_of w cap (withPlace k x ps)
+    → insert_at (k * w) x (table_of w cap ps) ≡ table_of w cap (with_place k x ps)
 insert-table w cap ps k x h e l g = rw (e, table-length w cap ps h (omega arith)) (put_in w cap ps k x h l g)
 
 -- a table with more room is the same and zeros
@@ -121,15 +121,15 @@ wider-table w c cap ps h g =
 
 -- a place put in among the used ones and one more
 pub insert-used : (w cap : ℕ) (ps : List (List ℕ)) (k : ℕ) (x : List ℕ) → wide w ps → length x ≡ w → k ≤ length ps → length ps < cap
-    → insertAt (k * w) x (take ((length ps + 1) * w) (table_of w cap ps)) ++ drop ((length ps + 1) * w) (table_of w cap ps) ≡ table_of w cap (withPlace k x ps)
+    → insert_at (k * w) x (take ((length ps + 1) * w) (table_of w cap ps)) ++ drop ((length ps + 1) * w) (table_of w cap ps) ≡ table_of w cap (with_place k x ps)
 insert-used w cap ps k x h e l g =
     let c = length ps + 1 in
     let z : List ℕ = replicate ((cap - c) * w) 0 in
     let t = wider-table w c cap ps (omega arith) (omega arith) in
     let n : length (table_of w c ps) ≡ c * w = table-length w c ps h (omega arith) in
-    let m : length (withPlace k x ps) ≡ c = simp (length-append, length-take, length-drop) (omega arith) in
+    let m : length (with_place k x ps) ≡ c = simp (length-append, length-take, length-drop) (omega arith) in
     rw (t, take_at (table_of w c ps) z (c * w) n, drop_at (table_of w c ps) z (c * w) n, insert-table w c ps k x h e l (omega arith))
-    (sym (wider-table w c cap (withPlace k x ps) (omega arith) (omega arith)))
+    (sym (wider-table w c cap (with_place k x ps) (omega arith) (omega arith)))
 
 -- the bytes of a table at place k: those before it, its own, and those after it
 pub record Split (w cap : ℕ) (ps : List (List ℕ)) (k : ℕ) : Type 0 where
@@ -170,8 +170,8 @@ replace-table w cap ps k y h e l =
     (rw (append_assoc pre (y ++ rest) z, append_assoc y rest z) refl)
 
 -- the bytes of place k
-pub place_at : (w cap : ℕ) (ps : List (List ℕ)) (k : ℕ) → wide w ps → k < length ps → take w (drop (k * w) (table_of w cap ps)) ≡ get_or ps k []
-place_at w cap ps k h l =
+pub place-of-table : (w cap : ℕ) (ps : List (List ℕ)) (k : ℕ) → wide w ps → k < length ps → take w (drop (k * w) (table_of w cap ps)) ≡ get_or ps k []
+place-of-table w cap ps k h l =
     let s = split-at-place w cap ps k h l in
     let pre = flat (take k ps) in
     let p = get_or ps k [] in
@@ -181,7 +181,7 @@ place_at w cap ps k h l =
 -- ---- bytes that pass the test are a table, and a table passes it
 
 -- places with zeros behind them
-pub filled-table : (w cap n : ℕ) (t : List ℕ) → length t ≡ cap * w → n ≤ cap → allZero (drop (n * w) t) ≡ true → t ≡ table_of w cap (places w n t)
+pub filled-table : (w cap n : ℕ) (t : List ℕ) → length t ≡ cap * w → n ≤ cap → all_zero (drop (n * w) t) ≡ true → t ≡ table_of w cap (places w n t)
 filled-table w cap n t e l h =
     let z = zero-run (drop (n * w) t) h in
     let b : n * w ≤ cap * w = mul-le-mul_right w l in
@@ -191,13 +191,13 @@ filled-table w cap n t e l h =
     sub-mul : (a b c : ℕ) → (a - b) * c ≡ a * c - b * c
     sub-mul a b c = mul_comm (a - b) c ∙ mul-sub c a b ∙ ap₂ (λ (x y : ℕ). x - y) (mul_comm c a) (mul_comm c b)
 
-pub table_is : (w cap n k : ℕ) (t : List ℕ) → length t ≡ cap * w → n ≤ cap → isTable k w n t ≡ true → t ≡ table_of w cap (places w n t)
-table_is w cap n k t e l h = filled-table w cap n t e l (and_right (ascending k (places w n t)) (allZero (drop (n * w) t)) h)
+pub table_is : (w cap n k : ℕ) (t : List ℕ) → length t ≡ cap * w → n ≤ cap → is_table k w n t ≡ true → t ≡ table_of w cap (places w n t)
+table_is w cap n k t e l h = filled-table w cap n t e l (and_right (ascending k (places w n t)) (all_zero (drop (n * w) t)) h)
 
-pub is-table-of : (w cap k : ℕ) (ps : List (List ℕ)) → wide w ps → ascending k ps ≡ true → isTable k w (length ps) (table_of w cap ps) ≡ true
+pub is-table-of : (w cap k : ℕ) (ps : List (List ℕ)) → wide w ps → ascending k ps ≡ true → is_table k w (length ps) (table_of w cap ps) ≡ true
 is-table-of w cap k ps h a =
     let z : List ℕ = replicate ((cap - length ps) * w) 0 in
-    rw (places-flat w ps z h, drop_at (flat ps) z (length ps * w) (flat-length w ps h)) (and_both (ascending k ps) (allZero z) a (run-zero ((cap - length ps) * w)))
+    rw (places-flat w ps z h, drop_at (flat ps) z (length ps * w) (flat-length w ps h)) (and_both (ascending k ps) (all_zero z) a (run-zero ((cap - length ps) * w)))
 
 -- a table's places are those that it was made of
 pub places-of-table : (w cap : ℕ) (ps : List (List ℕ)) → wide w ps → places w (length ps) (table_of w cap ps) ≡ ps

@@ -8,7 +8,7 @@ use native.Mathlib.Nat.{suc-mul, zero-mul, mul-le-mul_right, le_trans, le_of_eq,
 use native.Mathlib.Numerals.{add-one}
 use lib.ListN.{get_or, take, drop}
 use lib.Seq.{drop-drop, take-take}
-use Rattle.places.specs.Places.{places, allPlaces}
+use Rattle.places.specs.Places.{places, all_places}
 
 -- ---- where a place ends
 
@@ -56,10 +56,10 @@ module _ (w n i at : ℕ) (t : List ℕ) where
 
 -- every place passes a test
 module _ (test : List ℕ → Bool) (w n i at : ℕ) (t : List ℕ) where
-  pub all-next : i < n → allPlaces test (places w (n - i) (drop at t)) ≡ (test (take (at + w - at) (drop at t)) && allPlaces test (places w (n - (i + 1)) (drop (at + w) t)))
-  unfolding allPlaces
+  pub all-next : i < n → all_places test (places w (n - i) (drop at t)) ≡ (test (take (at + w - at) (drop at t)) && all_places test (places w (n - (i + 1)) (drop (at + w) t)))
+  unfolding all_places
   all-next h = let z : at + w - at ≡ w = omega arith in rw (places-next w n i at t h, z) refl
 
-  pub all_end : n ≤ i → allPlaces test (places w (n - i) (drop at t)) ≡ true
-  unfolding allPlaces
+  pub all_end : n ≤ i → all_places test (places w (n - i) (drop at t)) ≡ true
+  unfolding all_places
   all_end h = rw (places-end w n i at t h) refl

@@ -1,8 +1,8 @@
 -- A counted table in bytes: the used places come first and ascend strictly in the byte order of their keys (a record's place by the record alone), and
 -- the rest is zero. A place has w bytes, of which the first k are its key. w, k and the count are arguments: one layer serves every table.
 use Rattle.std.specs.Prelude.{ℕ, zero, suc, ◌*◌, ◌-◌, Bool, true, false, cond, ◌&&◌, ◌||◌, List, [], ◌∷◌, ◌++◌, length, take, drop, replicate}
-use Rattle.octets.specs.Order.{isBefore, same}
-use Rattle.octets.specs.Runs.{allZero}
+use Rattle.octets.specs.Order.{is_before, same}
+use Rattle.octets.specs.Runs.{all_zero}
 
 -- ---- bytes and places
 
@@ -23,18 +23,18 @@ table_of w cap ps = flat ps ++ replicate ((cap - length ps) * w) 0
 -- ---- order
 
 -- the keys ascend strictly, from one that comes before them all
-unfoldable pub ascendingFrom : ℕ → List ℕ → List (List ℕ) → Bool
-ascendingFrom k key [] = true
-ascendingFrom k key (p ∷ ps) = isBefore key (take k p) && ascendingFrom k (take k p) ps
+unfoldable pub ascending_from : ℕ → List ℕ → List (List ℕ) → Bool
+ascending_from k key [] = true
+ascending_from k key (p ∷ ps) = is_before key (take k p) && ascending_from k (take k p) ps
 
 -- the keys ascend strictly
 unfoldable pub ascending : ℕ → List (List ℕ) → Bool
 ascending k [] = true
-ascending k (p ∷ ps) = ascendingFrom k (take k p) ps
+ascending k (p ∷ ps) = ascending_from k (take k p) ps
 
 -- n places whose keys ascend strictly, and then zeros
-abbrev pub isTable : ℕ → ℕ → ℕ → List ℕ → Bool
-isTable k w n t = ascending k (places w n t) && allZero (drop (n * w) t)
+abbrev pub is_table : ℕ → ℕ → ℕ → List ℕ → Bool
+is_table k w n t = ascending k (places w n t) && all_zero (drop (n * w) t)
 
 -- some place has this key
 unfoldable pub holds : ℕ → List ℕ → List (List ℕ) → Bool
@@ -49,18 +49,18 @@ lookup k key (p ∷ ps) = cond (same (take k p) key) (drop k p) (lookup k key ps
 -- ---- a table as a map from keys to what follows them
 
 -- what follows a key is changed by f, where nothing stood at a key that was not held
-unfoldable pub putPlace : ℕ → (List ℕ → List ℕ) → List ℕ → List (List ℕ) → List (List ℕ)
-putPlace k f key [] = (key ++ f []) ∷ []
-putPlace k f key (p ∷ ps) =
-    cond (isBefore (take k p) key) (p ∷ putPlace k f key ps)
-    (cond (isBefore key (take k p)) ((key ++ f []) ∷ (p ∷ ps)) ((take k p ++ f (drop k p)) ∷ ps))
+unfoldable pub put_place : ℕ → (List ℕ → List ℕ) → List ℕ → List (List ℕ) → List (List ℕ)
+put_place k f key [] = (key ++ f []) ∷ []
+put_place k f key (p ∷ ps) =
+    cond (is_before (take k p) key) (p ∷ put_place k f key ps)
+    (cond (is_before key (take k p)) ((key ++ f []) ∷ (p ∷ ps)) ((take k p ++ f (drop k p)) ∷ ps))
 
 -- the places that pass a test, what follows their keys changed by f
-unfoldable pub keepPlaces : ℕ → (List ℕ → Bool) → (List ℕ → List ℕ) → List (List ℕ) → List (List ℕ)
-keepPlaces k test f [] = []
-keepPlaces k test f (p ∷ ps) = cond (test p) ((take k p ++ f (drop k p)) ∷ keepPlaces k test f ps) (keepPlaces k test f ps)
+unfoldable pub keep_places : ℕ → (List ℕ → Bool) → (List ℕ → List ℕ) → List (List ℕ) → List (List ℕ)
+keep_places k test f [] = []
+keep_places k test f (p ∷ ps) = cond (test p) ((take k p ++ f (drop k p)) ∷ keep_places k test f ps) (keep_places k test f ps)
 
 -- every place passes a test
-unfoldable pub allPlaces : (List ℕ → Bool) → List (List ℕ) → Bool
-allPlaces test [] = true
-allPlaces test (p ∷ ps) = test p && allPlaces test ps
+unfoldable pub all_places : (List ℕ → Bool) → List (List ℕ) → Bool
+all_places test [] = true
+all_places test (p ∷ ps) = test p && all_places test ps

@@ -1,10 +1,10 @@
 // A sorted table in lent bytes.
 
 ghost use Rattle.std.specs.Prelude.{◌≡◌, ◌&&◌, ◌+◌, ◌*◌, ◌^◌, ◌≤◌, ◌<◌, length, take, true, false};
-ghost use Rattle.octets.specs.Order.{isBefore};
-ghost use Rattle.places.specs.Places.{places, isTable, ascending, table_of};
-ghost use Rattle.places.specs.Positions.{insertAt};
-ghost use Rattle.places.specs.Tables.{sought, full, putIn, Sorted};
+ghost use Rattle.octets.specs.Order.{is_before};
+ghost use Rattle.places.specs.Places.{places, is_table, ascending, table_of};
+ghost use Rattle.places.specs.Positions.{insert_at};
+ghost use Rattle.places.specs.Tables.{sought, full, put_in, Sorted};
 
 use octets::order::{equal, precedes};
 use octets::runs::is_zero;
@@ -31,12 +31,12 @@ pub fn is_table<const WIDTH: usize, const KEY: usize>(t: &[u8], count: usize) ->
     requires width { 0 < WIDTH }
     requires room { WIDTH < 2 ^ 63 }
     requires fits { count * WIDTH ≤ length t.now }
-    ensures { result ≡ isTable KEY WIDTH count t.now }
+    ensures { result ≡ is_table KEY WIDTH count t.now }
 {
     let places = places_of::<WIDTH>(t, count);
     let ascends = places.is_sorted_by(
         |a: &[u8; WIDTH], b: &[u8; WIDTH]| -> bool
-            ensures { result ≡ isBefore (take KEY a.now) (take KEY b.now) }
+            ensures { result ≡ is_before (take KEY a.now) (take KEY b.now) }
         { precedes(key_of::<WIDTH, KEY>(a), key_of::<WIDTH, KEY>(b)) },
     );
     ascends && is_zero(&t[count * WIDTH..])
@@ -53,7 +53,7 @@ pub fn search<const WIDTH: usize, const KEY: usize>(
 {
     let i = places.partition_point(
         |place: &[u8; WIDTH]| -> bool
-            ensures { result ≡ isBefore (take KEY place.now) key.entry.now }
+            ensures { result ≡ is_before (take KEY place.now) key.entry.now }
         { precedes(key_of::<WIDTH, KEY>(place), key) },
     );
     if i < places.len() && equal(key_of::<WIDTH, KEY>(&places[i]), key) {
@@ -65,7 +65,7 @@ pub fn search<const WIDTH: usize, const KEY: usize>(
 // Puts x in at a byte, before what stands there. As many bytes at the end are lost.
 pub fn insert(t: &mut [u8], at: usize, x: &[u8])
     requires { at + length x.now ≤ length t.old }
-    ensures { t.new ≡ insertAt at x.now t.old }
+    ensures { t.new ≡ insert_at at x.now t.old }
 {
     octets::runs::shift_up(&mut t[at..], x.len());
     octets::runs::copy(x, &mut t[at..]);
@@ -89,8 +89,8 @@ fn put_place<const WIDTH: usize, const KEY: usize, const CAP: usize>(
     requires table { Sorted WIDTH KEY CAP count t.old }
     requires found { found ≡ sought KEY (take KEY place.now) (places WIDTH count t.old) }
     requires room { full CAP count found ≡ false }
-    ensures places { t.new ≡ table_of WIDTH CAP (putIn KEY place.now (places WIDTH count t.old)) }
-    ensures count { result ≡ length (putIn KEY place.now (places WIDTH count t.old)) }
+    ensures places { t.new ≡ table_of WIDTH CAP (put_in KEY place.now (places WIDTH count t.old)) }
+    ensures count { result ≡ length (put_in KEY place.now (places WIDTH count t.old)) }
 {
     match found {
         Ok(i) => {
@@ -150,8 +150,8 @@ impl<'a, const WIDTH: usize, const KEY: usize, const CAP: usize> Table<'a, WIDTH
         requires found { found ≡ sought KEY (take KEY place.now) (places WIDTH self.old.count self.old.places.now) }
         requires room { full CAP self.old.count found ≡ false }
         ensures same_reference { self.new.places.ghost_name ≡ self.old.places.ghost_name }
-        ensures places { self.new.places.now ≡ table_of WIDTH CAP (putIn KEY place.now (places WIDTH self.old.count self.old.places.now)) }
-        ensures count { self.new.count ≡ length (putIn KEY place.now (places WIDTH self.old.count self.old.places.now)) }
+        ensures places { self.new.places.now ≡ table_of WIDTH CAP (put_in KEY place.now (places WIDTH self.old.count self.old.places.now)) }
+        ensures count { self.new.count ≡ length (put_in KEY place.now (places WIDTH self.old.count self.old.places.now)) }
     {
         self.count = put_place::<WIDTH, KEY, CAP>(self.places, self.count, found, place);
     }

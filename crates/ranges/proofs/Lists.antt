@@ -8,7 +8,7 @@ use mathlib.Core.List.{List, [], ◌∷◌, ◌++◌, map, flat_map, Memᴰ, Per
 use native.Mathlib.Omega.{arith}
 use native.Mathlib.Nat.{zero-add}
 use lib.ListN.{length, get_or}
-use Rattle.ranges.specs.Lists.{any_of, filter, insert, sort, foremost, countFrom, up_to}
+use Rattle.ranges.specs.Lists.{any_of, filter, insert, sort, foremost, count_from, up_to}
 use Rattle.ranges.proofs.Bools.{by, or, clash, no_true, or_left, or_right}
 use Rattle.ranges.proofs.Orders.{perm-mem}
 
@@ -233,13 +233,13 @@ filter_same p q (y ∷ l) e = rw (e y (Memᴰ.head refl), filter_same p q l (λ 
 
 -- ---- numbers one after another
 
-pub count-length : (k n : ℕ) → length (countFrom k n) ≡ n
-unfolding countFrom
+pub count-length : (k n : ℕ) → length (count_from k n) ≡ n
+unfolding count_from
 count-length k zero = refl
 count-length k (suc n) = ap suc (count-length (suc k) n)
 
-pub count-in : (k n i : ℕ) → Memᴰ i (countFrom k n) → (k ≤ i) × (i < k + n)
-unfolding countFrom
+pub count-in : (k n i : ℕ) → Memᴰ i (count_from k n) → (k ≤ i) × (i < k + n)
+unfolding count_from
 count-in k zero i m = absurd (Memᴰ.not-nil m)
 count-in k (suc n) i m =
     or (Memᴰ.cases_cons m)
@@ -249,8 +249,8 @@ count-in k (suc n) i m =
 pub up_in : (n i : ℕ) → Memᴰ i (up_to n) → i < n
 up_in n i m = let r = count-in 0 n i m in omega arith
 
-count_of : (k n i : ℕ) → Memᴰ (k + i) (countFrom k (suc (n + i)))
-unfolding countFrom
+count_of : (k n i : ℕ) → Memᴰ (k + i) (count_from k (suc (n + i)))
+unfolding count_from
 count_of k n zero = let e : k + 0 ≡ k = omega arith in Memᴰ.head e
 count_of k n (suc i) =
     let e : k + suc i ≡ suc k + i = omega arith in
@@ -261,12 +261,12 @@ pub up_of : (n i : ℕ) → i < n → Memᴰ i (up_to n)
 up_of n i h = go (n - suc i) (omega arith)
   where
     go : (m : ℕ) → n ≡ suc (m + i) → Memᴰ i (up_to n)
-    go m e = rw e (subst (λ (j : ℕ). Memᴰ j (countFrom 0 (suc (m + i)))) (zero-add i) (count_of 0 m i))
+    go m e = rw e (subst (λ (j : ℕ). Memᴰ j (count_from 0 (suc (m + i)))) (zero-add i) (count_of 0 m i))
 
 -- a list is its members by their places
 module _ {A : Type 0} (d : A) where
-  from_place : (h : ℕ → A) (l : List A) (k : ℕ) → ((i : ℕ) → i < length l → h (k + i) ≡ get_or l i d) → map h (countFrom k (length l)) ≡ l
-  unfolding countFrom
+  from_place : (h : ℕ → A) (l : List A) (k : ℕ) → ((i : ℕ) → i < length l → h (k + i) ≡ get_or l i d) → map h (count_from k (length l)) ≡ l
+  unfolding count_from
   from_place h [] k e = refl
   from_place h (x ∷ l) k e =
       let z : k ≡ k + 0 = omega arith in

@@ -7,7 +7,7 @@ use native.Mathlib.Omega.{arith}
 use native.Mathlib.Nat.{sub-zero, add-zero, zero-add}
 use native.Mathlib.Numerals.{add-one}
 use lib.ListN.{length, replicate, set, length-append}
-use Rattle.ranges.specs.Lists.{any_of, filter, countFrom, up_to}
+use Rattle.ranges.specs.Lists.{any_of, filter, count_from, up_to}
 use Rattle.ranges.specs.Range.{Holds, filt}
 use Rattle.ranges.proofs.Bools.{by}
 use Rattle.ranges.proofs.Range.{filled_none, filled_more}
@@ -15,31 +15,31 @@ use Rattle.ranges.proofs.Lists.{filter-few, count-length}
 
 -- ---- a turn of a loop: the index is i, the end n
 
-pub count-start : (n : ℕ) → countFrom 0 n ≡ countFrom 0 (n - 0)
+pub count-start : (n : ℕ) → count_from 0 n ≡ count_from 0 (n - 0)
 count-start n = rw sub-zero refl
 
-pub count_turn : (i n : ℕ) → i < n → countFrom i (n - i) ≡ i ∷ countFrom (i + 1) (n - (i + 1))
-unfolding countFrom
+pub count_turn : (i n : ℕ) → i < n → count_from i (n - i) ≡ i ∷ count_from (i + 1) (n - (i + 1))
+unfolding count_from
 count_turn i n h = let z : n - i ≡ suc (n - (i + 1)) = omega arith in rw (z, add-one) refl
 
-pub count-end : (i n : ℕ) → n ≤ i → countFrom i (n - i) ≡ []
-unfolding countFrom
+pub count-end : (i n : ℕ) → n ≤ i → count_from i (n - i) ≡ []
+unfolding count_from
 count-end i n h = let z : n - i ≡ 0 = omega arith in rw z refl
 
 -- ---- a loop that returns where a test holds: t is what is computed, r what the called test gave
 
-pub any-start : (g : ℕ → Bool) (n : ℕ) → any_of g (countFrom 0 n) ≡ any_of g (countFrom 0 (n - 0))
+pub any-start : (g : ℕ → Bool) (n : ℕ) → any_of g (count_from 0 n) ≡ any_of g (count_from 0 (n - 0))
 any-start g n = ap (any_of g) (count-start n)
 
-pub any-ret : (t : Bool) (g : ℕ → Bool) (i n : ℕ) (r : Bool) → t ≡ any_of g (countFrom i (n - i)) → i < n → r ≡ g i → r ≡ true → true ≡ t
+pub any-ret : (t : Bool) (g : ℕ → Bool) (i n : ℕ) (r : Bool) → t ≡ any_of g (count_from i (n - i)) → i < n → r ≡ g i → r ≡ true → true ≡ t
 unfolding any_of
 any-ret t g i n r e h p q = sym (e ∙ ap (any_of g) (count_turn i n h) ∙ rw (sym p ∙ q) refl)
 
-pub any-go : (t : Bool) (g : ℕ → Bool) (i n : ℕ) (r : Bool) → t ≡ any_of g (countFrom i (n - i)) → i < n → r ≡ g i → r ≡ false → t ≡ any_of g (countFrom (i + 1) (n - (i + 1)))
+pub any-go : (t : Bool) (g : ℕ → Bool) (i n : ℕ) (r : Bool) → t ≡ any_of g (count_from i (n - i)) → i < n → r ≡ g i → r ≡ false → t ≡ any_of g (count_from (i + 1) (n - (i + 1)))
 unfolding any_of
 any-go t g i n r e h p q = e ∙ ap (any_of g) (count_turn i n h) ∙ rw (sym p ∙ q) refl
 
-pub any_out : (t : Bool) (g : ℕ → Bool) (i n : ℕ) → t ≡ any_of g (countFrom i (n - i)) → n ≤ i → false ≡ t
+pub any_out : (t : Bool) (g : ℕ → Bool) (i n : ℕ) → t ≡ any_of g (count_from i (n - i)) → n ≤ i → false ≡ t
 unfolding any_of
 any_out t g i n e h = sym (e ∙ ap (any_of g) (count-end i n h))
 
@@ -48,8 +48,8 @@ pub ruleset searches = (any-start, any-ret, any-go, any_out)
 -- ---- a loop that lists
 
 -- one index more
-count-snoc : (k n : ℕ) → countFrom k (suc n) ≡ countFrom k n ++ ((k + n) ∷ [])
-unfolding countFrom
+count-snoc : (k n : ℕ) → count_from k (suc n) ≡ count_from k n ++ ((k + n) ∷ [])
+unfolding count_from
 count-snoc k zero = rw (add-zero k) refl
 count-snoc k (suc n) = let e : k + suc n ≡ suc k + n = omega arith in rw e (ap (λ (l : List ℕ). k ∷ l) (count-snoc (suc k) n))
 
@@ -107,7 +107,7 @@ module _ (N : ℕ) (g : ℕ → Bool) (a : List ℕ) (k i : ℕ) (w : Holds N 0 
 
 -- ---- the same by a range of indices
 
-pub filter_range : (g : ℕ → Bool) (k n : ℕ) → filter g (countFrom k n) ≡ filt g k n
-unfolding filter countFrom filt
+pub filter_range : (g : ℕ → Bool) (k n : ℕ) → filter g (count_from k n) ≡ filt g k n
+unfolding filter count_from filt
 filter_range g k zero = refl
 filter_range g k (suc n) = rw (filter_range g (suc k) n) refl

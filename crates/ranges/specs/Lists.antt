@@ -33,13 +33,13 @@ module _ {A : Type 0} where
   last_of n l = drop (length l - n) l
 
 -- n numbers from k on
-unfoldable pub countFrom : ℕ → ℕ → List ℕ
-countFrom k zero = []
-countFrom k (suc n) = k ∷ countFrom (suc k) n
+unfoldable pub count_from : ℕ → ℕ → List ℕ
+count_from k zero = []
+count_from k (suc n) = k ∷ count_from (suc k) n
 
 -- the indices of n items
 abbrev pub up_to : ℕ → List ℕ
-up_to n = countFrom 0 n
+up_to n = count_from 0 n
 
 -- each member comes before every later one
 pub data Ascending {A : Type 0} (before : A → A → Bool) : List A → Type 0 where

@@ -10,21 +10,21 @@ use Rattle.grammar.specs.declared.lines.Due.{Due}
 use Rattle.grammar.specs.declared.lines.Due.TheVariants as due
 use Rattle.sessions.specs.declared.refusals.Refusal.{Refusal}
 use Rattle.sessions.specs.declared.refusals.Refusal.TheVariants as refusal
-use Rattle.sessions.specs.Output.{calls_of, answerLine, answers, answersThenBoard, refusal_text, text_by, outputOf}
+use Rattle.sessions.specs.Output.{calls_of, answer_line, answers, answers_then_board, refusal_text, text_by, output_of}
 use Rattle.sessions.proofs.Quiet.{calls_good, empty-text}
-use Rattle.reasons.specs.Reasons.{lineText, badLineReason, reason_text, reason_by, reasonOf}
+use Rattle.reasons.specs.Reasons.{line_text, bad_line_reason, reason_text, reason_by, reason_of}
 use Rattle.reasons.specs.Claims.{ReasonWhereRefused, NamesTheBadLine}
 
-pub reason-none : (s : List ℕ) → None ≡ result_err (calls_of s) → reasonOf s ≡ []
-unfolding reasonOf
+pub reason-none : (s : List ℕ) → None ≡ result_err (calls_of s) → reason_of s ≡ []
+unfolding reason_of
 reason-none s e = go (calls_of s) e
   where
     go : (m : Result (List Call) Refusal) → None ≡ result_err m → reason_by m ≡ []
     go (Ok cs) e = refl
     go (Err r) e = cc
 
-pub reason-some : (s : List ℕ) (r : Refusal) → Some r ≡ result_err (calls_of s) → reasonOf s ≡ reason_text r
-unfolding reasonOf
+pub reason-some : (s : List ℕ) (r : Refusal) → Some r ≡ result_err (calls_of s) → reason_of s ≡ reason_text r
+unfolding reason_of
 reason-some s r e = go (calls_of s) e
   where
     go : (m : Result (List Call) Refusal) → Some r ≡ result_err m → reason_by m ≡ reason_text r
@@ -33,7 +33,7 @@ reason-some s r e = go (calls_of s) e
 
 -- ---- how long a reason is
 
-line-short : (d : Due) → length (lineText d) ≤ 128
+line-short : (d : Due) → length (line_text d) ≤ 128
 unfolding ascii
 line-short due.Op = omega arith
 line-short due.Engine = omega arith
@@ -50,8 +50,8 @@ line-short due.Used = omega arith
 line-short due.Models = omega arith
 line-short due.Cov = omega arith
 
-bad-short : (bad : BadLine) → length (badLineReason bad) ≤ 192
-unfolding badLineReason ascii
+bad-short : (bad : BadLine) → length (bad_line_reason bad) ≤ 192
+unfolding bad_line_reason ascii
 bad-short bad = let width = decimal-width bad.line in let line = line-short bad.due in simp length-append (omega (arith, width, line, length-append {A = ℕ}))
 
 pub reason-short : (r : Refusal) → length (reason_text r) ≤ 192
@@ -62,7 +62,7 @@ reason-short (refusal.BadLine bad) = bad-short bad
 -- ---- what is printed begins with 'r' exactly where a session is refused
 
 pub reason-where-refused : ReasonWhereRefused
-unfolding reasonOf outputOf reason_text badLineReason refusal_text answersThenBoard answers answerLine ascii
+unfolding reason_of output_of reason_text bad_line_reason refusal_text answers_then_board answers answer_line ascii
 reason-where-refused s = go (calls_of s)
   where
     go : (m : Result (List Call) Refusal) → ltb 0 (length (reason_by m)) ≡ eqb (get_or (text_by m) 0 0) 114
@@ -74,5 +74,5 @@ reason-where-refused s = go (calls_of s)
 -- ---- the line that it names
 
 pub names-the-bad-line : NamesTheBadLine
-unfolding reasonOf reason_text
+unfolding reason_of reason_text
 names-the-bad-line s bad h e = ap reason_by (calls_good s (Err bad) h e)

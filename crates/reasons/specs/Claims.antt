@@ -3,13 +3,13 @@
 use Rattle.std.specs.Prelude.{ℕ, ◌≡◌, ◌≤◌, List, ltb, eqb, length, get_or, Err}
 use Rattle.grammar.specs.declared.lines.BadLine.{BadLine}
 use Rattle.grammar.specs.Session.{session_of}
-use Rattle.sessions.specs.Output.{maxInput, outputOf}
-use Rattle.reasons.specs.Reasons.{badLineReason, reasonOf}
+use Rattle.sessions.specs.Output.{max_input, output_of}
+use Rattle.reasons.specs.Reasons.{bad_line_reason, reason_of}
 
 -- there is a reason exactly where what the session prints begins with the 'r' of `refused=`
 abbrev pub ReasonWhereRefused : Type 0
-ReasonWhereRefused = (s : List ℕ) → ltb 0 (length (reasonOf s)) ≡ eqb (get_or (outputOf s) 0 0) 114
+ReasonWhereRefused = (s : List ℕ) → ltb 0 (length (reason_of s)) ≡ eqb (get_or (output_of s) 0 0) 114
 
 -- the reason of a session with a bad line is the sentence on the first of them
 abbrev pub NamesTheBadLine : Type 0
-NamesTheBadLine = (s : List ℕ) (bad : BadLine) → length s ≤ maxInput → session_of s ≡ Err bad → reasonOf s ≡ badLineReason bad
+NamesTheBadLine = (s : List ℕ) (bad : BadLine) → length s ≤ max_input → session_of s ≡ Err bad → reason_of s ≡ bad_line_reason bad

@@ -10,20 +10,20 @@ use Rattle.sessions.specs.declared.refusals.Refusal.{Refusal}
 use Rattle.sessions.specs.declared.refusals.Refusal.TheVariants as refusal
 use Rattle.sessions.specs.Output.{calls_of}
 
-abbrev pub lineText : Due → List ℕ
-lineText due = (key_of due ++ ascii " is due, then ") ++ words_of due
+abbrev pub line_text : Due → List ℕ
+line_text due = (key_of due ++ ascii " is due, then ") ++ words_of due
 
-unfoldable pub badLineReason : BadLine → List ℕ
-badLineReason bad = (((ascii "line " ++ decimal bad.line) ++ ascii ": ") ++ lineText bad.due) ++ ascii ", then a line feed\n"
+unfoldable pub bad_line_reason : BadLine → List ℕ
+bad_line_reason bad = (((ascii "line " ++ decimal bad.line) ++ ascii ": ") ++ line_text bad.due) ++ ascii ", then a line feed\n"
 
 unfoldable pub reason_text : Refusal → List ℕ
 reason_text refusal.TooLong = ascii "the input has more than 65536 bytes\n"
-reason_text (refusal.BadLine bad) = badLineReason bad
+reason_text (refusal.BadLine bad) = bad_line_reason bad
 
 -- nothing, where a session is not refused
 abbrev pub reason_by : Result (List Call) Refusal → List ℕ
 reason_by (Ok cs) = []
 reason_by (Err r) = reason_text r
 
-unfoldable pub reasonOf : List ℕ → List ℕ
-reasonOf input = reason_by (calls_of input)
+unfoldable pub reason_of : List ℕ → List ℕ
+reason_of input = reason_by (calls_of input)

@@ -17,7 +17,7 @@ pub const REASON_SIZE: usize = 192;
 
 // Which line is due, and what its value is to be.
 fn push_due(out: &mut Text, due: Due)
-    ensures { out.new ≡ append out.old (R.lineText due) }
+    ensures { out.new ≡ append out.old (R.line_text due) }
 {
     out.push_bytes(due.key());
     out.push_str(" is due, then ");
@@ -26,7 +26,7 @@ fn push_due(out: &mut Text, due: Due)
 
 // The sentence on the first bad line.
 fn push_bad_line(out: &mut Text, bad: BadLine)
-    ensures { out.new ≡ append out.old (R.badLineReason bad) }
+    ensures { out.new ≡ append out.old (R.bad_line_reason bad) }
 {
     out.push_field("line ", &(bad.line as u64));
     out.push_str(": ");
@@ -52,7 +52,7 @@ impl Append for Sentence {
 
 // The reason why a session is refused, at the start of `out`; the answer is its length, which is 0 where it is not refused.
 pub fn reason(input: &[u8], out: &mut [u8; REASON_SIZE]) -> usize
-    ensures { (result ≤ REASON_SIZE) × Put out.old 0 (R.reasonOf input.now) result out.new }
+    ensures { (result ≤ REASON_SIZE) × Put out.old 0 (R.reason_of input.now) result out.new }
 {
     match sessions::check(input) {
         Ok(()) => 0,

@@ -12,29 +12,29 @@ use borrow.Author.Tests.{not-true}
 use Rattle.ranges.specs.Lists.{any_of, filter, sort}
 use Rattle.ranges.proofs.Bools.{by, or, and_right}
 use Rattle.ranges.proofs.Lists.{any-in, filter-in, sort-in}
-use Rattle.octets.specs.Masks.{bit, withBit, withoutBit}
+use Rattle.octets.specs.Masks.{bit, with_bit, without_bit}
 use Rattle.octets.proofs.Zeros.{or-zero}
-use Rattle.places.specs.Places.{ascending, keepPlaces}
+use Rattle.places.specs.Places.{ascending, keep_places}
 use Rattle.places.proofs.Keeping.{kept-length, kept-wide, kept-ascending, kept-all}
 use Rattle.places.proofs.Tables.{wide}
-use Rattle.models.specs.Summary.{summarySize}
-use Rattle.held.specs.Limits.{maxEngine}
-use Rattle.held.specs.Summaries.{summaryFormed, isOfAnother, noValue}
+use Rattle.models.specs.Summary.{summary_size}
+use Rattle.held.specs.Limits.{max_engine}
+use Rattle.held.specs.Summaries.{summary_formed, is_of_another, no_value}
 use Rattle.held.proofs.Signatures.{apart, disjoint, without-apart, with-small, without-small}
 use Rattle.held.proofs.Summarized.{all_of, none_more, kept-summary}
 use Rattle.shown.specs.Fix.{Fix}
-use Rattle.tracked.specs.Held.{HeldTransmission, fixOf, heldIn, is_of}
+use Rattle.tracked.specs.Held.{HeldTransmission, fix_of, held_in, is_of}
 use Rattle.tracked.proofs.Encoding.{ValidFix}
-use Rattle.normalize.specs.Normal.{signedBy, normalized}
+use Rattle.normalize.specs.Normal.{signed_by, normalized}
 use Rattle.normalize.specs.Signed.{is_signed}
 use Rattle.normalize.proofs.Claimed.{kept_in, signers-united}
 use Rattle.normalize.proofs.Validity.{Holdable, all-distinct, kept-holdable, normalized-valid, normalized-bounded}
-use Rattle.arrange.specs.Arranged.{maxTransmissions, is_some, hasFix, olderThan, arranged}
-use Rattle.stored.specs.Layout.{pairSize}
+use Rattle.arrange.specs.Arranged.{max_transmissions, is_some, has_fix, older_than, arranged}
+use Rattle.stored.specs.Layout.{pair_size}
 use Rattle.stored.specs.Track.{Track}
 use Rattle.stored.proofs.Blocks.{Upheld, Kept, Held, of_map}
 use Rattle.stored.proofs.Valid.{Valid}
-use Rattle.recheck.specs.Recheck.{stands, hasStale, standing, recheck, unsigned, withoutEngine, strikeEngine}
+use Rattle.recheck.specs.Recheck.{stands, has_stale, standing, recheck, unsigned, without_engine, strike_engine}
 
 -- ---- fixes decided again
 
@@ -47,11 +47,11 @@ module _ (c : ℕ) (fs : List Fix) (u : (f : Fix) → Memᴰ f fs → Fit c f) w
   holdable : (f : Fix) → Memᴰ f fs → Holdable f
   holdable f m = record { valid = (u f m).valid; form = (u f m).upheld.formed }
 
-  both : (f g : Fix) → eqb f.signers 0 ≡ false → eqb g.signers 0 ≡ false → eqb (signedBy f g).signers 0 ≡ false
+  both : (f g : Fix) → eqb f.signers 0 ≡ false → eqb g.signers 0 ≡ false → eqb (signed_by f g).signers 0 ≡ false
   both f g p q = or-zero g.signers f.signers ∙ rw q refl
 
   -- an engine that signed one signed one of those given
-  kept-apart : (g : Fix) → Memᴰ g (heldIn (normalized fs)) → (k : ℕ) → (bit g.signers k && bit c k) ≡ false
+  kept-apart : (g : Fix) → Memᴰ g (held_in (normalized fs)) → (k : ℕ) → (bit g.signers k && bit c k) ≡ false
   kept-apart g m k =
       by (bit g.signers k)
       (λ t. rw t (
@@ -72,25 +72,25 @@ module _ (c : ℕ) (fs : List Fix) (u : (f : Fix) → Memᴰ f fs → Fit c f) w
   }
 
 -- the fixes that a transmission holds
-pub held-fit : (c : ℕ) (t : HeldTransmission) → Kept c t → (f : Fix) → Memᴰ f (heldIn t) → Fit c f
+pub held-fit : (c : ℕ) (t : HeldTransmission) → Kept c t → (f : Fix) → Memᴰ f (held_in t) → Fit c f
 held-fit c t k f m = record {
-  valid = or (Memᴰ.append_cases t.fixes m) (λ i. k.valid.fixes f i) (λ i. let r = Memᴰ.of_map fixOf t.refused i in subst ValidFix r.2 (k.valid.refused r.0 r.1).fix);
+  valid = or (Memᴰ.append_cases t.fixes m) (λ i. k.valid.fixes f i) (λ i. let r = Memᴰ.of_map fix_of t.refused i in subst ValidFix r.2 (k.valid.refused r.0 r.1).fix);
   upheld = k.held f m;
 }
 
 pub standing-kept : (c : ℕ) (ss : List (List ℕ)) (t : HeldTransmission) → Kept c t → Kept c (standing ss t)
-standing-kept c ss t k = normalized-kept c (filter (stands ss) (heldIn t)) (λ f m. held-fit c t k f (filter-in (stands ss) (heldIn t) f m).0)
+standing-kept c ss t k = normalized-kept c (filter (stands ss) (held_in t)) (λ f m. held-fit c t k f (filter-in (stands ss) (held_in t) f m).0)
 
-pub without-kept : (c e : ℕ) (t : HeldTransmission) → Kept c t → Kept (withBit c e) (withoutEngine e t)
+pub without-kept : (c e : ℕ) (t : HeldTransmission) → Kept c t → Kept (with_bit c e) (without_engine e t)
 without-kept c e t k =
-    normalized-kept (withBit c e) (filter is_signed (map (unsigned e) (heldIn t)))
+    normalized-kept (with_bit c e) (filter is_signed (map (unsigned e) (held_in t)))
     (λ g m.
-    let i = filter-in is_signed (map (unsigned e) (heldIn t)) g m in
-    let r = Memᴰ.of_map (unsigned e) (heldIn t) i.0 in
+    let i = filter-in is_signed (map (unsigned e) (held_in t)) g m in
+    let r = Memᴰ.of_map (unsigned e) (held_in t) i.0 in
     let f = held-fit c t k r.0 r.1 in
-    subst (Fit (withBit c e)) r.2 (fit r.0 f (ap is_signed r.2 ∙ i.1)))
+    subst (Fit (with_bit c e)) r.2 (fit r.0 f (ap is_signed r.2 ∙ i.1)))
   where
-    fit : (f : Fix) → Fit c f → is_signed (unsigned e f) ≡ true → Fit (withBit c e) (unsigned e f)
+    fit : (f : Fix) → Fit c f → is_signed (unsigned e f) ≡ true → Fit (with_bit c e) (unsigned e f)
     fit f u s = record {
       valid = record {
         record-size = u.valid.record-size;
@@ -100,7 +100,7 @@ without-kept c e t k =
       };
       upheld = record {
         formed = u.upheld.formed;
-        signed = not-true (eqb (withoutBit f.signers e) 0) s;
+        signed = not-true (eqb (without_bit f.signers e) 0) s;
         free = without-apart f.signers c e u.upheld.free;
       };
     }
@@ -112,13 +112,13 @@ drop-in l zero x m = m
 drop-in [] (suc k) x m = m
 drop-in (y ∷ l) (suc k) x m = Memᴰ.tail (drop-in l k x m)
 
-pub arranged-from : (ts : List HeldTransmission) (t : HeldTransmission) → Memᴰ t (arranged ts) → Memᴰ t ts × (hasFix t ≡ true)
+pub arranged-from : (ts : List HeldTransmission) (t : HeldTransmission) → Memᴰ t (arranged ts) → Memᴰ t ts × (has_fix t ≡ true)
 unfolding arranged
 arranged-from ts t m =
-    let l = sort olderThan (filter hasFix ts) in
-    filter-in hasFix ts t (sort-in olderThan (filter hasFix ts) t (drop-in l (length l - maxTransmissions) t m))
+    let l = sort older_than (filter has_fix ts) in
+    filter-in has_fix ts t (sort-in older_than (filter has_fix ts) t (drop-in l (length l - max_transmissions) t m))
 
-some-fixes : (t : HeldTransmission) → hasFix t ≡ true → 1 ≤ length t.fixes
+some-fixes : (t : HeldTransmission) → has_fix t ≡ true → 1 ≤ length t.fixes
 some-fixes t h = go t.fixes h
   where
     go : (fs : List Fix) → is_some fs ≡ true → 1 ≤ length fs
@@ -128,7 +128,7 @@ some-fixes t h = go t.fixes h
 pub arranged-held : (c : ℕ) (ts : List HeldTransmission) → ((t : HeldTransmission) → Memᴰ t ts → Kept c t) → (t : HeldTransmission) → Memᴰ t (arranged ts) → Held c t
 arranged-held c ts k t m = let r = arranged-from ts t m in record { kept = k t r.0; some = some-fixes t r.1 }
 
-pub arranged-at-most : (ts : List HeldTransmission) → length (arranged ts) ≤ maxTransmissions
+pub arranged-at-most : (ts : List HeldTransmission) → length (arranged ts) ≤ max_transmissions
 unfolding arranged
 arranged-at-most ts = rw length-drop (omega arith)
 
@@ -138,12 +138,12 @@ abbrev itself : List ℕ → List ℕ
 itself v = v
 
 -- those that stay are as they were, whatever of them is their key
-kept_whole : (test : List ℕ → Bool) (ps : List (List ℕ)) → wide summarySize ps → keepPlaces summarySize test noValue ps ≡ keepPlaces pairSize test itself ps
-unfolding keepPlaces
+kept_whole : (test : List ℕ → Bool) (ps : List (List ℕ)) → wide summary_size ps → keep_places summary_size test no_value ps ≡ keep_places pair_size test itself ps
+unfolding keep_places
 kept_whole test [] w = refl
 kept_whole test (p ∷ ps) w =
     let r = kept_whole test ps w.1 in
-    let e : take summarySize p ++ [] ≡ take pairSize p ++ drop pairSize p = append-nil (take summarySize p) ∙ take_all summarySize p (omega (arith, w.0)) ∙ sym (take-append-drop pairSize p) in
+    let e : take summary_size p ++ [] ≡ take pair_size p ++ drop pair_size p = append-nil (take summary_size p) ∙ take_all summary_size p (omega (arith, w.0)) ∙ sym (take-append-drop pair_size p) in
     by (test p) (λ t. rw t (ap₂ ◌∷◌ e r)) (λ t. rw t r)
 
 -- ---- tracks
@@ -151,11 +151,11 @@ kept_whole test (p ∷ ps) w =
 pub recheck-valid : (s : Track) → Valid s → Valid (recheck s)
 unfolding recheck
 recheck-valid s v =
-    by (any_of (hasStale s.summaries) s.transmissions)
+    by (any_of (has_stale s.summaries) s.transmissions)
     (λ t. rw t (record {
       small = v.small;
       counted = v.counted;
-      few-summaries = v.few-summaries;
+      few_summaries = v.few_summaries;
       few = arranged-at-most (map (standing s.summaries) s.transmissions);
       summaries-wide = v.summaries-wide;
       summaries-ascend = v.summaries-ascend;
@@ -164,15 +164,15 @@ recheck-valid s v =
     }))
     (λ t. rw t v)
 
-pub strike-valid : (s : Track) → Valid s → (e : ℕ) → e ≤ maxEngine → Valid (strikeEngine e s)
-unfolding strikeEngine
+pub strike-valid : (s : Track) → Valid s → (e : ℕ) → e ≤ max_engine → Valid (strike_engine e s)
+unfolding strike_engine
 strike-valid s v e h = record {
   small = with-small s.convicted e h v.small;
   counted = v.counted;
-  few-summaries = let k = kept-length summarySize (isOfAnother e) noValue s.summaries in omega (arith, k, v.few-summaries);
-  few = arranged-at-most (map (withoutEngine e) s.transmissions);
-  summaries-wide = kept-wide summarySize (isOfAnother e) noValue summarySize all_of none_more s.summaries v.summaries-wide;
-  summaries-ascend = ap (ascending pairSize) (kept_whole (isOfAnother e) s.summaries v.summaries-wide) ∙ kept-ascending pairSize (isOfAnother e) itself summarySize (omega arith) (λ l q. q) s.summaries v.summaries-wide v.summaries-ascend;
-  summaries-formed = kept-all summarySize (isOfAnother e) noValue (summaryFormed s.convicted) (summaryFormed (withBit s.convicted e)) (kept-summary s.convicted e) s.summaries v.summaries-formed;
-  held = arranged-held (withBit s.convicted e) (map (withoutEngine e) s.transmissions) (of_map (withoutEngine e) (Kept (withBit s.convicted e)) s.transmissions (λ t i. without-kept s.convicted e t (v.held t i).kept));
+  few_summaries = let k = kept-length summary_size (is_of_another e) no_value s.summaries in omega (arith, k, v.few_summaries);
+  few = arranged-at-most (map (without_engine e) s.transmissions);
+  summaries-wide = kept-wide summary_size (is_of_another e) no_value summary_size all_of none_more s.summaries v.summaries-wide;
+  summaries-ascend = ap (ascending pair_size) (kept_whole (is_of_another e) s.summaries v.summaries-wide) ∙ kept-ascending pair_size (is_of_another e) itself summary_size (omega arith) (λ l q. q) s.summaries v.summaries-wide v.summaries-ascend;
+  summaries-formed = kept-all summary_size (is_of_another e) no_value (summary_formed s.convicted) (summary_formed (with_bit s.convicted e)) (kept-summary s.convicted e) s.summaries v.summaries-formed;
+  held = arranged-held (with_bit s.convicted e) (map (without_engine e) s.transmissions) (of_map (without_engine e) (Kept (with_bit s.convicted e)) s.transmissions (λ t i. without-kept s.convicted e t (v.held t i).kept));
 }

@@ -1,18 +1,18 @@
 // An engine struck from a track. A conviction decides every transmission, and again where a fix no longer stands: a table of sheets goes
 // with it, so that no identity is worked out twice.
 ghost use Rattle.std.specs.Prelude.{◌≡◌, true, map, ◌++◌, ◌<◌, ◌≤◌, length, take, set};
-ghost use Rattle.octets.specs.Writes.{putWord};
-ghost use Rattle.tracked.specs.Held.{heldIn};
-ghost use Rattle.tracked.specs.Bytes.{transmissionIn, transmissionBytes};
-ghost use Rattle.tracked.specs.Parts.{heldCount, Sound};
+ghost use Rattle.octets.specs.Writes.{put_word};
+ghost use Rattle.tracked.specs.Held.{held_in};
+ghost use Rattle.tracked.specs.Bytes.{transmission_in, transmission_bytes};
+ghost use Rattle.tracked.specs.Parts.{held_count, Sound};
 ghost use Rattle.tracked.specs.Known.{Knows};
 ghost use Rattle.arrange.specs.Arranged.{arranged};
-ghost use Rattle.arrange.specs.Blocks.{blockTable, Known};
+ghost use Rattle.arrange.specs.Blocks.{block_table, Known};
 ghost use Rattle.stored.specs.Layout as L;
-ghost use Rattle.stored.specs.Memory.{transmissionCount, transmissionTable, transmissionPlaces, wellFormed, decode, encode};
+ghost use Rattle.stored.specs.Memory.{transmission_count, transmission_table, transmission_places, well_formed, decode, encode};
 ghost use Rattle.stored.specs.Steps.{Carries};
-ghost use Rattle.recheck.specs.Recheck.{recheck, unsigned, withoutEngine, strikeEngine};
-ghost use Rattle.recheck.specs.Steps.{withoutBytes};
+ghost use Rattle.recheck.specs.Recheck.{recheck, unsigned, without_engine, strike_engine};
+ghost use Rattle.recheck.specs.Steps.{without_bytes};
 
 use crate::rechecks;
 use arrange::KNOWN_TABLE_SIZE;
@@ -23,7 +23,7 @@ use tracked::layout::{KNOWN_SIZE, TRANSMISSION_SIZE};
 // Takes an engine's signature off every held fix.
 fn unsign(b: &mut [u8], engine: Engine)
     requires { Sound b.old }
-    ensures { Carries b.new (heldCount b.old) (map (unsigned engine.number) (heldIn (transmissionIn b.old))) }
+    ensures { Carries b.new (held_count b.old) (map (unsigned engine.number) (held_in (transmission_in b.old))) }
 {
     let n = tracked::held_count(b);
     for k in 0..n {
@@ -35,7 +35,7 @@ fn unsign(b: &mut [u8], engine: Engine)
 // Decides a transmission again, without an engine. What is known of its identities holds whoever signed.
 fn strike_fixes(b: &mut [u8], s: &mut [u8], engine: Engine)
     requires { Sound b.old × Knows b.old s.old }
-    ensures b_after { b.new ≡ withoutBytes engine.number b.old }
+    ensures b_after { b.new ≡ without_bytes engine.number b.old }
     ensures knows { Knows b.new s.new }
 {
     unsign(b, engine);
@@ -44,9 +44,9 @@ fn strike_fixes(b: &mut [u8], s: &mut [u8], engine: Engine)
 
 // Decides every transmission of a track again, without an engine.
 fn strike_all(memory: &mut [u8], known: &mut [u8], engine: Engine)
-    requires { (wellFormed memory.old ≡ true) × Known (transmissionTable memory.old) known.old (transmissionCount memory.old) }
-    ensures memory_after { memory.new ≡ take L.transmissionsAt memory.old ++ blockTable (map (withoutBytes engine.number) (transmissionPlaces memory.old)) }
-    ensures known { Known (transmissionTable memory.new) known.new (transmissionCount memory.old) }
+    requires { (well_formed memory.old ≡ true) × Known (transmission_table memory.old) known.old (transmission_count memory.old) }
+    ensures memory_after { memory.new ≡ take L.transmissions_at memory.old ++ block_table (map (without_bytes engine.number) (transmission_places memory.old)) }
+    ensures known { Known (transmission_table memory.new) known.new (transmission_count memory.old) }
 {
     let count = memory[layout::TRANSMISSION_COUNT_AT] as usize;
     for i in 0..count {
@@ -60,10 +60,10 @@ fn strike_all(memory: &mut [u8], known: &mut [u8], engine: Engine)
 
 // Brings them into their order, and returns how many are left.
 fn strike_transmissions(memory: &mut [u8], known: &mut [u8], engine: Engine) -> usize
-    requires { (wellFormed memory.old ≡ true) × Known (transmissionTable memory.old) known.old (transmissionCount memory.old) }
-    ensures value { result ≡ length (arranged (map (withoutEngine engine.number) (map transmissionIn (transmissionPlaces memory.old)))) }
-    ensures memory_after { memory.new ≡ take L.transmissionsAt memory.old ++ blockTable (map transmissionBytes (arranged (map (withoutEngine engine.number) (map transmissionIn (transmissionPlaces memory.old))))) }
-    ensures known { Known (transmissionTable memory.new) known.new result }
+    requires { (well_formed memory.old ≡ true) × Known (transmission_table memory.old) known.old (transmission_count memory.old) }
+    ensures value { result ≡ length (arranged (map (without_engine engine.number) (map transmission_in (transmission_places memory.old)))) }
+    ensures memory_after { memory.new ≡ take L.transmissions_at memory.old ++ block_table (map transmission_bytes (arranged (map (without_engine engine.number) (map transmission_in (transmission_places memory.old))))) }
+    ensures known { Known (transmission_table memory.new) known.new result }
 {
     let count = memory[layout::TRANSMISSION_COUNT_AT] as usize;
     strike_all(memory, known, engine);
@@ -72,8 +72,8 @@ fn strike_transmissions(memory: &mut [u8], known: &mut [u8], engine: Engine) -> 
 
 // Writes the convicted engines and both counts.
 fn put_header(memory: &mut [u8], convicted: Signers, summaries: u16, transmissions: u8)
-    requires { L.summariesAt ≤ length memory.old }
-    ensures { memory.new ≡ set (putWord 2 L.summaryCountAt summaries (putWord 4 L.convictedAt convicted.0 memory.old)) L.transmissionCountAt transmissions }
+    requires { L.summaries_at ≤ length memory.old }
+    ensures { memory.new ≡ set (put_word 2 L.summary_count_at summaries (put_word 4 L.convicted_at convicted.0 memory.old)) L.transmission_count_at transmissions }
 {
     octets::words::put_u32(memory, layout::CONVICTED_AT, convicted.0);
     octets::words::put_u16(memory, layout::SUMMARY_COUNT_AT, summaries);
@@ -82,9 +82,9 @@ fn put_header(memory: &mut [u8], convicted: Signers, summaries: u16, transmissio
 
 // Strikes an engine from a track.
 fn strike(memory: &mut [u8], known: &mut [u8], engine: Engine)
-    requires { (wellFormed memory.old ≡ true) × Known (transmissionTable memory.old) known.old (transmissionCount memory.old) }
-    ensures memory_after { memory.new ≡ encode (strikeEngine engine.number (decode memory.old)) }
-    ensures known { Known (transmissionTable memory.new) known.new (transmissionCount memory.new) }
+    requires { (well_formed memory.old ≡ true) × Known (transmission_table memory.old) known.old (transmission_count memory.old) }
+    ensures memory_after { memory.new ≡ encode (strike_engine engine.number (decode memory.old)) }
+    ensures known { Known (transmission_table memory.new) known.new (transmission_count memory.new) }
 {
     let convicted = Signers(octets::words::u32_at(memory, layout::CONVICTED_AT));
     let n = octets::words::u16_at(memory, layout::SUMMARY_COUNT_AT) as usize;
@@ -99,8 +99,8 @@ fn strike(memory: &mut [u8], known: &mut [u8], engine: Engine)
 
 // Strikes an engine from a track, and checks the fixes again.
 pub fn convict(memory: &mut [u8], engine: Engine)
-    requires { wellFormed memory.old ≡ true }
-    ensures { memory.new ≡ encode (recheck (strikeEngine engine.number (decode memory.old))) }
+    requires { well_formed memory.old ≡ true }
+    ensures { memory.new ≡ encode (recheck (strike_engine engine.number (decode memory.old))) }
 {
     let mut known = [0u8; KNOWN_TABLE_SIZE];
     strike(memory, &mut known, engine);

@@ -5,15 +5,15 @@ use lib.IntN.{ℤ, pos}
 use Rattle.octets.specs.Bytes.{Bytes}
 use Rattle.octets.specs.Order.{same}
 use Rattle.record.specs.Fields as F
-use Rattle.record.specs.Formed.{wellFormed}
+use Rattle.record.specs.Formed.{well_formed}
 use Rattle.record.specs.Relations as R
-use Rattle.record.specs.Value.{Value, value_of, isSubset, isTied}
+use Rattle.record.specs.Value.{Value, value_of, is_subset, is_tied}
 use Rattle.record.specs.Layout as L
 use Rattle.record.proofs.Parts.{Formed, formed}
-use Rattle.record.proofs.Whole.{flagged, heightNumber, tags-length, fields-whole}
+use Rattle.record.proofs.Whole.{flagged, height_number, tags-length, fields-whole}
 use Rattle.ranges.proofs.Bools.{by}
 use Rattle.octets.specs.Words.{word, signed_of}
-use Rattle.octets.specs.Runs.{allZero}
+use Rattle.octets.specs.Runs.{all_zero}
 use Rattle.octets.proofs.Zeros.{zero-run}
 use lib.Dec.{eqb}
 use lib.ListN.{take, drop, replicate, length-drop}
@@ -22,18 +22,18 @@ use Rattle.std.proofs.lemmas.Bool.{false≢true}
 use Rattle.std.specs.Option.{unwrap_or}
 use Prim.Native.Nat.{zero, suc}
 
-pub subset-value : (a b : List ℕ) → R.subset a b ≡ isSubset (value_of a) (value_of b)
+pub subset-value : (a b : List ℕ) → R.subset a b ≡ is_subset (value_of a) (value_of b)
 unfolding R.subset
 subset-value a b =
-    ap₂ (λ (n m : ℕ). same (F.message a) (F.message b) && (ltb n m && R.allIn (F.tags a) (F.tags b))) (sym (tags-length a 0 (F.tagCount a))) (sym (tags-length b 0 (F.tagCount b)))
+    ap₂ (λ (n m : ℕ). same (F.message a) (F.message b) && (ltb n m && R.all_in (F.tags a) (F.tags b))) (sym (tags-length a 0 (F.tag_count a))) (sym (tags-length b 0 (F.tag_count b)))
 
-pub tied-value : (a b : List ℕ) → R.tied a b ≡ isTied (value_of a) (value_of b)
-unfolding R.tied R.sharesTag
+pub tied-value : (a b : List ℕ) → R.tied a b ≡ is_tied (value_of a) (value_of b)
+unfolding R.tied R.shares_tag
 tied-value a b = refl
 
 -- ---- nothing is forgotten
 
-covariance-at : (r : List ℕ) (i : ℕ) → i < 6 → get_or (value_of r).covariance i 0 ≡ F.covarianceBits r i
+covariance-at : (r : List ℕ) (i : ℕ) → i < 6 → get_or (value_of r).covariance i 0 ≡ F.covariance_bits r i
 covariance-at r zero h = refl
 covariance-at r (suc zero) h = refl
 covariance-at r (suc (suc zero)) h = refl
@@ -43,27 +43,27 @@ covariance-at r (suc (suc (suc (suc (suc zero))))) h = refl
 covariance-at r (suc (suc (suc (suc (suc (suc i)))))) h = absurd (omega arith)
 
 -- without a height its bytes are zero
-blank : (r : List ℕ) → Formed r → flagged r ≡ false → take 4 (drop L.heightAt r) ≡ replicate 4 0
+blank : (r : List ℕ) → Formed r → flagged r ≡ false → take 4 (drop L.height_at r) ≡ replicate 4 0
 blank r f p =
-    let z : allZero (take 4 (drop L.heightAt r)) ≡ true = by (eqb (F.byte_at L.heightFlagAt r) 0) (λ e. rw e at f.flag) (λ e. absurd (false≢true (sym p ∙ (rw e at f.flag)))) in
-    let n : length (take 4 (drop L.heightAt r)) ≡ 4 = length-take-le 4 (drop L.heightAt r) (rw (length-drop, f.size) (omega arith)) in
-    zero-run (take 4 (drop L.heightAt r)) z ∙ ap (λ (m : ℕ). replicate m 0) n
+    let z : all_zero (take 4 (drop L.height_at r)) ≡ true = by (eqb (F.byte_at L.height_flag_at r) 0) (λ e. rw e at f.flag) (λ e. absurd (false≢true (sym p ∙ (rw e at f.flag)))) in
+    let n : length (take 4 (drop L.height_at r)) ≡ 4 = length-take-le 4 (drop L.height_at r) (rw (length-drop, f.size) (omega arith)) in
+    zero-run (take 4 (drop L.height_at r)) z ∙ ap (λ (m : ℕ). replicate m 0) n
 
 module _ (a b : List ℕ) (f : Formed a) (g : Formed b) (e : F.height a ≡ F.height b) where
-  same-height : (flagged a ≡ flagged b) × (heightNumber a ≡ heightNumber b)
+  same-height : (flagged a ≡ flagged b) × (height_number a ≡ height_number b)
   same-height =
       by (flagged a)
       (λ p. by (flagged b)
-      (λ q. let h : Some (heightNumber a) ≡ Some (heightNumber b) = rw (p, q) at e in (p ∙ sym q, ap (λ (o : Option ℤ). unwrap_or o (pos 0)) h))
-      (λ q. let h : Some (heightNumber a) ≡ None = rw (p, q) at e in absurd (some-not-none (heightNumber a) h)))
+      (λ q. let h : Some (height_number a) ≡ Some (height_number b) = rw (p, q) at e in (p ∙ sym q, ap (λ (o : Option ℤ). unwrap_or o (pos 0)) h))
+      (λ q. let h : Some (height_number a) ≡ None = rw (p, q) at e in absurd (some-not-none (height_number a) h)))
       (λ p. by (flagged b)
-      (λ q. let h : None ≡ Some (heightNumber b) = rw (p, q) at e in absurd (some-not-none (heightNumber b) (sym h)))
+      (λ q. let h : None ≡ Some (height_number b) = rw (p, q) at e in absurd (some-not-none (height_number b) (sym h)))
       (λ q. (p ∙ sym q, ap (λ (s : List ℕ). signed_of (word s)) (blank a f p ∙ sym (blank b g q)))))
     where
       some-not-none : (z : ℤ) → Some z ≡ None → ⊥
       some-not-none z h = false≢true (sym (ap is_some h))
 
-pub value-whole : (a b : List ℕ) → Bytes a → Bytes b → wellFormed a ≡ true → wellFormed b ≡ true → value_of a ≡ value_of b → a ≡ b
+pub value-whole : (a b : List ℕ) → Bytes a → Bytes b → well_formed a ≡ true → well_formed b ≡ true → value_of a ≡ value_of b → a ≡ b
 value-whole a b ba bb wa wb e =
     let h = same-height a b (formed a wa) (formed b wb) (ap (λ (v : Value). v.height) e) in
     fields-whole a b ba bb wa wb (record {

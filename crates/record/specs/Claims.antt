@@ -2,18 +2,18 @@
 -- proofs/Laws.
 use Rattle.std.specs.Prelude.{ℕ, ◌≡◌, true, false, List}
 use Rattle.octets.specs.Bytes.{Bytes}
-use Rattle.record.specs.Formed.{wellFormed}
+use Rattle.record.specs.Formed.{well_formed}
 use Rattle.record.specs.Relations as R
-use Rattle.record.specs.Value.{value_of, isSubset, isTied}
+use Rattle.record.specs.Value.{value_of, is_subset, is_tied}
 
 -- a record is its value: two records with one value are the same bytes
 abbrev pub RecordIsItsValue : Type 0
-RecordIsItsValue = (a b : List ℕ) → Bytes a → Bytes b → wellFormed a ≡ true → wellFormed b ≡ true → value_of a ≡ value_of b → a ≡ b
+RecordIsItsValue = (a b : List ℕ) → Bytes a → Bytes b → well_formed a ≡ true → well_formed b ≡ true → value_of a ≡ value_of b → a ≡ b
 
 -- how two records relate is how their values do
 pub record RelationsAreOfValues : Type 0 where
-  pub subsets : (a b : List ℕ) → R.subset a b ≡ isSubset (value_of a) (value_of b)
-  pub ties : (a b : List ℕ) → R.tied a b ≡ isTied (value_of a) (value_of b)
+  pub subsets : (a b : List ℕ) → R.subset a b ≡ is_subset (value_of a) (value_of b)
+  pub ties : (a b : List ℕ) → R.tied a b ≡ is_tied (value_of a) (value_of b)
 
 -- nothing is a subset of itself, and a subset of a subset is one
 pub record SubsetIsAnOrder : Type 0 where

@@ -2,7 +2,7 @@
 use Rattle.std.specs.Prelude.{ℕ, Bool, ◌&&◌, List, [], ◌∷◌, ℤ, Option, ltb, length}
 use Rattle.octets.specs.Order.{same}
 use Rattle.record.specs.Fields as F
-use Rattle.record.specs.Relations.{allIn, anyIn}
+use Rattle.record.specs.Relations.{all_in, any_in}
 
 pub record Value : Type 0 where
   pub time : ℕ
@@ -30,13 +30,13 @@ value_of r =
       used = F.used r;
       models = F.models r;
       spec = F.spec r;
-      covariance = F.covarianceBits r 0 ∷ F.covarianceBits r 1 ∷ F.covarianceBits r 2 ∷ F.covarianceBits r 3 ∷ F.covarianceBits r 4 ∷ F.covarianceBits r 5 ∷ [];
+      covariance = F.covariance_bits r 0 ∷ F.covariance_bits r 1 ∷ F.covariance_bits r 2 ∷ F.covariance_bits r 3 ∷ F.covariance_bits r 4 ∷ F.covariance_bits r 5 ∷ [];
     }
 
 -- the same message, and fewer tags, each of them the other's
-abbrev pub isSubset : Value → Value → Bool
-isSubset a b = same a.message b.message && (ltb (length a.tags) (length b.tags) && allIn a.tags b.tags)
+abbrev pub is_subset : Value → Value → Bool
+is_subset a b = same a.message b.message && (ltb (length a.tags) (length b.tags) && all_in a.tags b.tags)
 
 -- message and at least one tag are common
-abbrev pub isTied : Value → Value → Bool
-isTied a b = same a.message b.message && anyIn a.tags b.tags
+abbrev pub is_tied : Value → Value → Bool
+is_tied a b = same a.message b.message && any_in a.tags b.tags

@@ -3,9 +3,9 @@
 #![tactic(auto)]
 
 ghost use Rattle.std.specs.Prelude.{◌≡◌, ◌≤◌, ◌<◌, ◌*◌, true, length, take, drop, is_some, IfSome};
-ghost use Rattle.record.specs.Layout.{recordSize, maxTags, maxModels, longMessage, tagsAt};
+ghost use Rattle.record.specs.Layout.{record_size, max_tags, max_models, long_message, tags_at};
 ghost use Rattle.record.specs.Fields as F;
-ghost use Rattle.record.specs.Formed.{wellFormed};
+ghost use Rattle.record.specs.Formed.{well_formed};
 
 pub mod claims;
 mod formed;
@@ -16,18 +16,18 @@ pub mod relations;
 #[derive(Clone, Copy)]
 pub struct Record<'a> {
     pub bytes: &'a [u8],
-    ghost formed: { wellFormed bytes.now ≡ true },
-    ghost size: { length bytes.now ≡ recordSize },
-    ghost message_fits: { F.messageLength bytes.now ≤ longMessage },
-    ghost some_tag: { 1 ≤ F.tagCount bytes.now },
-    ghost tags_fit: { F.tagCount bytes.now ≤ maxTags },
-    ghost models_fit: { F.modelCount bytes.now ≤ maxModels },
+    ghost formed: { well_formed bytes.now ≡ true },
+    ghost size: { length bytes.now ≡ record_size },
+    ghost message_fits: { F.message_length bytes.now ≤ long_message },
+    ghost some_tag: { 1 ≤ F.tag_count bytes.now },
+    ghost tags_fit: { F.tag_count bytes.now ≤ max_tags },
+    ghost models_fit: { F.model_count bytes.now ≤ max_models },
 }
 
 impl<'a> Record<'a> {
     // The record that these bytes are, if they are one.
     pub fn parse(bytes: &'a [u8]) -> Option<Record<'a>>
-        ensures formed { is_some result ≡ wellFormed bytes.now }
+        ensures formed { is_some result ≡ well_formed bytes.now }
         ensures same { IfSome result (λ r. r.bytes.now ≡ bytes.now) }
     {
         if formed::well_formed(bytes) {
@@ -39,7 +39,7 @@ impl<'a> Record<'a> {
 
     // The record that these bytes are known to be.
     pub fn of(bytes: &'a [u8]) -> Record<'a>
-        requires { wellFormed bytes.now ≡ true }
+        requires { well_formed bytes.now ≡ true }
         ensures { result.bytes.now ≡ bytes.now }
     {
         Record { bytes }
@@ -80,8 +80,8 @@ impl<'a> Record<'a> {
     // The message, of 7 or 14 bytes.
     pub fn message(self) -> &'a [u8]
         ensures value { result.now ≡ F.message self.entry.bytes.now }
-        ensures size { length result.now ≡ F.messageLength self.entry.bytes.now }
-        ensures fits { length result.now ≤ longMessage }
+        ensures size { length result.now ≡ F.message_length self.entry.bytes.now }
+        ensures fits { length result.now ≤ long_message }
     {
         let end = layout::MESSAGE_AT + self.bytes[layout::MESSAGE_LENGTH_AT] as usize;
         let bytes = self.bytes;
@@ -90,15 +90,15 @@ impl<'a> Record<'a> {
 
     // The number of tags.
     pub fn tag_count(self) -> usize
-        ensures value { result ≡ F.tagCount self.entry.bytes.now }
-        ensures bounds { (1 ≤ result) × (result ≤ maxTags) }
+        ensures value { result ≡ F.tag_count self.entry.bytes.now }
+        ensures bounds { (1 ≤ result) × (result ≤ max_tags) }
     {
         self.bytes[layout::TAG_COUNT_AT] as usize
     }
 
     // The i-th tag.
     pub fn tag(self, i: usize) -> u64
-        requires { i < maxTags }
+        requires { i < max_tags }
         ensures { result ≡ F.tag_at self.entry.bytes.now i }
     {
         octets::words::u64_at(self.bytes, layout::TAGS_AT + 8 * i)
@@ -106,8 +106,8 @@ impl<'a> Record<'a> {
 
     // The tags as they stand, each in 8 bytes with the lowest first.
     pub fn tag_bytes(self) -> &'a [u8]
-        ensures value { result.now ≡ take (8 * F.tagCount self.entry.bytes.now) (drop tagsAt self.entry.bytes.now) }
-        ensures size { length result.now ≡ 8 * F.tagCount self.entry.bytes.now }
+        ensures value { result.now ≡ take (8 * F.tag_count self.entry.bytes.now) (drop tags_at self.entry.bytes.now) }
+        ensures size { length result.now ≡ 8 * F.tag_count self.entry.bytes.now }
     {
         let end = layout::TAGS_AT + 8 * self.tag_count();
         let bytes = self.bytes;
@@ -131,7 +131,7 @@ impl<'a> Record<'a> {
     // The models cited, in their order.
     pub fn models(self) -> &'a [u8]
         ensures value { result.now ≡ F.models self.entry.bytes.now }
-        ensures few { length result.now ≤ maxModels }
+        ensures few { length result.now ≤ max_models }
     {
         let end = layout::MODELS_AT + self.bytes[layout::MODEL_COUNT_AT] as usize;
         let bytes = self.bytes;
@@ -148,7 +148,7 @@ impl<'a> Record<'a> {
     // The bits of the i-th number of the covariance.
     pub fn covariance_bits(self, i: usize) -> u64
         requires { i < 6 }
-        ensures { result ≡ F.covarianceBits self.entry.bytes.now i }
+        ensures { result ≡ F.covariance_bits self.entry.bytes.now i }
     {
         octets::words::u64_at(self.bytes, layout::COVARIANCE_AT + 8 * i)
     }

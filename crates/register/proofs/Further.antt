@@ -8,8 +8,8 @@ use lib.Dec.{eqb}
 use Rattle.ranges.proofs.Bools.{and_assoc}
 use Rattle.held.specs.After.{After}
 use Rattle.register.specs.Register.{Register}
-use Rattle.register.specs.Memory.{wellFormed, encode, fresh, on_memory}
-use Rattle.register.specs.Calls.{Call, act, runs, noneFull}
+use Rattle.register.specs.Memory.{well_formed, encode, fresh, on_memory}
+use Rattle.register.specs.Calls.{Call, act, runs, none_full}
 use Rattle.register.proofs.Valid.{Valid, formed-encode, on-encode}
 use Rattle.register.proofs.History.{start, start-valid}
 use Rattle.register.proofs.Whole.{written, fresh-is}
@@ -20,21 +20,21 @@ unfolding runs
 runs_then m [] ds = refl
 runs_then m (c ∷ cs) ds = runs_then (on_memory (act c) m).left cs ds
 
-pub none-full-then : (m : List ℕ) (cs ds : List Call) → noneFull m (cs ++ ds) ≡ (noneFull m cs && noneFull (runs m cs) ds)
-unfolding runs noneFull
+pub none-full-then : (m : List ℕ) (cs ds : List Call) → none_full m (cs ++ ds) ≡ (none_full m cs && none_full (runs m cs) ds)
+unfolding runs none_full
 none-full-then m [] ds = refl
 none-full-then m (c ∷ cs) ds =
     let one = not (eqb (on_memory (act c) m).answer 5) in
-    ap (λ (b : Bool). one && b) (none-full-then (on_memory (act c) m).left cs ds) ∙ sym (and_assoc one (noneFull (on_memory (act c) m).left cs) (noneFull (runs (on_memory (act c) m).left cs) ds))
+    ap (λ (b : Bool). one && b) (none-full-then (on_memory (act c) m).left cs ds) ∙ sym (and_assoc one (none_full (on_memory (act c) m).left cs) (none_full (runs (on_memory (act c) m).left cs) ds))
 
 -- ---- every list leaves a register
 
-left-formed : (cs : List Call) (s : Register) → Valid s → wellFormed (runs (encode s) cs) ≡ true
+left-formed : (cs : List Call) (s : Register) → Valid s → well_formed (runs (encode s) cs) ≡ true
 unfolding runs
 left-formed [] s v = formed-encode s v
 left-formed (c ∷ cs) s v =
     let e : (on_memory (act c) (encode s)).left ≡ encode (act c s).left = ap (λ (a : After (List ℕ)). a.left) (on-encode s v (act c) ∙ written c s) in
     rw e (left-formed cs (act c s).left (act-valid c s v))
 
-pub runs-formed : (cs : List Call) → wellFormed (runs fresh cs) ≡ true
+pub runs-formed : (cs : List Call) → well_formed (runs fresh cs) ≡ true
 runs-formed cs = rw (← fresh-is) (left-formed cs start start-valid)

@@ -7,35 +7,35 @@ use native.Mathlib.Omega.{arith}
 use lib.Dec.{eqb, leb}
 use lib.ListN.{length}
 use borrow.Author.Tests.{eqb-true, leb-true}
-use Rattle.octets.specs.Masks.{bit, withBit}
+use Rattle.octets.specs.Masks.{bit, with_bit}
 use Rattle.octets.specs.Order.{same}
 use Rattle.octets.specs.Words.{word, word_bytes}
 use Rattle.ranges.proofs.Bools.{by, and_left, and_right}
 use Rattle.octets.proofs.Comparison.{same-eq}
 use Rattle.octets.proofs.Lookup.{bit-set, bit-zero, bit-ext}
 use Rattle.octets.proofs.Numbers.{word-of-bytes}
-use Rattle.places.specs.Places.{ascending, holds, lookup, putPlace}
+use Rattle.places.specs.Places.{ascending, holds, lookup, put_place}
 use Rattle.places.proofs.Keys.{ascending-ext, holds-none, absent}
 use Rattle.places.proofs.Putting.{holds-put, lookup-put, lookup-put-other, put-ascending}
-use Rattle.record.specs.Layout.{recordSize, maxModel}
+use Rattle.record.specs.Layout.{record_size, max_model}
 use Rattle.record.specs.Formed as R
-use Rattle.models.specs.Summary.{summarySize, inputsSize, summaryOf}
-use Rattle.held.specs.Limits.{maxEngine}
-use Rattle.held.specs.Summaries.{noValue}
-use Rattle.held.specs.Signed.{addSigner}
+use Rattle.models.specs.Summary.{summary_size, inputs_size, summary_of}
+use Rattle.held.specs.Limits.{max_engine}
+use Rattle.held.specs.Summaries.{no_value}
+use Rattle.held.specs.Signed.{add_signer}
 use Rattle.held.proofs.Summarized.{summary-length}
 use Rattle.held.proofs.Signatures.{record-length, with-small, with-some, no_word}
 use Rattle.register.specs.Memory.{decode, fresh}
-use Rattle.register.specs.Calls.{Call, report, summary, conviction, isSound, runs, noneFull, convicts, keep, remaining, reports, summariesOf, elem}
-use Rattle.register.specs.Claims.{signersOf, HoldsInOrder}
-use Rattle.register.specs.Remains.{summariesHeld, recordsHeld}
+use Rattle.register.specs.Calls.{Call, report, summary, conviction, is_sound, runs, none_full, convicts, keep, remaining, reports, summaries_of, elem}
+use Rattle.register.specs.Claims.{signers_of, HoldsInOrder}
+use Rattle.register.specs.Remains.{summaries_held, records_held}
 use Rattle.register.proofs.Steps.{nothing-follows, held-signed, lookup-signed}
 use Rattle.register.proofs.Whole.{either, last, sum, signs, summarized, decoded}
 
 -- the signers of a record among the reports of a list
 unfoldable masks : List Call → List ℕ → ℕ
 masks [] r = 0
-masks (report e q ∷ cs) r = cond (same q r) (withBit (masks cs r) e) (masks cs r)
+masks (report e q ∷ cs) r = cond (same q r) (with_bit (masks cs r) e) (masks cs r)
 masks (summary e model spec inputs ∷ cs) r = masks cs r
 masks (conviction e ∷ cs) r = masks cs r
 
@@ -65,131 +65,131 @@ settle f false c cs a p q = q refl
 module _ (x : ℕ → Bool) where
   -- ---- summaries
 
-  module _ (e model spec : ℕ) (inputs : List ℕ) (d : (isSound (summary e model spec inputs) && not (x e)) ≡ true) where
-    key-long : length (summaryOf e model spec inputs) ≡ summarySize
+  module _ (e model spec : ℕ) (inputs : List ℕ) (d : (is_sound (summary e model spec inputs) && not (x e)) ≡ true) where
+    key-long : length (summary_of e model spec inputs) ≡ summary_size
     key-long =
-        let s = and_left (isSound (summary e model spec inputs)) (not (x e)) d in
+        let s = and_left (is_sound (summary e model spec inputs)) (not (x e)) d in
         summary-length e model spec inputs
-        (eqb-true (length inputs) inputsSize (and_right (leb model maxModel) _ (and_right (leb e maxEngine) _ s)))
+        (eqb-true (length inputs) inputs_size (and_right (leb model max_model) _ (and_right (leb e max_engine) _ s)))
 
-  sums-ascend : (cs : List Call) → ascending summarySize (summariesHeld (keep x cs)) ≡ true
-  unfolding keep summariesHeld
+  sums-ascend : (cs : List Call) → ascending summary_size (summaries_held (keep x cs)) ≡ true
+  unfolding keep summaries_held
   sums-ascend [] = unfold ascending in refl
-  sums-ascend (report k q ∷ cs) = either (λ (l : List Call). ascending summarySize (summariesHeld l)) (isSound (report k q) && not (x k)) (report k q) (keep x cs) refl ∙ sums-ascend cs
+  sums-ascend (report k q ∷ cs) = either (λ (l : List Call). ascending summary_size (summaries_held l)) (is_sound (report k q) && not (x k)) (report k q) (keep x cs) refl ∙ sums-ascend cs
   sums-ascend (summary k model spec inputs ∷ cs) =
-      settle (λ (l : List Call). ascending summarySize (summariesHeld l)) (isSound (summary k model spec inputs) && not (x k)) (summary k model spec inputs) (keep x cs) true
-      (λ d. put-ascending summarySize noValue (summaryOf k model spec inputs) (key-long k model spec inputs d) (summariesHeld (keep x cs)) (sums-ascend cs))
+      settle (λ (l : List Call). ascending summary_size (summaries_held l)) (is_sound (summary k model spec inputs) && not (x k)) (summary k model spec inputs) (keep x cs) true
+      (λ d. put-ascending summary_size no_value (summary_of k model spec inputs) (key-long k model spec inputs d) (summaries_held (keep x cs)) (sums-ascend cs))
       (λ d. sums-ascend cs)
-  sums-ascend (conviction k ∷ cs) = either (λ (l : List Call). ascending summarySize (summariesHeld l)) (isSound (conviction k) && not (x k)) (conviction k) (keep x cs) refl ∙ sums-ascend cs
+  sums-ascend (conviction k ∷ cs) = either (λ (l : List Call). ascending summary_size (summaries_held l)) (is_sound (conviction k) && not (x k)) (conviction k) (keep x cs) refl ∙ sums-ascend cs
 
   -- held are exactly those of the list
-  sums-hold : (p : List ℕ) (cs : List Call) → holds summarySize p (summariesHeld (keep x cs)) ≡ elem p (summariesOf (keep x cs))
-  unfolding keep summariesHeld summariesOf elem
-  sums-hold p [] = holds-none summarySize p
-  sums-hold p (report k q ∷ cs) = by (isSound (report k q) && not (x k)) (λ d. rw d (sums-hold p cs)) (λ d. rw d (sums-hold p cs))
+  sums-hold : (p : List ℕ) (cs : List Call) → holds summary_size p (summaries_held (keep x cs)) ≡ elem p (summaries_of (keep x cs))
+  unfolding keep summaries_held summaries_of elem
+  sums-hold p [] = holds-none summary_size p
+  sums-hold p (report k q ∷ cs) = by (is_sound (report k q) && not (x k)) (λ d. rw d (sums-hold p cs)) (λ d. rw d (sums-hold p cs))
   sums-hold p (summary k model spec inputs ∷ cs) =
-      let key = summaryOf k model spec inputs in
-      by (isSound (summary k model spec inputs) && not (x k))
-      (λ d. rw d (holds-put summarySize noValue key (key-long k model spec inputs d) p (summariesHeld (keep x cs)) ∙ ap (λ (b : Bool). same key p || b) (sums-hold p cs)))
+      let key = summary_of k model spec inputs in
+      by (is_sound (summary k model spec inputs) && not (x k))
+      (λ d. rw d (holds-put summary_size no_value key (key-long k model spec inputs d) p (summaries_held (keep x cs)) ∙ ap (λ (b : Bool). same key p || b) (sums-hold p cs)))
       (λ d. rw d (sums-hold p cs))
-  sums-hold p (conviction k ∷ cs) = by (isSound (conviction k) && not (x k)) (λ d. rw d (sums-hold p cs)) (λ d. rw d (sums-hold p cs))
+  sums-hold p (conviction k ∷ cs) = by (is_sound (conviction k) && not (x k)) (λ d. rw d (sums-hold p cs)) (λ d. rw d (sums-hold p cs))
 
-  sums-nothing : (p : List ℕ) (cs : List Call) → lookup summarySize p (summariesHeld (keep x cs)) ≡ []
-  unfolding keep summariesHeld
-  sums-nothing p [] = absent summarySize p [] (holds-none summarySize p)
-  sums-nothing p (report k q ∷ cs) = by (isSound (report k q) && not (x k)) (λ d. rw d (sums-nothing p cs)) (λ d. rw d (sums-nothing p cs))
+  sums-nothing : (p : List ℕ) (cs : List Call) → lookup summary_size p (summaries_held (keep x cs)) ≡ []
+  unfolding keep summaries_held
+  sums-nothing p [] = absent summary_size p [] (holds-none summary_size p)
+  sums-nothing p (report k q ∷ cs) = by (is_sound (report k q) && not (x k)) (λ d. rw d (sums-nothing p cs)) (λ d. rw d (sums-nothing p cs))
   sums-nothing p (summary k model spec inputs ∷ cs) =
-      let key = summaryOf k model spec inputs in
-      let held = summariesHeld (keep x cs) in
-      by (isSound (summary k model spec inputs) && not (x k))
+      let key = summary_of k model spec inputs in
+      let held = summaries_held (keep x cs) in
+      by (is_sound (summary k model spec inputs) && not (x k))
       (λ d. rw d (by (same key p)
-      (λ s. ap (λ (q : List ℕ). lookup summarySize q (putPlace summarySize noValue key held)) (sym (same-eq key p s)) ∙ lookup-put summarySize noValue key (key-long k model spec inputs d) held (sums-ascend cs))
-      (λ s. lookup-put-other summarySize noValue key (key-long k model spec inputs d) p held s ∙ sums-nothing p cs)))
+      (λ s. ap (λ (q : List ℕ). lookup summary_size q (put_place summary_size no_value key held)) (sym (same-eq key p s)) ∙ lookup-put summary_size no_value key (key-long k model spec inputs d) held (sums-ascend cs))
+      (λ s. lookup-put-other summary_size no_value key (key-long k model spec inputs d) p held s ∙ sums-nothing p cs)))
       (λ d. rw d (sums-nothing p cs))
-  sums-nothing p (conviction k ∷ cs) = by (isSound (conviction k) && not (x k)) (λ d. rw d (sums-nothing p cs)) (λ d. rw d (sums-nothing p cs))
+  sums-nothing p (conviction k ∷ cs) = by (is_sound (conviction k) && not (x k)) (λ d. rw d (sums-nothing p cs)) (λ d. rw d (sums-nothing p cs))
 
   -- ---- records
 
-  module _ (e : ℕ) (q : List ℕ) (d : (isSound (report e q) && not (x e)) ≡ true) where
-    record-long : length q ≡ recordSize
-    record-long = record-length q (and_right (leb e maxEngine) (R.wellFormed q) (and_left (isSound (report e q)) (not (x e)) d))
+  module _ (e : ℕ) (q : List ℕ) (d : (is_sound (report e q) && not (x e)) ≡ true) where
+    record-long : length q ≡ record_size
+    record-long = record-length q (and_right (leb e max_engine) (R.well_formed q) (and_left (is_sound (report e q)) (not (x e)) d))
 
-    engine-few : e ≤ maxEngine
-    engine-few = leb-true e maxEngine (and_left (leb e maxEngine) (R.wellFormed q) (and_left (isSound (report e q)) (not (x e)) d))
+    engine-few : e ≤ max_engine
+    engine-few = leb-true e max_engine (and_left (leb e max_engine) (R.well_formed q) (and_left (is_sound (report e q)) (not (x e)) d))
 
-  recs-ascend : (cs : List Call) → ascending recordSize (recordsHeld (keep x cs)) ≡ true
-  unfolding keep recordsHeld
+  recs-ascend : (cs : List Call) → ascending record_size (records_held (keep x cs)) ≡ true
+  unfolding keep records_held
   recs-ascend [] = unfold ascending in refl
   recs-ascend (report k q ∷ cs) =
-      settle (λ (l : List Call). ascending recordSize (recordsHeld l)) (isSound (report k q) && not (x k)) (report k q) (keep x cs) true
-      (λ d. put-ascending recordSize (addSigner k) q (record-long k q d) (recordsHeld (keep x cs)) (recs-ascend cs))
+      settle (λ (l : List Call). ascending record_size (records_held l)) (is_sound (report k q) && not (x k)) (report k q) (keep x cs) true
+      (λ d. put-ascending record_size (add_signer k) q (record-long k q d) (records_held (keep x cs)) (recs-ascend cs))
       (λ d. recs-ascend cs)
   recs-ascend (summary k model spec inputs ∷ cs) =
-      either (λ (l : List Call). ascending recordSize (recordsHeld l)) (isSound (summary k model spec inputs) && not (x k)) (summary k model spec inputs) (keep x cs) refl ∙ recs-ascend cs
-  recs-ascend (conviction k ∷ cs) = either (λ (l : List Call). ascending recordSize (recordsHeld l)) (isSound (conviction k) && not (x k)) (conviction k) (keep x cs) refl ∙ recs-ascend cs
+      either (λ (l : List Call). ascending record_size (records_held l)) (is_sound (summary k model spec inputs) && not (x k)) (summary k model spec inputs) (keep x cs) refl ∙ recs-ascend cs
+  recs-ascend (conviction k ∷ cs) = either (λ (l : List Call). ascending record_size (records_held l)) (is_sound (conviction k) && not (x k)) (conviction k) (keep x cs) refl ∙ recs-ascend cs
 
   masks-small : (r : List ℕ) (cs : List Call) → masks (keep x cs) r < 256 ^ 4
   unfolding keep masks
   masks-small r [] = omega arith
   masks-small r (report k q ∷ cs) =
       let i = masks-small r cs in
-      by (isSound (report k q) && not (x k))
+      by (is_sound (report k q) && not (x k))
       (λ d. rw d (by (same q r) (λ s. rw s (with-small (masks (keep x cs) r) k (engine-few k q d) i)) (λ s. rw s i)))
       (λ d. rw d i)
-  masks-small r (summary k model spec inputs ∷ cs) = by (isSound (summary k model spec inputs) && not (x k)) (λ d. rw d (masks-small r cs)) (λ d. rw d (masks-small r cs))
-  masks-small r (conviction k ∷ cs) = by (isSound (conviction k) && not (x k)) (λ d. rw d (masks-small r cs)) (λ d. rw d (masks-small r cs))
+  masks-small r (summary k model spec inputs ∷ cs) = by (is_sound (summary k model spec inputs) && not (x k)) (λ d. rw d (masks-small r cs)) (λ d. rw d (masks-small r cs))
+  masks-small r (conviction k ∷ cs) = by (is_sound (conviction k) && not (x k)) (λ d. rw d (masks-small r cs)) (λ d. rw d (masks-small r cs))
 
   -- each is followed by its signers
-  recs-follow : (r : List ℕ) (cs : List Call) → lookup recordSize r (recordsHeld (keep x cs)) ≡ follows (masks (keep x cs) r)
-  unfolding keep recordsHeld masks
-  recs-follow r [] = absent recordSize r [] (holds-none recordSize r)
+  recs-follow : (r : List ℕ) (cs : List Call) → lookup record_size r (records_held (keep x cs)) ≡ follows (masks (keep x cs) r)
+  unfolding keep records_held masks
+  recs-follow r [] = absent record_size r [] (holds-none record_size r)
   recs-follow r (report k q ∷ cs) =
-      let held = recordsHeld (keep x cs) in
+      let held = records_held (keep x cs) in
       let i = recs-follow r cs in
-      by (isSound (report k q) && not (x k))
+      by (is_sound (report k q) && not (x k))
       (λ d. rw d (by (same q r)
       (λ s. rw s
-      (ap (λ (y : List ℕ). lookup recordSize y (putPlace recordSize (addSigner k) q held)) (sym (same-eq q r s))
-      ∙ lookup-put recordSize (addSigner k) q (record-long k q d) held (recs-ascend cs)
-      ∙ ap (λ (y : List ℕ). addSigner k (lookup recordSize y held)) (same-eq q r s)
-      ∙ ap (λ (v : List ℕ). word_bytes 4 (withBit (word v) k)) i
-      ∙ ap (λ (m : ℕ). word_bytes 4 (withBit m k)) (word-follows (masks (keep x cs) r) (masks-small r cs))
-      ∙ sym (ap (λ (b : Bool). cond b [] (word_bytes 4 (withBit (masks (keep x cs) r) k))) (with-some (masks (keep x cs) r) k))))
-      (λ s. rw s (lookup-put-other recordSize (addSigner k) q (record-long k q d) r held s ∙ i))))
+      (ap (λ (y : List ℕ). lookup record_size y (put_place record_size (add_signer k) q held)) (sym (same-eq q r s))
+      ∙ lookup-put record_size (add_signer k) q (record-long k q d) held (recs-ascend cs)
+      ∙ ap (λ (y : List ℕ). add_signer k (lookup record_size y held)) (same-eq q r s)
+      ∙ ap (λ (v : List ℕ). word_bytes 4 (with_bit (word v) k)) i
+      ∙ ap (λ (m : ℕ). word_bytes 4 (with_bit m k)) (word-follows (masks (keep x cs) r) (masks-small r cs))
+      ∙ sym (ap (λ (b : Bool). cond b [] (word_bytes 4 (with_bit (masks (keep x cs) r) k))) (with-some (masks (keep x cs) r) k))))
+      (λ s. rw s (lookup-put-other record_size (add_signer k) q (record-long k q d) r held s ∙ i))))
       (λ d. rw d i)
-  recs-follow r (summary k model spec inputs ∷ cs) = by (isSound (summary k model spec inputs) && not (x k)) (λ d. rw d (recs-follow r cs)) (λ d. rw d (recs-follow r cs))
-  recs-follow r (conviction k ∷ cs) = by (isSound (conviction k) && not (x k)) (λ d. rw d (recs-follow r cs)) (λ d. rw d (recs-follow r cs))
+  recs-follow r (summary k model spec inputs ∷ cs) = by (is_sound (summary k model spec inputs) && not (x k)) (λ d. rw d (recs-follow r cs)) (λ d. rw d (recs-follow r cs))
+  recs-follow r (conviction k ∷ cs) = by (is_sound (conviction k) && not (x k)) (λ d. rw d (recs-follow r cs)) (λ d. rw d (recs-follow r cs))
 
   -- and held exactly where it has some
-  recs-hold : (r : List ℕ) (cs : List Call) → holds recordSize r (recordsHeld (keep x cs)) ≡ not (eqb (masks (keep x cs) r) 0)
-  unfolding keep recordsHeld masks
-  recs-hold r [] = holds-none recordSize r
+  recs-hold : (r : List ℕ) (cs : List Call) → holds record_size r (records_held (keep x cs)) ≡ not (eqb (masks (keep x cs) r) 0)
+  unfolding keep records_held masks
+  recs-hold r [] = holds-none record_size r
   recs-hold r (report k q ∷ cs) =
-      let held = recordsHeld (keep x cs) in
+      let held = records_held (keep x cs) in
       let i = recs-hold r cs in
-      by (isSound (report k q) && not (x k))
-      (λ d. rw d (holds-put recordSize (addSigner k) q (record-long k q d) r held
+      by (is_sound (report k q) && not (x k))
+      (λ d. rw d (holds-put record_size (add_signer k) q (record-long k q d) r held
       ∙ by (same q r) (λ s. rw s (sym (ap not (with-some (masks (keep x cs) r) k)))) (λ s. rw s i)))
       (λ d. rw d i)
-  recs-hold r (summary k model spec inputs ∷ cs) = by (isSound (summary k model spec inputs) && not (x k)) (λ d. rw d (recs-hold r cs)) (λ d. rw d (recs-hold r cs))
-  recs-hold r (conviction k ∷ cs) = by (isSound (conviction k) && not (x k)) (λ d. rw d (recs-hold r cs)) (λ d. rw d (recs-hold r cs))
+  recs-hold r (summary k model spec inputs ∷ cs) = by (is_sound (summary k model spec inputs) && not (x k)) (λ d. rw d (recs-hold r cs)) (λ d. rw d (recs-hold r cs))
+  recs-hold r (conviction k ∷ cs) = by (is_sound (conviction k) && not (x k)) (λ d. rw d (recs-hold r cs)) (λ d. rw d (recs-hold r cs))
 
 -- ---- the claim
 
-module _ (cs : List Call) (f : noneFull fresh cs ≡ true) where
-  same-mask : (r : List ℕ) → signersOf r (last cs f) ≡ masks (remaining cs) r
-  same-mask r = bit-ext (signersOf r (last cs f)) (masks (remaining cs) r) (λ e. signs cs f e r ∙ sym (masks-bits (remaining cs) e r))
+module _ (cs : List Call) (f : none_full fresh cs ≡ true) where
+  same-mask : (r : List ℕ) → signers_of r (last cs f) ≡ masks (remaining cs) r
+  same-mask r = bit-ext (signers_of r (last cs f)) (masks (remaining cs) r) (λ e. signs cs f e r ∙ sym (masks-bits (remaining cs) e r))
 
-  in_order : ((decode (runs fresh cs)).summaries ≡ summariesHeld (remaining cs)) × ((decode (runs fresh cs)).records ≡ recordsHeld (remaining cs))
+  in_order : ((decode (runs fresh cs)).summaries ≡ summaries_held (remaining cs)) × ((decode (runs fresh cs)).records ≡ records_held (remaining cs))
   in_order =
       let s = last cs f in
       let v = (sum cs f).valid in
       let x = convicts cs in
       rw (decoded cs f) (
-        ascending-ext summarySize s.summaries (summariesHeld (remaining cs)) v.summaries-ascend (sums-ascend x cs)
+        ascending-ext summary_size s.summaries (summaries_held (remaining cs)) v.summaries-ascend (sums-ascend x cs)
             (λ p. summarized cs f p ∙ sym (sums-hold x p cs))
             (λ p. nothing-follows p s.summaries v.summaries-wide ∙ sym (sums-nothing x p cs)),
-        ascending-ext recordSize s.records (recordsHeld (remaining cs)) v.records-ascend (recs-ascend x cs)
+        ascending-ext record_size s.records (records_held (remaining cs)) v.records-ascend (recs-ascend x cs)
             (λ r. held-signed s v r ∙ ap (λ (m : ℕ). not (eqb m 0)) (same-mask r) ∙ sym (recs-hold x r cs))
             (λ r. lookup-signed s v r ∙ ap follows (same-mask r) ∙ sym (recs-follow x r cs)),
       )

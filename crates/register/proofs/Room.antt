@@ -11,16 +11,16 @@ use Rattle.octets.specs.Masks.{bit}
 use Rattle.octets.specs.Order.{same}
 use Rattle.ranges.proofs.Bools.{by, and_left, and_right, and_both}
 use Rattle.octets.proofs.Comparison.{same-eq, same_refl, before-irrefl}
-use Rattle.places.specs.Places.{ascendingFrom, ascending, holds}
+use Rattle.places.specs.Places.{ascending_from, ascending, holds}
 use Rattle.places.proofs.Keys.{holds-none, holds-here, holds_later, none_below, ascending-from, from-ascending}
-use Rattle.models.specs.Summary.{summaryOf, summarySize}
-use Rattle.record.specs.Layout.{recordSize}
-use Rattle.held.specs.Limits.{maxEngine, maxSummaries}
-use Rattle.register.specs.Layout.{maxRecords}
+use Rattle.models.specs.Summary.{summary_of, summary_size}
+use Rattle.record.specs.Layout.{record_size}
+use Rattle.held.specs.Limits.{max_engine, max_summaries}
+use Rattle.register.specs.Layout.{max_records}
 use Rattle.register.specs.Register.{Register}
 use Rattle.register.specs.Memory.{encode}
-use Rattle.register.specs.Calls.{Call, report, summary, conviction, act, isSound, convicts, keep, remaining, reports, recordsOf, summariesOf, elem, nub, fits, alwaysFits, noneFull}
-use Rattle.register.specs.Claims.{signersOf, FullExactlyWhen}
+use Rattle.register.specs.Calls.{Call, report, summary, conviction, act, is_sound, convicts, keep, remaining, reports, records_of, summaries_of, elem, nub, fits, always_fits, none_full}
+use Rattle.register.specs.Claims.{signers_of, FullExactlyWhen}
 use Rattle.register.proofs.History.{run, roomy, start, Sum, history, refused, filled, settled, report-way, summary-way}
 use Rattle.register.proofs.Whole.{kept-reports, kept-summaries, record-held, one_left, one_answer, fresh-is}
 
@@ -109,7 +109,7 @@ counted : (k : ℕ) (ps l : List (List ℕ)) → ascending k ps ≡ true → sin
 counted k [] l h s m = ap length (empty_of l (λ r. m r ∙ holds-none k r))
 counted k (p ∷ ps) l h s m =
     let key = take k p in
-    let t : ascendingFrom k key ps ≡ true = sym (ascending-from k p ps) ∙ h in
+    let t : ascending_from k key ps ≡ true = sym (ascending-from k p ps) ∙ h in
     let a : elem key l ≡ true = m key ∙ holds-here k key p ps (same_refl key) in
     let ih = counted k ps (without key l) (from-ascending k key ps t) (single-without key l s) in
     length_without key l s a
@@ -128,54 +128,54 @@ different-new x l h = rw h refl
 -- ---- a register after a history
 
 module _ (h : List Call) (s : Register) (u : Sum h s) where
-  signs : (e : ℕ) (r : List ℕ) → bit (signersOf r s) e ≡ reports (remaining h) e r
+  signs : (e : ℕ) (r : List ℕ) → bit (signers_of r s) e ≡ reports (remaining h) e r
   signs e r = u.signed_by e r ∙ sym (kept-reports (convicts h) e r h)
 
-  held-records : (r : List ℕ) → holds recordSize r s.records ≡ elem r (recordsOf (remaining h))
+  held-records : (r : List ℕ) → holds record_size r s.records ≡ elem r (records_of (remaining h))
   held-records = record-held s u.valid (remaining h) signs
 
-  held-summaries : (p : List ℕ) → holds summarySize p s.summaries ≡ elem p (summariesOf (remaining h))
+  held-summaries : (p : List ℕ) → holds summary_size p s.summaries ≡ elem p (summaries_of (remaining h))
   held-summaries p = u.held p ∙ sym (kept-summaries (convicts h) p h)
 
-  record-count : length (nub (recordsOf (remaining h))) ≡ length s.records
-  record-count = count_of recordSize s.records (recordsOf (remaining h)) u.valid.records-ascend held-records
+  record-count : length (nub (records_of (remaining h))) ≡ length s.records
+  record-count = count_of record_size s.records (records_of (remaining h)) u.valid.records-ascend held-records
 
-  summary-count : length (nub (summariesOf (remaining h))) ≡ length s.summaries
-  summary-count = count_of summarySize s.summaries (summariesOf (remaining h)) u.valid.summaries-ascend held-summaries
+  summary-count : length (nub (summaries_of (remaining h))) ≡ length s.summaries
+  summary-count = count_of summary_size s.summaries (summaries_of (remaining h)) u.valid.summaries-ascend held-summaries
 
   room : fits h ≡ true
   room =
-      and_both (leb (length (nub (recordsOf (remaining h)))) maxRecords) (leb (length (nub (summariesOf (remaining h)))) maxSummaries)
-      (le-leb (length (nub (recordsOf (remaining h)))) maxRecords (rw record-count u.valid.few-records))
-      (le-leb (length (nub (summariesOf (remaining h)))) maxSummaries (rw summary-count u.valid.few-summaries))
+      and_both (leb (length (nub (records_of (remaining h)))) max_records) (leb (length (nub (summaries_of (remaining h)))) max_summaries)
+      (le-leb (length (nub (records_of (remaining h)))) max_records (rw record-count u.valid.few_records))
+      (le-leb (length (nub (summaries_of (remaining h)))) max_summaries (rw summary-count u.valid.few_summaries))
 
   -- one that remains, more than there is room for
-  over-records : (k : ℕ) (q : List ℕ) → isSound (report k q) ≡ true → not (bit s.convicted k) ≡ true → (not (holds recordSize q s.records) && leb maxRecords (length s.records)) ≡ true → fits (report k q ∷ h) ≡ false
-  unfolding convicts keep recordsOf
+  over-records : (k : ℕ) (q : List ℕ) → is_sound (report k q) ≡ true → not (bit s.convicted k) ≡ true → (not (holds record_size q s.records) && leb max_records (length s.records)) ≡ true → fits (report k q ∷ h) ≡ false
+  unfolding convicts keep records_of
   over-records k q w c f =
-      let n = not-true (holds recordSize q s.records) (and_left (not (holds recordSize q s.records)) (leb maxRecords (length s.records)) f) in
-      let m = leb-true maxRecords (length s.records) (and_right (not (holds recordSize q s.records)) (leb maxRecords (length s.records)) f) in
-      let a : elem q (recordsOf (remaining h)) ≡ false = sym (held-records q) ∙ n in
-      let x : not (convicts h k) ≡ true = ap not (sym (u.struck-off k)) ∙ c in
-      let l : leb (length (nub (q ∷ recordsOf (remaining h)))) maxRecords ≡ false = lt-leb (length (nub (q ∷ recordsOf (remaining h)))) maxRecords (rw (different-new q (recordsOf (remaining h)) a, record-count) (omega arith)) in
+      let n = not-true (holds record_size q s.records) (and_left (not (holds record_size q s.records)) (leb max_records (length s.records)) f) in
+      let m = leb-true max_records (length s.records) (and_right (not (holds record_size q s.records)) (leb max_records (length s.records)) f) in
+      let a : elem q (records_of (remaining h)) ≡ false = sym (held-records q) ∙ n in
+      let x : not (convicts h k) ≡ true = ap not (sym (u.struck_off k)) ∙ c in
+      let l : leb (length (nub (q ∷ records_of (remaining h)))) max_records ≡ false = lt-leb (length (nub (q ∷ records_of (remaining h)))) max_records (rw (different-new q (records_of (remaining h)) a, record-count) (omega arith)) in
       rw (w, x, l) refl
 
-  over-summaries : (k model spec : ℕ) (inputs : List ℕ) → isSound (summary k model spec inputs) ≡ true → not (bit s.convicted k) ≡ true
-      → (not (holds summarySize (summaryOf k model spec inputs) s.summaries) && leb maxSummaries (length s.summaries)) ≡ true → fits (summary k model spec inputs ∷ h) ≡ false
-  unfolding convicts keep summariesOf recordsOf
+  over-summaries : (k model spec : ℕ) (inputs : List ℕ) → is_sound (summary k model spec inputs) ≡ true → not (bit s.convicted k) ≡ true
+      → (not (holds summary_size (summary_of k model spec inputs) s.summaries) && leb max_summaries (length s.summaries)) ≡ true → fits (summary k model spec inputs ∷ h) ≡ false
+  unfolding convicts keep summaries_of records_of
   over-summaries k model spec inputs w c f =
-      let q = summaryOf k model spec inputs in
-      let n = not-true (holds summarySize q s.summaries) (and_left (not (holds summarySize q s.summaries)) (leb maxSummaries (length s.summaries)) f) in
-      let m = leb-true maxSummaries (length s.summaries) (and_right (not (holds summarySize q s.summaries)) (leb maxSummaries (length s.summaries)) f) in
-      let a : elem q (summariesOf (remaining h)) ≡ false = sym (held-summaries q) ∙ n in
-      let x : not (convicts h k) ≡ true = ap not (sym (u.struck-off k)) ∙ c in
-      let l : leb (length (nub (q ∷ summariesOf (remaining h)))) maxSummaries ≡ false = lt-leb (length (nub (q ∷ summariesOf (remaining h)))) maxSummaries (rw (different-new q (summariesOf (remaining h)) a, summary-count) (omega arith)) in
+      let q = summary_of k model spec inputs in
+      let n = not-true (holds summary_size q s.summaries) (and_left (not (holds summary_size q s.summaries)) (leb max_summaries (length s.summaries)) f) in
+      let m = leb-true max_summaries (length s.summaries) (and_right (not (holds summary_size q s.summaries)) (leb max_summaries (length s.summaries)) f) in
+      let a : elem q (summaries_of (remaining h)) ≡ false = sym (held-summaries q) ∙ n in
+      let x : not (convicts h k) ≡ true = ap not (sym (u.struck_off k)) ∙ c in
+      let l : leb (length (nub (q ∷ summaries_of (remaining h)))) max_summaries ≡ false = lt-leb (length (nub (q ∷ summaries_of (remaining h)))) max_summaries (rw (different-new q (summaries_of (remaining h)) a, summary-count) (omega arith)) in
       rw (w, x, l, and-false) refl
 
 -- ---- a history has room exactly when it fits throughout
 
 conviction-roomy : (k : ℕ) (s : Register) → eqb (act (conviction k) s).answer 5 ≡ false
-conviction-roomy k s = by (ltb maxEngine k) (λ a. rw a refl) (λ a. rw a refl)
+conviction-roomy k s = by (ltb max_engine k) (λ a. rw a refl) (λ a. rw a refl)
 
 here : (c : Call) (h : List Call) → roomy h ≡ true → eqb (act c (run h)).answer 5 ≡ false → not (eqb (act c (run h)).answer 5) ≡ fits (c ∷ h)
 here c h g n = rw n (sym (room (c ∷ h) (run (c ∷ h)) (history (c ∷ h) (unfold roomy in rw (n, g) refl))))
@@ -195,8 +195,8 @@ fits-here (summary k model spec inputs) h g =
       | settled e n w c f ↦ here (summary k model spec inputs) h g n
     ]
 
-roomy-fits : (h : List Call) → roomy h ≡ alwaysFits h
-unfolding roomy alwaysFits
+roomy-fits : (h : List Call) → roomy h ≡ always_fits h
+unfolding roomy always_fits
 roomy-fits [] = refl
 roomy-fits (c ∷ h) =
     let ih = roomy-fits h in
@@ -210,8 +210,8 @@ spoilt : (cs g : List Call) → roomy g ≡ false → roomy (reverse_aux cs g) �
 spoilt [] g h = h
 spoilt (c ∷ cs) g h = spoilt cs (c ∷ g) (unfold roomy in rw (h, and-false) refl)
 
-through : (cs h : List Call) → roomy h ≡ true → noneFull (encode (run h)) cs ≡ roomy (reverse_aux cs h)
-unfolding noneFull
+through : (cs h : List Call) → roomy h ≡ true → none_full (encode (run h)) cs ≡ roomy (reverse_aux cs h)
+unfolding none_full
 through [] h g = sym g
 through (c ∷ cs) h g =
     let ih = through cs (c ∷ h) in
@@ -221,5 +221,5 @@ through (c ∷ cs) h g =
 
 pub none-full : FullExactlyWhen
 none-full cs =
-    let p : noneFull (encode start) cs ≡ roomy (reverse cs) = unfold run in through cs [] (unfold roomy in refl) in
-    ap (λ (m : List ℕ). noneFull m cs) (sym fresh-is) ∙ p ∙ roomy-fits (reverse cs)
+    let p : none_full (encode start) cs ≡ roomy (reverse cs) = unfold run in through cs [] (unfold roomy in refl) in
+    ap (λ (m : List ℕ). none_full m cs) (sym fresh-is) ∙ p ∙ roomy-fits (reverse cs)

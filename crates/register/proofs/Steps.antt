@@ -9,44 +9,44 @@ use lib.Dec.{leb, eqb}
 use lib.ListN.{length, take, drop, take-append-drop, drop_of_length-le}
 use lib.Seq.{drop_at, length-take-le}
 use borrow.Author.Tests.{eqb-true, leb-false}
-use Rattle.octets.specs.Masks.{bit, withBit, withoutBit}
+use Rattle.octets.specs.Masks.{bit, with_bit, without_bit}
 use Rattle.octets.specs.Order.{same}
 use Rattle.octets.specs.Words.{word, word_bytes}
 use Rattle.ranges.proofs.Bools.{by, and_left, and_right}
 use Rattle.octets.proofs.Comparison.{same-eq}
 use Rattle.octets.proofs.Lookup.{clear-unset, bit-zero, bit_below, without-le}
 use Rattle.octets.proofs.Numbers.{word-of-bytes}
-use Rattle.places.specs.Places.{allPlaces, holds, lookup, putPlace, keepPlaces}
+use Rattle.places.specs.Places.{all_places, holds, lookup, put_place, keep_places}
 use Rattle.places.proofs.Tables.{wide}
 use Rattle.places.proofs.Keys.{holds-none, holds_later, lookup-here, lookup-later, absent, ascending-ext}
 use Rattle.places.proofs.Putting.{lookup-put, lookup-put-other, put-ascending, put-length, put-length-held, put-wide, put_all}
 use Rattle.places.proofs.Keeping.{kept-length, kept-wide, kept-ascending, kept-all, holds_kept, lookup-kept}
 use Rattle.record.specs.Formed as R
-use Rattle.models.specs.Summary.{engineOf, modelOf, summarySize}
-use Rattle.record.specs.Layout.{recordSize, maxModel}
-use Rattle.held.specs.Limits.{maxEngine, maxSummaries, placeSize}
-use Rattle.held.specs.Summaries.{noValue, isOfAnother, summaryFormed}
-use Rattle.held.specs.Signed.{signersIn, addSigner, dropSigner, hasAnotherSigner}
+use Rattle.models.specs.Summary.{engine_of, model_of, summary_size}
+use Rattle.record.specs.Layout.{record_size, max_model}
+use Rattle.held.specs.Limits.{max_engine, max_summaries, place_size}
+use Rattle.held.specs.Summaries.{no_value, is_of_another, summary_formed}
+use Rattle.held.specs.Signed.{signers_in, add_signer, drop_signer, has_another_signer}
 use Rattle.held.proofs.Summarized.{all_of, none_more, kept-summary}
-use Rattle.held.proofs.Signatures.{apart, with-small, without-small, no_word, record-length, key_of, added-wide, signers-wide, placeHeld, Place, place, place-small, signed-first, signed-again, kept_record}
-use Rattle.register.specs.Layout.{maxRecords}
-use Rattle.register.specs.Register.{Register, strikeEngine}
-use Rattle.register.specs.Claims.{signersOf}
+use Rattle.held.proofs.Signatures.{apart, with-small, without-small, no_word, record-length, key_of, added-wide, signers-wide, place_held, Place, place, place-small, signed-first, signed-again, kept_record}
+use Rattle.register.specs.Layout.{max_records}
+use Rattle.register.specs.Register.{Register, strike_engine}
+use Rattle.register.specs.Claims.{signers_of}
 use Rattle.register.proofs.Valid.{Valid}
 
 -- ---- what is looked up
 
-module _ (test : List ℕ → Bool) (p : List ℕ) (ps : List (List ℕ)) (a : allPlaces test (p ∷ ps) ≡ true) where
+module _ (test : List ℕ → Bool) (p : List ℕ) (ps : List (List ℕ)) (a : all_places test (p ∷ ps) ≡ true) where
   all_head : test p ≡ true
-  unfolding allPlaces
-  all_head = and_left (test p) (allPlaces test ps) a
+  unfolding all_places
+  all_head = and_left (test p) (all_places test ps) a
 
-  all_tail : allPlaces test ps ≡ true
-  unfolding allPlaces
-  all_tail = and_right (test p) (allPlaces test ps) a
+  all_tail : all_places test ps ≡ true
+  unfolding all_places
+  all_tail = and_right (test p) (all_places test ps) a
 
 -- a place that is held passes the test that all pass
-held-passes : (k : ℕ) (key : List ℕ) (test : List ℕ → Bool) (ps : List (List ℕ)) → allPlaces test ps ≡ true → holds k key ps ≡ true → test (key ++ lookup k key ps) ≡ true
+held-passes : (k : ℕ) (key : List ℕ) (test : List ℕ → Bool) (ps : List (List ℕ)) → all_places test ps ≡ true → holds k key ps ≡ true → test (key ++ lookup k key ps) ≡ true
 held-passes k key test [] a h = absurd (false≢true (sym (holds-none k key) ∙ h))
 held-passes k key test (p ∷ ps) a h =
     by (same (take k p) key)
@@ -62,192 +62,192 @@ held-long k w key (p ∷ ps) m x h =
     (λ s. held-long k w key ps m x.1 (sym (holds_later k key p ps s) ∙ h))
 
 module _ (s : Register) (v : Valid s) (r : List ℕ) where
-  pub unheld : holds recordSize r s.records ≡ false → lookup recordSize r s.records ≡ []
-  unheld h = absent recordSize r s.records h
+  pub unheld : holds record_size r s.records ≡ false → lookup record_size r s.records ≡ []
+  unheld h = absent record_size r s.records h
 
-  pub unsigned : holds recordSize r s.records ≡ false → signersOf r s ≡ 0
+  pub unsigned : holds record_size r s.records ≡ false → signers_of r s ≡ 0
   unsigned h = ap word (unheld h) ∙ no_word
 
-  module _ (h : holds recordSize r s.records ≡ true) where
-    long : length r ≡ recordSize
-    long = held-long recordSize placeSize r s.records key_of v.records-wide h
+  module _ (h : holds record_size r s.records ≡ true) where
+    long : length r ≡ record_size
+    long = held-long record_size place_size r s.records key_of v.records-wide h
 
-    rest : drop recordSize (r ++ lookup recordSize r s.records) ≡ lookup recordSize r s.records
-    rest = drop_at r (lookup recordSize r s.records) recordSize long
+    rest : drop record_size (r ++ lookup record_size r s.records) ≡ lookup record_size r s.records
+    rest = drop_at r (lookup record_size r s.records) record_size long
 
-    pub held-is : Place s.convicted (r ++ lookup recordSize r s.records)
-    held-is = place s.convicted (r ++ lookup recordSize r s.records) (held-passes recordSize r (placeHeld s.convicted) s.records v.records-held h)
+    pub held-is : Place s.convicted (r ++ lookup record_size r s.records)
+    held-is = place s.convicted (r ++ lookup record_size r s.records) (held-passes record_size r (place_held s.convicted) s.records v.records-held h)
 
-    pub signed : eqb (signersOf r s) 0 ≡ false
+    pub signed : eqb (signers_of r s) 0 ≡ false
     signed = ap (λ (x : List ℕ). eqb (word x) 0) (sym rest) ∙ held-is.some
 
-    pub held_bytes : lookup recordSize r s.records ≡ word_bytes 4 (signersOf r s)
+    pub held_bytes : lookup record_size r s.records ≡ word_bytes 4 (signers_of r s)
     held_bytes = sym rest ∙ held-is.bytes ∙ ap (λ (x : List ℕ). word_bytes 4 (word x)) rest
 
-    held_small : signersOf r s < 256 ^ 4
-    held_small = subst (λ (x : List ℕ). word x < 256 ^ 4) rest (place-small s.convicted (r ++ lookup recordSize r s.records) held-is)
+    held_small : signers_of r s < 256 ^ 4
+    held_small = subst (λ (x : List ℕ). word x < 256 ^ 4) rest (place-small s.convicted (r ++ lookup record_size r s.records) held-is)
 
-  pub signers-small : signersOf r s < 256 ^ 4
-  signers-small = by (holds recordSize r s.records) held_small (λ h. rw (unsigned h) (omega arith))
+  pub signers-small : signers_of r s < 256 ^ 4
+  signers-small = by (holds record_size r s.records) held_small (λ h. rw (unsigned h) (omega arith))
 
   -- a record is held exactly when it has signers
-  pub held-signed : holds recordSize r s.records ≡ not (eqb (signersOf r s) 0)
-  held-signed = by (holds recordSize r s.records) (λ h. h ∙ sym (ap not (signed h))) (λ h. h ∙ sym (ap (λ (n : ℕ). not (eqb n 0)) (unsigned h)))
+  pub held-signed : holds record_size r s.records ≡ not (eqb (signers_of r s) 0)
+  held-signed = by (holds record_size r s.records) (λ h. h ∙ sym (ap not (signed h))) (λ h. h ∙ sym (ap (λ (n : ℕ). not (eqb n 0)) (unsigned h)))
 
   -- and what follows it is told by them
-  pub lookup-signed : lookup recordSize r s.records ≡ cond (eqb (signersOf r s) 0) [] (word_bytes 4 (signersOf r s))
+  pub lookup-signed : lookup record_size r s.records ≡ cond (eqb (signers_of r s) 0) [] (word_bytes 4 (signers_of r s))
   lookup-signed =
-      by (holds recordSize r s.records)
-      (λ h. held_bytes h ∙ sym (ap (λ (b : Bool). cond b [] (word_bytes 4 (signersOf r s))) (signed h)))
-      (λ h. unheld h ∙ sym (ap (λ (n : ℕ). cond (eqb n 0) [] (word_bytes 4 (signersOf r s))) (unsigned h)))
+      by (holds record_size r s.records)
+      (λ h. held_bytes h ∙ sym (ap (λ (b : Bool). cond b [] (word_bytes 4 (signers_of r s))) (signed h)))
+      (λ h. unheld h ∙ sym (ap (λ (n : ℕ). cond (eqb n 0) [] (word_bytes 4 (signers_of r s))) (unsigned h)))
 
 -- ---- a report
 
-module _ (s : Register) (v : Valid s) (e : ℕ) (q : List ℕ) (a : e ≤ maxEngine) (w : R.wellFormed q ≡ true) where
+module _ (s : Register) (v : Valid s) (e : ℕ) (q : List ℕ) (a : e ≤ max_engine) (w : R.well_formed q ≡ true) where
   abbrev pub reported-records : List (List ℕ)
-  reported-records = putPlace recordSize (addSigner e) q s.records
+  reported-records = put_place record_size (add_signer e) q s.records
 
   abbrev pub with-report : Register
   with-report = record { convicted = s.convicted; summaries = s.summaries; records = reported-records }
 
   -- the record has the engine for a signer, and else nothing changes
-  pub report-signers : (r : List ℕ) → signersOf r with-report ≡ cond (same q r) (withBit (signersOf r s) e) (signersOf r s)
+  pub report-signers : (r : List ℕ) → signers_of r with-report ≡ cond (same q r) (with_bit (signers_of r s) e) (signers_of r s)
   report-signers r =
       by (same q r)
-      (λ h. ap (λ (x : List ℕ). word (lookup recordSize x reported-records)) (sym (same-eq q r h)) ∙ ap word (lookup-put recordSize (addSigner e) q (record-length q w) s.records v.records-ascend)
-      ∙ word-of-bytes 4 (withBit (signersOf q s) e) (with-small (signersOf q s) e a (signers-small s v q))
-      ∙ ap (λ (x : List ℕ). withBit (signersOf x s) e) (same-eq q r h) ∙ sym (ap (λ (b : Bool). cond b (withBit (signersOf r s) e) (signersOf r s)) h))
-      (λ h. ap word (lookup-put-other recordSize (addSigner e) q (record-length q w) r s.records h) ∙ sym (ap (λ (b : Bool). cond b (withBit (signersOf r s) e) (signersOf r s)) h))
+      (λ h. ap (λ (x : List ℕ). word (lookup record_size x reported-records)) (sym (same-eq q r h)) ∙ ap word (lookup-put record_size (add_signer e) q (record-length q w) s.records v.records-ascend)
+      ∙ word-of-bytes 4 (with_bit (signers_of q s) e) (with-small (signers_of q s) e a (signers-small s v q))
+      ∙ ap (λ (x : List ℕ). with_bit (signers_of x s) e) (same-eq q r h) ∙ sym (ap (λ (b : Bool). cond b (with_bit (signers_of r s) e) (signers_of r s)) h))
+      (λ h. ap word (lookup-put-other record_size (add_signer e) q (record-length q w) r s.records h) ∙ sym (ap (λ (b : Bool). cond b (with_bit (signers_of r s) e) (signers_of r s)) h))
 
-  pub report-valid : bit s.convicted e ≡ false → (not (holds recordSize q s.records) && leb maxRecords (length s.records)) ≡ false → Valid with-report
+  pub report-valid : bit s.convicted e ≡ false → (not (holds record_size q s.records) && leb max_records (length s.records)) ≡ false → Valid with-report
   report-valid z f = record {
     small = v.small;
-    few-summaries = v.few-summaries;
-    few-records = few;
+    few_summaries = v.few_summaries;
+    few_records = few;
     summaries-wide = v.summaries-wide;
-    records-wide = put-wide recordSize (addSigner e) q (record-length q w) placeSize (λ x l. added-wide e x) (λ x l. added-wide e x) s.records key_of v.records-wide;
+    records-wide = put-wide record_size (add_signer e) q (record-length q w) place_size (λ x l. added-wide e x) (λ x l. added-wide e x) s.records key_of v.records-wide;
     summaries-ascend = v.summaries-ascend;
-    records-ascend = put-ascending recordSize (addSigner e) q (record-length q w) s.records v.records-ascend;
+    records-ascend = put-ascending record_size (add_signer e) q (record-length q w) s.records v.records-ascend;
     summaries-formed = v.summaries-formed;
-    records-held = put_all recordSize (addSigner e) q (placeHeld s.convicted) s.records (signed-first s.convicted e q a w z) (signed-again s.convicted e q a w z) v.records-held;
+    records-held = put_all record_size (add_signer e) q (place_held s.convicted) s.records (signed-first s.convicted e q a w z) (signed-again s.convicted e q a w z) v.records-held;
   }
     where
-      few : length reported-records ≤ maxRecords
+      few : length reported-records ≤ max_records
       few =
-          by (holds recordSize q s.records)
-          (λ h. rw (put-length-held recordSize (addSigner e) q (record-length q w) s.records v.records-ascend h) v.few-records)
-          (λ h. let n = leb-false maxRecords (length s.records) (sym (rw h refl) ∙ f) in let m = put-length recordSize (addSigner e) q (record-length q w) s.records in omega arith)
+          by (holds record_size q s.records)
+          (λ h. rw (put-length-held record_size (add_signer e) q (record-length q w) s.records v.records-ascend h) v.few_records)
+          (λ h. let n = leb-false max_records (length s.records) (sym (rw h refl) ∙ f) in let m = put-length record_size (add_signer e) q (record-length q w) s.records in omega arith)
 
 -- ---- a summary
 
 -- nothing follows a summary
-pub nothing-follows : (p : List ℕ) (ps : List (List ℕ)) → wide summarySize ps → lookup summarySize p ps ≡ []
-nothing-follows p [] x = absent summarySize p [] (holds-none summarySize p)
+pub nothing-follows : (p : List ℕ) (ps : List (List ℕ)) → wide summary_size ps → lookup summary_size p ps ≡ []
+nothing-follows p [] x = absent summary_size p [] (holds-none summary_size p)
 nothing-follows p (q ∷ ps) x =
-    by (same (take summarySize q) p)
-    (λ s. lookup-here summarySize p q ps s ∙ drop_of_length-le q (le_of_eq x.0))
-    (λ s. lookup-later summarySize p q ps s ∙ nothing-follows p ps x.1)
+    by (same (take summary_size q) p)
+    (λ s. lookup-here summary_size p q ps s ∙ drop_of_length-le q (le_of_eq x.0))
+    (λ s. lookup-later summary_size p q ps s ∙ nothing-follows p ps x.1)
   where
     le_of_eq : {a b : ℕ} → a ≡ b → a ≤ b
     le_of_eq h = omega arith
 
-module _ (s : Register) (v : Valid s) (p : List ℕ) (l : length p ≡ summarySize) (g : summaryFormed s.convicted p ≡ true) where
+module _ (s : Register) (v : Valid s) (p : List ℕ) (l : length p ≡ summary_size) (g : summary_formed s.convicted p ≡ true) where
   abbrev pub with-summary : Register
-  with-summary = record { convicted = s.convicted; summaries = putPlace summarySize noValue p s.summaries; records = s.records }
+  with-summary = record { convicted = s.convicted; summaries = put_place summary_size no_value p s.summaries; records = s.records }
 
-  pub summary-valid : (not (holds summarySize p s.summaries) && leb maxSummaries (length s.summaries)) ≡ false → Valid with-summary
+  pub summary-valid : (not (holds summary_size p s.summaries) && leb max_summaries (length s.summaries)) ≡ false → Valid with-summary
   summary-valid f = record {
     small = v.small;
-    few-summaries = few;
-    few-records = v.few-records;
-    summaries-wide = put-wide summarySize noValue p l summarySize (λ x h. refl) (λ x h. refl) s.summaries all_of v.summaries-wide;
+    few_summaries = few;
+    few_records = v.few_records;
+    summaries-wide = put-wide summary_size no_value p l summary_size (λ x h. refl) (λ x h. refl) s.summaries all_of v.summaries-wide;
     records-wide = v.records-wide;
-    summaries-ascend = put-ascending summarySize noValue p l s.summaries v.summaries-ascend;
+    summaries-ascend = put-ascending summary_size no_value p l s.summaries v.summaries-ascend;
     records-ascend = v.records-ascend;
-    summaries-formed = put_all summarySize noValue p (summaryFormed s.convicted) s.summaries (rw (append-nil p) g) (λ x h k. rw (h, append-nil p) g) v.summaries-formed;
+    summaries-formed = put_all summary_size no_value p (summary_formed s.convicted) s.summaries (rw (append-nil p) g) (λ x h k. rw (h, append-nil p) g) v.summaries-formed;
     records-held = v.records-held;
   }
     where
-      few : length (putPlace summarySize noValue p s.summaries) ≤ maxSummaries
+      few : length (put_place summary_size no_value p s.summaries) ≤ max_summaries
       few =
-          by (holds summarySize p s.summaries)
-          (λ h. rw (put-length-held summarySize noValue p l s.summaries v.summaries-ascend h) v.few-summaries)
-          (λ h. let n = leb-false maxSummaries (length s.summaries) (sym (rw h refl) ∙ f) in let m = put-length summarySize noValue p l s.summaries in omega arith)
+          by (holds summary_size p s.summaries)
+          (λ h. rw (put-length-held summary_size no_value p l s.summaries v.summaries-ascend h) v.few_summaries)
+          (λ h. let n = leb-false max_summaries (length s.summaries) (sym (rw h refl) ∙ f) in let m = put-length summary_size no_value p l s.summaries in omega arith)
 
-pub whole-summary : (s : Register) → Valid s → (p : List ℕ) → p ++ lookup summarySize p s.summaries ≡ p
+pub whole-summary : (s : Register) → Valid s → (p : List ℕ) → p ++ lookup summary_size p s.summaries ≡ p
 whole-summary s v p = ap (λ (l : List ℕ). p ++ l) (nothing-follows p s.summaries v.summaries-wide) ∙ append-nil p
 
 -- ---- registers that hold the same
 
 module _ (s t : Register) (v : Valid s) (u : Valid t) where
-  pub summaries-same : ((p : List ℕ) → holds summarySize p s.summaries ≡ holds summarySize p t.summaries) → s.summaries ≡ t.summaries
+  pub summaries-same : ((p : List ℕ) → holds summary_size p s.summaries ≡ holds summary_size p t.summaries) → s.summaries ≡ t.summaries
   summaries-same h =
-      ascending-ext summarySize s.summaries t.summaries v.summaries-ascend u.summaries-ascend h
+      ascending-ext summary_size s.summaries t.summaries v.summaries-ascend u.summaries-ascend h
       (λ p. nothing-follows p s.summaries v.summaries-wide ∙ sym (nothing-follows p t.summaries u.summaries-wide))
 
-  pub records-same : ((r : List ℕ) → signersOf r s ≡ signersOf r t) → s.records ≡ t.records
+  pub records-same : ((r : List ℕ) → signers_of r s ≡ signers_of r t) → s.records ≡ t.records
   records-same h =
-      ascending-ext recordSize s.records t.records v.records-ascend u.records-ascend
+      ascending-ext record_size s.records t.records v.records-ascend u.records-ascend
       (λ r. held-signed s v r ∙ ap (λ (n : ℕ). not (eqb n 0)) (h r) ∙ sym (held-signed t u r))
       (λ r. lookup-signed s v r ∙ ap (λ (n : ℕ). cond (eqb n 0) [] (word_bytes 4 n)) (h r) ∙ sym (lookup-signed t u r))
 
 -- ---- a conviction
 
-module _ (s : Register) (v : Valid s) (e : ℕ) (a : e ≤ maxEngine) where
-  pub struck-signers : (r : List ℕ) → signersOf r (strikeEngine e s) ≡ withoutBit (signersOf r s) e
+module _ (s : Register) (v : Valid s) (e : ℕ) (a : e ≤ max_engine) where
+  pub struck-signers : (r : List ℕ) → signers_of r (strike_engine e s) ≡ without_bit (signers_of r s) e
   struck-signers r =
-      ap word (lookup-kept recordSize (hasAnotherSigner e) (dropSigner e) placeSize key_of (signers-wide e) r s.records v.records-wide v.records-ascend)
-      ∙ by (holds recordSize r s.records)
-      (λ h. by (eqb (withoutBit (signersOf r s) e) 0)
-      (λ z. rw (h, ap word (rest s v r h), z, no_word) (sym (eqb-true (withoutBit (signersOf r s) e) 0 z)))
-      (λ z. rw (h, ap word (rest s v r h), z) (word-of-bytes 4 (withoutBit (signersOf r s) e) (without-small (signersOf r s) e (signers-small s v r)))))
+      ap word (lookup-kept record_size (has_another_signer e) (drop_signer e) place_size key_of (signers-wide e) r s.records v.records-wide v.records-ascend)
+      ∙ by (holds record_size r s.records)
+      (λ h. by (eqb (without_bit (signers_of r s) e) 0)
+      (λ z. rw (h, ap word (rest s v r h), z, no_word) (sym (eqb-true (without_bit (signers_of r s) e) 0 z)))
+      (λ z. rw (h, ap word (rest s v r h), z) (word-of-bytes 4 (without_bit (signers_of r s) e) (without-small (signers_of r s) e (signers-small s v r)))))
       (λ h. rw (h, no_word, unsigned s v r h) (sym (clear_zero e)))
     where
-      clear_zero : (e : ℕ) → withoutBit 0 e ≡ 0
+      clear_zero : (e : ℕ) → without_bit 0 e ≡ 0
       clear_zero e = let h = without-le 0 e in omega arith
 
-  pub struck-valid : Valid (strikeEngine e s)
+  pub struck-valid : Valid (strike_engine e s)
   struck-valid = record {
     small = with-small s.convicted e a v.small;
-    few-summaries = le_trans (kept-length summarySize (isOfAnother e) noValue s.summaries) v.few-summaries;
-    few-records = le_trans (kept-length recordSize (hasAnotherSigner e) (dropSigner e) s.records) v.few-records;
-    summaries-wide = kept-wide summarySize (isOfAnother e) noValue summarySize all_of none_more s.summaries v.summaries-wide;
-    records-wide = kept-wide recordSize (hasAnotherSigner e) (dropSigner e) placeSize key_of (signers-wide e) s.records v.records-wide;
-    summaries-ascend = kept-ascending summarySize (isOfAnother e) noValue summarySize all_of none_more s.summaries v.summaries-wide v.summaries-ascend;
-    records-ascend = kept-ascending recordSize (hasAnotherSigner e) (dropSigner e) placeSize key_of (signers-wide e) s.records v.records-wide v.records-ascend;
-    summaries-formed = kept-all summarySize (isOfAnother e) noValue (summaryFormed s.convicted) (summaryFormed (withBit s.convicted e)) (kept-summary s.convicted e) s.summaries v.summaries-formed;
-    records-held = kept-all recordSize (hasAnotherSigner e) (dropSigner e) (placeHeld s.convicted) (placeHeld (withBit s.convicted e)) (kept_record s.convicted e) s.records v.records-held;
+    few_summaries = le_trans (kept-length summary_size (is_of_another e) no_value s.summaries) v.few_summaries;
+    few_records = le_trans (kept-length record_size (has_another_signer e) (drop_signer e) s.records) v.few_records;
+    summaries-wide = kept-wide summary_size (is_of_another e) no_value summary_size all_of none_more s.summaries v.summaries-wide;
+    records-wide = kept-wide record_size (has_another_signer e) (drop_signer e) place_size key_of (signers-wide e) s.records v.records-wide;
+    summaries-ascend = kept-ascending summary_size (is_of_another e) no_value summary_size all_of none_more s.summaries v.summaries-wide v.summaries-ascend;
+    records-ascend = kept-ascending record_size (has_another_signer e) (drop_signer e) place_size key_of (signers-wide e) s.records v.records-wide v.records-ascend;
+    summaries-formed = kept-all summary_size (is_of_another e) no_value (summary_formed s.convicted) (summary_formed (with_bit s.convicted e)) (kept-summary s.convicted e) s.summaries v.summaries-formed;
+    records-held = kept-all record_size (has_another_signer e) (drop_signer e) (place_held s.convicted) (place_held (with_bit s.convicted e)) (kept_record s.convicted e) s.records v.records-held;
   }
 
   -- a summary stays where it is of another engine
-  pub struck-holds : (p : List ℕ) → holds summarySize p (strikeEngine e s).summaries ≡ (holds summarySize p s.summaries && isOfAnother e p)
+  pub struck-holds : (p : List ℕ) → holds summary_size p (strike_engine e s).summaries ≡ (holds summary_size p s.summaries && is_of_another e p)
   struck-holds p =
-      holds_kept summarySize (isOfAnother e) noValue summarySize all_of none_more p s.summaries v.summaries-wide v.summaries-ascend
-      ∙ ap (λ (l : List ℕ). holds summarySize p s.summaries && isOfAnother e l) (whole-summary s v p)
+      holds_kept summary_size (is_of_another e) no_value summary_size all_of none_more p s.summaries v.summaries-wide v.summaries-ascend
+      ∙ ap (λ (l : List ℕ). holds summary_size p s.summaries && is_of_another e l) (whole-summary s v p)
 
   -- where nothing of the engine is held, the summaries and the records stay
-  pub summaries-stay : ((p : List ℕ) → holds summarySize p s.summaries ≡ true → isOfAnother e p ≡ true) → (strikeEngine e s).summaries ≡ s.summaries
-  summaries-stay h = summaries-same (strikeEngine e s) s struck-valid v (λ p. struck-holds p ∙ by (holds summarySize p s.summaries) (λ g. rw (g, h p g) refl) (λ g. rw g refl))
+  pub summaries-stay : ((p : List ℕ) → holds summary_size p s.summaries ≡ true → is_of_another e p ≡ true) → (strike_engine e s).summaries ≡ s.summaries
+  summaries-stay h = summaries-same (strike_engine e s) s struck-valid v (λ p. struck-holds p ∙ by (holds summary_size p s.summaries) (λ g. rw (g, h p g) refl) (λ g. rw g refl))
 
-  pub records-stay : ((r : List ℕ) → bit (signersOf r s) e ≡ false) → (strikeEngine e s).records ≡ s.records
-  records-stay h = records-same (strikeEngine e s) s struck-valid v (λ r. struck-signers r ∙ clear-unset (signersOf r s) e (h r))
+  pub records-stay : ((r : List ℕ) → bit (signers_of r s) e ≡ false) → (strike_engine e s).records ≡ s.records
+  records-stay h = records-same (strike_engine e s) s struck-valid v (λ r. struck-signers r ∙ clear-unset (signers_of r s) e (h r))
 
 -- ---- an engine that is convicted
 
 module _ (s : Register) (v : Valid s) (e : ℕ) (z : bit s.convicted e ≡ true) where
-  pub convicted-engine : e ≤ maxEngine
+  pub convicted-engine : e ≤ max_engine
   convicted-engine = let h = bit_below 32 s.convicted e v.small z in omega arith
 
-  pub convicted-no-summary : (p : List ℕ) → holds summarySize p s.summaries ≡ true → isOfAnother e p ≡ true
+  pub convicted-no-summary : (p : List ℕ) → holds summary_size p s.summaries ≡ true → is_of_another e p ≡ true
   convicted-no-summary p h =
       let c = s.convicted in
-      let f : summaryFormed c p ≡ true = ap (summaryFormed c) (sym (whole-summary s v p)) ∙ held-passes summarySize p (summaryFormed c) s.summaries v.summaries-formed h in
-      let n : not (bit c (engineOf p)) ≡ true = and_right (leb (modelOf p) maxModel) (not (bit c (engineOf p))) (and_right (leb (engineOf p) maxEngine) (leb (modelOf p) maxModel && not (bit c (engineOf p))) f) in
-      by (eqb (engineOf p) e) (λ q. absurd (false≢true (sym (rw (eqb-true (engineOf p) e q, z) refl) ∙ n))) (λ q. rw q refl)
+      let f : summary_formed c p ≡ true = ap (summary_formed c) (sym (whole-summary s v p)) ∙ held-passes summary_size p (summary_formed c) s.summaries v.summaries-formed h in
+      let n : not (bit c (engine_of p)) ≡ true = and_right (leb (model_of p) max_model) (not (bit c (engine_of p))) (and_right (leb (engine_of p) max_engine) (leb (model_of p) max_model && not (bit c (engine_of p))) f) in
+      by (eqb (engine_of p) e) (λ q. absurd (false≢true (sym (rw (eqb-true (engine_of p) e q, z) refl) ∙ n))) (λ q. rw q refl)
 
-  pub convicted-no-signature : (r : List ℕ) → bit (signersOf r s) e ≡ false
+  pub convicted-no-signature : (r : List ℕ) → bit (signers_of r s) e ≡ false
   convicted-no-signature r =
-      by (holds recordSize r s.records)
-      (λ h. sym (and-true (bit (signersOf r s) e)) ∙ ap (λ (b : Bool). bit (signersOf r s) e && b) (sym z)
-      ∙ subst (λ (n : ℕ). (bit n e && bit s.convicted e) ≡ false) (ap word (rest s v r h)) (apart (signersIn (r ++ lookup recordSize r s.records)) s.convicted e (held-is s v r h).free))
+      by (holds record_size r s.records)
+      (λ h. sym (and-true (bit (signers_of r s) e)) ∙ ap (λ (b : Bool). bit (signers_of r s) e && b) (sym z)
+      ∙ subst (λ (n : ℕ). (bit n e && bit s.convicted e) ≡ false) (ap word (rest s v r h)) (apart (signers_in (r ++ lookup record_size r s.records)) s.convicted e (held-is s v r h).free))
       (λ h. rw (unsigned s v r h) (bit-zero e))

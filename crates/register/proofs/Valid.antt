@@ -11,106 +11,106 @@ use Rattle.octets.specs.Order.{same}
 use Rattle.octets.specs.Words.{word_bytes}
 use Rattle.ranges.proofs.Bools.{and_left, and_both}
 use Rattle.octets.proofs.Numbers.{length-word-bytes}
-use Rattle.places.specs.Places.{places, table_of, isTable, ascending, allPlaces}
+use Rattle.places.specs.Places.{places, table_of, is_table, ascending, all_places}
 use Rattle.places.proofs.Tables.{wide, table-length, is-table-of, places-of-table}
-use Rattle.models.specs.Summary.{summarySize}
-use Rattle.record.specs.Layout.{recordSize}
+use Rattle.models.specs.Summary.{summary_size}
+use Rattle.record.specs.Layout.{record_size}
 use Rattle.held.specs.After.{After}
-use Rattle.held.specs.Limits.{maxSummaries, placeSize, summariesSize}
-use Rattle.held.specs.Summaries.{summaryFormed}
-use Rattle.held.specs.Signed.{signersIn, placeFormed}
+use Rattle.held.specs.Limits.{max_summaries, place_size, summaries_size}
+use Rattle.held.specs.Summaries.{summary_formed}
+use Rattle.held.specs.Signed.{signers_in, place_formed}
 use Rattle.held.proofs.Testing.{all-weaken}
-use Rattle.held.proofs.Signatures.{placeHeld}
-use Rattle.register.specs.Layout.{maxRecords, recordsSize, registerSize}
+use Rattle.held.proofs.Signatures.{place_held}
+use Rattle.register.specs.Layout.{max_records, records_size, register_size}
 use Rattle.register.specs.Register.{Register}
-use Rattle.register.specs.Memory.{wellFormed, convictedIn, summaryCount, recordCount, summaryTable, recordTable, summariesIn, recordsIn, decode, encode, commit, on_memory}
+use Rattle.register.specs.Memory.{well_formed, convicted_in, summary_count, record_count, summary_table, record_table, summaries_in, records_in, decode, encode, commit, on_memory}
 use Rattle.register.proofs.Frames.{read-convicted, read-summary-count, read-record-count, frame-summaries, frame-records}
 
 pub record Valid (s : Register) : Type 0 where
   pub small : s.convicted < 256 ^ 4
-  pub few-summaries : length s.summaries ≤ maxSummaries
-  pub few-records : length s.records ≤ maxRecords
-  pub summaries-wide : wide summarySize s.summaries
-  pub records-wide : wide placeSize s.records
-  pub summaries-ascend : ascending summarySize s.summaries ≡ true
-  pub records-ascend : ascending recordSize s.records ≡ true
-  pub summaries-formed : allPlaces (summaryFormed s.convicted) s.summaries ≡ true
-  pub records-held : allPlaces (placeHeld s.convicted) s.records ≡ true
+  pub few_summaries : length s.summaries ≤ max_summaries
+  pub few_records : length s.records ≤ max_records
+  pub summaries-wide : wide summary_size s.summaries
+  pub records-wide : wide place_size s.records
+  pub summaries-ascend : ascending summary_size s.summaries ≡ true
+  pub records-ascend : ascending record_size s.records ≡ true
+  pub summaries-formed : all_places (summary_formed s.convicted) s.summaries ≡ true
+  pub records-held : all_places (place_held s.convicted) s.records ≡ true
 
 module _ (s : Register) (v : Valid s) where
   abbrev t₁ : List ℕ
-  t₁ = table_of summarySize maxSummaries s.summaries
+  t₁ = table_of summary_size max_summaries s.summaries
 
   abbrev t₂ : List ℕ
-  t₂ = table_of placeSize maxRecords s.records
+  t₂ = table_of place_size max_records s.records
 
-  l₁ : length t₁ ≡ summariesSize
-  l₁ = table-length summarySize maxSummaries s.summaries v.summaries-wide v.few-summaries
+  l₁ : length t₁ ≡ summaries_size
+  l₁ = table-length summary_size max_summaries s.summaries v.summaries-wide v.few_summaries
 
-  l₂ : length t₂ ≡ recordsSize
-  l₂ = table-length placeSize maxRecords s.records v.records-wide v.few-records
+  l₂ : length t₂ ≡ records_size
+  l₂ = table-length place_size max_records s.records v.records-wide v.few_records
 
-  convicted-back : convictedIn (encode s) ≡ s.convicted
+  convicted-back : convicted_in (encode s) ≡ s.convicted
   unfolding encode
   convicted-back = read-convicted s.convicted (length s.summaries) (length s.records) t₁ t₂ v.small
 
-  summary-count-back : summaryCount (encode s) ≡ length s.summaries
+  summary-count-back : summary_count (encode s) ≡ length s.summaries
   unfolding encode
-  summary-count-back = read-summary-count s.convicted (length s.summaries) (length s.records) t₁ t₂ (let f = v.few-summaries in omega arith)
+  summary-count-back = read-summary-count s.convicted (length s.summaries) (length s.records) t₁ t₂ (let f = v.few_summaries in omega arith)
 
-  record-count-back : recordCount (encode s) ≡ length s.records
+  record-count-back : record_count (encode s) ≡ length s.records
   unfolding encode
-  record-count-back = read-record-count s.convicted (length s.summaries) (length s.records) t₁ t₂ (let f = v.few-records in omega arith)
+  record-count-back = read-record-count s.convicted (length s.summaries) (length s.records) t₁ t₂ (let f = v.few_records in omega arith)
 
-  summary-bytes-back : summaryTable (encode s) ≡ t₁
+  summary-bytes-back : summary_table (encode s) ≡ t₁
   unfolding encode
   summary-bytes-back = frame-summaries s.convicted (length s.summaries) (length s.records) t₁ t₂ l₁
 
-  record-bytes-back : recordTable (encode s) ≡ t₂
+  record-bytes-back : record_table (encode s) ≡ t₂
   unfolding encode
   record-bytes-back = frame-records s.convicted (length s.summaries) (length s.records) t₁ t₂ l₁
 
-  summaries-back : summariesIn (encode s) ≡ s.summaries
-  summaries-back = ap₂ (places summarySize) summary-count-back summary-bytes-back ∙ places-of-table summarySize maxSummaries s.summaries v.summaries-wide
+  summaries-back : summaries_in (encode s) ≡ s.summaries
+  summaries-back = ap₂ (places summary_size) summary-count-back summary-bytes-back ∙ places-of-table summary_size max_summaries s.summaries v.summaries-wide
 
-  records-back : recordsIn (encode s) ≡ s.records
-  records-back = ap₂ (places placeSize) record-count-back record-bytes-back ∙ places-of-table placeSize maxRecords s.records v.records-wide
+  records-back : records_in (encode s) ≡ s.records
+  records-back = ap₂ (places place_size) record-count-back record-bytes-back ∙ places-of-table place_size max_records s.records v.records-wide
 
   pub decode-encode : decode (encode s) ≡ s
   unfolding decode
   decode-encode = rw (convicted-back, summaries-back, records-back) refl
 
-  size : length (encode s) ≡ registerSize
+  size : length (encode s) ≡ register_size
   unfolding encode
   size = rw (length-append, length-append, length-append, length-append, length-word-bytes 4 s.convicted, length-word-bytes 2 (length s.summaries), length-word-bytes 2 (length s.records), l₁, l₂) refl
 
-  summary-table : isTable summarySize summarySize (summaryCount (encode s)) (summaryTable (encode s)) ≡ true
-  summary-table = rw (summary-count-back, summary-bytes-back) (is-table-of summarySize maxSummaries summarySize s.summaries v.summaries-wide v.summaries-ascend)
+  summary-table : is_table summary_size summary_size (summary_count (encode s)) (summary_table (encode s)) ≡ true
+  summary-table = rw (summary-count-back, summary-bytes-back) (is-table-of summary_size max_summaries summary_size s.summaries v.summaries-wide v.summaries-ascend)
 
-  record-table : isTable recordSize placeSize (recordCount (encode s)) (recordTable (encode s)) ≡ true
-  record-table = rw (record-count-back, record-bytes-back) (is-table-of placeSize maxRecords recordSize s.records v.records-wide v.records-ascend)
+  record-table : is_table record_size place_size (record_count (encode s)) (record_table (encode s)) ≡ true
+  record-table = rw (record-count-back, record-bytes-back) (is-table-of place_size max_records record_size s.records v.records-wide v.records-ascend)
 
-  formed-summaries : allPlaces (summaryFormed (convictedIn (encode s))) (summariesIn (encode s)) ≡ true
+  formed-summaries : all_places (summary_formed (convicted_in (encode s))) (summaries_in (encode s)) ≡ true
   formed-summaries = rw (convicted-back, summaries-back) v.summaries-formed
 
-  formed-records : allPlaces (placeFormed (convictedIn (encode s))) (recordsIn (encode s)) ≡ true
+  formed-records : all_places (place_formed (convicted_in (encode s))) (records_in (encode s)) ≡ true
   formed-records =
       rw (convicted-back, records-back)
-      (all-weaken (placeHeld s.convicted) (placeFormed s.convicted) (λ p. and_left (placeFormed s.convicted p) (same (word_bytes 4 (signersIn p)) (drop recordSize p))) s.records v.records-held)
+      (all-weaken (place_held s.convicted) (place_formed s.convicted) (λ p. and_left (place_formed s.convicted p) (same (word_bytes 4 (signers_in p)) (drop record_size p))) s.records v.records-held)
 
   -- the bytes of a valid register are one
-  pub formed-encode : wellFormed (encode s) ≡ true
-  unfolding wellFormed
+  pub formed-encode : well_formed (encode s) ≡ true
+  unfolding well_formed
   formed-encode =
-      let a₂ = leb (summaryCount (encode s)) maxSummaries in
-      let a₃ = leb (recordCount (encode s)) maxRecords in
-      let a₄ = isTable summarySize summarySize (summaryCount (encode s)) (summaryTable (encode s)) in
-      let a₅ = allPlaces (summaryFormed (convictedIn (encode s))) (summariesIn (encode s)) in
-      let a₆ = isTable recordSize placeSize (recordCount (encode s)) (recordTable (encode s)) in
-      let a₇ = allPlaces (placeFormed (convictedIn (encode s))) (recordsIn (encode s)) in
-      let h₂ : a₂ ≡ true = le-leb (summaryCount (encode s)) maxSummaries (rw summary-count-back v.few-summaries) in
-      let h₃ : a₃ ≡ true = le-leb (recordCount (encode s)) maxRecords (rw record-count-back v.few-records) in
-      and_both (eqb (length (encode s)) registerSize) (a₂ && (a₃ && (a₄ && (a₅ && (a₆ && a₇))))) (eq-eqb (length (encode s)) registerSize size)
+      let a₂ = leb (summary_count (encode s)) max_summaries in
+      let a₃ = leb (record_count (encode s)) max_records in
+      let a₄ = is_table summary_size summary_size (summary_count (encode s)) (summary_table (encode s)) in
+      let a₅ = all_places (summary_formed (convicted_in (encode s))) (summaries_in (encode s)) in
+      let a₆ = is_table record_size place_size (record_count (encode s)) (record_table (encode s)) in
+      let a₇ = all_places (place_formed (convicted_in (encode s))) (records_in (encode s)) in
+      let h₂ : a₂ ≡ true = le-leb (summary_count (encode s)) max_summaries (rw summary-count-back v.few_summaries) in
+      let h₃ : a₃ ≡ true = le-leb (record_count (encode s)) max_records (rw record-count-back v.few_records) in
+      and_both (eqb (length (encode s)) register_size) (a₂ && (a₃ && (a₄ && (a₅ && (a₆ && a₇))))) (eq-eqb (length (encode s)) register_size size)
       (and_both a₂ (a₃ && (a₄ && (a₅ && (a₆ && a₇)))) h₂
       (and_both a₃ (a₄ && (a₅ && (a₆ && a₇))) h₃
       (and_both a₄ (a₅ && (a₆ && a₇)) summary-table (and_both a₅ (a₆ && a₇) formed-summaries (and_both a₆ a₇ record-table formed-records)))))

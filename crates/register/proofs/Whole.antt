@@ -18,35 +18,35 @@ use Rattle.octets.proofs.Lookup.{bit-ext, bit-zero}
 use Rattle.octets.proofs.Numbers.{length-word-bytes}
 use Rattle.places.specs.Places.{flat, table_of, holds}
 use Rattle.record.specs.Formed as R
-use Rattle.models.specs.Summary.{engineOf, summaryOf, summarySize, inputsSize}
-use Rattle.record.specs.Layout.{recordSize, maxModel}
+use Rattle.models.specs.Summary.{engine_of, summary_of, summary_size, inputs_size}
+use Rattle.record.specs.Layout.{record_size, max_model}
 use Rattle.held.specs.After.{After, after}
-use Rattle.held.specs.Limits.{maxEngine, maxSummaries, placeSize, summariesSize}
-use Rattle.register.specs.Layout.{maxRecords, summariesAt, recordsSize}
+use Rattle.held.specs.Limits.{max_engine, max_summaries, place_size, summaries_size}
+use Rattle.register.specs.Layout.{max_records, summaries_at, records_size}
 use Rattle.register.specs.Register.{Register}
 use Rattle.register.specs.Memory.{decode, encode, fresh, commit, on_memory}
-use Rattle.register.specs.Calls.{Call, report, summary, conviction, act, isSound, runs, noneFull, convicts, keep, remaining, reports, recordsOf, summariesOf, elem}
-use Rattle.register.specs.Claims.{signersOf, HoldsExactly, SameRemains, HoldsWhatRemains, SameBytes}
+use Rattle.register.specs.Calls.{Call, report, summary, conviction, act, is_sound, runs, none_full, convicts, keep, remaining, reports, records_of, summaries_of, elem}
+use Rattle.register.specs.Claims.{signers_of, HoldsExactly, SameRemains, HoldsWhatRemains, SameBytes}
 use Rattle.register.proofs.Valid.{Valid, decode-encode, formed-encode, on-encode}
 use Rattle.register.proofs.Steps.{held-signed, summaries-same, records-same}
-use Rattle.register.proofs.History.{run, roomy, start, Sum, history, soundSummary, by_bytes}
+use Rattle.register.proofs.History.{run, roomy, start, Sum, history, sound_summary, by_bytes}
 
 -- ---- bytes and registers go together
 
 -- a refusal leaves the register
 pub written : (c : Call) (s : Register) → commit (encode s) (act c s) ≡ after (act c s).answer (encode (act c s).left)
-written (conviction e) s = by (ltb maxEngine e) (λ a. rw a refl) (λ a. rw a refl)
+written (conviction e) s = by (ltb max_engine e) (λ a. rw a refl) (λ a. rw a refl)
 written (report e r) s =
-    by (ltb maxEngine e) (λ a. rw a refl)
-    (λ a. by (R.wellFormed r)
+    by (ltb max_engine e) (λ a. rw a refl)
+    (λ a. by (R.well_formed r)
     (λ b. by (bit s.convicted e) (λ c. rw (a, b, c) refl)
-    (λ c. by (not (holds recordSize r s.records) && leb maxRecords (length s.records)) (λ d. rw (a, b, c, d) refl) (λ d. rw (a, b, c, d) refl)))
+    (λ c. by (not (holds record_size r s.records) && leb max_records (length s.records)) (λ d. rw (a, b, c, d) refl) (λ d. rw (a, b, c, d) refl)))
     (λ b. rw (a, b) refl))
 written (summary e model spec inputs) s =
-    by (ltb maxEngine e) (λ a. rw a refl)
-    (λ a. by (ltb maxModel model || not (eqb (length inputs) inputsSize)) (λ b. rw (a, b) refl)
+    by (ltb max_engine e) (λ a. rw a refl)
+    (λ a. by (ltb max_model model || not (eqb (length inputs) inputs_size)) (λ b. rw (a, b) refl)
     (λ b. by (bit s.convicted e) (λ c. rw (a, b, c) refl)
-    (λ c. by (not (holds summarySize (summaryOf e model spec inputs) s.summaries) && leb maxSummaries (length s.summaries)) (λ d. rw (a, b, c, d) refl) (λ d. rw (a, b, c, d) refl))))
+    (λ c. by (not (holds summary_size (summary_of e model spec inputs) s.summaries) && leb max_summaries (length s.summaries)) (λ d. rw (a, b, c, d) refl) (λ d. rw (a, b, c, d) refl))))
 
 module _ (h : List Call) (g : roomy h ≡ true) where
   u : Sum h (run h)
@@ -62,8 +62,8 @@ module _ (h : List Call) (g : roomy h ≡ true) where
   pub one_answer : (c : Call) → (on_memory (act c) (encode (run h))).answer ≡ (act c (run h)).answer
   one_answer c = ap (λ (a : After (List ℕ)). a.answer) (one c)
 
-along : (cs h : List Call) → roomy h ≡ true → noneFull (encode (run h)) cs ≡ true → (runs (encode (run h)) cs ≡ encode (run (reverse_aux cs h))) × (roomy (reverse_aux cs h) ≡ true)
-unfolding runs noneFull
+along : (cs h : List Call) → roomy h ≡ true → none_full (encode (run h)) cs ≡ true → (runs (encode (run h)) cs ≡ encode (run (reverse_aux cs h))) × (roomy (reverse_aux cs h) ≡ true)
+unfolding runs none_full
 along [] h g f = (refl, g)
 along (c ∷ cs) h g f =
     let a = and_left (not (eqb (on_memory (act c) (encode (run h))).answer 5)) _ f in
@@ -77,7 +77,7 @@ zeros n = replicate n 0
 -- fresh bytes are those of the empty register
 pub fresh-is : encode start ≡ fresh
 unfolding encode flat word_bytes
-fresh-is = ap (λ (t : List ℕ). zeros summariesAt ++ t) (replicate-append-replicate summariesSize recordsSize 0) ∙ replicate-append-replicate summariesAt (summariesSize + recordsSize) 0
+fresh-is = ap (λ (t : List ℕ). zeros summaries_at ++ t) (replicate-append-replicate summaries_size records_size 0) ∙ replicate-append-replicate summaries_at (summaries_size + records_size) 0
 
 -- ---- the order of a list does not matter to what it has
 
@@ -92,12 +92,12 @@ reports-back (report k q ∷ cs) h e r = reports-back cs (report k q ∷ h) e r 
 reports-back (summary k model spec inputs ∷ cs) h e r = reports-back cs (summary k model spec inputs ∷ h) e r
 reports-back (conviction k ∷ cs) h e r = reports-back cs (conviction k ∷ h) e r
 
-summaries-back : (cs h : List Call) (p : List ℕ) → elem p (summariesOf (reverse_aux cs h)) ≡ (elem p (summariesOf cs) || elem p (summariesOf h))
-unfolding elem summariesOf
+summaries-back : (cs h : List Call) (p : List ℕ) → elem p (summaries_of (reverse_aux cs h)) ≡ (elem p (summaries_of cs) || elem p (summaries_of h))
+unfolding elem summaries_of
 summaries-back [] h p = refl
 summaries-back (report k q ∷ cs) h p = summaries-back cs (report k q ∷ h) p
 summaries-back (summary k model spec inputs ∷ cs) h p =
-    summaries-back cs (summary k model spec inputs ∷ h) p ∙ swap (same (summaryOf k model spec inputs) p) (elem p (summariesOf cs)) (elem p (summariesOf h))
+    summaries-back cs (summary k model spec inputs ∷ h) p ∙ swap (same (summary_of k model spec inputs) p) (elem p (summaries_of cs)) (elem p (summaries_of h))
 summaries-back (conviction k ∷ cs) h p = summaries-back cs (conviction k ∷ h) p
 
 convicts-back : (cs h : List Call) (e : ℕ) → convicts (reverse_aux cs h) e ≡ (convicts cs e || convicts h e)
@@ -105,7 +105,7 @@ unfolding convicts
 convicts-back [] h e = refl
 convicts-back (report k q ∷ cs) h e = convicts-back cs (report k q ∷ h) e
 convicts-back (summary k model spec inputs ∷ cs) h e = convicts-back cs (summary k model spec inputs ∷ h) e
-convicts-back (conviction k ∷ cs) h e = convicts-back cs (conviction k ∷ h) e ∙ swap (leb k maxEngine && eqb k e) (convicts cs e) (convicts h e)
+convicts-back (conviction k ∷ cs) h e = convicts-back cs (conviction k ∷ h) e ∙ swap (leb k max_engine && eqb k e) (convicts cs e) (convicts h e)
 
 -- ---- what remains
 
@@ -125,32 +125,32 @@ pulled f true a b = refl
 pulled f false a b = refl
 
 module _ (x : ℕ → Bool) where
-  pub kept-reports : (e : ℕ) (r : List ℕ) (cs : List Call) → reports (keep x cs) e r ≡ (reports cs e r && (isSound (report e r) && not (x e)))
+  pub kept-reports : (e : ℕ) (r : List ℕ) (cs : List Call) → reports (keep x cs) e r ≡ (reports cs e r && (is_sound (report e r) && not (x e)))
   unfolding keep reports
   kept-reports e r [] = refl
   kept-reports e r (report k q ∷ cs) =
-      pulled (λ (l : List Call). reports l e r) (isSound (report k q) && not (x k)) (report k q ∷ keep x cs) (keep x cs)
-      ∙ rw (kept-reports e r cs) (gone (eqb k e && same q r) (reports cs e r) (isSound (report e r) && not (x e)) (isSound (report k q) && not (x k))
+      pulled (λ (l : List Call). reports l e r) (is_sound (report k q) && not (x k)) (report k q ∷ keep x cs) (keep x cs)
+      ∙ rw (kept-reports e r cs) (gone (eqb k e && same q r) (reports cs e r) (is_sound (report e r) && not (x e)) (is_sound (report k q) && not (x k))
       (λ a. rw (sym (eqb-true k e (and_left (eqb k e) (same q r) a)), sym (same-eq q r (and_right (eqb k e) (same q r) a))) refl))
   kept-reports e r (summary k model spec inputs ∷ cs) =
-      either (λ (l : List Call). reports l e r) (isSound (summary k model spec inputs) && not (x k)) (summary k model spec inputs) (keep x cs) refl ∙ kept-reports e r cs
-  kept-reports e r (conviction k ∷ cs) = either (λ (l : List Call). reports l e r) (isSound (conviction k) && not (x k)) (conviction k) (keep x cs) refl ∙ kept-reports e r cs
+      either (λ (l : List Call). reports l e r) (is_sound (summary k model spec inputs) && not (x k)) (summary k model spec inputs) (keep x cs) refl ∙ kept-reports e r cs
+  kept-reports e r (conviction k ∷ cs) = either (λ (l : List Call). reports l e r) (is_sound (conviction k) && not (x k)) (conviction k) (keep x cs) refl ∙ kept-reports e r cs
 
-  pub kept-summaries : (p : List ℕ) (cs : List Call) → elem p (summariesOf (keep x cs)) ≡ (elem p (summariesOf cs) && (soundSummary p && not (x (engineOf p))))
-  unfolding keep elem summariesOf
+  pub kept-summaries : (p : List ℕ) (cs : List Call) → elem p (summaries_of (keep x cs)) ≡ (elem p (summaries_of cs) && (sound_summary p && not (x (engine_of p))))
+  unfolding keep elem summaries_of
   kept-summaries p [] = refl
-  kept-summaries p (report k q ∷ cs) = either (λ (l : List Call). elem p (summariesOf l)) (isSound (report k q) && not (x k)) (report k q) (keep x cs) refl ∙ kept-summaries p cs
+  kept-summaries p (report k q ∷ cs) = either (λ (l : List Call). elem p (summaries_of l)) (is_sound (report k q) && not (x k)) (report k q) (keep x cs) refl ∙ kept-summaries p cs
   kept-summaries p (summary k model spec inputs ∷ cs) =
-      let q = summaryOf k model spec inputs in
-      pulled (λ (l : List Call). elem p (summariesOf l)) (isSound (summary k model spec inputs) && not (x k)) (summary k model spec inputs ∷ keep x cs) (keep x cs)
-      ∙ rw (kept-summaries p cs) (gone (same q p) (elem p (summariesOf cs)) (soundSummary p && not (x (engineOf p))) (isSound (summary k model spec inputs) && not (x k))
-      (λ a. ap (λ (y : List ℕ). soundSummary y && not (x (engineOf y))) (sym (same-eq q p a)) ∙ ap (λ (b : Bool). b && not (x k)) (sym (by_bytes k model spec inputs))))
-  kept-summaries p (conviction k ∷ cs) = either (λ (l : List Call). elem p (summariesOf l)) (isSound (conviction k) && not (x k)) (conviction k) (keep x cs) refl ∙ kept-summaries p cs
+      let q = summary_of k model spec inputs in
+      pulled (λ (l : List Call). elem p (summaries_of l)) (is_sound (summary k model spec inputs) && not (x k)) (summary k model spec inputs ∷ keep x cs) (keep x cs)
+      ∙ rw (kept-summaries p cs) (gone (same q p) (elem p (summaries_of cs)) (sound_summary p && not (x (engine_of p))) (is_sound (summary k model spec inputs) && not (x k))
+      (λ a. ap (λ (y : List ℕ). sound_summary y && not (x (engine_of y))) (sym (same-eq q p a)) ∙ ap (λ (b : Bool). b && not (x k)) (sym (by_bytes k model spec inputs))))
+  kept-summaries p (conviction k ∷ cs) = either (λ (l : List Call). elem p (summaries_of l)) (is_sound (conviction k) && not (x k)) (conviction k) (keep x cs) refl ∙ kept-summaries p cs
 
 -- ---- the records of a list are those of its reports
 
-pub reports-among : (cs : List Call) (e : ℕ) (r : List ℕ) → reports cs e r ≡ true → elem r (recordsOf cs) ≡ true
-unfolding reports elem recordsOf
+pub reports-among : (cs : List Call) (e : ℕ) (r : List ℕ) → reports cs e r ≡ true → elem r (records_of cs) ≡ true
+unfolding reports elem records_of
 reports-among [] e r h = h
 reports-among (report k q ∷ cs) e r h =
     let ih = reports-among cs e r in
@@ -158,8 +158,8 @@ reports-among (report k q ∷ cs) e r h =
 reports-among (summary k model spec inputs ∷ cs) e r h = reports-among cs e r h
 reports-among (conviction k ∷ cs) e r h = reports-among cs e r h
 
-pub among-reports : (cs : List Call) (r : List ℕ) → elem r (recordsOf cs) ≡ true → (e : ℕ) × (reports cs e r ≡ true)
-unfolding reports elem recordsOf
+pub among-reports : (cs : List Call) (r : List ℕ) → elem r (records_of cs) ≡ true → (e : ℕ) × (reports cs e r ≡ true)
+unfolding reports elem records_of
 among-reports [] r h = absurd (false≢true h)
 among-reports (report k q ∷ cs) r h =
     let ih = among-reports cs r in
@@ -176,26 +176,26 @@ some-bit = bin_ind (λ (n : ℕ). (n ≡ 0 → ⊥) → (e : ℕ) × (bit n e �
     step n ih z = by (eqb (n % 2) 1) (λ o. (0, o)) (λ o. let w = ih (λ y. let v = eqb-false (n % 2) 1 o in z (omega arith)) in (suc w.0, w.1))
 
 -- a record that some engine signs is held
-pub record-held : (s : Register) → Valid s → (cs : List Call) → ((e : ℕ) (r : List ℕ) → bit (signersOf r s) e ≡ reports cs e r)
-    → (r : List ℕ) → holds recordSize r s.records ≡ elem r (recordsOf cs)
+pub record-held : (s : Register) → Valid s → (cs : List Call) → ((e : ℕ) (r : List ℕ) → bit (signers_of r s) e ≡ reports cs e r)
+    → (r : List ℕ) → holds record_size r s.records ≡ elem r (records_of cs)
 record-held s v cs b r =
     held-signed s v r
-    ∙ by (eqb (signersOf r s) 0)
-    (λ z. rw z (by (elem r (recordsOf cs))
-    (λ a. let w = among-reports cs r a in absurd (false≢true (sym (bit-zero w.0) ∙ ap (λ (n : ℕ). bit n w.0) (sym (eqb-true (signersOf r s) 0 z)) ∙ b w.0 r ∙ w.1)))
+    ∙ by (eqb (signers_of r s) 0)
+    (λ z. rw z (by (elem r (records_of cs))
+    (λ a. let w = among-reports cs r a in absurd (false≢true (sym (bit-zero w.0) ∙ ap (λ (n : ℕ). bit n w.0) (sym (eqb-true (signers_of r s) 0 z)) ∙ b w.0 r ∙ w.1)))
     (λ a. sym a)))
-    (λ z. rw z (let w = some-bit (signersOf r s) (eqb-false (signersOf r s) 0 z) in sym (reports-among cs w.0 r (sym (b w.0 r) ∙ w.1))))
+    (λ z. rw z (let w = some-bit (signers_of r s) (eqb-false (signers_of r s) 0 z) in sym (reports-among cs w.0 r (sym (b w.0 r) ∙ w.1))))
 
 -- ---- the claims
 
-module _ (cs : List Call) (f : noneFull fresh cs ≡ true) where
+module _ (cs : List Call) (f : none_full fresh cs ≡ true) where
   abbrev pub last : Register
   last = run (reverse cs)
 
   both : (runs fresh cs ≡ encode last) × (roomy (reverse cs) ≡ true)
   both = rw (← fresh-is) (begun (rw (← fresh-is) at f))
     where
-      begun : noneFull (encode start) cs ≡ true → (runs (encode start) cs ≡ encode last) × (roomy (reverse cs) ≡ true)
+      begun : none_full (encode start) cs ≡ true → (runs (encode start) cs ≡ encode last) × (roomy (reverse cs) ≡ true)
       begun g = let h = along cs [] (unfold roomy in refl) in unfold run in h (unfold run in g)
 
   pub sum : Sum (reverse cs) last
@@ -204,15 +204,15 @@ module _ (cs : List Call) (f : noneFull fresh cs ≡ true) where
   struck : (e : ℕ) → convicts (reverse cs) e ≡ convicts cs e
   struck e = convicts-back cs [] e ∙ (unfold convicts in or-false (convicts cs e))
 
-  pub signs : (e : ℕ) (r : List ℕ) → bit (signersOf r last) e ≡ reports (remaining cs) e r
+  pub signs : (e : ℕ) (r : List ℕ) → bit (signers_of r last) e ≡ reports (remaining cs) e r
   signs e r =
       let a : reports (reverse cs) e r ≡ reports cs e r = reports-back cs [] e r ∙ (unfold reports in or-false (reports cs e r)) in
       sum.signed_by e r ∙ rw (a, struck e) (sym (kept-reports (convicts cs) e r cs))
 
-  pub summarized : (p : List ℕ) → holds summarySize p last.summaries ≡ elem p (summariesOf (remaining cs))
+  pub summarized : (p : List ℕ) → holds summary_size p last.summaries ≡ elem p (summaries_of (remaining cs))
   summarized p =
-      let a : elem p (summariesOf (reverse cs)) ≡ elem p (summariesOf cs) = summaries-back cs [] p ∙ (unfold elem summariesOf in or-false (elem p (summariesOf cs))) in
-      sum.held p ∙ rw (a, struck (engineOf p)) (sym (kept-summaries (convicts cs) p cs))
+      let a : elem p (summaries_of (reverse cs)) ≡ elem p (summaries_of cs) = summaries-back cs [] p ∙ (unfold elem summaries_of in or-false (elem p (summaries_of cs))) in
+      sum.held p ∙ rw (a, struck (engine_of p)) (sym (kept-summaries (convicts cs) p cs))
 
   pub decoded : decode (runs fresh cs) ≡ last
   decoded = rw both.0 (decode-encode last sum.valid)
@@ -220,13 +220,13 @@ module _ (cs : List Call) (f : noneFull fresh cs ≡ true) where
   whole_of : HoldsExactly cs (runs fresh cs)
   whole_of = record {
     formed = rw both.0 (formed-encode last sum.valid);
-    convicted = λ e. ap (λ (s : Register). bit s.convicted e) decoded ∙ sum.struck-off e ∙ struck e;
-    summaries = λ p. ap (λ (s : Register). holds summarySize p s.summaries) decoded ∙ summarized p;
-    records = λ r. ap (λ (s : Register). holds recordSize r s.records) decoded ∙ record-held last sum.valid (remaining cs) signs r;
-    signers = λ e r. ap (λ (s : Register). bit (signersOf r s) e) decoded ∙ signs e r;
+    convicted = λ e. ap (λ (s : Register). bit s.convicted e) decoded ∙ sum.struck_off e ∙ struck e;
+    summaries = λ p. ap (λ (s : Register). holds summary_size p s.summaries) decoded ∙ summarized p;
+    records = λ r. ap (λ (s : Register). holds record_size r s.records) decoded ∙ record-held last sum.valid (remaining cs) signs r;
+    signers = λ e r. ap (λ (s : Register). bit (signers_of r s) e) decoded ∙ signs e r;
   }
 
-  rest-is : drop 4 (runs fresh cs) ≡ word_bytes 2 (length last.summaries) ++ (word_bytes 2 (length last.records) ++ (table_of summarySize maxSummaries last.summaries ++ table_of placeSize maxRecords last.records))
+  rest-is : drop 4 (runs fresh cs) ≡ word_bytes 2 (length last.summaries) ++ (word_bytes 2 (length last.records) ++ (table_of summary_size max_summaries last.summaries ++ table_of place_size max_records last.records))
   unfolding encode
   rest-is = ap (drop 4) both.0 ∙ drop_at (word_bytes 4 last.convicted) _ 4 (length-word-bytes 4 last.convicted)
 
@@ -234,7 +234,7 @@ pub whole : HoldsWhatRemains
 whole = whole_of
 
 -- the summaries and the records are equal, so their bytes are
-module _ (cs ds : List Call) (f : noneFull fresh cs ≡ true) (g : noneFull fresh ds ≡ true) (q : SameRemains cs ds) where
+module _ (cs ds : List Call) (f : none_full fresh cs ≡ true) (g : none_full fresh ds ≡ true) (q : SameRemains cs ds) where
   abbrev s : Register
   s = run (reverse cs)
 
@@ -244,8 +244,8 @@ module _ (cs ds : List Call) (f : noneFull fresh cs ≡ true) (g : noneFull fres
   pub same-summaries : s.summaries ≡ t.summaries
   same-summaries = summaries-same s t (sum cs f).valid (sum ds g).valid (λ p. summarized cs f p ∙ q.summaries p ∙ sym (summarized ds g p))
 
-  same-signers : (r : List ℕ) → signersOf r s ≡ signersOf r t
-  same-signers r = bit-ext (signersOf r s) (signersOf r t) (λ e. signs cs f e r ∙ q.reported e r ∙ sym (signs ds g e r))
+  same-signers : (r : List ℕ) → signers_of r s ≡ signers_of r t
+  same-signers r = bit-ext (signers_of r s) (signers_of r t) (λ e. signs cs f e r ∙ q.reported e r ∙ sym (signs ds g e r))
 
   pub same-records : s.records ≡ t.records
   same-records = records-same s t (sum cs f).valid (sum ds g).valid same-signers
@@ -253,7 +253,7 @@ module _ (cs ds : List Call) (f : noneFull fresh cs ≡ true) (g : noneFull fres
   same_rest : drop 4 (runs fresh cs) ≡ drop 4 (runs fresh ds)
   same_rest =
       rest-is cs f
-      ∙ ap₂ (λ (x y : List (List ℕ)). word_bytes 2 (length x) ++ (word_bytes 2 (length y) ++ (table_of summarySize maxSummaries x ++ table_of placeSize maxRecords y))) same-summaries same-records
+      ∙ ap₂ (λ (x y : List (List ℕ)). word_bytes 2 (length x) ++ (word_bytes 2 (length y) ++ (table_of summary_size max_summaries x ++ table_of place_size max_records y))) same-summaries same-records
       ∙ sym (rest-is ds g)
 
 pub same_bytes : SameBytes

@@ -2,13 +2,13 @@
 -- lists are stated with these and with the definitions that the contracts cite.
 use Rattle.std.specs.Prelude.{ℕ, Bool, true, false, cond, not, ◌&&◌, ◌||◌, List, [], ◌∷◌, leb, eqb, length}
 use Rattle.octets.specs.Order.{same}
-use Rattle.record.specs.Layout.{maxModel}
-use Rattle.record.specs.Formed.{wellFormed}
-use Rattle.models.specs.Summary.{inputsSize, summaryOf}
+use Rattle.record.specs.Layout.{max_model}
+use Rattle.record.specs.Formed.{well_formed}
+use Rattle.models.specs.Summary.{inputs_size, summary_of}
 use Rattle.held.specs.After.{After}
-use Rattle.held.specs.Limits.{maxEngine, maxSummaries}
-use Rattle.register.specs.Layout.{maxRecords}
-use Rattle.register.specs.Register.{Register, takeReport, takeSummary, takeConviction}
+use Rattle.held.specs.Limits.{max_engine, max_summaries}
+use Rattle.register.specs.Layout.{max_records}
+use Rattle.register.specs.Register.{Register, take_report, take_summary, take_conviction}
 use Rattle.register.specs.Memory.{on_memory}
 
 -- report(engine, record), summary(engine, model, spec, inputs), conviction(engine)
@@ -18,9 +18,9 @@ pub data Call : Type 0 where
   conviction : ℕ → Call
 
 abbrev pub act : Call → Register → After Register
-act (report e r) = takeReport e r
-act (summary e model spec inputs) = takeSummary e model spec inputs
-act (conviction e) = takeConviction e
+act (report e r) = take_report e r
+act (summary e model spec inputs) = take_summary e model spec inputs
+act (conviction e) = take_conviction e
 
 -- the bytes after the calls of a list, first to last
 unfoldable pub runs : List ℕ → List Call → List ℕ
@@ -28,34 +28,34 @@ runs m [] = m
 runs m (c ∷ cs) = runs (on_memory (act c) m).left cs
 
 -- no call of the list is answered 5
-unfoldable pub noneFull : List ℕ → List Call → Bool
-noneFull m [] = true
-noneFull m (c ∷ cs) = not (eqb (on_memory (act c) m).answer 5) && noneFull (on_memory (act c) m).left cs
+unfoldable pub none_full : List ℕ → List Call → Bool
+none_full m [] = true
+none_full m (c ∷ cs) = not (eqb (on_memory (act c) m).answer 5) && none_full (on_memory (act c) m).left cs
 
 -- ---- what remains
 
-abbrev pub callEngine : Call → ℕ
-callEngine (report e r) = e
-callEngine (summary e model spec inputs) = e
-callEngine (conviction e) = e
+abbrev pub call_engine : Call → ℕ
+call_engine (report e r) = e
+call_engine (summary e model spec inputs) = e
+call_engine (conviction e) = e
 
 -- not malformed
-abbrev pub isSound : Call → Bool
-isSound (report e r) = leb e maxEngine && wellFormed r
-isSound (summary e model spec inputs) = leb e maxEngine && (leb model maxModel && eqb (length inputs) inputsSize)
-isSound (conviction e) = leb e maxEngine
+abbrev pub is_sound : Call → Bool
+is_sound (report e r) = leb e max_engine && well_formed r
+is_sound (summary e model spec inputs) = leb e max_engine && (leb model max_model && eqb (length inputs) inputs_size)
+is_sound (conviction e) = leb e max_engine
 
 -- an engine is convicted somewhere in the list
 unfoldable pub convicts : List Call → ℕ → Bool
 convicts [] e = false
 convicts (report k r ∷ cs) e = convicts cs e
 convicts (summary k model spec inputs ∷ cs) e = convicts cs e
-convicts (conviction k ∷ cs) e = leb k maxEngine && eqb k e || convicts cs e
+convicts (conviction k ∷ cs) e = leb k max_engine && eqb k e || convicts cs e
 
 -- the calls that are not malformed, of engines that are not struck
 unfoldable pub keep : (ℕ → Bool) → List Call → List Call
 keep struck [] = []
-keep struck (c ∷ cs) = cond (isSound c && not (struck (callEngine c))) (c ∷ keep struck cs) (keep struck cs)
+keep struck (c ∷ cs) = cond (is_sound c && not (struck (call_engine c))) (c ∷ keep struck cs) (keep struck cs)
 
 -- what remains of a list once malformed calls and calls of engines that are convicted anywhere in it are struck
 abbrev pub remaining : List Call → List Call
@@ -72,17 +72,17 @@ reports (conviction k ∷ cs) e r = reports cs e r
 
 -- ---- the records and summaries of a list, and how many of them are different
 
-unfoldable pub recordsOf : List Call → List (List ℕ)
-recordsOf [] = []
-recordsOf (report e r ∷ cs) = r ∷ recordsOf cs
-recordsOf (summary e model spec inputs ∷ cs) = recordsOf cs
-recordsOf (conviction e ∷ cs) = recordsOf cs
+unfoldable pub records_of : List Call → List (List ℕ)
+records_of [] = []
+records_of (report e r ∷ cs) = r ∷ records_of cs
+records_of (summary e model spec inputs ∷ cs) = records_of cs
+records_of (conviction e ∷ cs) = records_of cs
 
-unfoldable pub summariesOf : List Call → List (List ℕ)
-summariesOf [] = []
-summariesOf (report e r ∷ cs) = summariesOf cs
-summariesOf (summary e model spec inputs ∷ cs) = summaryOf e model spec inputs ∷ summariesOf cs
-summariesOf (conviction e ∷ cs) = summariesOf cs
+unfoldable pub summaries_of : List Call → List (List ℕ)
+summaries_of [] = []
+summaries_of (report e r ∷ cs) = summaries_of cs
+summaries_of (summary e model spec inputs ∷ cs) = summary_of e model spec inputs ∷ summaries_of cs
+summaries_of (conviction e ∷ cs) = summaries_of cs
 
 unfoldable pub elem : List ℕ → List (List ℕ) → Bool
 elem x [] = false
@@ -94,9 +94,9 @@ nub (x ∷ xs) = cond (elem x xs) (nub xs) (x ∷ nub xs)
 
 -- at most 96 different records and 256 different summaries remain
 abbrev pub fits : List Call → Bool
-fits cs = leb (length (nub (recordsOf (remaining cs)))) maxRecords && leb (length (nub (summariesOf (remaining cs)))) maxSummaries
+fits cs = leb (length (nub (records_of (remaining cs)))) max_records && leb (length (nub (summaries_of (remaining cs)))) max_summaries
 
 -- so it is of each beginning of a list, which is given from its end
-unfoldable pub alwaysFits : List Call → Bool
-alwaysFits [] = true
-alwaysFits (c ∷ before) = fits (c ∷ before) && alwaysFits before
+unfoldable pub always_fits : List Call → Bool
+always_fits [] = true
+always_fits (c ∷ before) = fits (c ∷ before) && always_fits before

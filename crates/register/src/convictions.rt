@@ -1,14 +1,14 @@
 // A conviction in a register.
 ghost use Rattle.std.specs.Prelude.{◌≡◌, true, ◌+◌, ◌*◌, ◌≤◌, length};
-ghost use Rattle.places.specs.Places.{places, keepPlaces};
-ghost use Rattle.record.specs.Layout.{recordSize};
+ghost use Rattle.places.specs.Places.{places, keep_places};
+ghost use Rattle.record.specs.Layout.{record_size};
 ghost use Rattle.held.specs.After.{after};
-ghost use Rattle.held.specs.Limits.{placeSize};
-ghost use Rattle.held.specs.Signed.{dropSigner, hasAnotherSigner};
+ghost use Rattle.held.specs.Limits.{place_size};
+ghost use Rattle.held.specs.Signed.{drop_signer, has_another_signer};
 ghost use Rattle.held.specs.Strikes.{Struck};
-ghost use Rattle.register.specs.Refusals.{numberOf};
-ghost use Rattle.register.specs.Register.{strikeEngine, takeConviction};
-ghost use Rattle.register.specs.Memory.{wellFormed, decode, on_memory};
+ghost use Rattle.register.specs.Refusals.{number_of};
+ghost use Rattle.register.specs.Register.{strike_engine, take_conviction};
+ghost use Rattle.register.specs.Memory.{well_formed, decode, on_memory};
 ghost use Rattle.register.specs.Strikes.{kept_at};
 
 use crate::Register;
@@ -25,7 +25,7 @@ use record::layout::RECORD_SIZE;
 // Copies the record at one byte down to another, with these signers.
 fn keep_place(t: &mut [u8], from: usize, to: usize, signers: Signers)
     requires to_le_from { to ≤ from }
-    requires place_size_in_bounds { from + placeSize ≤ length t.old }
+    requires place_size_in_bounds { from + place_size ≤ length t.old }
     ensures { t.new ≡ kept_at from to signers.0 t.old }
 {
     copy_down(t, from, to, PLACE_SIZE);
@@ -35,8 +35,8 @@ fn keep_place(t: &mut [u8], from: usize, to: usize, signers: Signers)
 // Takes an engine's signature off the first n records of a table, and those left without one out, and
 // returns how many are left.
 fn strike_records(t: &mut [u8], n: usize, engine: Engine) -> usize
-    requires { n * placeSize ≤ length t.old }
-    ensures { Struck placeSize (keepPlaces recordSize (hasAnotherSigner engine.number) (dropSigner engine.number) (places placeSize n t.old)) t.old result t.new }
+    requires { n * place_size ≤ length t.old }
+    ensures { Struck place_size (keep_places record_size (has_another_signer engine.number) (drop_signer engine.number) (places place_size n t.old)) t.old result t.new }
 {
     let mut j = 0;
     for i in 0..n {
@@ -54,9 +54,9 @@ fn strike_records(t: &mut [u8], n: usize, engine: Engine) -> usize
 
 // Strikes an engine from a register.
 fn strike(memory: &mut [u8], engine: Engine)
-    requires { wellFormed memory.old ≡ true }
-    ensures struck { decode memory.new ≡ strikeEngine engine.number (decode memory.old) }
-    ensures formed { wellFormed memory.new ≡ true }
+    requires { well_formed memory.old ≡ true }
+    ensures struck { decode memory.new ≡ strike_engine engine.number (decode memory.old) }
+    ensures formed { well_formed memory.new ≡ true }
 {
     let (convicted, rest) = memory.split_at_mut(SUMMARY_COUNT_AT);
     let (summary_count, rest) = rest.split_at_mut(2);
@@ -74,7 +74,7 @@ impl<'a> Register<'a> {
     // Convicts an engine.
     pub fn conviction(&mut self, engine: u32) -> Result<(), Refusal>
         ensures same_reference { self.new.memory.ghost_name ≡ self.old.memory.ghost_name }
-        ensures convicted { after (numberOf result) (decode self.new.memory.now) ≡ takeConviction engine (decode self.old.memory.now) }
+        ensures convicted { after (number_of result) (decode self.new.memory.now) ≡ take_conviction engine (decode self.old.memory.now) }
     {
         let Some(engine) = Engine::new(engine) else {
             return Err(Refusal::NoEngine);
@@ -86,7 +86,7 @@ impl<'a> Register<'a> {
 
 // Convicts an engine.
 pub fn conviction(memory: &mut [u8], engine: u32) -> u32
-    ensures { after result memory.new ≡ on_memory (takeConviction engine) memory.old }
+    ensures { after result memory.new ≡ on_memory (take_conviction engine) memory.old }
 {
     if !well_formed(memory) {
         return 1;

@@ -1,10 +1,10 @@
 // Which bytes are a register.
 ghost use Rattle.std.specs.Prelude.{◌≡◌, ◌&&◌, ◌*◌, ◌≤◌, length};
-ghost use Rattle.places.specs.Places.{places, isTable, allPlaces};
-ghost use Rattle.record.specs.Layout.{recordSize};
-ghost use Rattle.held.specs.Limits.{placeSize};
-ghost use Rattle.held.specs.Signed.{placeFormed};
-ghost use Rattle.register.specs.Memory.{wellFormed};
+ghost use Rattle.places.specs.Places.{places, is_table, all_places};
+ghost use Rattle.record.specs.Layout.{record_size};
+ghost use Rattle.held.specs.Limits.{place_size};
+ghost use Rattle.held.specs.Signed.{place_formed};
+ghost use Rattle.register.specs.Memory.{well_formed};
 
 use crate::layout;
 use held::engines::Signers;
@@ -16,17 +16,17 @@ use record::layout::RECORD_SIZE;
 
 // Whether t holds a table of n records with signers, none of them convicted.
 fn place_table_formed(t: &[u8], n: usize, convicted: Signers) -> bool
-    requires { n * placeSize ≤ length t.now }
-    ensures { result ≡ (isTable recordSize placeSize n t.now && allPlaces (placeFormed convicted.0) (places placeSize n t.now)) }
+    requires { n * place_size ≤ length t.now }
+    ensures { result ≡ (is_table record_size place_size n t.now && all_places (place_formed convicted.0) (places place_size n t.now)) }
 {
     is_table::<PLACE_SIZE, RECORD_SIZE>(t, n)
         && held::formed::places_formed(t, n, PLACE_SIZE, convicted)
 }
 
-#[tactic(auto, unfolding(crate::specs::Memory::wellFormed))]
+#[tactic(auto, unfolding(crate::specs::Memory::well_formed))]
 // Whether the bytes are a register.
 pub fn well_formed(m: &[u8]) -> bool
-    ensures { result ≡ wellFormed m.now }
+    ensures { result ≡ well_formed m.now }
 {
     if m.len() != layout::REGISTER_SIZE {
         return false;

@@ -8,7 +8,7 @@
 
 ghost use Rattle.std.specs.Prelude.{◌≡◌, true};
 ghost use Rattle.octets.specs.Masks.{bit};
-ghost use Rattle.register.specs.Memory.{wellFormed, decode};
+ghost use Rattle.register.specs.Memory.{well_formed, decode};
 
 use held::engines::{Engine, Signers};
 use octets::words::u32_at;
@@ -25,13 +25,13 @@ pub mod summaries;
 #[derive(Drop)]
 pub struct Register<'a> {
     pub memory: &'a mut [u8],
-    pub ghost formed: { wellFormed memory.now ≡ true },
+    pub ghost formed: { well_formed memory.now ≡ true },
 }
 
 impl<'a> Register<'a> {
     // The register that these bytes are known to be.
     pub fn of(memory: &'a mut [u8]) -> Self
-        requires { wellFormed memory.old ≡ true }
+        requires { well_formed memory.old ≡ true }
         ensures same_reference { result.memory.ghost_name ≡ memory.entry.ghost_name }
         ensures bytes { result.memory.now ≡ memory.old }
     {

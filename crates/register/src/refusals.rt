@@ -1,6 +1,6 @@
 // Why a register takes no call.
 ghost use Rattle.std.specs.Prelude.{◌≡◌};
-ghost use Rattle.register.specs.Refusals.{numberOf};
+ghost use Rattle.register.specs.Refusals.{number_of};
 
 // Why a register does not take a call.
 #[derive(Clone, Copy)]
@@ -19,7 +19,7 @@ pub enum Refusal {
 
 // The number of an answer.
 pub fn number(answer: Result<(), Refusal>) -> u32
-    ensures { result ≡ numberOf answer }
+    ensures { result ≡ number_of answer }
 {
     match answer {
         Ok(()) => 0,

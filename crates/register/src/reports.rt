@@ -1,12 +1,12 @@
 // A report into a register.
 ghost use Rattle.std.specs.Prelude.{◌≡◌, ◌<◌, ◌++◌, true, false, length, IfOk};
-ghost use Rattle.octets.specs.Masks.{bit, withBit};
+ghost use Rattle.octets.specs.Masks.{bit, with_bit};
 ghost use Rattle.octets.specs.Words.{word_bytes};
 ghost use Rattle.held.specs.After.{after};
-ghost use Rattle.register.specs.Refusals.{numberOf};
-ghost use Rattle.register.specs.Signers.{signersFound};
-ghost use Rattle.register.specs.Register.{signRecord, takeReport};
-ghost use Rattle.register.specs.Memory.{wellFormed, decode, on_memory};
+ghost use Rattle.register.specs.Refusals.{number_of};
+ghost use Rattle.register.specs.Signers.{signers_found};
+ghost use Rattle.register.specs.Register.{sign_record, take_report};
+ghost use Rattle.register.specs.Memory.{well_formed, decode, on_memory};
 
 use crate::Register;
 use crate::formed::well_formed;
@@ -36,7 +36,7 @@ fn signed(r: Record, signers: Signers) -> [u8; PLACE_SIZE]
 // The signers of a record where it was found: none where it was not.
 fn signers_of(records: &[[u8; PLACE_SIZE]], found: Result<usize, usize>) -> Signers
     requires { IfOk found (λ i. i < length records.now) }
-    ensures { result.0 ≡ signersFound records.now found }
+    ensures { result.0 ≡ signers_found records.now found }
 {
     match found {
         Ok(i) => {
@@ -54,17 +54,17 @@ fn signers_with(
     engine: Engine,
 ) -> Signers
     requires { IfOk found (λ i. i < length records.now) }
-    ensures { result.0 ≡ withBit (signersFound records.now found) engine.number }
+    ensures { result.0 ≡ with_bit (signers_found records.now found) engine.number }
 {
     signers_of(records, found).with(engine)
 }
 
 // Puts a record in, or its signer.
 fn sign(memory: &mut [u8], engine: Engine, r: Record) -> Result<(), Refusal>
-    requires register { wellFormed memory.old ≡ true }
+    requires register { well_formed memory.old ≡ true }
     requires free { bit (decode memory.old).convicted engine.number ≡ false }
-    ensures signed { after (numberOf result) (decode memory.new) ≡ signRecord engine.number r.entry.bytes.now (decode memory.old) }
-    ensures formed { wellFormed memory.new ≡ true }
+    ensures signed { after (number_of result) (decode memory.new) ≡ sign_record engine.number r.entry.bytes.now (decode memory.old) }
+    ensures formed { well_formed memory.new ≡ true }
 {
     let (convicted, rest) = memory.split_at_mut(SUMMARY_COUNT_AT);
     let (summary_count, rest) = rest.split_at_mut(2);
@@ -85,7 +85,7 @@ impl<'a> Register<'a> {
     // Reports a record for an engine.
     pub fn report(&mut self, engine: u32, r: &[u8]) -> Result<(), Refusal>
         ensures same_reference { self.new.memory.ghost_name ≡ self.old.memory.ghost_name }
-        ensures reported { after (numberOf result) (decode self.new.memory.now) ≡ takeReport engine r.now (decode self.old.memory.now) }
+        ensures reported { after (number_of result) (decode self.new.memory.now) ≡ take_report engine r.now (decode self.old.memory.now) }
     {
         let Some(engine) = Engine::new(engine) else {
             return Err(Refusal::NoEngine);
@@ -102,7 +102,7 @@ impl<'a> Register<'a> {
 
 // Reports a record for an engine.
 pub fn report(memory: &mut [u8], engine: u32, r: &[u8]) -> u32
-    ensures { after result memory.new ≡ on_memory (takeReport engine r.now) memory.old }
+    ensures { after result memory.new ≡ on_memory (take_report engine r.now) memory.old }
 {
     if !well_formed(memory) {
         return 1;

@@ -1,10 +1,10 @@
 // A summary into a register.
 ghost use Rattle.std.specs.Prelude.{◌≡◌, true};
 ghost use Rattle.held.specs.After.{after};
-ghost use Rattle.held.specs.Summaries.{summaryFormed};
-ghost use Rattle.register.specs.Refusals.{numberOf};
-ghost use Rattle.register.specs.Register.{holdSummary, takeSummary};
-ghost use Rattle.register.specs.Memory.{wellFormed, decode, on_memory};
+ghost use Rattle.held.specs.Summaries.{summary_formed};
+ghost use Rattle.register.specs.Refusals.{number_of};
+ghost use Rattle.register.specs.Register.{hold_summary, take_summary};
+ghost use Rattle.register.specs.Memory.{well_formed, decode, on_memory};
 
 use crate::Register;
 use crate::formed::well_formed;
@@ -23,10 +23,10 @@ type Summaries<'a> = Table<'a, SUMMARY_SIZE, SUMMARY_SIZE, MAX_SUMMARIES>;
 
 // Puts a summary in, unless it is held.
 fn hold(memory: &mut [u8], summary: &[u8; SUMMARY_SIZE]) -> Result<(), Refusal>
-    requires register { wellFormed memory.old ≡ true }
-    requires summary { summaryFormed (decode memory.old).convicted summary.now ≡ true }
-    ensures held { after (numberOf result) (decode memory.new) ≡ holdSummary summary.now (decode memory.old) }
-    ensures formed { wellFormed memory.new ≡ true }
+    requires register { well_formed memory.old ≡ true }
+    requires summary { summary_formed (decode memory.old).convicted summary.now ≡ true }
+    ensures held { after (number_of result) (decode memory.new) ≡ hold_summary summary.now (decode memory.old) }
+    ensures formed { well_formed memory.new ≡ true }
 {
     let (convicted, rest) = memory.split_at_mut(SUMMARY_COUNT_AT);
     let (summary_count, rest) = rest.split_at_mut(2);
@@ -52,7 +52,7 @@ impl<'a> Register<'a> {
         inputs: &[u8],
     ) -> Result<(), Refusal>
         ensures same_reference { self.new.memory.ghost_name ≡ self.old.memory.ghost_name }
-        ensures summarized { after (numberOf result) (decode self.new.memory.now) ≡ takeSummary engine model spec inputs.now (decode self.old.memory.now) }
+        ensures summarized { after (number_of result) (decode self.new.memory.now) ≡ take_summary engine model spec inputs.now (decode self.old.memory.now) }
     {
         let Some(engine) = Engine::new(engine) else {
             return Err(Refusal::NoEngine);
@@ -72,7 +72,7 @@ impl<'a> Register<'a> {
 
 // Takes a summary of a model from an engine.
 pub fn summary(memory: &mut [u8], engine: u32, model: u32, spec: u16, inputs: &[u8]) -> u32
-    ensures { after result memory.new ≡ on_memory (takeSummary engine model spec inputs.now) memory.old }
+    ensures { after result memory.new ≡ on_memory (take_summary engine model spec inputs.now) memory.old }
 {
     if !well_formed(memory) {
         return 1;

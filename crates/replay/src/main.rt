@@ -3,8 +3,8 @@
 #![tactic(auto)]
 
 ghost use Rattle.std.specs.Prelude.{◌+◌, ◌<◌, ◌≤◌, length};
-ghost use Rattle.answers.specs.Layout.{chiSquareSize, refusalSize};
-ghost use Rattle.answers.specs.Offsets.{indicesSize, refusalsSize};
+ghost use Rattle.answers.specs.Layout.{chi_square_size, refusal_size};
+ghost use Rattle.answers.specs.Offsets.{indices_size, refusals_size};
 
 use answers::{ANSWER_SIZE, INDICES_SIZE, REFUSAL_SIZE};
 use arithmetic::standing::{Agreement, Claimed, Measure};
@@ -106,7 +106,7 @@ fn agreement(rt: &impl Print, s: &[u8]) -> io::Result<()>
 }
 
 fn show_indices(rt: &impl Print, s: &[u8], at: usize) -> io::Result<()>
-    requires { at + indicesSize ≤ length s.now }
+    requires { at + indices_size ≤ length s.now }
 {
     let count = size(s[at]);
     for i in 0..MAX_ITEMS {
@@ -120,7 +120,7 @@ fn show_indices(rt: &impl Print, s: &[u8], at: usize) -> io::Result<()>
 
 // Whether there is a chi-square, and its bits.
 fn show_chi_square(rt: &impl Print, s: &[u8], at: usize) -> io::Result<()>
-    requires { at + chiSquareSize ≤ length s.now }
+    requires { at + chi_square_size ≤ length s.now }
 {
     if s[at] == 0 {
         return word(rt, b" none");
@@ -129,7 +129,7 @@ fn show_chi_square(rt: &impl Print, s: &[u8], at: usize) -> io::Result<()>
 }
 
 fn show_refusal(rt: &impl Print, s: &[u8], at: usize) -> io::Result<()>
-    requires { at + refusalSize ≤ length s.now }
+    requires { at + refusal_size ≤ length s.now }
 {
     if s[at + 2] == 0 {
         word(rt, b" contested")?;
@@ -142,7 +142,7 @@ fn show_refusal(rt: &impl Print, s: &[u8], at: usize) -> io::Result<()>
 }
 
 fn show_refusals(rt: &impl Print, s: &[u8], at: usize) -> io::Result<()>
-    requires { at + refusalsSize ≤ length s.now }
+    requires { at + refusals_size ≤ length s.now }
 {
     let count = size(s[at]);
     for i in 0..MAX_ITEMS {

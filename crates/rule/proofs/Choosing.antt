@@ -6,7 +6,7 @@ use mathlib.Core.List.{List, [], ◌∷◌, Memᴰ}
 use Prim.Native.Nat.{ℕ, ◌+◌, ◌-◌, ◌≤◌, ◌<◌}
 use native.Mathlib.Omega.{arith}
 use Rattle.ranges.proofs.Bools.{by, or}
-use Rattle.ranges.specs.Lists.{filter, foremost, countFrom, up_to}
+use Rattle.ranges.specs.Lists.{filter, foremost, count_from, up_to}
 use Rattle.ranges.proofs.Lists.{filter-in, foremost-in, foremost-next, up_in}
 use Rattle.ranges.proofs.Sorting.{Strict, foremost-first}
 use Rattle.ranges.proofs.Searches.{count-start, count_turn, count-end}
@@ -38,28 +38,28 @@ module _ (before : ℕ → ℕ → Bool) where
   choose-next None k l = refl
   choose-next (Some b) k l = ap Some (foremost-next before b k l)
 
-  pub choose-start : (g : ℕ → Bool) (n : ℕ) → choose before None (filter g (countFrom 0 n)) ≡ choose before None (filter g (countFrom 0 (n - 0)))
+  pub choose-start : (g : ℕ → Bool) (n : ℕ) → choose before None (filter g (count_from 0 n)) ≡ choose before None (filter g (count_from 0 (n - 0)))
   choose-start g n = ap (λ (l : List ℕ). choose before None (filter g l)) (count-start n)
 
-  pub choose-hit : (t : Option ℕ) (g : ℕ → Bool) (best : Option ℕ) (i n : ℕ) (r : Option ℕ) → t ≡ choose before best (filter g (countFrom i (n - i))) → i < n → g i ≡ true
-      → r ≡ better before best i → t ≡ choose before r (filter g (countFrom (i + 1) (n - (i + 1))))
+  pub choose-hit : (t : Option ℕ) (g : ℕ → Bool) (best : Option ℕ) (i n : ℕ) (r : Option ℕ) → t ≡ choose before best (filter g (count_from i (n - i))) → i < n → g i ≡ true
+      → r ≡ better before best i → t ≡ choose before r (filter g (count_from (i + 1) (n - (i + 1))))
   unfolding filter
   choose-hit t g best i n r e h p q =
-      let rest = filter g (countFrom (i + 1) (n - (i + 1))) in
+      let rest = filter g (count_from (i + 1) (n - (i + 1))) in
       e ∙ ap (λ (l : List ℕ). choose before best (filter g l)) (count_turn i n h)
       ∙ ap (λ (b : Bool). choose before best (cond b (i ∷ rest) rest)) p
       ∙ choose-next best i rest
       ∙ ap (λ (c : Option ℕ). choose before c rest) (sym q)
 
-  pub choose-miss : (t : Option ℕ) (g : ℕ → Bool) (best : Option ℕ) (i n : ℕ) → t ≡ choose before best (filter g (countFrom i (n - i))) → i < n → g i ≡ false
-      → t ≡ choose before best (filter g (countFrom (i + 1) (n - (i + 1))))
+  pub choose-miss : (t : Option ℕ) (g : ℕ → Bool) (best : Option ℕ) (i n : ℕ) → t ≡ choose before best (filter g (count_from i (n - i))) → i < n → g i ≡ false
+      → t ≡ choose before best (filter g (count_from (i + 1) (n - (i + 1))))
   unfolding filter
   choose-miss t g best i n e h p =
-      let rest = filter g (countFrom (i + 1) (n - (i + 1))) in
+      let rest = filter g (count_from (i + 1) (n - (i + 1))) in
       e ∙ ap (λ (l : List ℕ). choose before best (filter g l)) (count_turn i n h)
       ∙ ap (λ (b : Bool). choose before best (cond b (i ∷ rest) rest)) p
 
-  pub choose-out : (t : Option ℕ) (g : ℕ → Bool) (best : Option ℕ) (i n : ℕ) → t ≡ choose before best (filter g (countFrom i (n - i))) → n ≤ i → best ≡ t
+  pub choose-out : (t : Option ℕ) (g : ℕ → Bool) (best : Option ℕ) (i n : ℕ) → t ≡ choose before best (filter g (count_from i (n - i))) → n ≤ i → best ≡ t
   unfolding filter choose foremost
   choose-out t g best i n e h = sym (e ∙ ap (λ (l : List ℕ). choose before best (filter g l)) (count-end i n h) ∙ none best)
     where

@@ -9,7 +9,7 @@ pub record Relations (A C : Type 0) : Type 0 where
   -- the second is a consistent subset of the first, and they disagree
   pub disagrees : A → A → Bool
   -- what was measured of the first against its subset
-  pub chiSquare : A → A → C
+  pub chi_square : A → A → C
   -- the first has strictly more standing
   pub outstands : A → A → Bool
   -- it is verified, and passed
@@ -31,45 +31,45 @@ module _ {A C : Type 0} (r : Relations A C) (all : List A) where
   abbrev pub replaces : A → A → Bool
   replaces f g = supersedes g && r.disagrees g f
 
-  unfoldable pub isSuperseded : A → Bool
-  isSuperseded f = any_of (replaces f) all
+  unfoldable pub is_superseded : A → Bool
+  is_superseded f = any_of (replaces f) all
 
   -- g is a disagreeing subset of f that nothing supersedes
   abbrev pub opposes : A → A → Bool
-  opposes f g = r.disagrees f g && not (isSuperseded g)
+  opposes f g = r.disagrees f g && not (is_superseded g)
 
   -- f neither supersedes nor is superseded, and something opposes it
-  unfoldable pub isContested : A → Bool
-  isContested f = not (supersedes f) && (not (isSuperseded f) && any_of (opposes f) all)
+  unfoldable pub is_contested : A → Bool
+  is_contested f = not (supersedes f) && (not (is_superseded f) && any_of (opposes f) all)
 
   unfoldable pub is_refused : A → Bool
-  is_refused f = isSuperseded f || isContested f
+  is_refused f = is_superseded f || is_contested f
 
   -- f is a subset, with its model inputs, of one that is not refused
-  unfoldable pub isCovered : A → Bool
-  isCovered f = any_of (λ g. not (is_refused g) && r.within f g) all
+  unfoldable pub is_covered : A → Bool
+  is_covered f = any_of (λ g. not (is_refused g) && r.within f g) all
 
   -- a refused item names the lowest identity of those that replace it, or else of those that oppose it
   abbrev pub replaced : A → List A → List (Refused A C)
   replaced f [] = []
   replaced f (g ∷ gs) =
       let k = foremost r.lower g gs in
-      record { item = f; against = k; chi2 = r.chiSquare k f; superseded = true } ∷ []
+      record { item = f; against = k; chi2 = r.chi_square k f; superseded = true } ∷ []
 
   abbrev pub opposed : A → List A → List (Refused A C)
   opposed f [] = []
   opposed f (g ∷ gs) =
       let k = foremost r.lower g gs in
-      record { item = f; against = k; chi2 = r.chiSquare f k; superseded = false } ∷ []
+      record { item = f; against = k; chi2 = r.chi_square f k; superseded = false } ∷ []
 
-  unfoldable pub refusalOf : A → List (Refused A C)
-  refusalOf f =
-      cond (isSuperseded f) (replaced f (filter (replaces f) all))
-      (cond (isContested f) (opposed f (filter (opposes f) all)) [])
+  unfoldable pub refusal_of : A → List (Refused A C)
+  refusal_of f =
+      cond (is_superseded f) (replaced f (filter (replaces f) all))
+      (cond (is_contested f) (opposed f (filter (opposes f) all)) [])
 
   unfoldable pub decide : Outcome A C
   decide = record {
-    ranked = sort r.ahead (filter (λ f. not (is_refused f) && not (isCovered f)) all);
-    dominated = filter (λ f. not (is_refused f) && isCovered f) all;
-    refused = flat_map refusalOf all;
+    ranked = sort r.ahead (filter (λ f. not (is_refused f) && not (is_covered f)) all);
+    dominated = filter (λ f. not (is_refused f) && is_covered f) all;
+    refused = flat_map refusal_of all;
   }

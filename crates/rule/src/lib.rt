@@ -5,13 +5,13 @@
 ghost use Rattle.std.specs.Prelude.{◌≡◌, false, ◌*◌, ◌≤◌, ◌<◌, length, None};
 ghost use Rattle.ranges.specs.Lists.{any_of, filter, up_to};
 ghost use Rattle.ranges.specs.Tables.{Cached, marked};
-ghost use Rattle.items.specs.Layout.{itemSize, maxItems};
-ghost use Rattle.items.specs.Items.{subsetAt, disagreesAt, withinAt, lowerAt, aheadAt};
+ghost use Rattle.items.specs.Layout.{item_size, max_items};
+ghost use Rattle.items.specs.Items.{subset_at, disagrees_at, within_at, lower_at, ahead_at};
 ghost use Rattle.rule.specs.Standing as S;
-ghost use Rattle.rule.specs.Related.{itemRelations};
+ghost use Rattle.rule.specs.Related.{item_relations};
 ghost use Rattle.rule.specs.Choosing.{better, choose, Below};
 ghost use Rattle.rule.specs.Rule.{Ready, Marked, resists, covers};
-ghost use Rattle.rule.specs.Rule.{stands as isStanding, dominated as isDominated};
+ghost use Rattle.rule.specs.Rule.{stands as is_standing, dominated as is_dominated};
 
 use items::layout::MAX_ITEMS;
 use items::pairs::{APART, DISAGREES};
@@ -27,7 +27,7 @@ pub struct Marks {
 // Whether item i's record is a subset of item j's.
 fn subset(s: &[u8], codes: &[u8], n: u8, i: u8, j: u8) -> bool
     requires { (i < n) × (j < n) × Ready s.now codes.now n }
-    ensures { result ≡ subsetAt s.now i j }
+    ensures { result ≡ subset_at s.now i j }
 {
     let at = j as usize * MAX_ITEMS + i as usize;
     codes[at] != APART
@@ -36,7 +36,7 @@ fn subset(s: &[u8], codes: &[u8], n: u8, i: u8, j: u8) -> bool
 // Whether item j is a consistent subset of item i that disagrees with it.
 fn disagrees(s: &[u8], codes: &[u8], n: u8, i: u8, j: u8) -> bool
     requires { (i < n) × (j < n) × Ready s.now codes.now n }
-    ensures { result ≡ disagreesAt s.now i j }
+    ensures { result ≡ disagrees_at s.now i j }
 {
     let at = i as usize * MAX_ITEMS + j as usize;
     codes[at] == DISAGREES
@@ -45,7 +45,7 @@ fn disagrees(s: &[u8], codes: &[u8], n: u8, i: u8, j: u8) -> bool
 // Whether item i is a subset of item j and has its model inputs.
 fn within(s: &[u8], codes: &[u8], n: u8, i: u8, j: u8) -> bool
     requires { (i < n) × (j < n) × Ready s.now codes.now n }
-    ensures { result ≡ withinAt s.now i j }
+    ensures { result ≡ within_at s.now i j }
 {
     if subset(s, codes, n, i, j) {
         return items::same_inputs(s, i, j);
@@ -55,7 +55,7 @@ fn within(s: &[u8], codes: &[u8], n: u8, i: u8, j: u8) -> bool
 
 fn has_disagreeing(s: &[u8], codes: &[u8], n: u8, i: u8) -> bool
     requires { (i < n) × Ready s.now codes.now n }
-    ensures { result ≡ any_of (disagreesAt s.now i) (up_to n) }
+    ensures { result ≡ any_of (disagrees_at s.now i) (up_to n) }
 {
     for j in 0..n {
         if disagrees(s, codes, n, i, j) {
@@ -67,7 +67,7 @@ fn has_disagreeing(s: &[u8], codes: &[u8], n: u8, i: u8) -> bool
 
 fn resists_at(s: &[u8], codes: &[u8], n: u8, i: u8, j: u8) -> bool
     requires { (i < n) × (j < n) × Ready s.now codes.now n }
-    ensures { result ≡ resists (itemRelations s.now) i j }
+    ensures { result ≡ resists (item_relations s.now) i j }
 {
     if disagrees(s, codes, n, i, j) {
         return !items::outstands(items::candidate_at(s, i), items::candidate_at(s, j));
@@ -77,7 +77,7 @@ fn resists_at(s: &[u8], codes: &[u8], n: u8, i: u8, j: u8) -> bool
 
 fn resisted(s: &[u8], codes: &[u8], n: u8, i: u8) -> bool
     requires { (i < n) × Ready s.now codes.now n }
-    ensures { result ≡ any_of (resists (itemRelations s.now) i) (up_to n) }
+    ensures { result ≡ any_of (resists (item_relations s.now) i) (up_to n) }
 {
     for j in 0..n {
         if resists_at(s, codes, n, i, j) {
@@ -89,7 +89,7 @@ fn resisted(s: &[u8], codes: &[u8], n: u8, i: u8) -> bool
 
 fn supersedes(s: &[u8], codes: &[u8], n: u8, i: u8) -> bool
     requires { (i < n) × Ready s.now codes.now n }
-    ensures { result ≡ S.supersedes (itemRelations s.now) (up_to n) i }
+    ensures { result ≡ S.supersedes (item_relations s.now) (up_to n) i }
 {
     if items::passed(items::candidate_at(s, i)) {
         if has_disagreeing(s, codes, n, i) {
@@ -102,8 +102,8 @@ fn supersedes(s: &[u8], codes: &[u8], n: u8, i: u8) -> bool
 
 // Who supersedes.
 fn super_table(s: &[u8], codes: &[u8], n: u8) -> [bool; MAX_ITEMS]
-    requires { (n ≤ maxItems) × Ready s.now codes.now n }
-    ensures { Cached false result (S.supersedes (itemRelations s.now) (up_to n)) n }
+    requires { (n ≤ max_items) × Ready s.now codes.now n }
+    ensures { Cached false result (S.supersedes (item_relations s.now) (up_to n)) n }
 {
     let mut m = [false; MAX_ITEMS];
     for i in 0..n {
@@ -114,8 +114,8 @@ fn super_table(s: &[u8], codes: &[u8], n: u8) -> [bool; MAX_ITEMS]
 
 // Whether item j takes the place of item i.
 fn replaces(s: &[u8], codes: &[u8], n: u8, sup: &[bool; MAX_ITEMS], i: u8, j: u8) -> bool
-    requires { (j < n) × (i < n) × (n ≤ maxItems) × Ready s.now codes.now n × Cached false sup.now (S.supersedes (itemRelations s.now) (up_to n)) n }
-    ensures { result ≡ S.replaces (itemRelations s.now) (up_to n) i j }
+    requires { (j < n) × (i < n) × (n ≤ max_items) × Ready s.now codes.now n × Cached false sup.now (S.supersedes (item_relations s.now) (up_to n)) n }
+    ensures { result ≡ S.replaces (item_relations s.now) (up_to n) i j }
 {
     if sup[j as usize] {
         return disagrees(s, codes, n, j, i);
@@ -124,8 +124,8 @@ fn replaces(s: &[u8], codes: &[u8], n: u8, sup: &[bool; MAX_ITEMS], i: u8, j: u8
 }
 
 fn is_superseded(s: &[u8], codes: &[u8], n: u8, sup: &[bool; MAX_ITEMS], i: u8) -> bool
-    requires { (i < n) × (n ≤ maxItems) × Ready s.now codes.now n × Cached false sup.now (S.supersedes (itemRelations s.now) (up_to n)) n }
-    ensures { result ≡ S.isSuperseded (itemRelations s.now) (up_to n) i }
+    requires { (i < n) × (n ≤ max_items) × Ready s.now codes.now n × Cached false sup.now (S.supersedes (item_relations s.now) (up_to n)) n }
+    ensures { result ≡ S.is_superseded (item_relations s.now) (up_to n) i }
 {
     for j in 0..n {
         if replaces(s, codes, n, sup, i, j) {
@@ -137,8 +137,8 @@ fn is_superseded(s: &[u8], codes: &[u8], n: u8, sup: &[bool; MAX_ITEMS], i: u8) 
 
 // Who is superseded.
 fn superseded_table(s: &[u8], codes: &[u8], n: u8, sup: &[bool; MAX_ITEMS]) -> [bool; MAX_ITEMS]
-    requires { (n ≤ maxItems) × Ready s.now codes.now n × Cached false sup.now (S.supersedes (itemRelations s.now) (up_to n)) n }
-    ensures { Cached false result (S.isSuperseded (itemRelations s.now) (up_to n)) n }
+    requires { (n ≤ max_items) × Ready s.now codes.now n × Cached false sup.now (S.supersedes (item_relations s.now) (up_to n)) n }
+    ensures { Cached false result (S.is_superseded (item_relations s.now) (up_to n)) n }
 {
     let mut m = [false; MAX_ITEMS];
     for i in 0..n {
@@ -149,8 +149,8 @@ fn superseded_table(s: &[u8], codes: &[u8], n: u8, sup: &[bool; MAX_ITEMS]) -> [
 
 // Whether item j is a disagreeing subset of item i that nothing supersedes.
 fn opposes(s: &[u8], codes: &[u8], n: u8, sd: &[bool; MAX_ITEMS], i: u8, j: u8) -> bool
-    requires { (j < n) × (i < n) × (n ≤ maxItems) × Ready s.now codes.now n × Cached false sd.now (S.isSuperseded (itemRelations s.now) (up_to n)) n }
-    ensures { result ≡ S.opposes (itemRelations s.now) (up_to n) i j }
+    requires { (j < n) × (i < n) × (n ≤ max_items) × Ready s.now codes.now n × Cached false sd.now (S.is_superseded (item_relations s.now) (up_to n)) n }
+    ensures { result ≡ S.opposes (item_relations s.now) (up_to n) i j }
 {
     if disagrees(s, codes, n, i, j) {
         return !sd[j as usize];
@@ -159,8 +159,8 @@ fn opposes(s: &[u8], codes: &[u8], n: u8, sd: &[bool; MAX_ITEMS], i: u8, j: u8) 
 }
 
 fn opposed(s: &[u8], codes: &[u8], n: u8, sd: &[bool; MAX_ITEMS], i: u8) -> bool
-    requires { (i < n) × (n ≤ maxItems) × Ready s.now codes.now n × Cached false sd.now (S.isSuperseded (itemRelations s.now) (up_to n)) n }
-    ensures { result ≡ any_of (S.opposes (itemRelations s.now) (up_to n) i) (up_to n) }
+    requires { (i < n) × (n ≤ max_items) × Ready s.now codes.now n × Cached false sd.now (S.is_superseded (item_relations s.now) (up_to n)) n }
+    ensures { result ≡ any_of (S.opposes (item_relations s.now) (up_to n) i) (up_to n) }
 {
     for j in 0..n {
         if opposes(s, codes, n, sd, i, j) {
@@ -178,8 +178,8 @@ fn is_contested(
     sd: &[bool; MAX_ITEMS],
     i: u8,
 ) -> bool
-    requires { (i < n) × (n ≤ maxItems) × Ready s.now codes.now n × Cached false sup.now (S.supersedes (itemRelations s.now) (up_to n)) n × Cached false sd.now (S.isSuperseded (itemRelations s.now) (up_to n)) n }
-    ensures { result ≡ S.isContested (itemRelations s.now) (up_to n) i }
+    requires { (i < n) × (n ≤ max_items) × Ready s.now codes.now n × Cached false sup.now (S.supersedes (item_relations s.now) (up_to n)) n × Cached false sd.now (S.is_superseded (item_relations s.now) (up_to n)) n }
+    ensures { result ≡ S.is_contested (item_relations s.now) (up_to n) i }
 {
     if sup[i as usize] {
         return false;
@@ -198,8 +198,8 @@ fn refused_at(
     sd: &[bool; MAX_ITEMS],
     i: u8,
 ) -> bool
-    requires { (i < n) × (n ≤ maxItems) × Ready s.now codes.now n × Cached false sup.now (S.supersedes (itemRelations s.now) (up_to n)) n × Cached false sd.now (S.isSuperseded (itemRelations s.now) (up_to n)) n }
-    ensures { result ≡ S.is_refused (itemRelations s.now) (up_to n) i }
+    requires { (i < n) × (n ≤ max_items) × Ready s.now codes.now n × Cached false sup.now (S.supersedes (item_relations s.now) (up_to n)) n × Cached false sd.now (S.is_superseded (item_relations s.now) (up_to n)) n }
+    ensures { result ≡ S.is_refused (item_relations s.now) (up_to n) i }
 {
     if sd[i as usize] {
         return true;
@@ -215,8 +215,8 @@ fn refused_table(
     sup: &[bool; MAX_ITEMS],
     sd: &[bool; MAX_ITEMS],
 ) -> [bool; MAX_ITEMS]
-    requires { (n ≤ maxItems) × Ready s.now codes.now n × Cached false sup.now (S.supersedes (itemRelations s.now) (up_to n)) n × Cached false sd.now (S.isSuperseded (itemRelations s.now) (up_to n)) n }
-    ensures { Cached false result (S.is_refused (itemRelations s.now) (up_to n)) n }
+    requires { (n ≤ max_items) × Ready s.now codes.now n × Cached false sup.now (S.supersedes (item_relations s.now) (up_to n)) n × Cached false sd.now (S.is_superseded (item_relations s.now) (up_to n)) n }
+    ensures { Cached false result (S.is_refused (item_relations s.now) (up_to n)) n }
 {
     let mut m = [false; MAX_ITEMS];
     for i in 0..n {
@@ -227,7 +227,7 @@ fn refused_table(
 
 // The three tables.
 pub fn mark_all(s: &[u8], codes: &[u8], n: u8) -> Marks
-    requires { (n ≤ maxItems) × Ready s.now codes.now n }
+    requires { (n ≤ max_items) × Ready s.now codes.now n }
     ensures { Marked s.now n result }
 {
     let superseding = super_table(s, codes, n);
@@ -242,8 +242,8 @@ pub fn mark_all(s: &[u8], codes: &[u8], n: u8) -> Marks
 
 // The lower identity of best, if there is one, and k.
 fn better_identity(s: &[u8], n: u8, best: Option<u8>, k: u8) -> Option<u8>
-    requires { (n * itemSize ≤ length s.now) × (k < n) × Below n best }
-    ensures { result ≡ better (lowerAt s.now) best k }
+    requires { (n * item_size ≤ length s.now) × (k < n) × Below n best }
+    ensures { result ≡ better (lower_at s.now) best k }
 {
     let Some(b) = best else {
         return Some(k);
@@ -256,8 +256,8 @@ fn better_identity(s: &[u8], n: u8, best: Option<u8>, k: u8) -> Option<u8>
 
 // The lowest identity of what takes the place of item i.
 pub fn replacing(s: &[u8], codes: &[u8], n: u8, sup: &[bool; MAX_ITEMS], i: u8) -> Option<u8>
-    requires { (i < n) × (n ≤ maxItems) × Ready s.now codes.now n × Cached false sup.now (S.supersedes (itemRelations s.now) (up_to n)) n }
-    ensures { result ≡ choose (lowerAt s.now) None (filter (S.replaces (itemRelations s.now) (up_to n) i) (up_to n)) }
+    requires { (i < n) × (n ≤ max_items) × Ready s.now codes.now n × Cached false sup.now (S.supersedes (item_relations s.now) (up_to n)) n }
+    ensures { result ≡ choose (lower_at s.now) None (filter (S.replaces (item_relations s.now) (up_to n) i) (up_to n)) }
 {
     let mut best = None;
     for j in 0..n {
@@ -271,8 +271,8 @@ pub fn replacing(s: &[u8], codes: &[u8], n: u8, sup: &[bool; MAX_ITEMS], i: u8) 
 
 // The lowest identity of what opposes item i.
 pub fn opposing(s: &[u8], codes: &[u8], n: u8, sd: &[bool; MAX_ITEMS], i: u8) -> Option<u8>
-    requires { (i < n) × (n ≤ maxItems) × Ready s.now codes.now n × Cached false sd.now (S.isSuperseded (itemRelations s.now) (up_to n)) n }
-    ensures { result ≡ choose (lowerAt s.now) None (filter (S.opposes (itemRelations s.now) (up_to n) i) (up_to n)) }
+    requires { (i < n) × (n ≤ max_items) × Ready s.now codes.now n × Cached false sd.now (S.is_superseded (item_relations s.now) (up_to n)) n }
+    ensures { result ≡ choose (lower_at s.now) None (filter (S.opposes (item_relations s.now) (up_to n) i) (up_to n)) }
 {
     let mut best = None;
     for j in 0..n {
@@ -286,16 +286,16 @@ pub fn opposing(s: &[u8], codes: &[u8], n: u8, sd: &[bool; MAX_ITEMS], i: u8) ->
 
 // What the table says of i.
 fn is_refused(s: &[u8], n: u8, rf: &[bool; MAX_ITEMS], i: u8) -> bool
-    requires { (i < n) × (n ≤ maxItems) × Cached false rf.now (S.is_refused (itemRelations s.now) (up_to n)) n }
-    ensures { result ≡ S.is_refused (itemRelations s.now) (up_to n) i }
+    requires { (i < n) × (n ≤ max_items) × Cached false rf.now (S.is_refused (item_relations s.now) (up_to n)) n }
+    ensures { result ≡ S.is_refused (item_relations s.now) (up_to n) i }
 {
     rf[i as usize]
 }
 
 // Whether k is not refused, i is a subset of it, and has its model inputs.
 fn covers_at(s: &[u8], codes: &[u8], n: u8, rf: &[bool; MAX_ITEMS], i: u8, k: u8) -> bool
-    requires { (k < n) × (i < n) × (n ≤ maxItems) × Ready s.now codes.now n × Cached false rf.now (S.is_refused (itemRelations s.now) (up_to n)) n }
-    ensures { result ≡ covers (itemRelations s.now) (up_to n) i k }
+    requires { (k < n) × (i < n) × (n ≤ max_items) × Ready s.now codes.now n × Cached false rf.now (S.is_refused (item_relations s.now) (up_to n)) n }
+    ensures { result ≡ covers (item_relations s.now) (up_to n) i k }
 {
     if is_refused(s, n, rf, k) {
         return false;
@@ -304,8 +304,8 @@ fn covers_at(s: &[u8], codes: &[u8], n: u8, rf: &[bool; MAX_ITEMS], i: u8, k: u8
 }
 
 fn covered(s: &[u8], codes: &[u8], n: u8, rf: &[bool; MAX_ITEMS], i: u8) -> bool
-    requires { (i < n) × (n ≤ maxItems) × Ready s.now codes.now n × Cached false rf.now (S.is_refused (itemRelations s.now) (up_to n)) n }
-    ensures { result ≡ S.isCovered (itemRelations s.now) (up_to n) i }
+    requires { (i < n) × (n ≤ max_items) × Ready s.now codes.now n × Cached false rf.now (S.is_refused (item_relations s.now) (up_to n)) n }
+    ensures { result ≡ S.is_covered (item_relations s.now) (up_to n) i }
 {
     for k in 0..n {
         if covers_at(s, codes, n, rf, i, k) {
@@ -317,8 +317,8 @@ fn covered(s: &[u8], codes: &[u8], n: u8, rf: &[bool; MAX_ITEMS], i: u8) -> bool
 
 // Whether item i is dominated.
 pub fn dominated_at(s: &[u8], codes: &[u8], n: u8, rf: &[bool; MAX_ITEMS], i: u8) -> bool
-    requires { (i < n) × (n ≤ maxItems) × Ready s.now codes.now n × Cached false rf.now (S.is_refused (itemRelations s.now) (up_to n)) n }
-    ensures { result ≡ isDominated (itemRelations s.now) (up_to n) i }
+    requires { (i < n) × (n ≤ max_items) × Ready s.now codes.now n × Cached false rf.now (S.is_refused (item_relations s.now) (up_to n)) n }
+    ensures { result ≡ is_dominated (item_relations s.now) (up_to n) i }
 {
     if is_refused(s, n, rf, i) {
         return false;
@@ -327,8 +327,8 @@ pub fn dominated_at(s: &[u8], codes: &[u8], n: u8, rf: &[bool; MAX_ITEMS], i: u8
 }
 
 fn stands_at(s: &[u8], codes: &[u8], n: u8, rf: &[bool; MAX_ITEMS], i: u8) -> bool
-    requires { (i < n) × (n ≤ maxItems) × Ready s.now codes.now n × Cached false rf.now (S.is_refused (itemRelations s.now) (up_to n)) n }
-    ensures { result ≡ isStanding (itemRelations s.now) (up_to n) i }
+    requires { (i < n) × (n ≤ max_items) × Ready s.now codes.now n × Cached false rf.now (S.is_refused (item_relations s.now) (up_to n)) n }
+    ensures { result ≡ is_standing (item_relations s.now) (up_to n) i }
 {
     if is_refused(s, n, rf, i) {
         return false;
@@ -338,8 +338,8 @@ fn stands_at(s: &[u8], codes: &[u8], n: u8, rf: &[bool; MAX_ITEMS], i: u8) -> bo
 
 // Who stands.
 pub fn stands_table(s: &[u8], codes: &[u8], n: u8, rf: &[bool; MAX_ITEMS]) -> [bool; MAX_ITEMS]
-    requires { (n ≤ maxItems) × Ready s.now codes.now n × Cached false rf.now (S.is_refused (itemRelations s.now) (up_to n)) n }
-    ensures { Cached false result (isStanding (itemRelations s.now) (up_to n)) n }
+    requires { (n ≤ max_items) × Ready s.now codes.now n × Cached false rf.now (S.is_refused (item_relations s.now) (up_to n)) n }
+    ensures { Cached false result (is_standing (item_relations s.now) (up_to n)) n }
 {
     let mut m = [false; MAX_ITEMS];
     for i in 0..n {
@@ -350,8 +350,8 @@ pub fn stands_table(s: &[u8], codes: &[u8], n: u8, rf: &[bool; MAX_ITEMS]) -> [b
 
 // The first by rank of best, if there is one, and k.
 fn better_rank(s: &[u8], n: u8, best: Option<u8>, k: u8) -> Option<u8>
-    requires { (n * itemSize ≤ length s.now) × (k < n) × Below n best }
-    ensures { result ≡ better (aheadAt s.now) best k }
+    requires { (n * item_size ≤ length s.now) × (k < n) × Below n best }
+    ensures { result ≡ better (ahead_at s.now) best k }
 {
     let Some(b) = best else {
         return Some(k);
@@ -364,8 +364,8 @@ fn better_rank(s: &[u8], n: u8, best: Option<u8>, k: u8) -> Option<u8>
 
 // The first by rank of those that are left.
 pub fn first_left(s: &[u8], n: u8, left: &[bool; MAX_ITEMS]) -> Option<u8>
-    requires { (n ≤ maxItems) × (n * itemSize ≤ length s.now) }
-    ensures { result ≡ choose (aheadAt s.now) None (filter (marked left.now) (up_to n)) }
+    requires { (n ≤ max_items) × (n * item_size ≤ length s.now) }
+    ensures { result ≡ choose (ahead_at s.now) None (filter (marked left.now) (up_to n)) }
 {
     let mut best = None;
     for j in 0..n {

@@ -12,10 +12,10 @@ use Rattle.grammar.specs.Operations.{operation_at}
 use Rattle.grammar.specs.Session.{start, calls_from}
 use Rattle.grammar.proofs.Forward.{calls-step, calls-end}
 use Rattle.grammar.proofs.Shortest.{calls-short}
-use Rattle.sessions.specs.Output.{answerLine, answers}
-use Rattle.sessions.proofs.Digits.{answerWidth, answer-digit, answer-width}
+use Rattle.sessions.specs.Output.{answer_line, answers}
+use Rattle.sessions.proofs.Digits.{answer_width, answer-digit, answer-width}
 
-answers-short : (m : List ℕ) (cs : List Call) → length (answers m cs) ≤ answerWidth * length cs
+answers-short : (m : List ℕ) (cs : List Call) → length (answers m cs) ≤ answer_width * length cs
 unfolding answers
 answers-short m [] = omega arith
 answers-short m (c ∷ cs) =
@@ -35,7 +35,7 @@ pub record Answered (whole : Text) (end : List ℕ) (m : List ℕ) (text : Text)
 module _ (whole : Text) (end m : List ℕ) (text : Text) (s : At) (h : Answered whole end m text s) where
   -- after a call
   pub answered-more : (c : Call) (r : At) → operation_at s ≡ Ok (c, r)
-      → (a : ℕ) (m' : List ℕ) → after a m' ≡ on_memory (act c) m → (text' : Text) → text' ≡ append text (answerLine a) → Answered whole end m' text' r
+      → (a : ℕ) (m' : List ℕ) → after a m' ≡ on_memory (act c) m → (text' : Text) → text' ≡ append text (answer_line a) → Answered whole end m' text' r
   unfolding answers runs
   answered-more c r q a m' p text' e =
       let step = calls-step s c r q in
@@ -43,7 +43,7 @@ module _ (whole : Text) (end m : List ℕ) (text : Text) (s : At) (h : Answered 
       let y : (on_memory (act c) m).left ≡ m' = ap (λ (z : After (List ℕ)). z.left) (sym p) in
       record {
         text_is = h.text_is ∙ ap (λ (cs : List Call). append text (answers m cs)) step
-            ∙ rw (x, y) (sym (append-append text (answerLine a) (answers m' (calls_from r))) ∙ ap (λ (t : Text). append t (answers m' (calls_from r))) (sym e));
+            ∙ rw (x, y) (sym (append-append text (answer_line a) (answers m' (calls_from r))) ∙ ap (λ (t : Text). append t (answers m' (calls_from r))) (sym e));
         left = h.left ∙ ap (runs m) step ∙ ap (λ (z : List ℕ). runs z (calls_from r)) y;
       }
 

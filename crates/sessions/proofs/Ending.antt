@@ -12,12 +12,12 @@ use Rattle.octets.specs.Bytes.{Bytes}
 use Rattle.octets.specs.Put.{Put}
 use Rattle.octets.proofs.Moves.{tail-back, tail-lent}
 use Rattle.octets.proofs.Puts.{put_whole}
-use Rattle.drawing.specs.Text.{boardSize}
-use Rattle.held.specs.After.{After, after, writeText}
-use Rattle.register.specs.Memory.{wellFormed, decode}
-use Rattle.board.specs.Board.{boardIn, drawBoard}
+use Rattle.drawing.specs.Text.{board_size}
+use Rattle.held.specs.After.{After, after, write_text}
+use Rattle.register.specs.Memory.{well_formed, decode}
+use Rattle.board.specs.Board.{board_in, draw_board}
 use Rattle.board.proofs.Fitting.{fits-board}
-use Rattle.sessions.specs.Output.{noTransmissions, printed}
+use Rattle.sessions.specs.Output.{no_transmissions, printed}
 
 -- a text at the start of a buffer
 put-front : (l y t : List ℕ) (n : ℕ) → length t ≤ length l → n ≡ length t → y ≡ t ++ drop (length t) l → Put l 0 t n y
@@ -26,12 +26,12 @@ put-front l y t n h p q =
     record { next = p ∙ z; bytes = q ∙ ap (λ (k : ℕ). t ++ drop k l) z ∙ sym (sets-eq t l 0 (omega arith)) }
 
 -- a board that was drawn
-pub board-put : (m l y : List ℕ) (n : ℕ) → Bytes m → wellFormed m ≡ true → boardSize ≤ length l → after n y ≡ drawBoard m l → Put l 0 (boardIn (decode m)) n y
-unfolding drawBoard
+pub board-put : (m l y : List ℕ) (n : ℕ) → Bytes m → well_formed m ≡ true → board_size ≤ length l → after n y ≡ draw_board m l → Put l 0 (board_in (decode m)) n y
+unfolding draw_board
 board-put m l y n b w h e =
-    let t = boardIn (decode m) in
+    let t = board_in (decode m) in
     let f = fits-board m b w in
-    let u : after n y ≡ writeText t l = e ∙ rw (w, le-ltb (length l) boardSize h) refl in
+    let u : after n y ≡ write_text t l = e ∙ rw (w, le-ltb (length l) board_size h) refl in
     put-front l y t n (omega (arith, h, f)) (ap (λ (a : After (List ℕ)). a.answer) u) (ap (λ (a : After (List ℕ)). a.left) u)
 
 -- a text that was written into the rest of a buffer
@@ -50,7 +50,7 @@ put-behind l y t at n h p =
     }
 
 -- a board without bytes, and one with bytes
-pub printed-none : (t : List ℕ) → length t ≡ 0 → t ++ noTransmissions ≡ printed t
+pub printed-none : (t : List ℕ) → length t ≡ 0 → t ++ no_transmissions ≡ printed t
 printed-none [] h = refl
 printed-none (b ∷ t) h = absurd (omega arith)
 
@@ -58,7 +58,7 @@ pub printed-some : (t : List ℕ) → 0 < length t → t ≡ printed t
 printed-some [] h = absurd (omega arith)
 printed-some (b ∷ t) h = refl
 
-pub printed-fits : (t : List ℕ) → length t ≤ boardSize → length (printed t) ≤ boardSize
+pub printed-fits : (t : List ℕ) → length t ≤ board_size → length (printed t) ≤ board_size
 unfolding ascii
 printed-fits [] h = omega arith
 printed-fits (b ∷ t) h = h

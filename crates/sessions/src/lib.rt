@@ -4,11 +4,11 @@
 ghost use Rattle.std.specs.Prelude.{◌≡◌, true, ◌+◌, ◌≤◌, length};
 ghost use Rattle.octets.specs.Put.{Put};
 ghost use Rattle.text.specs.Texts.{append};
-ghost use Rattle.drawing.specs.Text.{boardSize};
+ghost use Rattle.drawing.specs.Text.{board_size};
 ghost use Rattle.held.specs.After.{after};
-ghost use Rattle.register.specs.Memory.{wellFormed, decode, on_memory, fresh};
+ghost use Rattle.register.specs.Memory.{well_formed, decode, on_memory, fresh};
 ghost use Rattle.register.specs.Calls.{act, runs};
-ghost use Rattle.board.specs.Board.{boardIn};
+ghost use Rattle.board.specs.Board.{board_in};
 ghost use Rattle.grammar.specs.Gives.{call_of};
 ghost use Rattle.grammar.specs.Session.{start, calls_from};
 ghost use Rattle.sessions.specs.Output as O;
@@ -30,7 +30,7 @@ pub const OUTPUT_SIZE: usize = MAX_INPUT + board::BOARD_SIZE;
 
 // The line of an answer.
 fn push_answer(out: &mut Text, answer: u32)
-    ensures { out.new ≡ append out.old (O.answerLine answer) }
+    ensures { out.new ≡ append out.old (O.answer_line answer) }
 {
     out.push_field("answer=", &(answer as u64));
     out.push_str("\n");
@@ -80,10 +80,10 @@ fn write_answers(input: &[u8], memory: &mut [u8], out: &mut [u8]) -> usize
 
 // The board of a register at the start of `out`, or the line that says that it has no bytes.
 fn write_board(memory: &[u8], out: &mut [u8]) -> usize
-    requires memory_value { wellFormed memory.now ≡ true }
-    requires room { boardSize ≤ length out.old }
-    ensures text { Put out.old 0 (O.printed (boardIn (decode memory.now))) result out.new }
-    ensures bound { result ≤ boardSize }
+    requires memory_value { well_formed memory.now ≡ true }
+    requires room { board_size ≤ length out.old }
+    ensures text { Put out.old 0 (O.printed (board_in (decode memory.now))) result out.new }
+    ensures bound { result ≤ board_size }
 {
     match board::board(memory, out) {
         0 => octets::runs::put_bytes(out, 0, b"transmissions=0\n"),
@@ -93,9 +93,9 @@ fn write_board(memory: &[u8], out: &mut [u8]) -> usize
 
 // Performs the operations of a session up to its first bad line on a fresh register: the answers, then the board.
 fn perform_all(input: &[u8], out: &mut [u8]) -> usize
-    requires { length input.now + boardSize ≤ length out.old }
-    ensures text { Put out.old 0 (O.answersThenBoard fresh (calls_from (start input.now))) result out.new }
-    ensures bound { result ≤ length input.now + boardSize }
+    requires { length input.now + board_size ≤ length out.old }
+    ensures text { Put out.old 0 (O.answers_then_board fresh (calls_from (start input.now))) result out.new }
+    ensures bound { result ≤ length input.now + board_size }
 {
     let mut memory = [0u8; REGISTER_SIZE];
     let end = write_answers(input, &mut memory, out);
@@ -104,7 +104,7 @@ fn perform_all(input: &[u8], out: &mut [u8]) -> usize
 
 // What a session prints, at the start of `out`; the answer is its length.
 pub fn run(input: &[u8], out: &mut [u8; OUTPUT_SIZE]) -> usize
-    ensures { (result ≤ O.outputSize) × Put out.old 0 (O.outputOf input.now) result out.new }
+    ensures { (result ≤ O.output_size) × Put out.old 0 (O.output_of input.now) result out.new }
 {
     match check(input) {
         Ok(()) => perform_all(input, out),

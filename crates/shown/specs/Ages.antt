@@ -5,15 +5,15 @@ use Rattle.record.specs.Fields.{time}
 use Rattle.shown.specs.Fix.{Fix}
 use Rattle.shown.specs.Shown.{lower}
 
-abbrev pub timeOf : Fix → ℕ
-timeOf f = time f.recordBytes
+abbrev pub time_of : Fix → ℕ
+time_of f = time f.record_bytes
 
 -- f is older than g: by time, then by identity
 abbrev pub older : Fix → Fix → Bool
-older f g = cond (ltb (timeOf f) (timeOf g)) true (cond (ltb (timeOf g) (timeOf f)) false (lower f g))
+older f g = cond (ltb (time_of f) (time_of g)) true (cond (ltb (time_of g) (time_of f)) false (lower f g))
 
 -- the first of one list is older than the first of the other; a transmission always has a ranked fix
-abbrev pub olderFirst : List Fix → List Fix → Bool
-olderFirst [] gs = true
-olderFirst (f ∷ fs) [] = false
-olderFirst (f ∷ fs) (g ∷ gs) = older f g
+abbrev pub older_first : List Fix → List Fix → Bool
+older_first [] gs = true
+older_first (f ∷ fs) [] = false
+older_first (f ∷ fs) (g ∷ gs) = older f g

@@ -4,11 +4,11 @@ use Rattle.std.specs.Prelude.{ℕ, List}
 pub record Fix : Type 0 where
   pub identity : List ℕ
   -- the bytes of the record that represents it
-  pub recordBytes : List ℕ
+  pub record_bytes : List ℕ
   -- the model inputs of that record
   pub inputs : List ℕ
   -- the engines that signed a record of this identity, bit n for engine n
   pub signers : ℕ
 
-abbrev pub withSigners : ℕ → Fix → Fix
-withSigners engines f = record { identity = f.identity; recordBytes = f.recordBytes; inputs = f.inputs; signers = engines }
+abbrev pub with_signers : ℕ → Fix → Fix
+with_signers engines f = record { identity = f.identity; record_bytes = f.record_bytes; inputs = f.inputs; signers = engines }

@@ -10,52 +10,52 @@ use lib.Seq.{drop-cons, drop-drop}
 use borrow.Author.Tests.{eqb-true, leb-true}
 use Rattle.ranges.proofs.Bools.{and_left, and_right}
 use Rattle.octets.specs.Bytes.{Bytes}
-use Rattle.octets.specs.Runs.{allZero}
+use Rattle.octets.specs.Runs.{all_zero}
 use Rattle.octets.specs.Words.{word_bytes, word_at}
 use Rattle.octets.proofs.Numbers.{bytes_drop}
-use Rattle.places.specs.Places.{places, table_of, isTable, ascending, allPlaces}
+use Rattle.places.specs.Places.{places, table_of, is_table, ascending, all_places}
 use Rattle.places.proofs.Walks.{room, place_of}
 use Rattle.places.proofs.Tables.{wide, places-wide, length-places, table_is, filled-table}
-use Rattle.models.specs.Summary.{summarySize}
-use Rattle.held.specs.Limits.{maxSummaries, summariesSize}
-use Rattle.held.specs.Summaries.{summaryFormed}
-use Rattle.held.specs.Signed.{beginFormed}
+use Rattle.models.specs.Summary.{summary_size}
+use Rattle.held.specs.Limits.{max_summaries, summaries_size}
+use Rattle.held.specs.Summaries.{summary_formed}
+use Rattle.held.specs.Signed.{begin_formed}
 use Rattle.held.proofs.Framing.{cut, cut_word}
-use Rattle.tracked.specs.Layout.{transmissionSize}
+use Rattle.tracked.specs.Layout.{transmission_size}
 use Rattle.tracked.specs.Held.{HeldTransmission}
-use Rattle.tracked.specs.Bytes.{transmissionFormed, transmissionIn, transmissionBytes}
+use Rattle.tracked.specs.Bytes.{transmission_formed, transmission_in, transmission_bytes}
 use Rattle.tracked.specs.Parts.{Sound}
 use Rattle.tracked.proofs.Encoding.{Canonical, bytes-of-places, wide-in}
 use Rattle.tracked.proofs.Encoding as E
-use Rattle.arrange.specs.Arranged.{maxTransmissions}
+use Rattle.arrange.specs.Arranged.{max_transmissions}
 use Rattle.arrange.specs.Blocks.{Filled}
-use Rattle.stored.specs.Layout.{pairSize, summaryCountAt, transmissionCountAt, zeroAt, contestedAt, summariesAt, transmissionsAt, transmissionsSize, trackSize}
-use Rattle.stored.specs.Memory.{convictedIn, summaryCount, transmissionCount, contestedIn, summaryTable, transmissionTable, summariesIn, transmissionPlaces, wellFormed, decode, encode}
+use Rattle.stored.specs.Layout.{pair_size, summary_count_at, transmission_count_at, zero_at, contested_at, summaries_at, transmissions_at, transmissions_size, track_size}
+use Rattle.stored.specs.Memory.{convicted_in, summary_count, transmission_count, contested_in, summary_table, transmission_table, summaries_in, transmission_places, well_formed, decode, encode}
 use Rattle.stored.specs.Steps.{block_at}
 use Rattle.stored.proofs.Frames.{frame, frame_same}
 use Rattle.stored.proofs.Blocks.{passes, of_map, Held, Parts, parts, sound, canonical, block_held}
 
 pub record Opened (m : List ℕ) : Type 0 where
-  pub size : length m ≡ trackSize
-  pub few-summaries : summaryCount m ≤ maxSummaries
-  pub few : transmissionCount m ≤ maxTransmissions
-  pub nought : get_or m zeroAt 0 ≡ 0
-  pub summary-table : isTable pairSize summarySize (summaryCount m) (summaryTable m) ≡ true
-  pub summaries-formed : allPlaces (summaryFormed (convictedIn m)) (summariesIn m) ≡ true
-  pub transmissions-formed : allPlaces (transmissionFormed (beginFormed (convictedIn m))) (transmissionPlaces m) ≡ true
-  pub zeros : allZero (drop (transmissionCount m * transmissionSize) (transmissionTable m)) ≡ true
+  pub size : length m ≡ track_size
+  pub few_summaries : summary_count m ≤ max_summaries
+  pub few : transmission_count m ≤ max_transmissions
+  pub nought : get_or m zero_at 0 ≡ 0
+  pub summary-table : is_table pair_size summary_size (summary_count m) (summary_table m) ≡ true
+  pub summaries-formed : all_places (summary_formed (convicted_in m)) (summaries_in m) ≡ true
+  pub transmissions-formed : all_places (transmission_formed (begin_formed (convicted_in m))) (transmission_places m) ≡ true
+  pub zeros : all_zero (drop (transmission_count m * transmission_size) (transmission_table m)) ≡ true
 
-pub opened : (m : List ℕ) → wellFormed m ≡ true → Opened m
-unfolding wellFormed
+pub opened : (m : List ℕ) → well_formed m ≡ true → Opened m
+unfolding well_formed
 opened m h =
-    let a₁ = eqb (length m) trackSize in
-    let a₂ = leb (summaryCount m) maxSummaries in
-    let a₃ = leb (transmissionCount m) maxTransmissions in
-    let a₄ = eqb (get_or m zeroAt 0) 0 in
-    let a₅ = isTable pairSize summarySize (summaryCount m) (summaryTable m) in
-    let a₆ = allPlaces (summaryFormed (convictedIn m)) (summariesIn m) in
-    let a₇ = allPlaces (transmissionFormed (beginFormed (convictedIn m))) (transmissionPlaces m) in
-    let a₈ = allZero (drop (transmissionCount m * transmissionSize) (transmissionTable m)) in
+    let a₁ = eqb (length m) track_size in
+    let a₂ = leb (summary_count m) max_summaries in
+    let a₃ = leb (transmission_count m) max_transmissions in
+    let a₄ = eqb (get_or m zero_at 0) 0 in
+    let a₅ = is_table pair_size summary_size (summary_count m) (summary_table m) in
+    let a₆ = all_places (summary_formed (convicted_in m)) (summaries_in m) in
+    let a₇ = all_places (transmission_formed (begin_formed (convicted_in m))) (transmission_places m) in
+    let a₈ = all_zero (drop (transmission_count m * transmission_size) (transmission_table m)) in
     let h₂ = and_right a₁ (a₂ && (a₃ && (a₄ && (a₅ && (a₆ && (a₇ && a₈)))))) h in
     let h₃ = and_right a₂ (a₃ && (a₄ && (a₅ && (a₆ && (a₇ && a₈))))) h₂ in
     let h₄ = and_right a₃ (a₄ && (a₅ && (a₆ && (a₇ && a₈)))) h₃ in
@@ -63,10 +63,10 @@ opened m h =
     let h₆ = and_right a₅ (a₆ && (a₇ && a₈)) h₅ in
     let h₇ = and_right a₆ (a₇ && a₈) h₆ in
     record {
-      size = eqb-true (length m) trackSize (and_left a₁ (a₂ && (a₃ && (a₄ && (a₅ && (a₆ && (a₇ && a₈)))))) h);
-      few-summaries = leb-true (summaryCount m) maxSummaries (and_left a₂ (a₃ && (a₄ && (a₅ && (a₆ && (a₇ && a₈))))) h₂);
-      few = leb-true (transmissionCount m) maxTransmissions (and_left a₃ (a₄ && (a₅ && (a₆ && (a₇ && a₈)))) h₃);
-      nought = eqb-true (get_or m zeroAt 0) 0 (and_left a₄ (a₅ && (a₆ && (a₇ && a₈))) h₄);
+      size = eqb-true (length m) track_size (and_left a₁ (a₂ && (a₃ && (a₄ && (a₅ && (a₆ && (a₇ && a₈)))))) h);
+      few_summaries = leb-true (summary_count m) max_summaries (and_left a₂ (a₃ && (a₄ && (a₅ && (a₆ && (a₇ && a₈))))) h₂);
+      few = leb-true (transmission_count m) max_transmissions (and_left a₃ (a₄ && (a₅ && (a₆ && (a₇ && a₈)))) h₃);
+      nought = eqb-true (get_or m zero_at 0) 0 (and_left a₄ (a₅ && (a₆ && (a₇ && a₈))) h₄);
       summary-table = and_left a₅ (a₆ && (a₇ && a₈)) h₅;
       summaries-formed = and_left a₆ (a₇ && a₈) h₆;
       transmissions-formed = and_left a₇ a₈ h₇;
@@ -76,92 +76,92 @@ opened m h =
 module _ (m : List ℕ) (o : Opened m) where
   -- ---- the summaries
 
-  pub summary-bytes-length : length (summaryTable m) ≡ summariesSize
+  pub summary-bytes-length : length (summary_table m) ≡ summaries_size
   summary-bytes-length = let s = o.size in simp (length-take, length-drop) (omega arith)
 
-  pub summaries-length : length (summariesIn m) ≡ summaryCount m
-  summaries-length = length-places summarySize (summaryCount m) (summaryTable m)
+  pub summaries-length : length (summaries_in m) ≡ summary_count m
+  summaries-length = length-places summary_size (summary_count m) (summary_table m)
 
-  pub summaries-wide : wide summarySize (summariesIn m)
-  summaries-wide = let f = o.few-summaries in places-wide summarySize (summaryCount m) (summaryTable m) (rw summary-bytes-length (omega arith))
+  pub summaries-wide : wide summary_size (summaries_in m)
+  summaries-wide = let f = o.few_summaries in places-wide summary_size (summary_count m) (summary_table m) (rw summary-bytes-length (omega arith))
 
-  pub summaries-ascend : ascending pairSize (summariesIn m) ≡ true
-  summaries-ascend = and_left (ascending pairSize (summariesIn m)) (allZero (drop (summaryCount m * summarySize) (summaryTable m))) o.summary-table
+  pub summaries-ascend : ascending pair_size (summaries_in m) ≡ true
+  summaries-ascend = and_left (ascending pair_size (summaries_in m)) (all_zero (drop (summary_count m * summary_size) (summary_table m))) o.summary-table
 
-  pub summaries-are : summaryTable m ≡ table_of summarySize maxSummaries (summariesIn m)
-  summaries-are = table_is summarySize maxSummaries (summaryCount m) pairSize (summaryTable m) summary-bytes-length o.few-summaries o.summary-table
+  pub summaries-are : summary_table m ≡ table_of summary_size max_summaries (summaries_in m)
+  summaries-are = table_is summary_size max_summaries (summary_count m) pair_size (summary_table m) summary-bytes-length o.few_summaries o.summary-table
 
   -- ---- the transmissions
 
-  pub transmission-bytes-length : length (transmissionTable m) ≡ transmissionsSize
+  pub transmission-bytes-length : length (transmission_table m) ≡ transmissions_size
   transmission-bytes-length = let s = o.size in rw length-drop (omega arith)
 
-  pub transmissions-length : length (transmissionPlaces m) ≡ transmissionCount m
-  transmissions-length = length-places transmissionSize (transmissionCount m) (transmissionTable m)
+  pub transmissions-length : length (transmission_places m) ≡ transmission_count m
+  transmissions-length = length-places transmission_size (transmission_count m) (transmission_table m)
 
-  pub transmissions-wide : wide transmissionSize (transmissionPlaces m)
-  transmissions-wide = let f = o.few in places-wide transmissionSize (transmissionCount m) (transmissionTable m) (rw transmission-bytes-length (omega arith))
+  pub transmissions-wide : wide transmission_size (transmission_places m)
+  transmissions-wide = let f = o.few in places-wide transmission_size (transmission_count m) (transmission_table m) (rw transmission-bytes-length (omega arith))
 
-  pub transmissions-are : transmissionTable m ≡ table_of transmissionSize maxTransmissions (transmissionPlaces m)
-  transmissions-are = filled-table transmissionSize maxTransmissions (transmissionCount m) (transmissionTable m) transmission-bytes-length o.few o.zeros
+  pub transmissions-are : transmission_table m ≡ table_of transmission_size max_transmissions (transmission_places m)
+  transmissions-are = filled-table transmission_size max_transmissions (transmission_count m) (transmission_table m) transmission-bytes-length o.few o.zeros
 
-  module _ (b : List ℕ) (i : Memᴰ b (transmissionPlaces m)) where
-    pub block-parts : Parts (convictedIn m) b
-    block-parts = parts (convictedIn m) b (passes (transmissionFormed (beginFormed (convictedIn m))) (transmissionPlaces m) o.transmissions-formed b i)
+  module _ (b : List ℕ) (i : Memᴰ b (transmission_places m)) where
+    pub block-parts : Parts (convicted_in m) b
+    block-parts = parts (convicted_in m) b (passes (transmission_formed (begin_formed (convicted_in m))) (transmission_places m) o.transmissions-formed b i)
 
-    pub block_size : length b ≡ transmissionSize
-    block_size = wide-in transmissionSize (transmissionPlaces m) transmissions-wide b i
+    pub block_size : length b ≡ transmission_size
+    block_size = wide-in transmission_size (transmission_places m) transmissions-wide b i
 
     pub block-sound : Sound b
-    block-sound = sound (convictedIn m) b block-parts block_size
+    block-sound = sound (convicted_in m) b block-parts block_size
 
-  pub filled : Filled (transmissionTable m) (transmissionCount m)
+  pub filled : Filled (transmission_table m) (transmission_count m)
   filled = record { few = o.few; size = transmission-bytes-length; is = transmissions-are; sound = block-sound }
 
   module _ (bytes : Bytes m) where
-    pub block-bytes : (b : List ℕ) → Memᴰ b (transmissionPlaces m) → Bytes b
-    block-bytes = bytes-of-places transmissionSize (transmissionCount m) (transmissionTable m) (bytes_drop transmissionsAt m bytes)
+    pub block-bytes : (b : List ℕ) → Memᴰ b (transmission_places m) → Bytes b
+    block-bytes = bytes-of-places transmission_size (transmission_count m) (transmission_table m) (bytes_drop transmissions_at m bytes)
 
-    pub block-canonical : (b : List ℕ) → Memᴰ b (transmissionPlaces m) → Canonical b
-    block-canonical b i = canonical (convictedIn m) b (block-parts b i) (block_size b i) (block-bytes b i)
+    pub block-canonical : (b : List ℕ) → Memᴰ b (transmission_places m) → Canonical b
+    block-canonical b i = canonical (convicted_in m) b (block-parts b i) (block_size b i) (block-bytes b i)
 
     -- what each transmission's bytes hold is what a track may hold
-    pub all_held : (t : HeldTransmission) → Memᴰ t (map transmissionIn (transmissionPlaces m)) → Held (convictedIn m) t
-    all_held = of_map transmissionIn (Held (convictedIn m)) (transmissionPlaces m) (λ b i. block_held (convictedIn m) b (block-parts b i) (block_size b i) (block-bytes b i))
+    pub all_held : (t : HeldTransmission) → Memᴰ t (map transmission_in (transmission_places m)) → Held (convicted_in m) t
+    all_held = of_map transmission_in (Held (convicted_in m)) (transmission_places m) (λ b i. block_held (convicted_in m) b (block-parts b i) (block_size b i) (block-bytes b i))
 
-    pub blocks-back : map transmissionBytes (map transmissionIn (transmissionPlaces m)) ≡ transmissionPlaces m
-    blocks-back = go (transmissionPlaces m) (λ b i. E.encode-decode b (block-canonical b i))
+    pub blocks-back : map transmission_bytes (map transmission_in (transmission_places m)) ≡ transmission_places m
+    blocks-back = go (transmission_places m) (λ b i. E.encode-decode b (block-canonical b i))
       where
-        go : (bs : List (List ℕ)) → ((b : List ℕ) → Memᴰ b bs → transmissionBytes (transmissionIn b) ≡ b) → map transmissionBytes (map transmissionIn bs) ≡ bs
+        go : (bs : List (List ℕ)) → ((b : List ℕ) → Memᴰ b bs → transmission_bytes (transmission_in b) ≡ b) → map transmission_bytes (map transmission_in bs) ≡ bs
         go [] f = refl
         go (b ∷ bs) f = ap₂ ◌∷◌ (f b (Memᴰ.head refl)) (go bs (λ x i. f x (Memᴰ.tail i)))
 
     -- ---- the whole
 
-    number : (at n : ℕ) → at + n ≤ trackSize → drop at m ≡ word_bytes n (word_at n at m) ++ drop (at + n) m
+    number : (at n : ℕ) → at + n ≤ track_size → drop at m ≡ word_bytes n (word_at n at m) ++ drop (at + n) m
     number at n h = let s = o.size in cut_word m bytes at n (omega arith)
 
-    pub framed : m ≡ frame (convictedIn m) (summaryCount m) (transmissionCount m) (contestedIn m) (summaryTable m) (transmissionTable m)
+    pub framed : m ≡ frame (convicted_in m) (summary_count m) (transmission_count m) (contested_in m) (summary_table m) (transmission_table m)
     framed =
         let s = o.size in
         let p₀ = number 0 4 (omega arith) in
-        let p₁ = number summaryCountAt 2 (omega arith) in
-        let p₂ : drop transmissionCountAt m ≡ transmissionCount m ∷ drop zeroAt m = drop-cons m transmissionCountAt 0 (omega arith) in
-        let p₃ : drop zeroAt m ≡ 0 ∷ drop contestedAt m = drop-cons m zeroAt 0 (omega arith) ∙ ap (λ (y : ℕ). y ∷ drop contestedAt m) o.nought in
-        let p₄ = number contestedAt 8 (omega arith) in
-        let p₅ = cut m summariesAt summariesSize in
-        p₀ ∙ ap (λ (t : List ℕ). word_bytes 4 (convictedIn m) ++ t)
-        (p₁ ∙ ap (λ (t : List ℕ). word_bytes 2 (summaryCount m) ++ t)
-        (p₂ ∙ ap (λ (t : List ℕ). transmissionCount m ∷ t)
-        (p₃ ∙ ap (λ (t : List ℕ). 0 ∷ t) (p₄ ∙ ap (λ (t : List ℕ). word_bytes 8 (contestedIn m) ++ t) p₅))))
+        let p₁ = number summary_count_at 2 (omega arith) in
+        let p₂ : drop transmission_count_at m ≡ transmission_count m ∷ drop zero_at m = drop-cons m transmission_count_at 0 (omega arith) in
+        let p₃ : drop zero_at m ≡ 0 ∷ drop contested_at m = drop-cons m zero_at 0 (omega arith) ∙ ap (λ (y : ℕ). y ∷ drop contested_at m) o.nought in
+        let p₄ = number contested_at 8 (omega arith) in
+        let p₅ = cut m summaries_at summaries_size in
+        p₀ ∙ ap (λ (t : List ℕ). word_bytes 4 (convicted_in m) ++ t)
+        (p₁ ∙ ap (λ (t : List ℕ). word_bytes 2 (summary_count m) ++ t)
+        (p₂ ∙ ap (λ (t : List ℕ). transmission_count m ∷ t)
+        (p₃ ∙ ap (λ (t : List ℕ). 0 ∷ t) (p₄ ∙ ap (λ (t : List ℕ). word_bytes 8 (contested_in m) ++ t) p₅))))
 
     -- a well-formed memory is the encoding of what it decodes to
     pub encode-decode : encode (decode m) ≡ m
     unfolding encode decode
     encode-decode =
-        let k : length (map transmissionIn (transmissionPlaces m)) ≡ transmissionCount m = length-map (transmissionPlaces m) transmissionIn ∙ transmissions-length in
-        let t : table_of transmissionSize maxTransmissions (map transmissionBytes (map transmissionIn (transmissionPlaces m))) ≡ transmissionTable m = ap (table_of transmissionSize maxTransmissions) blocks-back ∙ sym transmissions-are in
-        frame_same (convictedIn m) (contestedIn m) summaries-length k (sym summaries-are) t ∙ sym framed
+        let k : length (map transmission_in (transmission_places m)) ≡ transmission_count m = length-map (transmission_places m) transmission_in ∙ transmissions-length in
+        let t : table_of transmission_size max_transmissions (map transmission_bytes (map transmission_in (transmission_places m))) ≡ transmission_table m = ap (table_of transmission_size max_transmissions) blocks-back ∙ sym transmissions-are in
+        frame_same (convicted_in m) (contested_in m) summaries-length k (sym summaries-are) t ∙ sym framed
 
 -- the transmission i, by the byte that it begins at
 pub mem-at : {A : Type 0} (l : List A) (i : ℕ) (d : A) → i < length l → Memᴰ (get_or l i d) l
@@ -169,15 +169,15 @@ mem-at [] i d h = absurd (omega arith)
 mem-at (x ∷ l) zero d h = Memᴰ.head refl
 mem-at (x ∷ l) (suc i) d h = Memᴰ.tail (mem-at l i d (omega arith))
 
-abbrev pub placeAt : ℕ → ℕ
-placeAt i = transmissionsAt + i * transmissionSize
+abbrev pub place_at : ℕ → ℕ
+place_at i = transmissions_at + i * transmission_size
 
-pub at_place : (n i : ℕ) (m : List ℕ) → i < n → block_at (placeAt i) m ≡ get_or (places transmissionSize n (transmissionTable m)) i []
-at_place n i m h = ap (take transmissionSize) (sym (drop-drop (i * transmissionSize) transmissionsAt m)) ∙ sym (place_of transmissionSize n i (transmissionTable m) h)
+pub at_place : (n i : ℕ) (m : List ℕ) → i < n → block_at (place_at i) m ≡ get_or (places transmission_size n (transmission_table m)) i []
+at_place n i m h = ap (take transmission_size) (sym (drop-drop (i * transmission_size) transmissions_at m)) ∙ sym (place_of transmission_size n i (transmission_table m) h)
 
-module _ (m : List ℕ) (o : Opened m) (i : ℕ) (h : i < transmissionCount m) where
-  pub place-room : placeAt i + transmissionSize ≤ length m
-  place-room = omega (arith, room i (transmissionCount m) transmissionSize h, o.size, o.few)
+module _ (m : List ℕ) (o : Opened m) (i : ℕ) (h : i < transmission_count m) where
+  pub place-room : place_at i + transmission_size ≤ length m
+  place-room = omega (arith, room i (transmission_count m) transmission_size h, o.size, o.few)
 
-  pub sound-at : Sound (block_at (placeAt i) m)
-  sound-at = rw (at_place (transmissionCount m) i m h) (block-sound m o _ (mem-at (transmissionPlaces m) i [] (rw (transmissions-length m o) h)))
+  pub sound-at : Sound (block_at (place_at i) m)
+  sound-at = rw (at_place (transmission_count m) i m h) (block-sound m o _ (mem-at (transmission_places m) i [] (rw (transmissions-length m o) h)))

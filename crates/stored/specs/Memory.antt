@@ -1,62 +1,62 @@
 -- A track in memory (docs/REFERENCE.md, 'Layouts'): which bytes are one, the track that bytes are, its bytes, and an operation on bytes.
 use Rattle.std.specs.Prelude.{ℕ, Bool, cond, ◌&&◌, List, ◌∷◌, ◌++◌, map, leb, eqb, length, take, drop, get_or, replicate}
 use Rattle.octets.specs.Words.{word_at, word_bytes}
-use Rattle.places.specs.Places.{places, table_of, isTable, allPlaces}
-use Rattle.models.specs.Summary.{summarySize}
+use Rattle.places.specs.Places.{places, table_of, is_table, all_places}
+use Rattle.models.specs.Summary.{summary_size}
 use Rattle.held.specs.After.{After, after}
-use Rattle.held.specs.Limits.{maxSummaries, summariesSize}
-use Rattle.held.specs.Summaries.{summaryFormed}
-use Rattle.held.specs.Signed.{beginFormed}
-use Rattle.tracked.specs.Layout.{transmissionSize}
-use Rattle.tracked.specs.Bytes.{filledBy, transmissionFormed, transmissionIn, transmissionBytes}
-use Rattle.arrange.specs.Arranged.{maxTransmissions}
+use Rattle.held.specs.Limits.{max_summaries, summaries_size}
+use Rattle.held.specs.Summaries.{summary_formed}
+use Rattle.held.specs.Signed.{begin_formed}
+use Rattle.tracked.specs.Layout.{transmission_size}
+use Rattle.tracked.specs.Bytes.{filled_by, transmission_formed, transmission_in, transmission_bytes}
+use Rattle.arrange.specs.Arranged.{max_transmissions}
 use Rattle.stored.specs.Layout as L
 use Rattle.stored.specs.Track.{Track, Outcome, refused, done}
 
 -- ---- the parts of the bytes
 
-abbrev pub convictedIn : List ℕ → ℕ
-convictedIn m = word_at 4 L.convictedAt m
+abbrev pub convicted_in : List ℕ → ℕ
+convicted_in m = word_at 4 L.convicted_at m
 
-abbrev pub summaryCount : List ℕ → ℕ
-summaryCount m = word_at 2 L.summaryCountAt m
+abbrev pub summary_count : List ℕ → ℕ
+summary_count m = word_at 2 L.summary_count_at m
 
-abbrev pub transmissionCount : List ℕ → ℕ
-transmissionCount m = get_or m L.transmissionCountAt 0
+abbrev pub transmission_count : List ℕ → ℕ
+transmission_count m = get_or m L.transmission_count_at 0
 
-abbrev pub contestedIn : List ℕ → ℕ
-contestedIn m = word_at 8 L.contestedAt m
+abbrev pub contested_in : List ℕ → ℕ
+contested_in m = word_at 8 L.contested_at m
 
-abbrev pub summaryTable : List ℕ → List ℕ
-summaryTable m = take summariesSize (drop L.summariesAt m)
+abbrev pub summary_table : List ℕ → List ℕ
+summary_table m = take summaries_size (drop L.summaries_at m)
 
-abbrev pub transmissionTable : List ℕ → List ℕ
-transmissionTable m = drop L.transmissionsAt m
+abbrev pub transmission_table : List ℕ → List ℕ
+transmission_table m = drop L.transmissions_at m
 
-abbrev pub summariesIn : List ℕ → List (List ℕ)
-summariesIn m = places summarySize (summaryCount m) (summaryTable m)
+abbrev pub summaries_in : List ℕ → List (List ℕ)
+summaries_in m = places summary_size (summary_count m) (summary_table m)
 
 -- the bytes of each transmission
-abbrev pub transmissionPlaces : List ℕ → List (List ℕ)
-transmissionPlaces m = places transmissionSize (transmissionCount m) (transmissionTable m)
+abbrev pub transmission_places : List ℕ → List (List ℕ)
+transmission_places m = places transmission_size (transmission_count m) (transmission_table m)
 
 -- ---- which bytes are a track
 
 -- Summaries, signers and what is not used keep the register's rules. Nothing is asked of the order of fixes and transmissions.
-unfoldable pub wellFormed : List ℕ → Bool
-wellFormed m =
-    eqb (length m) L.trackSize
-    && (leb (summaryCount m) maxSummaries
-    && (leb (transmissionCount m) maxTransmissions
-    && (eqb (get_or m L.zeroAt 0) 0
-    && (isTable L.pairSize summarySize (summaryCount m) (summaryTable m)
-    && (allPlaces (summaryFormed (convictedIn m)) (summariesIn m)
-    && filledBy (transmissionFormed (beginFormed (convictedIn m))) transmissionSize (transmissionCount m) (transmissionTable m))))))
+unfoldable pub well_formed : List ℕ → Bool
+well_formed m =
+    eqb (length m) L.track_size
+    && (leb (summary_count m) max_summaries
+    && (leb (transmission_count m) max_transmissions
+    && (eqb (get_or m L.zero_at 0) 0
+    && (is_table L.pair_size summary_size (summary_count m) (summary_table m)
+    && (all_places (summary_formed (convicted_in m)) (summaries_in m)
+    && filled_by (transmission_formed (begin_formed (convicted_in m))) transmission_size (transmission_count m) (transmission_table m))))))
 
 -- ---- bytes and tracks
 
 unfoldable pub decode : List ℕ → Track
-decode m = record { convicted = convictedIn m; contested = contestedIn m; summaries = summariesIn m; transmissions = map transmissionIn (transmissionPlaces m) }
+decode m = record { convicted = convicted_in m; contested = contested_in m; summaries = summaries_in m; transmissions = map transmission_in (transmission_places m) }
 
 unfoldable pub encode : Track → List ℕ
 encode s =
@@ -64,11 +64,11 @@ encode s =
     ++ (word_bytes 2 (length s.summaries)
     ++ (length s.transmissions ∷ (0 ∷
     (word_bytes 8 s.contested
-    ++ (table_of summarySize maxSummaries s.summaries ++ table_of transmissionSize maxTransmissions (map transmissionBytes s.transmissions))))))
+    ++ (table_of summary_size max_summaries s.summaries ++ table_of transmission_size max_transmissions (map transmission_bytes s.transmissions))))))
 
 -- a fresh track is all zeros
 abbrev pub fresh : List ℕ
-fresh = replicate L.trackSize 0
+fresh = replicate L.track_size 0
 
 -- ---- an operation on bytes
 
@@ -79,4 +79,4 @@ commit m (done n s) = after n (encode s)
 
 -- 1 for bytes that are no track
 unfoldable pub on_memory : (Track → Outcome) → List ℕ → After (List ℕ)
-on_memory f m = cond (wellFormed m) (commit m (f (decode m))) (after 1 m)
+on_memory f m = cond (well_formed m) (commit m (f (decode m))) (after 1 m)

@@ -15,8 +15,8 @@ pub data Outcome : Type 0 where
   refused : ℕ → Outcome
   done : ℕ → Track → Outcome
 
-abbrev pub withTransmissions : List HeldTransmission → Track → Track
-withTransmissions ts s = record { convicted = s.convicted; contested = s.contested; summaries = s.summaries; transmissions = ts }
+abbrev pub with_transmissions : List HeldTransmission → Track → Track
+with_transmissions ts s = record { convicted = s.convicted; contested = s.contested; summaries = s.summaries; transmissions = ts }
 
-abbrev pub withSummaries : List (List ℕ) → Track → Track
-withSummaries ss s = record { convicted = s.convicted; contested = s.contested; summaries = ss; transmissions = s.transmissions }
+abbrev pub with_summaries : List (List ℕ) → Track → Track
+with_summaries ss s = record { convicted = s.convicted; contested = s.contested; summaries = ss; transmissions = s.transmissions }

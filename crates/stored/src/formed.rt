@@ -1,11 +1,11 @@
 // Which bytes are a track.
 ghost use Rattle.std.specs.Prelude.{◌≡◌, ◌*◌, ◌≤◌, length};
-ghost use Rattle.places.specs.Places.{places, allPlaces};
-ghost use Rattle.held.specs.Limits.{placeSize};
-ghost use Rattle.held.specs.Signed.{beginFormed};
-ghost use Rattle.tracked.specs.Layout.{transmissionSize};
-ghost use Rattle.tracked.specs.Bytes.{filledBy, transmissionFormed};
-ghost use Rattle.stored.specs.Memory.{wellFormed};
+ghost use Rattle.places.specs.Places.{places, all_places};
+ghost use Rattle.held.specs.Limits.{place_size};
+ghost use Rattle.held.specs.Signed.{begin_formed};
+ghost use Rattle.tracked.specs.Layout.{transmission_size};
+ghost use Rattle.tracked.specs.Bytes.{filled_by, transmission_formed};
+ghost use Rattle.stored.specs.Memory.{well_formed};
 
 use crate::layout;
 use arrange::MAX_TRANSMISSIONS;
@@ -20,8 +20,8 @@ use tracked::layout::{
 // convicted, and zeros behind them.
 fn filled(t: &[u8], n: usize, w: usize, convicted: Signers) -> bool
     requires w_in_bounds { n * w ≤ length t.now }
-    requires place_size_le_w { placeSize ≤ w }
-    ensures { result ≡ filledBy (beginFormed convicted.0) w n t.now }
+    requires place_size_le_w { place_size ≤ w }
+    ensures { result ≡ filled_by (begin_formed convicted.0) w n t.now }
 {
     if !held::formed::places_formed(t, n, w, convicted) {
         return false;
@@ -32,8 +32,8 @@ fn filled(t: &[u8], n: usize, w: usize, convicted: Signers) -> bool
 
 // Whether the bytes hold a transmission.
 fn transmission_formed(b: &[u8], convicted: Signers) -> bool
-    requires { length b.now ≡ transmissionSize }
-    ensures { result ≡ transmissionFormed (beginFormed convicted.0) b.now }
+    requires { length b.now ≡ transmission_size }
+    ensures { result ≡ transmission_formed (begin_formed convicted.0) b.now }
 {
     let n = tracked::fix_count(b) as usize;
     if n < 1 {
@@ -54,8 +54,8 @@ fn transmission_formed(b: &[u8], convicted: Signers) -> bool
 
 // Whether the first n transmissions of a table are.
 fn transmissions_formed(t: &[u8], n: usize, convicted: Signers) -> bool
-    requires { n * transmissionSize ≤ length t.now }
-    ensures { result ≡ allPlaces (transmissionFormed (beginFormed convicted.0)) (places transmissionSize n t.now) }
+    requires { n * transmission_size ≤ length t.now }
+    ensures { result ≡ all_places (transmission_formed (begin_formed convicted.0)) (places transmission_size n t.now) }
 {
     for i in 0..n {
         let at = i * TRANSMISSION_SIZE;
@@ -68,8 +68,8 @@ fn transmissions_formed(t: &[u8], n: usize, convicted: Signers) -> bool
 
 // Whether a table holds n transmissions, and zeros behind them.
 fn transmission_table_formed(t: &[u8], n: usize, convicted: Signers) -> bool
-    requires { n * transmissionSize ≤ length t.now }
-    ensures { result ≡ filledBy (transmissionFormed (beginFormed convicted.0)) transmissionSize n t.now }
+    requires { n * transmission_size ≤ length t.now }
+    ensures { result ≡ filled_by (transmission_formed (begin_formed convicted.0)) transmission_size n t.now }
 {
     if !transmissions_formed(t, n, convicted) {
         return false;
@@ -80,7 +80,7 @@ fn transmission_table_formed(t: &[u8], n: usize, convicted: Signers) -> bool
 
 // Whether the bytes are a track.
 pub fn well_formed(m: &[u8]) -> bool
-    ensures { result ≡ wellFormed m.now }
+    ensures { result ≡ well_formed m.now }
 {
     if m.len() != layout::TRACK_SIZE {
         return false;

@@ -1,7 +1,7 @@
 // A summary by its engine and model into a track.
 ghost use Rattle.std.specs.Prelude.{◌≡◌, true};
 ghost use Rattle.held.specs.After.{after};
-ghost use Rattle.stored.specs.Memory.{wellFormed, decode, commit};
+ghost use Rattle.stored.specs.Memory.{well_formed, decode, commit};
 ghost use Rattle.stored.specs.Steps.{put_pair};
 
 use crate::layout::{PAIR_SIZE, SUMMARIES_AT, SUMMARY_COUNT_AT};
@@ -15,7 +15,7 @@ type Pairs<'a> = Table<'a, SUMMARY_SIZE, PAIR_SIZE, MAX_SUMMARIES>;
 
 // Puts a summary in by its engine and model, in the place of the one that is held of them.
 pub fn put_pair(memory: &mut [u8], p: &[u8; SUMMARY_SIZE]) -> u32
-    requires { wellFormed memory.old ≡ true }
+    requires { well_formed memory.old ≡ true }
     ensures { after result memory.new ≡ commit memory.old (put_pair p.now (decode memory.old)) }
 {
     let (head, rest) = memory.split_at_mut(SUMMARIES_AT);

@@ -10,7 +10,7 @@ use Rattle.std.specs.Borrow.{MutBor}
 use Rattle.octets.specs.Put.{Put}
 use Rattle.octets.proofs.Puts.{sets-append}
 use Rattle.text.specs.declared.Text.{Text}
-use Rattle.text.specs.Texts.{start, append, fitting, bytesAfter, lengthAfter}
+use Rattle.text.specs.Texts.{start, append, fitting, bytes_after, length_after}
 
 -- a part of two texts is a part of the first, and of the second what there is still room for
 take-append : (n : ℕ) (t u : List ℕ) → take n (t ++ u) ≡ take n t ++ take (n - length (take n t)) u
@@ -25,7 +25,7 @@ abbrev written : Text → List ℕ → ℕ → Text
 written text bytes n = record { out = record text.out { now = bytes }; len = n }
 
 pub append-append : (text : Text) (t u : List ℕ) → append (append text t) u ≡ append text (t ++ u)
-unfolding bytesAfter lengthAfter
+unfolding bytes_after length_after
 append-append text t u =
     let l = text.out.now in
     let i = text.len in
@@ -40,7 +40,7 @@ append-append text t u =
     ∙ ap (λ (s : List ℕ). written text (sets l i s) (i + length s)) (sym (take-append n t u))
 
 pub append-nil : (text : Text) → append text [] ≡ text
-unfolding bytesAfter lengthAfter
+unfolding bytes_after length_after
 append-nil text =
     let l = text.out.now in
     let i = text.len in
@@ -53,7 +53,7 @@ fitting_whole text t h = take_all (length text.out.now - text.len) t (omega arit
 -- what a buffer holds when it is back, after one text was written into it: n bytes were, and l is what stands behind the reference that the text held
 pub put_whole : (buffer : MutBor (List ℕ)) (t : List ℕ) (text : Text) (n : ℕ) (l : List ℕ) → text ≡ append (start buffer) t → n ≡ text.len
     → (buffer.ghost_name ≡ text.out.ghost_name → l ≡ text.out.now) → length t ≤ length buffer.now → Put buffer.now 0 t n l
-unfolding bytesAfter lengthAfter
+unfolding bytes_after length_after
 put_whole buffer t text n l e len back h =
     let whole = fitting_whole (start buffer) t (omega arith) in record {
       next = len ∙ ap (λ (x : Text). x.len) e ∙ ap (λ (s : List ℕ). 0 + length s) whole;
@@ -63,7 +63,7 @@ put_whole buffer t text n l e len back h =
 -- a copy of a text that fits
 pub append_copy : (text : Text) (t : List ℕ) → text.len + length t ≤ length text.out.now
     → written text (take text.len text.out.now ++ (t ++ drop (text.len + length t) text.out.now)) (text.len + length t) ≡ append text t
-unfolding bytesAfter lengthAfter
+unfolding bytes_after length_after
 append_copy text t h =
     let e = fitting_whole text t h in
     rw e (ap (λ (s : List ℕ). written text s (text.len + length t)) (sym (sets-eq t text.out.now text.len h ∙ append_assoc (take text.len text.out.now) t (drop (text.len + length t) text.out.now))))

@@ -11,20 +11,20 @@ use lib.Signed.{mag}
 use lib.ListN.{length, get_or, length-append, get_or-append}
 use Rattle.ranges.proofs.Bools.{by}
 use Rattle.octets.specs.Ascii.{ascii}
-use Rattle.text.specs.Numbers.{digits, signed, hex, hexDigit, decimalValue}
+use Rattle.text.specs.Numbers.{digits, signed, hex, hex_digit, decimal_value}
 use Rattle.text.specs.Heights.{metres}
-use Rattle.text.specs.Claims.{hexValue, hexDigitValue, DecimalReadsBack, NoLeadingZero, NoMinusZero, DecimalWidth, HexReadsBack, HeightNotMinusZero, HeightTexts}
+use Rattle.text.specs.Claims.{hex_value, hex_digit_value, DecimalReadsBack, NoLeadingZero, NoMinusZero, DecimalWidth, HexReadsBack, HeightNotMinusZero, HeightTexts}
 use Rattle.text.proofs.Shapes.{digits-one, metres-fits}
 
 -- ---- decimal
 
-value-snoc : (a : ℕ) (t : List ℕ) (d : ℕ) → decimalValue a (t ++ (d ∷ [])) ≡ decimalValue a t * 10 + (d - 48)
-unfolding decimalValue
+value-snoc : (a : ℕ) (t : List ℕ) (d : ℕ) → decimal_value a (t ++ (d ∷ [])) ≡ decimal_value a t * 10 + (d - 48)
+unfolding decimal_value
 value-snoc a [] d = refl
 value-snoc a (x ∷ t) d = value-snoc (a * 10 + (x - 48)) t d
 
-pub digits_value : (k n : ℕ) → n < 10 ^ suc k → decimalValue 0 (digits k n) ≡ n
-unfolding digits decimalValue
+pub digits_value : (k n : ℕ) → n < 10 ^ suc k → decimal_value 0 (digits k n) ≡ n
+unfolding digits decimal_value
 digits_value zero n h = omega arith
 digits_value (suc k) n h =
     by (ltb n 10)
@@ -63,30 +63,30 @@ no-minus-zero n h e = no-leading-zero 9 (suc n) h (omega arith) (ap (λ (t : Lis
 -- so no number of 32 bits is '-0'
 pub never-minus-zero : (v : ℤ) → mag v < 2 ^ 31 → signed v ≡ 45 ∷ 48 ∷ [] → ⊥
 never-minus-zero (negsuc n) h e = no-minus-zero n (omega arith) e
-never-minus-zero (pos n) h e = unfold signed decimalValue in zero-is-one-digit (sym (digits_value 9 n (omega arith)) ∙ ap (decimalValue 0) e) e
+never-minus-zero (pos n) h e = unfold signed decimal_value in zero-is-one-digit (sym (digits_value 9 n (omega arith)) ∙ ap (decimal_value 0) e) e
   where
     zero-is-one-digit : n ≡ 0 → digits 9 n ≡ 45 ∷ 48 ∷ [] → ⊥
     zero-is-one-digit z e = let l : 45 < 48 = omega arith in not-le_of_lt l (le_of_eq (ap (λ (t : List ℕ). get_or t 0 0) (sym (zero-text 9) ∙ (rw z at e))))
 
 -- ---- hexadecimal
 
-hex-snoc : (a : ℕ) (t : List ℕ) (d : ℕ) → hexValue a (t ++ (d ∷ [])) ≡ hexValue a t * 16 + hexDigitValue d
-unfolding hexValue
+hex-snoc : (a : ℕ) (t : List ℕ) (d : ℕ) → hex_value a (t ++ (d ∷ [])) ≡ hex_value a t * 16 + hex_digit_value d
+unfolding hex_value
 hex-snoc a [] d = refl
-hex-snoc a (x ∷ t) d = hex-snoc (a * 16 + hexDigitValue x) t d
+hex-snoc a (x ∷ t) d = hex-snoc (a * 16 + hex_digit_value x) t d
 
-hex-digit-value : (d : ℕ) → d < 16 → hexDigitValue (hexDigit d) ≡ d
+hex-digit-value : (d : ℕ) → d < 16 → hex_digit_value (hex_digit d) ≡ d
 hex-digit-value d h =
     by (ltb d 10)
     (λ b. let l = ltb-true d 10 b in rw (b, lt-ltb (48 + d) 97 (omega arith)) (omega arith))
     (λ b. let l = ltb-false d 10 b in rw (b, le-ltb (87 + d) 97 (omega arith)) (omega arith))
 
-pub hex-value : (k n : ℕ) → n < 16 ^ k → hexValue 0 (hex k n) ≡ n
+pub hex-value : (k n : ℕ) → n < 16 ^ k → hex_value 0 (hex k n) ≡ n
 unfolding hex
-hex-value zero n h = unfold hexValue in omega arith
+hex-value zero n h = unfold hex_value in omega arith
 hex-value (suc k) n h =
     let r = hex-value k (n / 16) (omega (arith, pow-suc 16 k)) in
-    hex-snoc 0 (hex k (n / 16)) (hexDigit (n % 16)) ∙ rw (hex-digit-value (n % 16) (omega arith)) (omega arith)
+    hex-snoc 0 (hex k (n / 16)) (hex_digit (n % 16)) ∙ rw (hex-digit-value (n % 16) (omega arith)) (omega arith)
 
 pub hex-width : (k n : ℕ) → length (hex k n) ≡ k
 unfolding hex
@@ -123,16 +123,16 @@ pub height-texts : HeightTexts
 unfolding signed digits ascii
 height-texts =
     record {
-      under-half = refl;
+      under_half = refl;
       half = refl;
-      one-and-half = refl;
-      two-and-half = refl;
-      minus-one-and-half = refl;
-      over-half = refl;
-      minus-half = refl;
-      minus-over-half = refl;
-      minus-two-and-half = refl;
-      greatest-half = refl;
+      one_and_half = refl;
+      two_and_half = refl;
+      minus_one_and_half = refl;
+      over_half = refl;
+      minus_half = refl;
+      minus_over_half = refl;
+      minus_two_and_half = refl;
+      greatest_half = refl;
       greatest = refl;
       least = refl;
     }

@@ -8,7 +8,7 @@ use borrow.Author.Tests.{ltb-true, ltb-false}
 use lib.Dec.{ltb}
 use lib.IntN.{ℤ, pos, negsuc, neg_ℤ, nat_abs, sub_ℕ, ◌+ℤ◌, ◌-ℤ◌, ◌*ℤ◌, neg_ℤ-neg_ℤ, neg_ℤ-+ℤ}
 use Rattle.ranges.proofs.Bools.{by}
-use Rattle.text.specs.Heights.{apart, Even, NearestMetre, roundedMetres, metres}
+use Rattle.text.specs.Heights.{apart, Even, NearestMetre, rounded_metres, metres}
 use Rattle.text.specs.Claims.{MetresAreNearest, OnlyHalvesMoved}
 
 -- ---- at a height from zero up
@@ -33,13 +33,13 @@ apart_above n j = minus-gap n (1000 * j)
 apart-across : (n j : ℕ) → apart (pos n) (negsuc j) ≡ n + 1000 * suc j
 apart-across n j = ap (λ (z : ℤ). nat_abs (pos n +ℤ z)) (neg_ℤ-neg_ℤ (pos (1000 * suc j)))
 
-nearest-above : (n j : ℕ) → gap n (1000 * roundedMetres n) ≤ gap n (1000 * j)
+nearest-above : (n j : ℕ) → gap n (1000 * rounded_metres n) ≤ gap n (1000 * j)
 nearest-above n j = omega arith
 
-nearest-across : (n j : ℕ) → gap n (1000 * roundedMetres n) < n + 1000 * suc j
+nearest-across : (n j : ℕ) → gap n (1000 * rounded_metres n) < n + 1000 * suc j
 nearest-across n j = omega arith
 
-within-half : (n : ℕ) → gap n (1000 * roundedMetres n) ≤ 500
+within-half : (n : ℕ) → gap n (1000 * rounded_metres n) ≤ 500
 within-half n = omega arith
 
 -- two metres equally near, and that near, lie half a metre below and above; so not both are even
@@ -56,22 +56,22 @@ equally-near n j r d e h = go (dec_lt j r)
     go (yes l) = halves j r (half-way n j r l e (rw e h))
     go (no l) = rw (add_comm j r) (halves r j (half-way n r j (omega (arith, l, d)) (sym e) h))
 
-half-even : (n : ℕ) → n % 1000 ≡ 500 → roundedMetres n % 2 ≡ 0
-half-even n h = let e : roundedMetres n ≡ n / 1000 + n / 1000 % 2 = omega arith in rw e (even_sum (n / 1000))
+half-even : (n : ℕ) → n % 1000 ≡ 500 → rounded_metres n % 2 ≡ 0
+half-even n h = let e : rounded_metres n ≡ n / 1000 + n / 1000 % 2 = omega arith in rw e (even_sum (n / 1000))
   where
     even_sum : (q : ℕ) → (q + q % 2) % 2 ≡ 0
     even_sum q = omega arith
 
-asked-above : (n : ℕ) → NearestMetre (pos n) (pos (roundedMetres n))
+asked-above : (n : ℕ) → NearestMetre (pos n) (pos (rounded_metres n))
 asked-above n = record { nearest = near; even = tie }
   where
-    near : (k : ℤ) → apart (pos n) (pos (roundedMetres n)) ≤ apart (pos n) k
-    near (pos j) = rw (apart_above n (roundedMetres n), apart_above n j) (nearest-above n j)
-    near (negsuc j) = rw (apart_above n (roundedMetres n), apart-across n j) (le_of_lt (nearest-across n j))
+    near : (k : ℤ) → apart (pos n) (pos (rounded_metres n)) ≤ apart (pos n) k
+    near (pos j) = rw (apart_above n (rounded_metres n), apart_above n j) (nearest-above n j)
+    near (negsuc j) = rw (apart_above n (rounded_metres n), apart-across n j) (le_of_lt (nearest-across n j))
 
-    tie : (k : ℤ) → (k ≡ pos (roundedMetres n) → ⊥) → apart (pos n) k ≡ apart (pos n) (pos (roundedMetres n)) → Even (pos (roundedMetres n))
-    tie (pos j) d e = half-even n (equally-near n j (roundedMetres n) (λ q. d (ap pos q)) (sym (apart_above n j) ∙ e ∙ apart_above n (roundedMetres n)) (within-half n)).0
-    tie (negsuc j) d e = absurd (not-le_of_lt (nearest-across n j) (le_of_eq (sym (apart-across n j) ∙ e ∙ apart_above n (roundedMetres n))))
+    tie : (k : ℤ) → (k ≡ pos (rounded_metres n) → ⊥) → apart (pos n) k ≡ apart (pos n) (pos (rounded_metres n)) → Even (pos (rounded_metres n))
+    tie (pos j) d e = half-even n (equally-near n j (rounded_metres n) (λ q. d (ap pos q)) (sym (apart_above n j) ∙ e ∙ apart_above n (rounded_metres n)) (within-half n)).0
+    tie (negsuc j) d e = absurd (not-le_of_lt (nearest-across n j) (le_of_eq (sym (apart-across n j) ∙ e ∙ apart_above n (rounded_metres n))))
 
 -- ---- at a height below zero, as at the one as far above it
 
@@ -107,13 +107,13 @@ mirrored h m a = record { nearest = near; even = tie }
 
 asked : (h : ℤ) → NearestMetre h (metres h)
 asked (pos n) = asked-above n
-asked (negsuc n) = mirrored (pos (suc n)) (pos (roundedMetres (suc n))) (asked-above (suc n))
+asked (negsuc n) = mirrored (pos (suc n)) (pos (rounded_metres (suc n))) (asked-above (suc n))
 
-only_above : (n : ℕ) (m : ℤ) → NearestMetre (pos n) m → m ≡ pos (roundedMetres n)
-only_above n (pos j) a = go (ℕ_discrete j (roundedMetres n))
+only_above : (n : ℕ) (m : ℤ) → NearestMetre (pos n) m → m ≡ pos (rounded_metres n)
+only_above n (pos j) a = go (ℕ_discrete j (rounded_metres n))
   where
     r : ℕ
-    r = roundedMetres n
+    r = rounded_metres n
 
     not-both-even : (a b : ℕ) → (a + b) % 2 ≡ 1 → a % 2 ≡ 0 → b % 2 ≡ 0 → ⊥
     not-both-even a b h e f = omega arith
@@ -130,7 +130,7 @@ only_above n (pos j) a = go (ℕ_discrete j (roundedMetres n))
         (a.even (pos r) (λ q. d (sym (ap nat_abs q))) (sym same))
         ((asked-above n).even (pos j) (λ q. d (ap nat_abs q)) same))
 only_above n (negsuc j) a =
-    absurd (not-le_of_lt (nearest-across n j) (rw (apart_above n (roundedMetres n), apart-across n j) at (a.nearest (pos (roundedMetres n)))))
+    absurd (not-le_of_lt (nearest-across n j) (rw (apart_above n (rounded_metres n), apart-across n j) at (a.nearest (pos (rounded_metres n)))))
 
 only : (h m : ℤ) → NearestMetre h m → m ≡ metres h
 only (pos n) m a = only_above n m a
@@ -141,4 +141,4 @@ metres-are-nearest = record { asked = asked; only = only }
 
 pub only-halves-moved : OnlyHalvesMoved
 only-halves-moved (pos n) d = ap pos (omega arith)
-only-halves-moved (negsuc n) d = let e : roundedMetres (suc n) ≡ (suc n + 500) / 1000 = omega arith in ap (λ (r : ℕ). neg_ℤ (pos r)) e
+only-halves-moved (negsuc n) d = let e : rounded_metres (suc n) ≡ (suc n + 500) / 1000 = omega arith in ap (λ (r : ℕ). neg_ℤ (pos r)) e

@@ -4,20 +4,20 @@ use Rattle.std.specs.Prelude.{ℕ, suc, ◌+◌, ◌-◌, ◌*◌, ◌/◌, ◌%
 use Prim.Native.String.{String}
 use Rattle.std.specs.Int.Signed.{mag}
 use Rattle.octets.specs.Ascii.{ascii}
-use Rattle.text.specs.Numbers.{decimal, signed, hex, decimalValue}
+use Rattle.text.specs.Numbers.{decimal, signed, hex, decimal_value}
 use Rattle.text.specs.Heights.{NearestMetre, metres}
 
 -- the number that hex digits stand for, after those that stand for a
-abbrev pub hexDigitValue : ℕ → ℕ
-hexDigitValue c = cond (ltb c 97) (c - 48) (c - 87)
+abbrev pub hex_digit_value : ℕ → ℕ
+hex_digit_value c = cond (ltb c 97) (c - 48) (c - 87)
 
-unfoldable pub hexValue : ℕ → List ℕ → ℕ
-hexValue a [] = a
-hexValue a (d ∷ t) = hexValue (a * 16 + hexDigitValue d) t
+unfoldable pub hex_value : ℕ → List ℕ → ℕ
+hex_value a [] = a
+hex_value a (d ∷ t) = hex_value (a * 16 + hex_digit_value d) t
 
 -- the decimal digits of a number of 64 bits stand for it
 abbrev pub DecimalReadsBack : Type 0
-DecimalReadsBack = (n : ℕ) → n < 2 ^ 64 → decimalValue 0 (decimal n) ≡ n
+DecimalReadsBack = (n : ℕ) → n < 2 ^ 64 → decimal_value 0 (decimal n) ≡ n
 
 -- the first digit is not '0', but for zero, which is '0' alone
 abbrev pub NoLeadingZero : Type 0
@@ -33,7 +33,7 @@ DecimalWidth = (n : ℕ) → (1 ≤ length (decimal n)) × (length (decimal n) �
 
 -- the k hex digits of a number that has no more stand for it
 abbrev pub HexReadsBack : Type 0
-HexReadsBack = (k n : ℕ) → n < 16 ^ k → (hexValue 0 (hex k n) ≡ n) × (length (hex k n) ≡ k)
+HexReadsBack = (k n : ℕ) → n < 16 ^ k → (hex_value 0 (hex k n) ≡ n) × (length (hex k n) ≡ k)
 
 -- ---- heights
 
@@ -43,13 +43,13 @@ pub record MetresAreNearest : Type 0 where
   pub only : (h m : ℤ) → NearestMetre h m → m ≡ metres h
 
 -- another rule, "half away from zero", in place of "half to the even metre"
-abbrev pub halfAway : ℤ → ℤ
-halfAway (pos n) = pos ((n + 500) / 1000)
-halfAway (negsuc n) = neg_ℤ (pos ((suc n + 500) / 1000))
+abbrev pub half_away : ℤ → ℤ
+half_away (pos n) = pos ((n + 500) / 1000)
+half_away (negsuc n) = neg_ℤ (pos ((suc n + 500) / 1000))
 
 -- only the exact halves of a metre are rounded otherwise by it
 abbrev pub OnlyHalvesMoved : Type 0
-OnlyHalvesMoved = (h : ℤ) → (nat_abs h % 1000 ≡ 500 → ⊥) → metres h ≡ halfAway h
+OnlyHalvesMoved = (h : ℤ) → (nat_abs h % 1000 ≡ 500 → ⊥) → metres h ≡ half_away h
 
 -- no height of 32 bits is written '-0'
 abbrev pub HeightNotMinusZero : Type 0
@@ -61,16 +61,16 @@ Written h text = signed (metres h) ≡ ascii text
 
 pub record HeightTexts : Type 0 where
   -- exact halves, and a height below one
-  pub under-half : Written (pos 499) "0"
+  pub under_half : Written (pos 499) "0"
   pub half : Written (pos 500) "0"
-  pub one-and-half : Written (pos 1500) "2"
-  pub two-and-half : Written (pos 2500) "2"
-  pub minus-one-and-half : Written (neg_ℤ (pos 1500)) "-2"
+  pub one_and_half : Written (pos 1500) "2"
+  pub two_and_half : Written (pos 2500) "2"
+  pub minus_one_and_half : Written (neg_ℤ (pos 1500)) "-2"
   -- further exact halves, the heights beside one, and the two ends of an i32
-  pub over-half : Written (pos 501) "1"
-  pub minus-half : Written (neg_ℤ (pos 500)) "0"
-  pub minus-over-half : Written (neg_ℤ (pos 501)) "-1"
-  pub minus-two-and-half : Written (neg_ℤ (pos 2500)) "-2"
-  pub greatest-half : Written (pos 2_147_483_500) "2147484"
+  pub over_half : Written (pos 501) "1"
+  pub minus_half : Written (neg_ℤ (pos 500)) "0"
+  pub minus_over_half : Written (neg_ℤ (pos 501)) "-1"
+  pub minus_two_and_half : Written (neg_ℤ (pos 2500)) "-2"
+  pub greatest_half : Written (pos 2_147_483_500) "2147484"
   pub greatest : Written (pos 2_147_483_647) "2147484"
   pub least : Written (neg_ℤ (pos 2_147_483_648)) "-2147484"

@@ -16,10 +16,10 @@ pub record NearestMetre (h m : ℤ) : Type 0 where
 -- ---- the way to compute it: what it gives is that metre, and there is no other (`MetresAreNearest` of Claims)
 
 -- how many metres n millimetres are: half a metre over an odd metre goes up, over an even one only more than half does
-abbrev pub roundedMetres : ℕ → ℕ
-roundedMetres n = (n + 499 + n / 1000 % 2) / 1000
+abbrev pub rounded_metres : ℕ → ℕ
+rounded_metres n = (n + 499 + n / 1000 % 2) / 1000
 
 -- the whole metres of a height in millimetres
 abbrev pub metres : ℤ → ℤ
-metres (pos n) = pos (roundedMetres n)
-metres (negsuc n) = neg_ℤ (pos (roundedMetres (suc n)))
+metres (pos n) = pos (rounded_metres n)
+metres (negsuc n) = neg_ℤ (pos (rounded_metres (suc n)))

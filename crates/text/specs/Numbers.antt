@@ -16,17 +16,17 @@ unfoldable pub signed : ℤ → List ℕ
 signed (pos n) = digits 9 n
 signed (negsuc n) = 45 ∷ digits 9 (suc n)
 
-abbrev pub hexDigit : ℕ → ℕ
-hexDigit d = cond (ltb d 10) (48 + d) (87 + d)
+abbrev pub hex_digit : ℕ → ℕ
+hex_digit d = cond (ltb d 10) (48 + d) (87 + d)
 
 -- the k lowest hex digits of n, highest first
 unfoldable pub hex : ℕ → ℕ → List ℕ
 hex zero n = []
-hex (suc k) n = hex k (n / 16) ++ (hexDigit (n % 16) ∷ [])
+hex (suc k) n = hex k (n / 16) ++ (hex_digit (n % 16) ∷ [])
 
 -- ---- what the text means
 
 -- the number that decimal digits stand for, after those that stand for a
-unfoldable pub decimalValue : ℕ → List ℕ → ℕ
-decimalValue a [] = a
-decimalValue a (d ∷ t) = decimalValue (a * 10 + (d - 48)) t
+unfoldable pub decimal_value : ℕ → List ℕ → ℕ
+decimal_value a [] = a
+decimal_value a (d ∷ t) = decimal_value (a * 10 + (d - 48)) t

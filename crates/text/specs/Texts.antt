@@ -14,12 +14,12 @@ fitting text t = take (length text.out.now - text.len) t
 
 -- the buffer after t was written after what was there, as much as there was room for; nothing else is touched: `sets l at t` is l with the elements of t
 -- stored one after another from `at` on
-unfoldable pub bytesAfter : Text → List ℕ → List ℕ
-bytesAfter text t = sets text.out.now text.len (fitting text t)
+unfoldable pub bytes_after : Text → List ℕ → List ℕ
+bytes_after text t = sets text.out.now text.len (fitting text t)
 
-unfoldable pub lengthAfter : Text → List ℕ → ℕ
-lengthAfter text t = text.len + length (fitting text t)
+unfoldable pub length_after : Text → List ℕ → ℕ
+length_after text t = text.len + length (fitting text t)
 
 -- t was written. The reference is the same, which a caller's proof has to see
 abbrev pub append : Text → List ℕ → Text
-append text t = record { out = record text.out { now = bytesAfter text t }; len = lengthAfter text t }
+append text t = record { out = record text.out { now = bytes_after text t }; len = length_after text t }

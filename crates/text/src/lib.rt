@@ -3,8 +3,8 @@
 #![tactic(auto)]
 
 ghost use Rattle.std.specs.Prelude.{◌≡◌, ◌+◌, ◌≤◌, ◌<◌, ◌++◌, [], ◌∷◌, length, take, drop};
-ghost use Rattle.text.specs.Numbers.{decimal, signed, hexDigit, hex};
-ghost use Rattle.text.specs.Heights.{roundedMetres, metres};
+ghost use Rattle.text.specs.Numbers.{decimal, signed, hex_digit, hex};
+ghost use Rattle.text.specs.Heights.{rounded_metres, metres};
 
 use itoa::Buffer;
 
@@ -38,7 +38,7 @@ impl<'a> Text<'a> {
     }
 
     // Appends a byte.
-    #[tactic(auto, unfolding(crate::specs::Texts::bytesAfter, crate::specs::Texts::lengthAfter))]
+    #[tactic(auto, unfolding(crate::specs::Texts::bytes_after, crate::specs::Texts::length_after))]
     pub fn push_byte(&mut self, byte: u8)
         ensures { self.new ≡ append self.old (byte ∷ []) }
     {
@@ -49,7 +49,7 @@ impl<'a> Text<'a> {
     }
 
     // Appends bytes.
-    #[tactic(auto, unfolding(crate::specs::Texts::bytesAfter, crate::specs::Texts::lengthAfter))]
+    #[tactic(auto, unfolding(crate::specs::Texts::bytes_after, crate::specs::Texts::length_after))]
     pub fn push_bytes(&mut self, word: &[u8])
         ensures { self.new ≡ append self.old word.now }
     {
@@ -106,14 +106,14 @@ impl<'a> Text<'a> {
 // A hex digit.
 pub fn hex_digit(d: u8) -> u8
     requires { d < 16 }
-    ensures { result ≡ hexDigit d }
+    ensures { result ≡ hex_digit d }
 {
     if d < 10 { 48 + d } else { 87 + d }
 }
 
 // How many metres n millimetres are: the nearest; of two equally near the even one.
 fn rounded_metres(n: u32) -> u32
-    ensures { result ≡ roundedMetres n }
+    ensures { result ≡ rounded_metres n }
 {
     ((n as u64 + 499 + n as u64 / 1000 % 2) / 1000) as u32
 }

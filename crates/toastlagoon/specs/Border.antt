@@ -4,21 +4,21 @@ use Rattle.geometry.specs.declared.linalg.Covariance.{Covariance}
 use Rattle.arithmetic.specs.declared.standing.Claimed.{Claimed}
 use Rattle.arithmetic.specs.declared.standing.Measure.{Measure}
 use Rattle.arithmetic.specs.declared.standing.Agreement.{Agreement}
-use Rattle.arithmetic.specs.Agree.{number_of, measureIn}
+use Rattle.arithmetic.specs.Agree.{number_of, measure_in}
 use Rattle.held.specs.After.{After, after}
 
-abbrev pub covarianceFrom : Float → Float → Float → Float → Float → Float → Covariance
-covarianceFrom xx xy xz yy yz zz = record { xx = xx; xy = xy; xz = xz; yy = yy; yz = yz; zz = zz }
+abbrev pub covariance_from : Float → Float → Float → Float → Float → Float → Covariance
+covariance_from xx xy xz yy yz zz = record { xx = xx; xy = xy; xz = xz; yy = yy; yz = yz; zz = zz }
 
-abbrev pub claimFrom : ℤ → ℤ → Bool → ℤ → Float → Float → Float → Float → Float → Float → Claimed
-claimFrom lat lon high height xx xy xz yy yz zz =
-    record { lat = lat; lon = lon; height = if high then Some height else None; covariance = covarianceFrom xx xy xz yy yz zz }
+abbrev pub claim_from : ℤ → ℤ → Bool → ℤ → Float → Float → Float → Float → Float → Float → Claimed
+claim_from lat lon high height xx xy xz yy yz zz =
+    record { lat = lat; lon = lon; height = if high then Some height else None; covariance = covariance_from xx xy xz yy yz zz }
 
 -- Where nothing was measured there is no number. What the two lent numbers hold then: what was measured, or what was found there.
-unfoldable pub measureOr : Measure → Option Measure → Measure
-measureOr found None = found
-measureOr found (Some m) = m
+unfoldable pub measure_or : Measure → Option Measure → Measure
+measure_or found None = found
+measure_or found (Some m) = m
 
 -- what is answered of an agreement, and what the two lent numbers hold then
-unfoldable pub agreementOut : Agreement → Measure → After Measure
-agreementOut g found = after (number_of g) (measureOr found (measureIn g))
+unfoldable pub agreement_out : Agreement → Measure → After Measure
+agreement_out g found = after (number_of g) (measure_or found (measure_in g))

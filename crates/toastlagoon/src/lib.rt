@@ -5,18 +5,18 @@
 ghost use Rattle.std.specs.Prelude.{◌≡◌};
 ghost use Rattle.hashing.specs.Blake2s as Hash;
 ghost use Rattle.floats.specs.Root as Root;
-ghost use Rattle.arithmetic.specs.Agree.{agreementOf, sigmaOf};
+ghost use Rattle.arithmetic.specs.Agree.{agreement_of, sigma_of};
 ghost use Rattle.decision.specs.Answer.{decided};
 ghost use Rattle.held.specs.After.{after};
-ghost use Rattle.register.specs.Register.{takeReport, takeSummary, takeConviction};
+ghost use Rattle.register.specs.Register.{take_report, take_summary, take_conviction};
 ghost use Rattle.register.specs.Memory.{on_memory};
-ghost use Rattle.board.specs.Board.{drawBoard};
-ghost use Rattle.board.specs.Preview.{drawPreview};
+ghost use Rattle.board.specs.Board.{draw_board};
+ghost use Rattle.board.specs.Preview.{draw_preview};
 ghost use Rattle.stored.specs.Memory as T;
-ghost use Rattle.track.specs.Track.{trackReport, trackSummary, trackConviction};
-ghost use Rattle.listing.specs.Listing.{listTrack};
-ghost use Rattle.toastlagoon.specs.Border.{covarianceFrom, claimFrom, agreementOut};
-ghost use Rattle.answers.specs.Answer.{handOut};
+ghost use Rattle.track.specs.Track.{track_report, track_summary, track_conviction};
+ghost use Rattle.listing.specs.Listing.{list_track};
+ghost use Rattle.toastlagoon.specs.Border.{covariance_from, claim_from, agreement_out};
+ghost use Rattle.answers.specs.Answer.{hand_out};
 
 use answers::ANSWER_SIZE;
 use arithmetic::standing::{Agreement, Claimed, Measure};
@@ -47,7 +47,7 @@ pub extern "C" fn tl_root(x: f64) -> f64
 }
 
 fn covariance(xx: f64, xy: f64, xz: f64, yy: f64, yz: f64, zz: f64) -> Covariance
-    ensures { result ≡ covarianceFrom xx xy xz yy yz zz }
+    ensures { result ≡ covariance_from xx xy xz yy yz zz }
 {
     Covariance {
         xx,
@@ -62,7 +62,7 @@ fn covariance(xx: f64, xy: f64, xz: f64, yy: f64, yz: f64, zz: f64) -> Covarianc
 // The horizontal deviation of a covariance, in metres.
 #[unsafe(no_mangle)]
 pub extern "C" fn tl_horizontal_sigma(xx: f64, xy: f64, xz: f64, yy: f64, yz: f64, zz: f64) -> f64
-    ensures { result ≡ sigmaOf (covarianceFrom xx xy xz yy yz zz) }
+    ensures { result ≡ sigma_of (covariance_from xx xy xz yy yz zz) }
 {
     arithmetic::horizontal_sigma_m(covariance(xx, xy, xz, yy, yz, zz))
 }
@@ -80,7 +80,7 @@ fn claim(
     yz: f64,
     zz: f64,
 ) -> Claimed
-    ensures { result ≡ claimFrom lat lon has_height height xx xy xz yy yz zz }
+    ensures { result ≡ claim_from lat lon has_height height xx xy xz yy yz zz }
 {
     let covariance = covariance(xx, xy, xz, yy, yz, zz);
     Claimed {
@@ -100,7 +100,7 @@ fn put_measure(m: Measure, chi2: &mut f64, limit: &mut f64)
 
 // The two numbers are written where they were measured, and stay as they are where they were not.
 fn put_agreement(g: Agreement, chi2: &mut f64, limit: &mut f64) -> u32
-    ensures { after result (record { chi2 = chi2.new; limit = limit.new }) ≡ agreementOut g (record { chi2 = chi2.old; limit = limit.old }) }
+    ensures { after result (record { chi2 = chi2.new; limit = limit.new }) ≡ agreement_out g (record { chi2 = chi2.old; limit = limit.old }) }
 {
     match g {
         Agreement::Inside(m) => {
@@ -143,7 +143,7 @@ pub extern "C" fn tl_agreement(
     limit: &mut f64,
 ) -> u32
     ensures { after result (record { chi2 = chi2.new; limit = limit.new })
-        ≡ agreementOut (agreementOf (claimFrom lat lon has_height height xx xy xz yy yz zz) (claimFrom lat2 lon2 has_height2 height2 xx2 xy2 xz2 yy2 yz2 zz2))
+        ≡ agreement_out (agreement_of (claim_from lat lon has_height height xx xy xz yy yz zz) (claim_from lat2 lon2 has_height2 height2 xx2 xy2 xz2 yy2 yz2 zz2))
         (record { chi2 = chi2.old; limit = limit.old }) }
 {
     let smaller = claim(lat, lon, has_height, height, xx, xy, xz, yy, yz, zz);
@@ -166,7 +166,7 @@ pub extern "C" fn tl_agreement(
 // Decides items in bytes. The array is written where something is decided, and stays as it is on a refusal.
 #[unsafe(no_mangle)]
 pub extern "C" fn tl_decide(items: &[u8], answer: &mut [u8; ANSWER_SIZE]) -> u32
-    ensures { after result answer.new ≡ handOut (decided items.now) answer.old }
+    ensures { after result answer.new ≡ hand_out (decided items.now) answer.old }
 {
     answers::decide(items, answer)
 }
@@ -174,7 +174,7 @@ pub extern "C" fn tl_decide(items: &[u8], answer: &mut [u8; ANSWER_SIZE]) -> u32
 // Reports a record for an engine into a register.
 #[unsafe(no_mangle)]
 pub extern "C" fn tl_register_report(memory: &mut [u8], engine: u32, r: &[u8]) -> u32
-    ensures { after result memory.new ≡ on_memory (takeReport engine r.now) memory.old }
+    ensures { after result memory.new ≡ on_memory (take_report engine r.now) memory.old }
 {
     register::reports::report(memory, engine, r)
 }
@@ -188,7 +188,7 @@ pub extern "C" fn tl_register_summary(
     spec: u16,
     inputs: &[u8],
 ) -> u32
-    ensures { after result memory.new ≡ on_memory (takeSummary engine model spec inputs.now) memory.old }
+    ensures { after result memory.new ≡ on_memory (take_summary engine model spec inputs.now) memory.old }
 {
     register::summaries::summary(memory, engine, model, spec, inputs)
 }
@@ -196,7 +196,7 @@ pub extern "C" fn tl_register_summary(
 // Strikes an engine from a register, with all that it alone said.
 #[unsafe(no_mangle)]
 pub extern "C" fn tl_register_conviction(memory: &mut [u8], engine: u32) -> u32
-    ensures { after result memory.new ≡ on_memory (takeConviction engine) memory.old }
+    ensures { after result memory.new ≡ on_memory (take_conviction engine) memory.old }
 {
     register::convictions::conviction(memory, engine)
 }
@@ -204,7 +204,7 @@ pub extern "C" fn tl_register_conviction(memory: &mut [u8], engine: u32) -> u32
 // The board of a register into `out`: 1 or 10, or its length, which is 0 or greater than every refusal's number.
 #[unsafe(no_mangle)]
 pub extern "C" fn tl_board(memory: &[u8], out: &mut [u8]) -> u32
-    ensures { after result out.new ≡ drawBoard memory.now out.old }
+    ensures { after result out.new ≡ draw_board memory.now out.old }
 {
     board::board(memory, out)
 }
@@ -213,7 +213,7 @@ pub extern "C" fn tl_board(memory: &[u8], out: &mut [u8]) -> u32
 // every refusal's number. The register is only read.
 #[unsafe(no_mangle)]
 pub extern "C" fn tl_register_preview(memory: &[u8], engine: u32, out: &mut [u8]) -> u32
-    ensures { after result out.new ≡ drawPreview engine memory.now out.old }
+    ensures { after result out.new ≡ draw_preview engine memory.now out.old }
 {
     board::preview(memory, engine, out)
 }
@@ -221,7 +221,7 @@ pub extern "C" fn tl_register_preview(memory: &[u8], engine: u32, out: &mut [u8]
 // Reports a record for an engine into a track.
 #[unsafe(no_mangle)]
 pub extern "C" fn tl_track_report(memory: &mut [u8], engine: u32, r: &[u8]) -> u32
-    ensures { after result memory.new ≡ T.on_memory (trackReport engine r.now) memory.old }
+    ensures { after result memory.new ≡ T.on_memory (track_report engine r.now) memory.old }
 {
     track::reports::report(memory, engine, r)
 }
@@ -235,7 +235,7 @@ pub extern "C" fn tl_track_summary(
     spec: u16,
     inputs: &[u8],
 ) -> u32
-    ensures { after result memory.new ≡ T.on_memory (trackSummary engine model spec inputs.now) memory.old }
+    ensures { after result memory.new ≡ T.on_memory (track_summary engine model spec inputs.now) memory.old }
 {
     track::summaries::summary(memory, engine, model, spec, inputs)
 }
@@ -243,7 +243,7 @@ pub extern "C" fn tl_track_summary(
 // Convicts an engine in a track, and decides again what it signed.
 #[unsafe(no_mangle)]
 pub extern "C" fn tl_track_conviction(memory: &mut [u8], engine: u32) -> u32
-    ensures { after result memory.new ≡ T.on_memory (trackConviction engine) memory.old }
+    ensures { after result memory.new ≡ T.on_memory (track_conviction engine) memory.old }
 {
     track::convictions::conviction(memory, engine)
 }
@@ -251,7 +251,7 @@ pub extern "C" fn tl_track_conviction(memory: &mut [u8], engine: u32) -> u32
 // The listing of a track into `out`: 1 or 10, or its length, which is 0 or greater than every refusal's number.
 #[unsafe(no_mangle)]
 pub extern "C" fn tl_track_listing(memory: &[u8], out: &mut [u8]) -> u32
-    ensures { after result out.new ≡ listTrack memory.now out.old }
+    ensures { after result out.new ≡ list_track memory.now out.old }
 {
     listing::listing(memory, out)
 }

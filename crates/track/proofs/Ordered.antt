@@ -8,25 +8,25 @@ use Rattle.ranges.specs.Lists.{any_of, last_of}
 use Rattle.ranges.proofs.Bools.{by, or}
 use Rattle.ranges.proofs.Lists.{flat_in}
 use Rattle.octets.specs.Words.{word_bytes}
-use Rattle.places.specs.Places.{flat, ascending, allPlaces}
+use Rattle.places.specs.Places.{flat, ascending, all_places}
 use Rattle.held.specs.After.{After}
-use Rattle.held.specs.Limits.{summariesSize}
+use Rattle.held.specs.Limits.{summaries_size}
 use Rattle.shown.specs.Fix.{Fix}
-use Rattle.shown.specs.Ages.{older, olderFirst}
+use Rattle.shown.specs.Ages.{older, older_first}
 use Rattle.shown.proofs.Ages.{older-irrefl}
 use Rattle.tracked.specs.Held.{HeldTransmission}
-use Rattle.arrange.specs.Arranged.{is_some, hasFix, olderThan}
+use Rattle.arrange.specs.Arranged.{is_some, has_fix, older_than}
 use Rattle.arrange.specs.Claims.{InOrder, none, next}
 use Rattle.arrange.proofs.Settling.{drop-in}
 use Rattle.arrange.proofs.Claimed.{arranged-in-order}
 use Rattle.merge.proofs.Claimed.{order-kept}
-use Rattle.stored.specs.Layout.{summariesAt, transmissionsSize}
+use Rattle.stored.specs.Layout.{summaries_at, transmissions_size}
 use Rattle.stored.specs.Track.{Track, Outcome, refused, done}
 use Rattle.stored.specs.Memory.{encode, fresh, commit, on_memory}
 use Rattle.stored.proofs.Valid.{Valid, formed-encode, decode-encode, on-encode}
-use Rattle.recheck.specs.Recheck.{hasStale, recheck, strikeEngine}
-use Rattle.track.specs.Track.{fixFrom}
-use Rattle.track.specs.Served.{keptOf}
+use Rattle.recheck.specs.Recheck.{has_stale, recheck, strike_engine}
+use Rattle.track.specs.Track.{fix_from}
+use Rattle.track.specs.Served.{kept_of}
 use Rattle.track.specs.Calls.{Call, report, summary, conviction, act, runs}
 use Rattle.track.specs.Claims.{StaysInOrder, ReachedInOrder, OneServed, LatestServed}
 use Rattle.track.proofs.Kept.{Sound, act-sound}
@@ -39,16 +39,16 @@ Ordered s = InOrder s.transmissions
 
 recheck-order : (s : Track) → Ordered s → Ordered (recheck s)
 unfolding recheck
-recheck-order s w = by (any_of (hasStale s.summaries) s.transmissions) (λ e. rw e (arranged-in-order _)) (λ e. rw e w)
+recheck-order s w = by (any_of (has_stale s.summaries) s.transmissions) (λ e. rw e (arranged-in-order _)) (λ e. rw e w)
 
-strike-order : (e : ℕ) (s : Track) → Ordered (strikeEngine e s)
-unfolding strikeEngine
+strike-order : (e : ℕ) (s : Track) → Ordered (strike_engine e s)
+unfolding strike_engine
 strike-order e s = arranged-in-order _
 
 act-leaves : (c : Call) (s : Track) → Ordered s → Leaves Ordered (act c s)
-act-leaves (report e r) s w = report-leaves Ordered e r s (order-kept (fixFrom e r s) s.transmissions w)
+act-leaves (report e r) s w = report-leaves Ordered e r s (order-kept (fix_from e r s) s.transmissions w)
 act-leaves (summary e model spec inputs) s w = summary-leaves Ordered e model spec inputs s (λ p. w) recheck-order
-act-leaves (conviction e) s w = conviction-leaves Ordered e s (recheck-order (strikeEngine e s) (strike-order e s))
+act-leaves (conviction e) s w = conviction-leaves Ordered e s (recheck-order (strike_engine e s) (strike-order e s))
 
 pub stays-in-order : StaysInOrder
 stays-in-order c s w = left_after Ordered s (act c s) w (act-leaves c s w)
@@ -62,15 +62,15 @@ start = record { convicted = 0; contested = 0; summaries = []; transmissions = [
 pub fresh-is : encode start ≡ fresh
 unfolding encode flat word_bytes
 fresh-is =
-    ap (λ (t : List ℕ). replicate summariesAt 0 ++ t) (replicate-append-replicate summariesSize transmissionsSize 0)
-    ∙ replicate-append-replicate summariesAt (summariesSize + transmissionsSize) 0
+    ap (λ (t : List ℕ). replicate summaries_at 0 ++ t) (replicate-append-replicate summaries_size transmissions_size 0)
+    ∙ replicate-append-replicate summaries_at (summaries_size + transmissions_size) 0
 
 pub start-valid : Valid start
-unfolding ascending allPlaces
+unfolding ascending all_places
 start-valid = record {
   small = omega arith;
   counted = omega arith;
-  few-summaries = omega arith;
+  few_summaries = omega arith;
   few = omega arith;
   summaries-wide = tt;
   summaries-ascend = refl;
@@ -113,15 +113,15 @@ reached-in-order cs =
 last-behind : {A : Type 0} (x y : A) (l : List A) → last_of 1 (x ∷ (y ∷ l)) ≡ last_of 1 (y ∷ l)
 last-behind x y l = let e : length (x ∷ (y ∷ l)) - 1 ≡ suc (length (y ∷ l) - 1) = omega arith in ap (λ (n : ℕ). drop n (x ∷ (y ∷ l))) e
 
-not_itself : (t : HeldTransmission) → hasFix t ≡ true → olderThan t t ≡ false
+not_itself : (t : HeldTransmission) → has_fix t ≡ true → older_than t t ≡ false
 not_itself t p = go t.fixes p
   where
-    go : (fs : List Fix) → is_some fs ≡ true → olderFirst fs fs ≡ false
+    go : (fs : List Fix) → is_some fs ≡ true → older_first fs fs ≡ false
     go [] p = absurd (false≢true p)
     go (f ∷ fs) p = older-irrefl f
 
 -- the last is older than none
-last-latest : (ts : List HeldTransmission) → InOrder ts → (l t : HeldTransmission) → Memᴰ l (last_of 1 ts) → Memᴰ t ts → olderThan l t ≡ false
+last-latest : (ts : List HeldTransmission) → InOrder ts → (l t : HeldTransmission) → Memᴰ l (last_of 1 ts) → Memᴰ t ts → older_than l t ≡ false
 last-latest [] none l t m k = absurd (Memᴰ.not-nil k)
 last-latest (x ∷ []) (next p f w) l t m k = rw (Memᴰ.eq_of_singleton m, Memᴰ.eq_of_singleton k) (not_itself x p)
 last-latest (x ∷ (y ∷ ts)) (next p f w) l t m k =
@@ -130,14 +130,14 @@ last-latest (x ∷ (y ∷ ts)) (next p f w) l t m k =
     (λ e. rw e (f l (drop-in (y ∷ ts) (length (y ∷ ts) - 1) l n)))
     (λ j. last-latest (y ∷ ts) w l t n j)
 
-first-older : (fs gs : List Fix) (f g : Fix) → olderFirst fs gs ≡ false → Memᴰ f (take 1 fs) → Memᴰ g (take 1 gs) → older f g ≡ false
+first-older : (fs gs : List Fix) (f g : Fix) → older_first fs gs ≡ false → Memᴰ f (take 1 fs) → Memᴰ g (take 1 gs) → older f g ≡ false
 first-older [] gs f g e m k = absurd (Memᴰ.not-nil m)
 first-older (a ∷ fs) [] f g e m k = absurd (Memᴰ.not-nil k)
 first-older (a ∷ fs) (b ∷ gs) f g e m k = rw (Memᴰ.eq_of_singleton m, Memᴰ.eq_of_singleton k) e
 
 pub latest-served : LatestServed
 latest-served s w t f g m k j =
-    let r = flat_in keptOf (last_of 1 s.transmissions) f m in
+    let r = flat_in kept_of (last_of 1 s.transmissions) f m in
     let l = r.0 in
     first-older l.fixes t.fixes f g (last-latest s.transmissions w l t r.1 k) r.2 j
 
@@ -149,7 +149,7 @@ one-served s w h = go s.transmissions w h
     kept [] p = absurd (false≢true p)
     kept (f ∷ fs) p = refl
 
-    go : (ts : List HeldTransmission) → InOrder ts → 1 ≤ length ts → length (flat_map keptOf (last_of 1 ts)) ≡ 1
+    go : (ts : List HeldTransmission) → InOrder ts → 1 ≤ length ts → length (flat_map kept_of (last_of 1 ts)) ≡ 1
     go [] none h = absurd (omega arith)
     go (t ∷ []) (next p f w) h = kept t.fixes p
-    go (t ∷ (u ∷ ts)) (next p f w) h = ap (λ (l : List HeldTransmission). length (flat_map keptOf l)) (last-behind t u ts) ∙ go (u ∷ ts) w (omega arith)
+    go (t ∷ (u ∷ ts)) (next p f w) h = ap (λ (l : List HeldTransmission). length (flat_map kept_of l)) (last-behind t u ts) ∙ go (u ∷ ts) w (omega arith)

@@ -2,7 +2,7 @@
 use Rattle.std.specs.Prelude.{ℕ, List, [], ◌∷◌}
 use Rattle.stored.specs.Track.{Track, Outcome, refused, done}
 use Rattle.stored.specs.Memory.{on_memory}
-use Rattle.track.specs.Track.{trackReport, trackSummary, trackConviction}
+use Rattle.track.specs.Track.{track_report, track_summary, track_conviction}
 
 -- report(engine, record), summary(engine, model, spec, inputs), conviction(engine)
 pub data Call : Type 0 where
@@ -11,14 +11,14 @@ pub data Call : Type 0 where
   conviction : ℕ → Call
 
 abbrev pub act : Call → Track → Outcome
-act (report e r) = trackReport e r
-act (summary e model spec inputs) = trackSummary e model spec inputs
-act (conviction e) = trackConviction e
+act (report e r) = track_report e r
+act (summary e model spec inputs) = track_summary e model spec inputs
+act (conviction e) = track_conviction e
 
 -- a refusal leaves the track as it is
-abbrev pub leftBy : Track → Outcome → Track
-leftBy s (refused n) = s
-leftBy s (done n t) = t
+abbrev pub left_by : Track → Outcome → Track
+left_by s (refused n) = s
+left_by s (done n t) = t
 
 -- the bytes after the calls of a list, first to last
 unfoldable pub runs : List ℕ → List Call → List ℕ

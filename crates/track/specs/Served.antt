@@ -7,9 +7,9 @@ use Rattle.tracked.specs.Held.{HeldTransmission}
 use Rattle.stored.specs.Track.{Track}
 
 -- the fix kept of a transmission, if it has one
-abbrev pub keptOf : HeldTransmission → List Fix
-keptOf t = take 1 t.fixes
+abbrev pub kept_of : HeldTransmission → List Fix
+kept_of t = take 1 t.fixes
 
 -- that of the last transmission, if there is one
 abbrev pub served : Track → List Fix
-served s = flat_map keptOf (last_of 1 s.transmissions)
+served s = flat_map kept_of (last_of 1 s.transmissions)

@@ -2,7 +2,7 @@
 ghost use Rattle.std.specs.Prelude.{◌≡◌};
 ghost use Rattle.held.specs.After.{after};
 ghost use Rattle.stored.specs.Memory.{on_memory};
-ghost use Rattle.track.specs.Track.{trackConviction};
+ghost use Rattle.track.specs.Track.{track_conviction};
 
 use held::engines::Engine;
 use recheck::strikes;
@@ -11,7 +11,7 @@ use stored::formed;
 // Convicts an engine. A repeated conviction checks the fixes again too.
 #[tactic(auto, unfolding(stored::specs::Memory::on_memory))]
 pub fn conviction(memory: &mut [u8], engine: u32) -> u32
-    ensures { after result memory.new ≡ on_memory (trackConviction engine) memory.old }
+    ensures { after result memory.new ≡ on_memory (track_conviction engine) memory.old }
 {
     if !formed::well_formed(memory) {
         return 1;

@@ -8,7 +8,7 @@
 ghost use Rattle.std.specs.Prelude.{◌≡◌, true};
 ghost use Rattle.octets.specs.Masks.{bit};
 ghost use Rattle.models.specs.Answers.{listed};
-ghost use Rattle.stored.specs.Memory.{wellFormed, decode};
+ghost use Rattle.stored.specs.Memory.{well_formed, decode};
 
 use held::engines::{Engine, Signers};
 use models::summaries::Summaries;
@@ -22,7 +22,7 @@ pub mod summaries;
 // The summaries that a track holds.
 #[tactic(auto, unfolding(stored::specs::Memory::decode))]
 fn held_summaries(memory: &[u8]) -> Summaries
-    requires { wellFormed memory.now ≡ true }
+    requires { well_formed memory.now ≡ true }
     ensures { listed result ≡ (decode memory.now).summaries }
 {
     Summaries {
@@ -34,7 +34,7 @@ fn held_summaries(memory: &[u8]) -> Summaries
 // Whether an engine is convicted in a track.
 #[tactic(auto, unfolding(stored::specs::Memory::decode))]
 fn is_convicted(memory: &[u8], engine: Engine) -> bool
-    requires { wellFormed memory.now ≡ true }
+    requires { well_formed memory.now ≡ true }
     ensures { result ≡ bit (decode memory.now).convicted engine.number }
 {
     Signers(octets::words::u32_at(memory, layout::CONVICTED_AT)).contains(engine)

@@ -1,17 +1,17 @@
 // A report into a track.
 ghost use Rattle.std.specs.Prelude.{◌≡◌, ◌+◌, ◌%◌, ◌^◌, ◌≤◌, true, length, slice_set};
 ghost use Rattle.octets.specs.Words.{word_at};
-ghost use Rattle.octets.specs.Writes.{putWord};
+ghost use Rattle.octets.specs.Writes.{put_word};
 ghost use Rattle.models.specs.Answers.{listed};
 ghost use Rattle.models.specs.Models.{counts};
-ghost use Rattle.models.specs.Missing.{citesMissing};
+ghost use Rattle.models.specs.Missing.{cites_missing};
 ghost use Rattle.held.specs.After.{after};
 ghost use Rattle.merge.specs.Merged.{number_of};
-ghost use Rattle.tracked.specs.Bytes.{fixBytes};
+ghost use Rattle.tracked.specs.Bytes.{fix_bytes};
 ghost use Rattle.stored.specs.Layout as L;
-ghost use Rattle.stored.specs.Memory.{wellFormed, decode, commit, on_memory};
-ghost use Rattle.track.specs.Track.{takeCited, trackReport};
-ghost use Rattle.track.specs.Steps.{reportedFix};
+ghost use Rattle.stored.specs.Memory.{well_formed, decode, commit, on_memory};
+ghost use Rattle.track.specs.Track.{take_cited, track_report};
+ghost use Rattle.track.specs.Steps.{reported_fix};
 
 use crate::{held_summaries, is_convicted};
 use held::engines::{Engine, Signers};
@@ -36,7 +36,7 @@ fn number_of(answer: Merged) -> u32
 
 // The bytes of the fix of a record that an engine reports, where these summaries are held.
 fn new_fix(summaries: Summaries, engine: Engine, r: Record) -> [u8; FIX_SIZE]
-    ensures { result ≡ fixBytes (reportedFix engine.number r.entry.bytes.now (listed summaries.entry)) }
+    ensures { result ≡ fix_bytes (reported_fix engine.number r.entry.bytes.now (listed summaries.entry)) }
 {
     let inputs = models::citations::cited_inputs(summaries, r);
     let mut f = [0u8; FIX_SIZE];
@@ -48,8 +48,8 @@ fn new_fix(summaries: Summaries, engine: Engine, r: Record) -> [u8; FIX_SIZE]
 
 // Writes how many transmissions there are, and counts the fixes that entered a list of refused.
 fn put_step(memory: &mut [u8], count: u8, entered: u8)
-    requires { L.summariesAt ≤ length memory.old }
-    ensures { memory.new ≡ putWord 8 L.contestedAt ((word_at 8 L.contestedAt memory.old + entered) % 2 ^ 64) (slice_set memory.old L.transmissionCountAt count) }
+    requires { L.summaries_at ≤ length memory.old }
+    ensures { memory.new ≡ put_word 8 L.contested_at ((word_at 8 L.contested_at memory.old + entered) % 2 ^ 64) (slice_set memory.old L.transmission_count_at count) }
 {
     let contested = octets::words::u64_at(memory, layout::CONTESTED_AT);
     memory[layout::TRANSMISSION_COUNT_AT] = count;
@@ -62,9 +62,9 @@ fn put_step(memory: &mut [u8], count: u8, entered: u8)
 
 // Merges a record that counts into the transmissions.
 fn merge_record(memory: &mut [u8], engine: Engine, r: Record) -> u32
-    requires track { wellFormed memory.old ≡ true }
+    requires track { well_formed memory.old ≡ true }
     requires counts { counts (decode memory.old).summaries r.bytes.now ≡ true }
-    ensures { after result memory.new ≡ commit memory.old (takeCited engine.number r.entry.bytes.now (decode memory.old)) }
+    ensures { after result memory.new ≡ commit memory.old (take_cited engine.number r.entry.bytes.now (decode memory.old)) }
 {
     let count = memory[layout::TRANSMISSION_COUNT_AT] as usize;
     let f = new_fix(held_summaries(memory), engine, r);
@@ -77,8 +77,8 @@ fn merge_record(memory: &mut [u8], engine: Engine, r: Record) -> u32
 
 // Takes a record none of whose models is missing.
 fn take_cited(memory: &mut [u8], engine: Engine, r: Record) -> u32
-    requires { wellFormed memory.old ≡ true }
-    ensures { after result memory.new ≡ commit memory.old (takeCited engine.number r.entry.bytes.now (decode memory.old)) }
+    requires { well_formed memory.old ≡ true }
+    ensures { after result memory.new ≡ commit memory.old (take_cited engine.number r.entry.bytes.now (decode memory.old)) }
 {
     if !models::citations::counts(held_summaries(memory), r) {
         return 7;
@@ -88,8 +88,8 @@ fn take_cited(memory: &mut [u8], engine: Engine, r: Record) -> u32
 
 // Whether a record cites a model without a summary in a track.
 fn misses_model(memory: &[u8], r: Record) -> bool
-    requires { wellFormed memory.now ≡ true }
-    ensures { result ≡ citesMissing (decode memory.now).summaries r.entry.bytes.now }
+    requires { well_formed memory.now ≡ true }
+    ensures { result ≡ cites_missing (decode memory.now).summaries r.entry.bytes.now }
 {
     models::citations::cites_missing(held_summaries(memory), r)
 }
@@ -97,7 +97,7 @@ fn misses_model(memory: &[u8], r: Record) -> bool
 // Reports a record for an engine.
 #[tactic(auto, unfolding(stored::specs::Memory::on_memory))]
 pub fn report(memory: &mut [u8], engine: u32, r: &[u8]) -> u32
-    ensures { after result memory.new ≡ on_memory (trackReport engine r.now) memory.old }
+    ensures { after result memory.new ≡ on_memory (track_report engine r.now) memory.old }
 {
     if !formed::well_formed(memory) {
         return 1;

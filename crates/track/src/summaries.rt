@@ -3,9 +3,9 @@ ghost use Rattle.std.specs.Prelude.{◌≡◌, true, not, ◌&&◌};
 ghost use Rattle.models.specs.Answers.{listed};
 ghost use Rattle.models.specs.Models.{state_of};
 ghost use Rattle.held.specs.After.{after};
-ghost use Rattle.held.specs.Summaries.{summaryFormed};
-ghost use Rattle.stored.specs.Memory.{wellFormed, decode, commit, on_memory};
-ghost use Rattle.track.specs.Track.{isDisputed, holdPair, trackSummary};
+ghost use Rattle.held.specs.Summaries.{summary_formed};
+ghost use Rattle.stored.specs.Memory.{well_formed, decode, commit, on_memory};
+ghost use Rattle.track.specs.Track.{is_disputed, hold_pair, track_summary};
 
 use crate::{held_summaries, is_convicted};
 use held::engines::Engine;
@@ -17,7 +17,7 @@ use stored::formed;
 
 // Whether a model's summaries are disputed.
 fn is_disputed(all: Summaries, model: u8) -> bool
-    ensures { result ≡ isDisputed (state_of model (listed all.entry)) }
+    ensures { result ≡ is_disputed (state_of model (listed all.entry)) }
 {
     match state(all, model) {
         ModelState::Disputed => true,
@@ -27,8 +27,8 @@ fn is_disputed(all: Summaries, model: u8) -> bool
 
 // Whether a model's summaries in a track are disputed.
 fn disputed_in(memory: &[u8], model: u8) -> bool
-    requires { wellFormed memory.now ≡ true }
-    ensures { result ≡ isDisputed (state_of model (decode memory.now).summaries) }
+    requires { well_formed memory.now ≡ true }
+    ensures { result ≡ is_disputed (state_of model (decode memory.now).summaries) }
 {
     is_disputed(held_summaries(memory), model)
 }
@@ -45,9 +45,9 @@ fn becomes_disputed(was: bool, disputed_now: bool) -> bool
 
 // Puts a summary in, and checks the fixes again if its model is disputed now and was not.
 fn hold(memory: &mut [u8], model: u8, p: &[u8; SUMMARY_SIZE]) -> u32
-    requires track { wellFormed memory.old ≡ true }
-    requires formed { summaryFormed (decode memory.old).convicted p.now ≡ true }
-    ensures { after result memory.new ≡ commit memory.old (holdPair model p.now (decode memory.old)) }
+    requires track { well_formed memory.old ≡ true }
+    requires formed { summary_formed (decode memory.old).convicted p.now ≡ true }
+    ensures { after result memory.new ≡ commit memory.old (hold_pair model p.now (decode memory.old)) }
 {
     let was = disputed_in(memory, model);
     let a = stored::summaries::put_pair(memory, p);
@@ -64,7 +64,7 @@ fn hold(memory: &mut [u8], model: u8, p: &[u8; SUMMARY_SIZE]) -> u32
 // Takes a summary of a model from an engine.
 #[tactic(auto, unfolding(stored::specs::Memory::on_memory))]
 pub fn summary(memory: &mut [u8], engine: u32, model: u32, spec: u16, inputs: &[u8]) -> u32
-    ensures { after result memory.new ≡ on_memory (trackSummary engine model spec inputs.now) memory.old }
+    ensures { after result memory.new ≡ on_memory (track_summary engine model spec inputs.now) memory.old }
 {
     if !formed::well_formed(memory) {
         return 1;

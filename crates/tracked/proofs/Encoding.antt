@@ -8,36 +8,36 @@ use native.Mathlib.Omega.{arith}
 use lib.ListN.{length, get_or, take, drop, length-append, length-drop, length-map, take-append-drop}
 use lib.Seq.{take_at, drop_at, drop-drop, take_all}
 use Rattle.octets.specs.Words.{word, word_bytes, word_at}
-use Rattle.octets.specs.Runs.{allZero}
+use Rattle.octets.specs.Runs.{all_zero}
 use Rattle.octets.specs.Bytes.{Bytes}
 use Rattle.octets.proofs.Numbers.{bytes_take, bytes_drop, bytes-of-word, word-of-bytes, length-word-bytes}
 use Rattle.places.specs.Places.{places, table_of}
 use Rattle.places.proofs.Tables.{wide, length-places, places-wide, table-length, places-of-table, filled-table}
 use Rattle.ranges.proofs.Bools.{or}
-use Rattle.record.specs.Layout.{recordSize}
-use Rattle.items.specs.Layout.{hashSize}
+use Rattle.record.specs.Layout.{record_size}
+use Rattle.items.specs.Layout.{hash_size}
 use Rattle.items.proofs.Pairing.{taken}
-use Rattle.models.specs.Identity.{setHash, identityFrom}
+use Rattle.models.specs.Identity.{set_hash, identity_from}
 use Rattle.shown.specs.Fix.{Fix}
 use Rattle.tracked.specs.Layout as L
 use Rattle.tracked.specs.Held.{RefusedFix, HeldTransmission}
-use Rattle.tracked.specs.Bytes.{recordIn, signersIn, inputsIn, fixIn, fixBytes, refusedIn, refusedBytes, fixCount, refusedCount, fixTable, refusedTable, fixPlaces, refusedPlaces, transmissionIn, transmissionBytes}
+use Rattle.tracked.specs.Bytes.{record_in, signers_in, inputs_in, fix_in, fix_bytes, refused_in, refused_bytes, fix_count, refused_count, fix_table, refused_table, fix_places, refused_places, transmission_in, transmission_bytes}
 
 -- ---- values that bytes can hold
 
 pub record ValidFix (f : Fix) : Type 0 where
-  pub record-size : length f.recordBytes ≡ recordSize
-  pub inputs-size : length f.inputs ≡ hashSize
+  pub record-size : length f.record_bytes ≡ record_size
+  pub inputs-size : length f.inputs ≡ hash_size
   pub signed : f.signers < 2 ^ 32
-  pub identified : f.identity ≡ identityFrom (setHash f.recordBytes) f.inputs
+  pub identified : f.identity ≡ identity_from (set_hash f.record_bytes) f.inputs
 
 pub record ValidRefused (x : RefusedFix) : Type 0 where
   pub fix : ValidFix x.fix
-  pub against-size : length x.against ≡ hashSize
+  pub against_size : length x.against ≡ hash_size
 
 pub record Valid (t : HeldTransmission) : Type 0 where
-  pub few : length t.fixes ≤ L.maxStanding
-  pub few-refused : length t.refused ≤ L.maxRefused
+  pub few : length t.fixes ≤ L.max_standing
+  pub few_refused : length t.refused ≤ L.max_refused
   pub fixes : (f : Fix) → Memᴰ f t.fixes → ValidFix f
   pub refused : (x : RefusedFix) → Memᴰ x t.refused → ValidRefused x
 
@@ -51,35 +51,35 @@ module _ (f : Fix) (v : ValidFix f) where
   abbrev signature : List ℕ
   signature = word_bytes 4 f.signers
 
-  pub fix-length : length (fixBytes f) ≡ L.fixSize
+  pub fix-length : length (fix_bytes f) ≡ L.fix_size
   fix-length = simp length-append (omega (arith, v.record-size, v.inputs-size, length-word-bytes 4 f.signers))
 
   -- with what may follow it
   module _ (r : List ℕ) where
-    whole : fixBytes f ++ r ≡ f.recordBytes ++ (signature ++ (f.inputs ++ r))
-    whole = append_assoc f.recordBytes (signature ++ f.inputs) r ∙ ap (λ (l : List ℕ). f.recordBytes ++ l) (append_assoc signature f.inputs r)
+    whole : fix_bytes f ++ r ≡ f.record_bytes ++ (signature ++ (f.inputs ++ r))
+    whole = append_assoc f.record_bytes (signature ++ f.inputs) r ∙ ap (λ (l : List ℕ). f.record_bytes ++ l) (append_assoc signature f.inputs r)
 
-    record-back : recordIn (fixBytes f ++ r) ≡ f.recordBytes
-    record-back = ap (take recordSize) whole ∙ take_at f.recordBytes (signature ++ (f.inputs ++ r)) recordSize v.record-size
+    record-back : record_in (fix_bytes f ++ r) ≡ f.record_bytes
+    record-back = ap (take record_size) whole ∙ take_at f.record_bytes (signature ++ (f.inputs ++ r)) record_size v.record-size
 
-    behind-record : drop L.signersAt (fixBytes f ++ r) ≡ signature ++ (f.inputs ++ r)
-    behind-record = ap (drop L.signersAt) whole ∙ drop_at f.recordBytes (signature ++ (f.inputs ++ r)) L.signersAt v.record-size
+    behind-record : drop L.signers_at (fix_bytes f ++ r) ≡ signature ++ (f.inputs ++ r)
+    behind-record = ap (drop L.signers_at) whole ∙ drop_at f.record_bytes (signature ++ (f.inputs ++ r)) L.signers_at v.record-size
 
-    signers-back : signersIn (fixBytes f ++ r) ≡ f.signers
+    signers-back : signers_in (fix_bytes f ++ r) ≡ f.signers
     signers-back =
         ap (λ (l : List ℕ). word (take 4 l)) behind-record
         ∙ ap word (take_at signature (f.inputs ++ r) 4 (length-word-bytes 4 f.signers))
         ∙ word-of-bytes 4 f.signers v.signed
 
-    inputs-back : inputsIn (fixBytes f ++ r) ≡ f.inputs
+    inputs-back : inputs_in (fix_bytes f ++ r) ≡ f.inputs
     inputs-back =
-        ap (take hashSize) (sym (drop-drop 4 L.signersAt (fixBytes f ++ r)) ∙ ap (drop 4) behind-record ∙ drop_at signature (f.inputs ++ r) 4 (length-word-bytes 4 f.signers))
-        ∙ take_at f.inputs r hashSize v.inputs-size
+        ap (take hash_size) (sym (drop-drop 4 L.signers_at (fix_bytes f ++ r)) ∙ ap (drop 4) behind-record ∙ drop_at signature (f.inputs ++ r) 4 (length-word-bytes 4 f.signers))
+        ∙ take_at f.inputs r hash_size v.inputs-size
 
-    pub fix-back : fixIn (fixBytes f ++ r) ≡ f
+    pub fix-back : fix_in (fix_bytes f ++ r) ≡ f
     fix-back =
-        let i : identityFrom (setHash (recordIn (fixBytes f ++ r))) (inputsIn (fixBytes f ++ r)) ≡ f.identity = ap₂ (λ (a b : List ℕ). identityFrom (setHash a) b) record-back inputs-back ∙ sym v.identified in
-        λ j. record { identity = i j; recordBytes = record-back j; inputs = inputs-back j; signers = signers-back j }
+        let i : identity_from (set_hash (record_in (fix_bytes f ++ r))) (inputs_in (fix_bytes f ++ r)) ≡ f.identity = ap₂ (λ (a b : List ℕ). identity_from (set_hash a) b) record-back inputs-back ∙ sym v.identified in
+        λ j. record { identity = i j; record_bytes = record-back j; inputs = inputs-back j; signers = signers-back j }
 
 -- ---- a refused fix
 
@@ -88,22 +88,22 @@ module _ (x : RefusedFix) (v : ValidRefused x) where
   bits = word_bytes 8 x.chi2
 
   abbrev b : List ℕ
-  b = fixBytes x.fix
+  b = fix_bytes x.fix
 
-  b-length : length b ≡ L.fixSize
+  b-length : length b ≡ L.fix_size
   b-length = fix-length x.fix v.fix
 
-  pub refused-length : length (refusedBytes x) ≡ L.refusedSize
-  refused-length = simp length-append (omega (arith, v.fix.record-size, v.fix.inputs-size, length-word-bytes 4 x.fix.signers, v.against-size, length-word-bytes 8 x.chi2))
+  pub refused-length : length (refused_bytes x) ≡ L.refused_size
+  refused-length = simp length-append (omega (arith, v.fix.record-size, v.fix.inputs-size, length-word-bytes 4 x.fix.signers, v.against_size, length-word-bytes 8 x.chi2))
 
-  behind-fix : drop L.againstAt (refusedBytes x) ≡ x.against ++ bits
-  behind-fix = drop_at b (x.against ++ bits) L.againstAt b-length
+  behind-fix : drop L.against_at (refused_bytes x) ≡ x.against ++ bits
+  behind-fix = drop_at b (x.against ++ bits) L.against_at b-length
 
-  pub refused-back : x.chi2 < 2 ^ 64 → refusedIn (refusedBytes x) ≡ x
+  pub refused-back : x.chi2 < 2 ^ 64 → refused_in (refused_bytes x) ≡ x
   refused-back u =
       let f = fix-back x.fix v.fix (x.against ++ bits) in
-      let a = ap (take hashSize) behind-fix ∙ take_at x.against bits hashSize v.against-size in
-      let d : drop L.chi2At (refusedBytes x) ≡ bits = sym (drop-drop hashSize L.againstAt (refusedBytes x)) ∙ ap (drop hashSize) behind-fix ∙ drop_at x.against bits hashSize v.against-size in
+      let a = ap (take hash_size) behind-fix ∙ take_at x.against bits hash_size v.against_size in
+      let d : drop L.chi2_at (refused_bytes x) ≡ bits = sym (drop-drop hash_size L.against_at (refused_bytes x)) ∙ ap (drop hash_size) behind-fix ∙ drop_at x.against bits hash_size v.against_size in
       let c = ap (λ (l : List ℕ). word (take 8 l)) d ∙ ap word (take_all 8 bits (let l = length-word-bytes 8 x.chi2 in omega (arith, l))) ∙ word-of-bytes 8 x.chi2 u in
       λ j. record { fix = f j; against = a j; chi2 = c j }
 
@@ -119,69 +119,69 @@ map-wide w to (x ∷ l) e = (e x (Memᴰ.head refl), map-wide w to l (λ y m. e 
 
 module _ (t : HeldTransmission) (v : Valid t) where
   abbrev fs : List (List ℕ)
-  fs = map fixBytes t.fixes
+  fs = map fix_bytes t.fixes
 
   abbrev rs : List (List ℕ)
-  rs = map refusedBytes t.refused
+  rs = map refused_bytes t.refused
 
-  pub wide-fixes : wide L.fixSize fs
-  wide-fixes = map-wide L.fixSize fixBytes t.fixes (λ f m. fix-length f (v.fixes f m))
+  pub wide-fixes : wide L.fix_size fs
+  wide-fixes = map-wide L.fix_size fix_bytes t.fixes (λ f m. fix-length f (v.fixes f m))
 
-  pub wide-refused : wide L.refusedSize rs
-  wide-refused = map-wide L.refusedSize refusedBytes t.refused (λ x m. refused-length x (v.refused x m))
+  pub wide-refused : wide L.refused_size rs
+  wide-refused = map-wide L.refused_size refused_bytes t.refused (λ x m. refused-length x (v.refused x m))
 
   fixes-count : length fs ≡ length t.fixes
-  fixes-count = length-map t.fixes fixBytes
+  fixes-count = length-map t.fixes fix_bytes
 
   refused-count : length rs ≡ length t.refused
-  refused-count = length-map t.refused refusedBytes
+  refused-count = length-map t.refused refused_bytes
 
-  pub fixes-length : length (table_of L.fixSize L.maxStanding fs) ≡ L.fixesSize
-  fixes-length = table-length L.fixSize L.maxStanding fs wide-fixes (rw fixes-count v.few)
+  pub fixes-length : length (table_of L.fix_size L.max_standing fs) ≡ L.fixes_size
+  fixes-length = table-length L.fix_size L.max_standing fs wide-fixes (rw fixes-count v.few)
 
-  pub refused-table-length : length (table_of L.refusedSize L.maxRefused rs) ≡ L.refusedTableSize
-  refused-table-length = table-length L.refusedSize L.maxRefused rs wide-refused (rw refused-count v.few-refused)
+  pub refused-table-length : length (table_of L.refused_size L.max_refused rs) ≡ L.refused_table_size
+  refused-table-length = table-length L.refused_size L.max_refused rs wide-refused (rw refused-count v.few_refused)
 
-  pub bytes-length : length (transmissionBytes t) ≡ L.transmissionSize
-  unfolding transmissionBytes
+  pub bytes-length : length (transmission_bytes t) ≡ L.transmission_size
+  unfolding transmission_bytes
   bytes-length = rw length-append (omega (arith, fixes-length, refused-table-length))
 
-  fix-table : fixTable (transmissionBytes t) ≡ table_of L.fixSize L.maxStanding fs
-  unfolding transmissionBytes
-  fix-table = take_at (table_of L.fixSize L.maxStanding fs) (table_of L.refusedSize L.maxRefused rs) L.fixesSize fixes-length
+  fix-table : fix_table (transmission_bytes t) ≡ table_of L.fix_size L.max_standing fs
+  unfolding transmission_bytes
+  fix-table = take_at (table_of L.fix_size L.max_standing fs) (table_of L.refused_size L.max_refused rs) L.fixes_size fixes-length
 
-  refused-table : refusedTable (transmissionBytes t) ≡ table_of L.refusedSize L.maxRefused rs
-  unfolding transmissionBytes
-  refused-table = drop_at (table_of L.fixSize L.maxStanding fs) (table_of L.refusedSize L.maxRefused rs) L.fixesSize fixes-length
+  refused-table : refused_table (transmission_bytes t) ≡ table_of L.refused_size L.max_refused rs
+  unfolding transmission_bytes
+  refused-table = drop_at (table_of L.fix_size L.max_standing fs) (table_of L.refused_size L.max_refused rs) L.fixes_size fixes-length
 
-  pub fix-count-back : fixCount (transmissionBytes t) ≡ length t.fixes
-  unfolding transmissionBytes
+  pub fix-count-back : fix_count (transmission_bytes t) ≡ length t.fixes
+  unfolding transmission_bytes
   fix-count-back = refl
 
-  pub refused-count-back : refusedCount (transmissionBytes t) ≡ length t.refused
-  unfolding transmissionBytes
+  pub refused-count-back : refused_count (transmission_bytes t) ≡ length t.refused
+  unfolding transmission_bytes
   refused-count-back = refl
 
-  pub fix-places-back : fixPlaces (transmissionBytes t) ≡ fs
+  pub fix-places-back : fix_places (transmission_bytes t) ≡ fs
   fix-places-back =
-      ap₂ (λ (n : ℕ) (l : List ℕ). places L.fixSize n l) (fix-count-back ∙ sym fixes-count) fix-table
-      ∙ places-of-table L.fixSize L.maxStanding fs wide-fixes
+      ap₂ (λ (n : ℕ) (l : List ℕ). places L.fix_size n l) (fix-count-back ∙ sym fixes-count) fix-table
+      ∙ places-of-table L.fix_size L.max_standing fs wide-fixes
 
-  pub refused-places-back : refusedPlaces (transmissionBytes t) ≡ rs
+  pub refused-places-back : refused_places (transmission_bytes t) ≡ rs
   refused-places-back =
-      ap₂ (λ (n : ℕ) (l : List ℕ). places L.refusedSize n l) (refused-count-back ∙ sym refused-count) refused-table
-      ∙ places-of-table L.refusedSize L.maxRefused rs wide-refused
+      ap₂ (λ (n : ℕ) (l : List ℕ). places L.refused_size n l) (refused-count-back ∙ sym refused-count) refused-table
+      ∙ places-of-table L.refused_size L.max_refused rs wide-refused
 
   -- bytes of a transmission hold its fixes
-  pub fixes-back : (transmissionIn (transmissionBytes t)).fixes ≡ t.fixes
-  unfolding transmissionIn
-  fixes-back = ap (map fixIn) fix-places-back ∙ map_back fixBytes fixIn t.fixes (λ f m. ap fixIn (sym (append-nil (fixBytes f))) ∙ fix-back f (v.fixes f m) [])
+  pub fixes-back : (transmission_in (transmission_bytes t)).fixes ≡ t.fixes
+  unfolding transmission_in
+  fixes-back = ap (map fix_in) fix-places-back ∙ map_back fix_bytes fix_in t.fixes (λ f m. ap fix_in (sym (append-nil (fix_bytes f))) ∙ fix-back f (v.fixes f m) [])
 
   -- and all of it
-  pub decode-encode : Bounded t → transmissionIn (transmissionBytes t) ≡ t
-  unfolding transmissionIn
+  pub decode-encode : Bounded t → transmission_in (transmission_bytes t) ≡ t
+  unfolding transmission_in
   decode-encode u =
-      let r = ap (map refusedIn) refused-places-back ∙ map_back refusedBytes refusedIn t.refused (λ x m. refused-back x (v.refused x m) (u x m)) in
+      let r = ap (map refused_in) refused-places-back ∙ map_back refused_bytes refused_in t.refused (λ x m. refused-back x (v.refused x m) (u x m)) in
       λ j. record { fixes = fixes-back j; refused = r j }
 
 -- ---- from bytes to values and back
@@ -196,18 +196,18 @@ word-part p b at n h =
 cut : (at n : ℕ) (p : List ℕ) → take n (drop at p) ++ drop (at + n) p ≡ drop at p
 cut at n p = ap (λ (l : List ℕ). take n (drop at p) ++ l) (sym (drop-drop n at p)) ∙ take-append-drop n (drop at p)
 
-fix-again : (p : List ℕ) → Bytes p → L.fixSize ≤ length p → fixBytes (fixIn p) ++ drop L.fixSize p ≡ p
+fix-again : (p : List ℕ) → Bytes p → L.fix_size ≤ length p → fix_bytes (fix_in p) ++ drop L.fix_size p ≡ p
 fix-again p b h =
-    append_assoc (recordIn p) (word_bytes 4 (signersIn p) ++ inputsIn p) (drop L.fixSize p)
-    ∙ ap (λ (l : List ℕ). recordIn p ++ l) (append_assoc (word_bytes 4 (signersIn p)) (inputsIn p) (drop L.fixSize p)
-    ∙ ap₂ (λ (x y : List ℕ). x ++ y) (word-part p b L.signersAt 4 (omega arith)) (cut L.inputsAt hashSize p)
-    ∙ cut L.signersAt 4 p)
-    ∙ cut 0 recordSize p
+    append_assoc (record_in p) (word_bytes 4 (signers_in p) ++ inputs_in p) (drop L.fix_size p)
+    ∙ ap (λ (l : List ℕ). record_in p ++ l) (append_assoc (word_bytes 4 (signers_in p)) (inputs_in p) (drop L.fix_size p)
+    ∙ ap₂ (λ (x y : List ℕ). x ++ y) (word-part p b L.signers_at 4 (omega arith)) (cut L.inputs_at hash_size p)
+    ∙ cut L.signers_at 4 p)
+    ∙ cut 0 record_size p
 
-pub fix-bytes-back : (p : List ℕ) → Bytes p → length p ≡ L.fixSize → fixBytes (fixIn p) ≡ p
+pub fix-bytes-back : (p : List ℕ) → Bytes p → length p ≡ L.fix_size → fix_bytes (fix_in p) ≡ p
 fix-bytes-back p b h =
-    let e : drop L.fixSize p ≡ [] = ended L.fixSize p h in
-    sym (append-nil (fixBytes (fixIn p))) ∙ ap (λ (l : List ℕ). fixBytes (fixIn p) ++ l) (sym e) ∙ fix-again p b (omega (arith, h))
+    let e : drop L.fix_size p ≡ [] = ended L.fix_size p h in
+    sym (append-nil (fix_bytes (fix_in p))) ∙ ap (λ (l : List ℕ). fix_bytes (fix_in p) ++ l) (sym e) ∙ fix-again p b (omega (arith, h))
   where
     ended : (n : ℕ) (l : List ℕ) → length l ≡ n → drop n l ≡ []
     ended zero [] q = refl
@@ -215,20 +215,20 @@ fix-bytes-back p b h =
     ended (suc n) [] q = refl
     ended (suc n) (x ∷ l) q = ended n l (omega arith)
 
-pub refused-bytes-back : (p : List ℕ) → Bytes p → length p ≡ L.refusedSize → refusedBytes (refusedIn p) ≡ p
+pub refused-bytes-back : (p : List ℕ) → Bytes p → length p ≡ L.refused_size → refused_bytes (refused_in p) ≡ p
 refused-bytes-back p b h =
-    ap (λ (l : List ℕ). fixBytes (fixIn p) ++ l)
-    (ap (λ (l : List ℕ). take hashSize (drop L.againstAt p) ++ l) (word-part p b L.chi2At 8 (omega (arith, h)) ∙ take_all 8 (drop L.chi2At p) (rw length-drop (omega (arith, h)))) ∙ cut L.againstAt hashSize p)
+    ap (λ (l : List ℕ). fix_bytes (fix_in p) ++ l)
+    (ap (λ (l : List ℕ). take hash_size (drop L.against_at p) ++ l) (word-part p b L.chi2_at 8 (omega (arith, h)) ∙ take_all 8 (drop L.chi2_at p) (rw length-drop (omega (arith, h)))) ∙ cut L.against_at hash_size p)
     ∙ fix-again p b (omega (arith, h))
 
 -- bytes in which a transmission may lie, whose unused bytes are zero
 pub record Canonical (b : List ℕ) : Type 0 where
   pub bytes : Bytes b
-  pub size : length b ≡ L.transmissionSize
-  pub few : fixCount b ≤ L.maxStanding
-  pub few-refused : refusedCount b ≤ L.maxRefused
-  pub zeros : allZero (drop (fixCount b * L.fixSize) (fixTable b)) ≡ true
-  pub zeros-refused : allZero (drop (refusedCount b * L.refusedSize) (refusedTable b)) ≡ true
+  pub size : length b ≡ L.transmission_size
+  pub few : fix_count b ≤ L.max_standing
+  pub few_refused : refused_count b ≤ L.max_refused
+  pub zeros : all_zero (drop (fix_count b * L.fix_size) (fix_table b)) ≡ true
+  pub zeros_refused : all_zero (drop (refused_count b * L.refused_size) (refused_table b)) ≡ true
 
 pub bytes-of-places : (w n : ℕ) (t : List ℕ) → Bytes t → (p : List ℕ) → Memᴰ p (places w n t) → Bytes p
 unfolding places
@@ -244,33 +244,33 @@ map-bytes to from [] e = refl
 map-bytes to from (p ∷ l) e = ap₂ ◌∷◌ (e p (Memᴰ.head refl)) (map-bytes to from l (λ q m. e q (Memᴰ.tail m)))
 
 module _ (b : List ℕ) (c : Canonical b) where
-  table-size : length (fixTable b) ≡ L.fixesSize
-  table-size = taken L.fixesSize L.fixesAt b (omega (arith, c.size))
+  table-size : length (fix_table b) ≡ L.fixes_size
+  table-size = taken L.fixes_size L.fixes_at b (omega (arith, c.size))
 
-  refused-size : length (refusedTable b) ≡ L.refusedTableSize
+  refused-size : length (refused_table b) ≡ L.refused_table_size
   refused-size = rw length-drop (omega (arith, c.size))
 
-  places-are : map fixBytes (map fixIn (fixPlaces b)) ≡ fixPlaces b
+  places-are : map fix_bytes (map fix_in (fix_places b)) ≡ fix_places b
   places-are =
-      let w = places-wide L.fixSize (fixCount b) (fixTable b) (omega (arith, table-size, c.few)) in
-      map-bytes fixBytes fixIn (fixPlaces b) (λ p m. fix-bytes-back p (bytes-of-places L.fixSize (fixCount b) (fixTable b) (bytes_take L.fixesSize (drop L.fixesAt b) (bytes_drop L.fixesAt b c.bytes)) p m) (wide-in L.fixSize (fixPlaces b) w p m))
+      let w = places-wide L.fix_size (fix_count b) (fix_table b) (omega (arith, table-size, c.few)) in
+      map-bytes fix_bytes fix_in (fix_places b) (λ p m. fix-bytes-back p (bytes-of-places L.fix_size (fix_count b) (fix_table b) (bytes_take L.fixes_size (drop L.fixes_at b) (bytes_drop L.fixes_at b c.bytes)) p m) (wide-in L.fix_size (fix_places b) w p m))
 
-  refused-are : map refusedBytes (map refusedIn (refusedPlaces b)) ≡ refusedPlaces b
+  refused-are : map refused_bytes (map refused_in (refused_places b)) ≡ refused_places b
   refused-are =
-      let w = places-wide L.refusedSize (refusedCount b) (refusedTable b) (omega (arith, refused-size, c.few-refused)) in
-      map-bytes refusedBytes refusedIn (refusedPlaces b) (λ p m. refused-bytes-back p (bytes-of-places L.refusedSize (refusedCount b) (refusedTable b) (bytes_drop L.refusedAt b c.bytes) p m) (wide-in L.refusedSize (refusedPlaces b) w p m))
+      let w = places-wide L.refused_size (refused_count b) (refused_table b) (omega (arith, refused-size, c.few_refused)) in
+      map-bytes refused_bytes refused_in (refused_places b) (λ p m. refused-bytes-back p (bytes-of-places L.refused_size (refused_count b) (refused_table b) (bytes_drop L.refused_at b c.bytes) p m) (wide-in L.refused_size (refused_places b) w p m))
 
   -- the bytes are those of what they hold
-  pub encode-decode : transmissionBytes (transmissionIn b) ≡ b
-  unfolding transmissionBytes transmissionIn
+  pub encode-decode : transmission_bytes (transmission_in b) ≡ b
+  unfolding transmission_bytes transmission_in
   encode-decode =
-      let n : length (map fixIn (fixPlaces b)) ≡ fixCount b = length-map (fixPlaces b) fixIn ∙ length-places L.fixSize (fixCount b) (fixTable b) in
-      let m : length (map refusedIn (refusedPlaces b)) ≡ refusedCount b = length-map (refusedPlaces b) refusedIn ∙ length-places L.refusedSize (refusedCount b) (refusedTable b) in
-      let f = ap (table_of L.fixSize L.maxStanding) places-are ∙ sym (filled-table L.fixSize L.maxStanding (fixCount b) (fixTable b) table-size c.few c.zeros) in
-      let r = ap (table_of L.refusedSize L.maxRefused) refused-are ∙ sym (filled-table L.refusedSize L.maxRefused (refusedCount b) (refusedTable b) refused-size c.few-refused c.zeros-refused) in
-      ap₂ (λ (i j : ℕ). i ∷ (j ∷ (table_of L.fixSize L.maxStanding (map fixBytes (map fixIn (fixPlaces b))) ++ table_of L.refusedSize L.maxRefused (map refusedBytes (map refusedIn (refusedPlaces b)))))) n m
-      ∙ ap₂ (λ (x y : List ℕ). fixCount b ∷ (refusedCount b ∷ (x ++ y))) f r
-      ∙ ap (λ (l : List ℕ). fixCount b ∷ (refusedCount b ∷ l)) (cut L.fixesAt L.fixesSize b)
+      let n : length (map fix_in (fix_places b)) ≡ fix_count b = length-map (fix_places b) fix_in ∙ length-places L.fix_size (fix_count b) (fix_table b) in
+      let m : length (map refused_in (refused_places b)) ≡ refused_count b = length-map (refused_places b) refused_in ∙ length-places L.refused_size (refused_count b) (refused_table b) in
+      let f = ap (table_of L.fix_size L.max_standing) places-are ∙ sym (filled-table L.fix_size L.max_standing (fix_count b) (fix_table b) table-size c.few c.zeros) in
+      let r = ap (table_of L.refused_size L.max_refused) refused-are ∙ sym (filled-table L.refused_size L.max_refused (refused_count b) (refused_table b) refused-size c.few_refused c.zeros_refused) in
+      ap₂ (λ (i j : ℕ). i ∷ (j ∷ (table_of L.fix_size L.max_standing (map fix_bytes (map fix_in (fix_places b))) ++ table_of L.refused_size L.max_refused (map refused_bytes (map refused_in (refused_places b)))))) n m
+      ∙ ap₂ (λ (x y : List ℕ). fix_count b ∷ (refused_count b ∷ (x ++ y))) f r
+      ∙ ap (λ (l : List ℕ). fix_count b ∷ (refused_count b ∷ l)) (cut L.fixes_at L.fixes_size b)
       ∙ two b (omega (arith, c.size))
     where
       two : (l : List ℕ) → 2 ≤ length l → get_or l 0 0 ∷ (get_or l 1 0 ∷ drop 2 l) ≡ l

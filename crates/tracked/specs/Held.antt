@@ -16,17 +16,17 @@ pub record HeldTransmission : Type 0 where
   pub fixes : List Fix
   pub refused : List RefusedFix
 
-abbrev pub fixOf : RefusedFix → Fix
-fixOf x = x.fix
+abbrev pub fix_of : RefusedFix → Fix
+fix_of x = x.fix
 
 -- all fixes that are held: those that stand, then the refused
-abbrev pub heldIn : HeldTransmission → List Fix
-heldIn t = t.fixes ++ map fixOf t.refused
+abbrev pub held_in : HeldTransmission → List Fix
+held_in t = t.fixes ++ map fix_of t.refused
 
 -- g has the identity of f
 abbrev pub is_of : Fix → Fix → Bool
 is_of f g = same g.identity f.identity
 
 -- the Rust's `same_transmission`, with some fix that is held
-abbrev pub tiedTo : Fix → HeldTransmission → Bool
-tiedTo f t = any_of (λ g. tied g.recordBytes f.recordBytes) (heldIn t)
+abbrev pub tied_to : Fix → HeldTransmission → Bool
+tied_to f t = any_of (λ g. tied g.record_bytes f.record_bytes) (held_in t)

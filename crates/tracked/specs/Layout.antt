@@ -2,8 +2,8 @@
 -- bytes (record, signers, the model inputs that it was checked under), places for 4 refused of 298 (a fix, the identity that is kept, the chi-square of the two).
 -- Each part begins where the one before it ends.
 use Rattle.std.specs.Prelude.{ℕ, ◌+◌, ◌*◌}
-use Rattle.record.specs.Layout.{recordSize}
-use Rattle.items.specs.Layout.{hashSize}
+use Rattle.record.specs.Layout.{record_size}
+use Rattle.items.specs.Layout.{hash_size}
 
 -- ---- limits
 
@@ -11,53 +11,53 @@ use Rattle.items.specs.Layout.{hashSize}
 abbrev pub alternatives : ℕ
 alternatives = 4
 
-abbrev pub maxStanding : ℕ
-maxStanding = alternatives + 1
+abbrev pub max_standing : ℕ
+max_standing = alternatives + 1
 
-abbrev pub maxRefused : ℕ
-maxRefused = alternatives
+abbrev pub max_refused : ℕ
+max_refused = alternatives
 
 -- ---- a fix
 
-abbrev pub signersAt : ℕ
-signersAt = recordSize
+abbrev pub signers_at : ℕ
+signers_at = record_size
 
-abbrev pub inputsAt : ℕ
-inputsAt = signersAt + 4
+abbrev pub inputs_at : ℕ
+inputs_at = signers_at + 4
 
-abbrev pub fixSize : ℕ
-fixSize = inputsAt + hashSize
+abbrev pub fix_size : ℕ
+fix_size = inputs_at + hash_size
 
 -- ---- a refused fix
 
-abbrev pub againstAt : ℕ
-againstAt = fixSize
+abbrev pub against_at : ℕ
+against_at = fix_size
 
-abbrev pub chi2At : ℕ
-chi2At = againstAt + hashSize
+abbrev pub chi2_at : ℕ
+chi2_at = against_at + hash_size
 
-abbrev pub refusedSize : ℕ
-refusedSize = chi2At + 8
+abbrev pub refused_size : ℕ
+refused_size = chi2_at + 8
 
 -- ---- a transmission
 
-abbrev pub fixCountAt : ℕ
-fixCountAt = 0
+abbrev pub fix_count_at : ℕ
+fix_count_at = 0
 
-abbrev pub refusedCountAt : ℕ
-refusedCountAt = fixCountAt + 1
+abbrev pub refused_count_at : ℕ
+refused_count_at = fix_count_at + 1
 
-abbrev pub fixesAt : ℕ
-fixesAt = refusedCountAt + 1
+abbrev pub fixes_at : ℕ
+fixes_at = refused_count_at + 1
 
-abbrev pub fixesSize : ℕ
-fixesSize = maxStanding * fixSize
+abbrev pub fixes_size : ℕ
+fixes_size = max_standing * fix_size
 
-abbrev pub refusedAt : ℕ
-refusedAt = fixesAt + fixesSize
+abbrev pub refused_at : ℕ
+refused_at = fixes_at + fixes_size
 
-abbrev pub refusedTableSize : ℕ
-refusedTableSize = maxRefused * refusedSize
+abbrev pub refused_table_size : ℕ
+refused_table_size = max_refused * refused_size
 
-abbrev pub transmissionSize : ℕ
-transmissionSize = refusedAt + refusedTableSize
+abbrev pub transmission_size : ℕ
+transmission_size = refused_at + refused_table_size

@@ -1,50 +1,50 @@
 -- No claim rests on these definitions: they say what the code asks of the bytes of a transmission, and where a held fix lies in them.
 use Rattle.std.specs.Prelude.{ℕ, ◌+◌, ◌*◌, ◌-◌, ◌≤◌, ◌≡◌, Bool, true, cond, ◌&&◌, List, ◌++◌, map, ltb, length, take, drop}
-use Rattle.places.specs.Places.{allPlaces}
+use Rattle.places.specs.Places.{all_places}
 use Rattle.octets.specs.Order.{same}
-use Rattle.record.specs.Layout.{messageLengthAt, usedAt, tagsAt, modelCountAt}
-use Rattle.record.specs.Formed.{wellFormed}
+use Rattle.record.specs.Layout.{message_length_at, used_at, tags_at, model_count_at}
+use Rattle.record.specs.Formed.{well_formed}
 use Rattle.record.specs.Relations.{tied}
 use Rattle.tracked.specs.Layout as L
-use Rattle.tracked.specs.Bytes.{recordIn, inputsIn, fixCount, refusedCount, fixPlaces, refusedPlaces}
+use Rattle.tracked.specs.Bytes.{record_in, inputs_in, fix_count, refused_count, fix_places, refused_places}
 
 -- the bytes of all fixes that are held: those that stand, then the refused
-abbrev pub heldPlaces : List ℕ → List (List ℕ)
-heldPlaces b = fixPlaces b ++ map (take L.fixSize) (refusedPlaces b)
+abbrev pub held_places : List ℕ → List (List ℕ)
+held_places b = fix_places b ++ map (take L.fix_size) (refused_places b)
 
-abbrev pub heldCount : List ℕ → ℕ
-heldCount b = fixCount b + refusedCount b
+abbrev pub held_count : List ℕ → ℕ
+held_count b = fix_count b + refused_count b
 
-abbrev pub recordFormed : List ℕ → Bool
-recordFormed p = wellFormed (recordIn p)
+abbrev pub record_formed : List ℕ → Bool
+record_formed p = well_formed (record_in p)
 
 -- fixes with well-formed records; there may be none, and the signers may be any
 pub record Sound (b : List ℕ) : Type 0 where
-  pub size : length b ≡ L.transmissionSize
-  pub few : fixCount b ≤ L.maxStanding
-  pub few-refused : refusedCount b ≤ L.maxRefused
-  pub formed : allPlaces recordFormed (heldPlaces b) ≡ true
+  pub size : length b ≡ L.transmission_size
+  pub few : fix_count b ≤ L.max_standing
+  pub few_refused : refused_count b ≤ L.max_refused
+  pub formed : all_places record_formed (held_places b) ≡ true
 
 -- where the fix k lies, the refused k, and the held k
-abbrev pub fixPlace : ℕ → ℕ
-fixPlace k = L.fixesAt + k * L.fixSize
+abbrev pub fix_place : ℕ → ℕ
+fix_place k = L.fixes_at + k * L.fix_size
 
-abbrev pub refusedPlace : ℕ → ℕ
-refusedPlace k = L.refusedAt + k * L.refusedSize
+abbrev pub refused_place : ℕ → ℕ
+refused_place k = L.refused_at + k * L.refused_size
 
-abbrev pub heldPlace : List ℕ → ℕ → ℕ
-heldPlace b k = cond (ltb k (fixCount b)) (fixPlace k) (refusedPlace (k - fixCount b))
+abbrev pub held_place : List ℕ → ℕ → ℕ
+held_place b k = cond (ltb k (fix_count b)) (fix_place k) (refused_place (k - fix_count b))
 
 -- the record of the fix p is tied to r
-abbrev pub tiesTo : List ℕ → List ℕ → Bool
-tiesTo r p = tied (recordIn p) r
+abbrev pub ties_to : List ℕ → List ℕ → Bool
+ties_to r p = tied (record_in p) r
 
 -- the bytes from one place to another
 abbrev pub part : ℕ → ℕ → List ℕ → List ℕ
 part from to b = take (to - from) (drop from b)
 
 -- the same message, tags and model inputs, byte for byte
-unfoldable pub sameSet : List ℕ → List ℕ → Bool
-sameSet a b =
-    same (part messageLengthAt usedAt a) (part messageLengthAt usedAt b)
-    && (same (part tagsAt modelCountAt a) (part tagsAt modelCountAt b) && same (inputsIn a) (inputsIn b))
+unfoldable pub same_set : List ℕ → List ℕ → Bool
+same_set a b =
+    same (part message_length_at used_at a) (part message_length_at used_at b)
+    && (same (part tags_at model_count_at a) (part tags_at model_count_at b) && same (inputs_in a) (inputs_in b))

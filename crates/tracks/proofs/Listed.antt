@@ -6,29 +6,29 @@ use native.Mathlib.Omega.{arith}
 use lib.Dec.{ltb}
 use lib.ListN.{length, drop, length-append}
 use Rattle.ranges.proofs.Bools.{by}
-use Rattle.held.specs.After.{After, after, writeText}
-use Rattle.drawing.specs.Text.{boardSize}
-use Rattle.stored.specs.Memory.{wellFormed, decode}
-use Rattle.listing.specs.Listing.{listingOf, listTrack}
+use Rattle.held.specs.After.{After, after, write_text}
+use Rattle.drawing.specs.Text.{board_size}
+use Rattle.stored.specs.Memory.{well_formed, decode}
+use Rattle.listing.specs.Listing.{listing_of, list_track}
 
-module _ (o o' : List ℕ) (a : ℕ) (room : boardSize ≤ length o) (size : length o' ≡ length o) where
+module _ (o o' : List ℕ) (a : ℕ) (room : board_size ≤ length o) (size : length o' ≡ length o) where
   answer-of : (x : After (List ℕ)) → after a o' ≡ x → a ≡ x.answer
   answer-of x e = ap (λ (y : After (List ℕ)). y.answer) e
 
   small : (n : ℕ) → n ≤ 10 → after a o' ≡ after n o → a ≤ length o
   small n h e = let p = answer-of (after n o) e in omega (arith, p, h, room)
 
-  fits : (t : List ℕ) → after a o' ≡ writeText t o → a ≤ length o
+  fits : (t : List ℕ) → after a o' ≡ write_text t o → a ≤ length o
   fits t e =
-      let p = answer-of (writeText t o) e in
+      let p = answer-of (write_text t o) e in
       let q = sym size ∙ ap (λ (y : After (List ℕ)). length y.left) e ∙ length-append t (drop (length t) o) in
       omega (arith, p, q, size)
 
-  pub listed-fits : (m : List ℕ) → after a o' ≡ listTrack m o → a ≤ length o
-  unfolding listTrack
+  pub listed-fits : (m : List ℕ) → after a o' ≡ list_track m o → a ≤ length o
+  unfolding list_track
   listed-fits m e =
-      by (wellFormed m)
-      (λ w. by (ltb (length o) boardSize)
+      by (well_formed m)
+      (λ w. by (ltb (length o) board_size)
       (λ b. small 10 (omega arith) (rw (w, b) at e))
-      (λ b. fits (listingOf (decode m)) (rw (w, b) at e)))
+      (λ b. fits (listing_of (decode m)) (rw (w, b) at e)))
       (λ w. small 1 (omega arith) (rw w at e))

@@ -3,7 +3,7 @@ use mathlib.Core.Path.{◌≡◌}
 use mathlib.Core.Bool.{true}
 use Rattle.shown.specs.Shown.{Transmission}
 use Rattle.shown.proofs.Ages.{first-trans}
-use Rattle.transmissions.specs.Picture.{olderThan}
+use Rattle.transmissions.specs.Picture.{older_than}
 
-pub olderThan-trans : (t u v : Transmission) → olderThan t u ≡ true → olderThan u v ≡ true → olderThan t v ≡ true
-olderThan-trans t u v = first-trans t.ranked u.ranked v.ranked
+pub older_than-trans : (t u v : Transmission) → older_than t u ≡ true → older_than u v ≡ true → older_than t v ≡ true
+older_than-trans t u v = first-trans t.ranked u.ranked v.ranked

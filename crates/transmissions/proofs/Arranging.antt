@@ -5,7 +5,7 @@ use mathlib.Core.Bool.{not}
 use mathlib.Core.List.{List, [], ◌∷◌, map, Memᴰ}
 use native.Mathlib.Omega.{arith}
 use lib.ListN.{length, get_or, drop, length-map}
-use Rattle.ranges.specs.Lists.{insert, sort, last_of, up_to, countFrom}
+use Rattle.ranges.specs.Lists.{insert, sort, last_of, up_to, count_from}
 use Rattle.ranges.proofs.Lists.{sort-map, sort-in, sort-perm, count-length, up_in, by-places}
 use Rattle.ranges.proofs.Orders.{perm-length}
 use Rattle.ranges.proofs.Bools.{by}
@@ -21,13 +21,13 @@ use Rattle.links.proofs.Partition.{map-from}
 use Rattle.shown.specs.Fix.{Fix}
 use Rattle.shown.proofs.Indexed.{at_in}
 use Rattle.shown.specs.Items.{at}
-use Rattle.shown.specs.Ages.{timeOf, olderFirst}
+use Rattle.shown.specs.Ages.{time_of, older_first}
 use Rattle.shown.specs.Shown.{shown}
 use Rattle.models.specs.declared.hashes.Identity.{Identity}
-use Rattle.transmissions.specs.Picture.{olderThan, latestOf, maxShown}
+use Rattle.transmissions.specs.Picture.{older_than, latest_of, max_shown}
 use Rattle.transmissions.specs.declared.latest.Lead.{Lead}
 use Rattle.transmissions.specs.Parts.{AllParts}
-use Rattle.transmissions.specs.Leads.{firstOf, leadOf, leadsOf, before, shownAt}
+use Rattle.transmissions.specs.Leads.{first_of, lead_of, leads_of, before, shown_at}
 use Rattle.transmissions.proofs.Showing.{some-first}
 
 drop-map : {A B : Type 0} (f : A → B) (k : ℕ) (l : List A) → map f (drop k l) ≡ drop k (map f l)
@@ -35,8 +35,8 @@ drop-map f zero l = refl
 drop-map f (suc k) [] = refl
 drop-map f (suc k) (x ∷ l) = drop-map f k l
 
-lastOf-map : {A B : Type 0} (f : A → B) (k : ℕ) (l : List A) → map f (last_of k l) ≡ last_of k (map f l)
-lastOf-map f k l = rw (length-map l f) (drop-map f (length l - k) l)
+last_of-map : {A B : Type 0} (f : A → B) (k : ℕ) (l : List A) → map f (last_of k l) ≡ last_of k (map f l)
+last_of-map f k l = rw (length-map l f) (drop-map f (length l - k) l)
 
 drop-in : {A : Type 0} (k : ℕ) (l : List A) (x : A) → Memᴰ x (drop k l) → Memᴰ x l
 drop-in zero l x m = m
@@ -63,12 +63,12 @@ insert-at x l o e =
 
 -- ---- all, from the last to the first
 
-arranged-step : (ts : List (List Fix)) (k n : ℕ) → k < n → insert before (leadOf ts k) (sort before (map (leadOf ts) (countFrom (suc k) (n - suc k)))) ≡ sort before (map (leadOf ts) (countFrom k (n - k)))
-unfolding sort countFrom
+arranged-step : (ts : List (List Fix)) (k n : ℕ) → k < n → insert before (lead_of ts k) (sort before (map (lead_of ts) (count_from (suc k) (n - suc k)))) ≡ sort before (map (lead_of ts) (count_from k (n - k)))
+unfolding sort count_from
 arranged-step ts k n h = let z : n - k ≡ suc (n - suc k) = omega arith in rw z refl
 
-pub arranged-none : (ts : List (List Fix)) (n : ℕ) → [] ≡ sort before (map (leadOf ts) (countFrom n (n - n)))
-unfolding sort countFrom
+pub arranged-none : (ts : List (List Fix)) (n : ℕ) → [] ≡ sort before (map (lead_of ts) (count_from n (n - n)))
+unfolding sort count_from
 arranged-none ts n = let z : n - n ≡ 0 = omega arith in rw z refl
 
 abbrev lead : ℕ → ℕ → List ℕ → Lead
@@ -76,51 +76,51 @@ lead k t i = record { number = k; time = t; identity = record { 0 = i } }
 
 -- one more, of which this is kept
 pub arranged-more : (ts : List (List Fix)) (k : ℕ) (gs : List Fix) (f : Fix) (t : ℕ) (i : Identity) (l m : List Lead)
-    → 0 < k → k ≤ length ts → gs ≡ get_or ts (k - 1) [] → f ≡ firstOf gs → t ≡ timeOf f → i.0 ≡ f.identity
-    → l ≡ sort before (map (leadOf ts) (countFrom k (length ts - k)))
+    → 0 < k → k ≤ length ts → gs ≡ get_or ts (k - 1) [] → f ≡ first_of gs → t ≡ time_of f → i.0 ≡ f.identity
+    → l ≡ sort before (map (lead_of ts) (count_from k (length ts - k)))
     → m ≡ insert before (record { number = k - 1; time = t; identity = i }) l
-    → m ≡ sort before (map (leadOf ts) (countFrom (k - 1) (length ts - (k - 1))))
+    → m ≡ sort before (map (lead_of ts) (count_from (k - 1) (length ts - (k - 1))))
 arranged-more ts k gs f t i l m some most g-is f-is t-is i-is l-is m-is =
-    let lead-is : lead (k - 1) t i.0 ≡ leadOf ts (k - 1) = ap₂ (lead (k - 1)) t-is i-is ∙ ap (λ (g : Fix). lead (k - 1) (timeOf g) g.identity) (f-is ∙ ap firstOf g-is) in
+    let lead-is : lead (k - 1) t i.0 ≡ lead_of ts (k - 1) = ap₂ (lead (k - 1)) t-is i-is ∙ ap (λ (g : Fix). lead (k - 1) (time_of g) g.identity) (f-is ∙ ap first_of g-is) in
     let z : k ≡ suc (k - 1) = omega arith in
-    m-is ∙ ap₂ (insert before) lead-is (l-is ∙ ap (λ (j : ℕ). sort before (map (leadOf ts) (countFrom j (length ts - j)))) z) ∙ arranged-step ts (k - 1) (length ts) (omega arith)
+    m-is ∙ ap₂ (insert before) lead-is (l-is ∙ ap (λ (j : ℕ). sort before (map (lead_of ts) (count_from j (length ts - j)))) z) ∙ arranged-step ts (k - 1) (length ts) (omega arith)
 
-pub arranged-few : (ts : List (List Fix)) (k n : ℕ) (l : List Lead) → l ≡ sort before (map (leadOf ts) (countFrom k n)) → length l ≡ n
-arranged-few ts k n l e = ap (λ (z : List Lead). length z) e ∙ perm-length (sort-perm before (map (leadOf ts) (countFrom k n))) ∙ length-map (countFrom k n) (leadOf ts) ∙ count-length k n
+pub arranged-few : (ts : List (List Fix)) (k n : ℕ) (l : List Lead) → l ≡ sort before (map (lead_of ts) (count_from k n)) → length l ≡ n
+arranged-few ts k n l e = ap (λ (z : List Lead). length z) e ∙ perm-length (sort-perm before (map (lead_of ts) (count_from k n))) ∙ length-map (count_from k n) (lead_of ts) ∙ count-length k n
 
 -- ---- the same order
 
-first-is : (gs : List Fix) (f : Fix) (rest : List Fix) → (shown gs).ranked ≡ f ∷ rest → firstOf gs ≡ f
-unfolding firstOf
+first-is : (gs : List Fix) (f : Fix) (rest : List Fix) → (shown gs).ranked ≡ f ∷ rest → first_of gs ≡ f
+unfolding first_of
 first-is gs f rest e = ap (λ (l : List Fix). at l 0) e
 
 module _ (ts : List (List Fix)) (p : AllParts ts) where
-  same-order : (j k : ℕ) → j < length ts → k < length ts → olderThan (shown (get_or ts j [])) (shown (get_or ts k [])) ≡ before (leadOf ts j) (leadOf ts k)
+  same-order : (j k : ℕ) → j < length ts → k < length ts → older_than (shown (get_or ts j [])) (shown (get_or ts k [])) ≡ before (lead_of ts j) (lead_of ts k)
   unfolding before
   same-order j k h l =
       let a = some-first (get_or ts j []) (p j h).some in
       let b = some-first (get_or ts k []) (p k l).some in
-      ap₂ olderFirst a.2 b.2 ∙ sym (rw (first-is (get_or ts j []) a.0 a.1 a.2, first-is (get_or ts k []) b.0 b.1 b.2) refl)
+      ap₂ older_first a.2 b.2 ∙ sym (rw (first-is (get_or ts j []) a.0 a.1 a.2, first-is (get_or ts k []) b.0 b.1 b.2) refl)
 
-  of-lead : (x : Lead) → Memᴰ x (leadsOf ts) → (k : ℕ) × (k < length ts) × (x ≡ leadOf ts k)
-  of-lead x m = let r = map-from (leadOf ts) (up_to (length ts)) x m in (r.0, up_in (length ts) r.0 r.1, r.2)
+  of-lead : (x : Lead) → Memᴰ x (leads_of ts) → (k : ℕ) × (k < length ts) × (x ≡ lead_of ts k)
+  of-lead x m = let r = map-from (lead_of ts) (up_to (length ts)) x m in (r.0, up_in (length ts) r.0 r.1, r.2)
 
-  pub arranged-are : map (shownAt ts) (sort before (leadsOf ts)) ≡ sort olderThan (map shown ts)
+  pub arranged-are : map (shown_at ts) (sort before (leads_of ts)) ≡ sort older_than (map shown ts)
   arranged-are =
-      sym (sort-map (shownAt ts) before olderThan (leadsOf ts)
+      sym (sort-map (shown_at ts) before older_than (leads_of ts)
       (λ x y m n. let a = of-lead x m in let b = of-lead y n in rw (a.2, b.2) (same-order a.0 b.0 a.1 b.1)))
-      ∙ ap (sort olderThan)
-      (map-map (shownAt ts) (leadOf ts) (up_to (length ts))
+      ∙ ap (sort older_than)
+      (map-map (shown_at ts) (lead_of ts) (up_to (length ts))
       ∙ sym (map-map shown (λ k. get_or ts k []) (up_to (length ts)))
       ∙ ap (map shown) (by-places [] ts))
 
   -- the last of them are the latest
-  pub latest-are : map (shownAt ts) (last_of maxShown (sort before (leadsOf ts))) ≡ latestOf (sort olderThan (map shown ts))
-  latest-are = lastOf-map (shownAt ts) maxShown (sort before (leadsOf ts)) ∙ ap latestOf arranged-are
+  pub latest-are : map (shown_at ts) (last_of max_shown (sort before (leads_of ts))) ≡ latest_of (sort older_than (map shown ts))
+  latest-are = last_of-map (shown_at ts) max_shown (sort before (leads_of ts)) ∙ ap latest_of arranged-are
 
   -- and each of any that stand last names one
-  pub last-named : (k i : ℕ) (d : Lead) → i < length (drop k (sort before (leadsOf ts))) → (get_or (drop k (sort before (leadsOf ts))) i d).number < length ts
+  pub last-named : (k i : ℕ) (d : Lead) → i < length (drop k (sort before (leads_of ts))) → (get_or (drop k (sort before (leads_of ts))) i d).number < length ts
   last-named k i d h =
-      let l = sort before (leadsOf ts) in
-      let r = of-lead (get_or (drop k l) i d) (sort-in before (leadsOf ts) _ (drop-in k l (get_or (drop k l) i d) (at_in d (drop k l) i h))) in
+      let l = sort before (leads_of ts) in
+      let r = of-lead (get_or (drop k l) i d) (sort-in before (leads_of ts) _ (drop-in k l (get_or (drop k l) i d) (at_in d (drop k l) i h))) in
       rw (ap (λ (x : Lead). x.number) r.2) r.1

@@ -11,22 +11,22 @@ use Rattle.octets.proofs.Puts.{put_whole}
 use Rattle.std.proofs.Common.{append_assoc}
 use Rattle.places.specs.Places.{flat}
 use Rattle.shown.specs.Fix.{Fix}
-use Rattle.shown.specs.Items.{itemBytes, itemsFor}
+use Rattle.shown.specs.Items.{item_bytes, items_for}
 
 nothing : (l : List ℕ) → l ++ [] ≡ l
 nothing [] = refl
 nothing (x ∷ l) = ap (λ (y : List ℕ). x ∷ y) (nothing l)
 
-further : (gs : List Fix) (i : ℕ) (f : Fix) → i < length gs → f ≡ get_or gs i f → itemsFor (take (suc i) gs) ≡ itemsFor (take i gs) ++ itemBytes f
+further : (gs : List Fix) (i : ℕ) (f : Fix) → i < length gs → f ≡ get_or gs i f → items_for (take (suc i) gs) ≡ items_for (take i gs) ++ item_bytes f
 unfolding flat
 further [] i f h e = absurd (omega arith)
-further (g ∷ gs) zero f h e = nothing (itemBytes g) ∙ ap itemBytes (sym e)
-further (g ∷ gs) (suc i) f h e = ap (λ (l : List ℕ). itemBytes g ++ l) (further gs i f (omega arith) e) ∙ sym (append_assoc (itemBytes g) (itemsFor (take i gs)) (itemBytes f))
+further (g ∷ gs) zero f h e = nothing (item_bytes g) ∙ ap item_bytes (sym e)
+further (g ∷ gs) (suc i) f h e = ap (λ (l : List ℕ). item_bytes g ++ l) (further gs i f (omega arith) e) ∙ sym (append_assoc (item_bytes g) (items_for (take i gs)) (item_bytes f))
 
-pub items-more : (gs : List Fix) (i : ℕ) (f : Fix) → i < length gs → f ≡ get_or gs i f → itemsFor (take i gs) ++ itemBytes f ≡ itemsFor (take (i + 1) gs)
+pub items-more : (gs : List Fix) (i : ℕ) (f : Fix) → i < length gs → f ≡ get_or gs i f → items_for (take i gs) ++ item_bytes f ≡ items_for (take (i + 1) gs)
 items-more gs i f h e = rw add-one (sym (further gs i f h e))
 
-pub items-none : [] ≡ itemsFor []
+pub items-none : [] ≡ items_for []
 unfolding flat
 items-none = refl
 

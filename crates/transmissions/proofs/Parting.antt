@@ -6,40 +6,40 @@ use mathlib.Core.List.Memᴰ
 use mathlib.Core.List.{List, [], ◌∷◌, Memᴰ}
 use native.Mathlib.Omega.{arith}
 use lib.ListN.{length, get_or, length-map}
-use Rattle.octets.specs.Order.{isBefore}
+use Rattle.octets.specs.Order.{is_before}
 use Rattle.octets.proofs.Comparison.{before-trans}
 use Rattle.ranges.specs.Lists.{any_of, filter}
 use Rattle.ranges.proofs.Lists.{filter-in, filter-few}
 use Rattle.ranges.proofs.Bools.{by, and_left, and_right, and_both}
-use Rattle.items.specs.Layout.{maxItems}
+use Rattle.items.specs.Layout.{max_items}
 use Rattle.shown.specs.Fix.{Fix}
 use Rattle.shown.specs.Items.{AllFormed}
 use Rattle.shown.proofs.Indexed.{at_in}
-use Rattle.links.specs.Transmissions.{linked, reach, transmissionOf, leads, isFirst, transmissionsOf}
+use Rattle.links.specs.Transmissions.{linked, reach, transmission_of, leads, is_first, transmissions_of}
 use Rattle.links.proofs.Partition.{map-from}
-use Rattle.fixes.specs.Order.{ascends, ascendsFrom}
+use Rattle.fixes.specs.Order.{ascends, ascends_from}
 use Rattle.fixes.proofs.Entering.{rest-ascends}
 use Rattle.fixes.proofs.Kept.{apart}
 use Rattle.transmissions.specs.Parts.{Part, AllParts}
 
 -- ---- some of fixes that ascend
 
-weaker : (a b : List ℕ) (fs : List Fix) → isBefore a b ≡ true → ascendsFrom b fs ≡ true → ascendsFrom a fs ≡ true
-unfolding ascendsFrom
+weaker : (a b : List ℕ) (fs : List Fix) → is_before a b ≡ true → ascends_from b fs ≡ true → ascends_from a fs ≡ true
+unfolding ascends_from
 weaker a b [] h e = refl
 weaker a b (f ∷ fs) h e =
-    and_both (isBefore a f.identity) (ascendsFrom f.identity fs)
-    (before-trans a b f.identity h (and_left (isBefore b f.identity) (ascendsFrom f.identity fs) e))
-    (and_right (isBefore b f.identity) (ascendsFrom f.identity fs) e)
+    and_both (is_before a f.identity) (ascends_from f.identity fs)
+    (before-trans a b f.identity h (and_left (is_before b f.identity) (ascends_from f.identity fs) e))
+    (and_right (is_before b f.identity) (ascends_from f.identity fs) e)
 
-filter-from : (p : Fix → Bool) (key : List ℕ) (fs : List Fix) → ascendsFrom key fs ≡ true → ascendsFrom key (filter p fs) ≡ true
-unfolding ascendsFrom filter
+filter-from : (p : Fix → Bool) (key : List ℕ) (fs : List Fix) → ascends_from key fs ≡ true → ascends_from key (filter p fs) ≡ true
+unfolding ascends_from filter
 filter-from p key [] e = refl
 filter-from p key (f ∷ fs) e =
-    let h = and_left (isBefore key f.identity) (ascendsFrom f.identity fs) e in
-    let k = filter-from p f.identity fs (and_right (isBefore key f.identity) (ascendsFrom f.identity fs) e) in
+    let h = and_left (is_before key f.identity) (ascends_from f.identity fs) e in
+    let k = filter-from p f.identity fs (and_right (is_before key f.identity) (ascends_from f.identity fs) e) in
     by (p f)
-    (λ t. rw t (and_both (isBefore key f.identity) (ascendsFrom f.identity (filter p fs)) h k))
+    (λ t. rw t (and_both (is_before key f.identity) (ascends_from f.identity (filter p fs)) h k))
     (λ t. rw t (weaker key f.identity (filter p fs) h k))
 
 filter-ascends : (p : Fix → Bool) (fs : List Fix) → ascends fs ≡ true → ascends (filter p fs) ≡ true
@@ -64,7 +64,7 @@ held : (fs : List Fix) (a : Fix) → Memᴰ a fs → 0 < length fs
 held [] a m = absurd (Memᴰ.not-nil m)
 held (f ∷ fs) a m = omega arith
 
-module _ (fs : List Fix) (w : AllFormed fs) (e : ascends fs ≡ true) (few : length fs ≤ maxItems) where
+module _ (fs : List Fix) (w : AllFormed fs) (e : ascends fs ≡ true) (few : length fs ≤ max_items) where
   filtered : (p : Fix → Bool) → 0 < length (filter p fs) → Part (filter p fs)
   filtered p h = record {
     formed = λ f m. w f (filter-in p fs f m).0;
@@ -73,19 +73,19 @@ module _ (fs : List Fix) (w : AllFormed fs) (e : ascends fs ≡ true) (few : len
     some = h;
   }
 
-  a-part : (c : List Fix) → Memᴰ c (transmissionsOf fs) → Part c
-  unfolding transmissionsOf
+  a-part : (c : List Fix) → Memᴰ c (transmissions_of fs) → Part c
+  unfolding transmissions_of
   a-part c m =
-      let r = map-from (transmissionOf fs) (filter (isFirst fs) fs) c m in
-      let q = filter-in (isFirst fs) fs r.0 r.1 in
+      let r = map-from (transmission_of fs) (filter (is_first fs) fs) c m in
+      let q = filter-in (is_first fs) fs r.0 r.1 in
       let t = by-test fs r.0 (length fs) (held fs r.0 q.0) in
       let is : c ≡ filter t.0 fs = r.2 ∙ t.1 in
-      let some : 0 < length c = subst (λ (z : List Fix). 0 < length z) (sym r.2) (led r.0 (transmissionOf fs r.0) q.1) in
+      let some : 0 < length c = subst (λ (z : List Fix). 0 < length z) (sym r.2) (led r.0 (transmission_of fs r.0) q.1) in
       subst Part (sym is) (filtered t.0 (subst (λ (z : List Fix). 0 < length z) is some))
 
-  pub parts-of : AllParts (transmissionsOf fs)
-  parts-of k h = a-part (get_or (transmissionsOf fs) k []) (at_in [] (transmissionsOf fs) k h)
+  pub parts-of : AllParts (transmissions_of fs)
+  parts-of k h = a-part (get_or (transmissions_of fs) k []) (at_in [] (transmissions_of fs) k h)
 
-pub few-parts : (fs : List Fix) → length (transmissionsOf fs) ≤ length fs
-unfolding transmissionsOf
-few-parts fs = rw (length-map (filter (isFirst fs) fs) (transmissionOf fs)) (filter-few (isFirst fs) fs)
+pub few-parts : (fs : List Fix) → length (transmissions_of fs) ≤ length fs
+unfolding transmissions_of
+few-parts fs = rw (length-map (filter (is_first fs) fs) (transmission_of fs)) (filter-few (is_first fs) fs)

@@ -2,22 +2,22 @@
 use Rattle.std.specs.Prelude.{ℕ, Bool, List, map}
 use Rattle.ranges.specs.Lists.{sort, last_of}
 use Rattle.shown.specs.Shown.{Transmission, shown}
-use Rattle.shown.specs.Ages.{olderFirst}
-use Rattle.fixes.specs.Fixes.{fixesOf}
-use Rattle.links.specs.Transmissions.{transmissionsOf}
+use Rattle.shown.specs.Ages.{older_first}
+use Rattle.fixes.specs.Fixes.{fixes_of}
+use Rattle.links.specs.Transmissions.{transmissions_of}
 
 -- t is older than u: by time, then by identity, of the first ranked of each
-abbrev pub olderThan : Transmission → Transmission → Bool
-olderThan t u = olderFirst t.ranked u.ranked
+abbrev pub older_than : Transmission → Transmission → Bool
+older_than t u = older_first t.ranked u.ranked
 
 -- all transmissions of summaries and of records with their signers, the oldest first
 unfoldable pub picture : List (List ℕ) → List (List ℕ) → List Transmission
-picture ss ps = sort olderThan (map shown (transmissionsOf (fixesOf ss ps)))
+picture ss ps = sort older_than (map shown (transmissions_of (fixes_of ss ps)))
 
 -- the most transmissions on a board
-abbrev pub maxShown : ℕ
-maxShown = 8
+abbrev pub max_shown : ℕ
+max_shown = 8
 
 -- the 8 latest
-abbrev pub latestOf : List Transmission → List Transmission
-latestOf ts = last_of maxShown ts
+abbrev pub latest_of : List Transmission → List Transmission
+latest_of ts = last_of max_shown ts

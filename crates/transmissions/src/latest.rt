@@ -1,12 +1,12 @@
 // The latest transmissions, the oldest of them first: by time, then by identity, of the first ranked of each.
 ghost use Rattle.std.specs.Prelude.{◌≡◌, ◌*◌, ◌≤◌, ◌<◌, [], length, not, position};
-ghost use Rattle.items.specs.Layout.{itemSize};
+ghost use Rattle.items.specs.Layout.{item_size};
 ghost use Rattle.ranges.specs.Lists.{insert, sort, up_to};
 ghost use Rattle.shown.specs.Shown.{shown};
-ghost use Rattle.shown.specs.Items.{noFix};
+ghost use Rattle.shown.specs.Items.{no_fix};
 ghost use Rattle.arrayvec.specs.ArrayVec.{array_vec_len};
 ghost use Rattle.transmissions.specs.Parts.{Part, AllParts};
-ghost use Rattle.transmissions.specs.Leads.{before, leadOf, leadsOf, firstOf};
+ghost use Rattle.transmissions.specs.Leads.{before, lead_of, leads_of, first_of};
 
 use crate::Shown;
 use arrayvec::ArrayVec;
@@ -52,9 +52,9 @@ impl Lead {
 
 // The first ranked fix of a transmission; whoever is alone is that.
 fn first_ranked<'s, 'a>(items: &mut [u8], transmission: Transmission<'s, 'a>) -> &'s Fix<'a>
-    requires items_len { length items.old ≡ MAX_FIXES * itemSize }
+    requires items_len { length items.old ≡ MAX_FIXES * item_size }
     requires part { Part transmission }
-    ensures { result.now ≡ firstOf transmission.entry }
+    ensures { result.now ≡ first_of transmission.entry }
 {
     if transmission.len() == 1 {
         return transmission.fix(0);
@@ -85,12 +85,12 @@ pub fn arrange(
     transmissions: &Transmissions<'_, '_>,
     leads: &mut ArrayVec<Lead, MAX_FIXES>,
 )
-    requires items_len { length items.old ≡ MAX_FIXES * itemSize }
+    requires items_len { length items.old ≡ MAX_FIXES * item_size }
     requires parts { AllParts transmissions.now }
     requires few { length transmissions.now ≤ MAX_FIXES }
     requires none { leads.old.items ≡ [] }
-    ensures arranged { leads.new.items ≡ sort before (leadsOf transmissions.now) }
-    ensures items_len { length items.new ≡ MAX_FIXES * itemSize }
+    ensures arranged { leads.new.items ≡ sort before (leads_of transmissions.now) }
+    ensures items_len { length items.new ≡ MAX_FIXES * item_size }
 {
     let mut k = transmissions.len();
     while 0 < k {

@@ -1,7 +1,7 @@
 // What is shown of a transmission.
 ghost use Rattle.std.specs.Prelude.{◌≡◌, ◌<◌, length, get_or};
 ghost use Rattle.decision.specs.Answer.{decided};
-ghost use Rattle.shown.specs.Items.{itemsFor};
+ghost use Rattle.shown.specs.Items.{items_for};
 ghost use Rattle.rule.specs.Outcome.{Refused};
 ghost use Rattle.arithmetic.specs.declared.standing.ChiSquare.{ChiSquare as Squared};
 ghost use Rattle.shown.specs.Fix.{Fix as ShownFix};
@@ -23,12 +23,12 @@ pub struct Shown<'t, 's, 'a> {
 
 impl<'t, 's, 'a> Model for Shown<'t, 's, 'a> {
     ghost use Rattle.shown.specs.Shown.{Transmission as Outcome};
-    ghost use Rattle.transmissions.specs.Decided.{shownBy, Within};
+    ghost use Rattle.transmissions.specs.Decided.{shown_by, Within};
     ghost use Rattle.std.specs.Prelude.{length as count};
 
     ghost Value = { Outcome };
 
-    ghost view = { λ s. shownBy s.transmission.now s.decision.now };
+    ghost view = { λ s. shown_by s.transmission.now s.decision.now };
 
     ghost invariant = { λ s. Within (count s.transmission.now) s.decision.now };
 }
@@ -37,7 +37,7 @@ impl<'t, 's, 'a> Shown<'t, 's, 'a> {
     // What is shown of a transmission, of which this was decided.
     pub fn of(transmission: &'t Transmission<'s, 'a>, decision: &'t Decision) -> Shown<'t, 's, 'a>
         requires part { Part transmission.now }
-        requires decision_value { decision.now ≡ decided (itemsFor transmission.now) }
+        requires decision_value { decision.now ≡ decided (items_for transmission.now) }
         ensures { result ≡ shown transmission.now }
     {
         Shown {

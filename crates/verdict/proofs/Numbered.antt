@@ -4,26 +4,26 @@ use mathlib.Core.Bool.{cond, ◌&&◌}
 use mathlib.Core.List.{List, [], ◌∷◌}
 use Prim.Native.Nat.{ℕ}
 use Rattle.ranges.proofs.Bools.{by}
-use Rattle.record.specs.Formed.{wellFormed}
-use Rattle.arithmetic.specs.Agree.{agreementOf, agreesOf, chiSquareIn}
+use Rattle.record.specs.Formed.{well_formed}
+use Rattle.arithmetic.specs.Agree.{agreement_of, agrees_of, chi_square_in}
 use Rattle.items.specs.Claimed.{claim_of}
-use Rattle.verdict.specs.Supersets.{verdictOf, comparisonOf, number_of, contestedBy}
+use Rattle.verdict.specs.Supersets.{verdict_of, comparison_of, number_of, contested_by}
 
 module _ (smaller larger : List ℕ) where
   -- 3 exactly where one of the records is malformed
-  pub verdict-number : number_of (verdictOf smaller larger).verdict ≡ cond (wellFormed smaller && wellFormed larger) 0 3
-  unfolding verdictOf comparisonOf
+  pub verdict-number : number_of (verdict_of smaller larger).verdict ≡ cond (well_formed smaller && well_formed larger) 0 3
+  unfolding verdict_of comparison_of
   verdict-number =
-      by (wellFormed smaller && wellFormed larger)
-      (λ p. rw p (by (agreesOf (agreementOf (claim_of smaller) (claim_of larger))) (λ q. rw q refl) (λ q. rw q refl)))
+      by (well_formed smaller && well_formed larger)
+      (λ p. rw p (by (agrees_of (agreement_of (claim_of smaller) (claim_of larger))) (λ q. rw q refl) (λ q. rw q refl)))
       (λ p. rw p refl)
 
   -- and it says what was measured exactly where they are records that disagree
   pub verdict-chi-square :
-      contestedBy (verdictOf smaller larger).verdict
-      ≡ (let a = agreementOf (claim_of smaller) (claim_of larger) in cond (wellFormed smaller && wellFormed larger) (cond (agreesOf a) [] (chiSquareIn a ∷ [])) [])
-  unfolding verdictOf comparisonOf
+      contested_by (verdict_of smaller larger).verdict
+      ≡ (let a = agreement_of (claim_of smaller) (claim_of larger) in cond (well_formed smaller && well_formed larger) (cond (agrees_of a) [] (chi_square_in a ∷ [])) [])
+  unfolding verdict_of comparison_of
   verdict-chi-square =
-      by (wellFormed smaller && wellFormed larger)
-      (λ p. rw p (by (agreesOf (agreementOf (claim_of smaller) (claim_of larger))) (λ q. rw q refl) (λ q. rw q refl)))
+      by (well_formed smaller && well_formed larger)
+      (λ p. rw p (by (agrees_of (agreement_of (claim_of smaller) (claim_of larger))) (λ q. rw q refl) (λ q. rw q refl)))
       (λ p. rw p refl)

@@ -1,10 +1,10 @@
 -- What comparing a superset with the smaller fix that it would replace finds (the Rust's
 -- `contest::superset_verdict`): the enum keeps its chi-square, a number or none, in the disagreeing case; the added tags stand beside it.
 use Rattle.std.specs.Prelude.{cond, ◌&&◌, List, [], ◌∷◌, ◌++◌, ℕ, ◌-◌, length, replicate}
-use Rattle.record.specs.Layout.{maxTags}
-use Rattle.record.specs.Formed.{wellFormed}
-use Rattle.record.specs.Added.{addedTags}
-use Rattle.arithmetic.specs.Agree.{agreementOf, agreesOf, chiSquareIn}
+use Rattle.record.specs.Layout.{max_tags}
+use Rattle.record.specs.Formed.{well_formed}
+use Rattle.record.specs.Added.{added_tags}
+use Rattle.arithmetic.specs.Agree.{agreement_of, agrees_of, chi_square_in}
 use Rattle.arithmetic.specs.declared.standing.ChiSquare.{ChiSquare}
 use Rattle.items.specs.Claimed.{claim_of}
 use Rattle.verdict.specs.declared.SupersetVerdict.{SupersetVerdict}
@@ -12,12 +12,12 @@ use Rattle.verdict.specs.declared.SupersetVerdict.TheVariants.{Malformed, Agrees
 use Rattle.verdict.specs.declared.Tags.{Tags}
 use Rattle.verdict.specs.declared.Comparison.{Comparison}
 
-unfoldable pub tagsOf : List ℕ → Tags
-tagsOf l = record { list = l ++ replicate (maxTags - length l) 0; count = length l }
+unfoldable pub tags_of : List ℕ → Tags
+tags_of l = record { list = l ++ replicate (max_tags - length l) 0; count = length l }
 
 -- a verdict that names no tags
 abbrev pub plainly : SupersetVerdict → Comparison
-plainly v = record { verdict = v; added = tagsOf [] }
+plainly v = record { verdict = v; added = tags_of [] }
 
 -- The number and the values of each case: a malformed record is 3, as where one is reported; the other two cases are answers, and a
 -- contested one has what was measured.
@@ -26,17 +26,17 @@ number_of Malformed = 3
 number_of Agrees = 0
 number_of (Contested chi2) = 0
 
-abbrev pub contestedBy : SupersetVerdict → List ChiSquare
-contestedBy Malformed = []
-contestedBy Agrees = []
-contestedBy (Contested chi2) = chi2 ∷ []
+abbrev pub contested_by : SupersetVerdict → List ChiSquare
+contested_by Malformed = []
+contested_by Agrees = []
+contested_by (Contested chi2) = chi2 ∷ []
 
 -- of two records
-unfoldable pub comparisonOf : List ℕ → List ℕ → Comparison
-comparisonOf smaller larger =
-    let a = agreementOf (claim_of smaller) (claim_of larger) in
-    cond (agreesOf a) (plainly Agrees) (record { verdict = Contested (chiSquareIn a); added = tagsOf (addedTags smaller larger) })
+unfoldable pub comparison_of : List ℕ → List ℕ → Comparison
+comparison_of smaller larger =
+    let a = agreement_of (claim_of smaller) (claim_of larger) in
+    cond (agrees_of a) (plainly Agrees) (record { verdict = Contested (chi_square_in a); added = tags_of (added_tags smaller larger) })
 
 -- of any bytes
-unfoldable pub verdictOf : List ℕ → List ℕ → Comparison
-verdictOf smaller larger = cond (wellFormed smaller && wellFormed larger) (comparisonOf smaller larger) (plainly Malformed)
+unfoldable pub verdict_of : List ℕ → List ℕ → Comparison
+verdict_of smaller larger = cond (well_formed smaller && well_formed larger) (comparison_of smaller larger) (plainly Malformed)

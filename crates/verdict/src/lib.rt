@@ -3,10 +3,10 @@
 
 ghost use Rattle.std.specs.Prelude.{◌≡◌};
 ghost use Rattle.ranges.specs.Range.{any};
-ghost use Rattle.record.specs.Fields.{tagCount};
-ghost use Rattle.record.specs.Added.{addedTags};
-ghost use Rattle.verdict.specs.Supersets.{tagsOf, verdictOf, comparisonOf, plainly};
-ghost use Rattle.verdict.specs.Added.{hasTag};
+ghost use Rattle.record.specs.Fields.{tag_count};
+ghost use Rattle.record.specs.Added.{added_tags};
+ghost use Rattle.verdict.specs.Supersets.{tags_of, verdict_of, comparison_of, plainly};
+ghost use Rattle.verdict.specs.Added.{has_tag};
 
 use arithmetic::standing::ChiSquare;
 use record::Record;
@@ -35,7 +35,7 @@ pub struct Comparison {
 
 // Whether t is one of a's tags.
 fn has_tag(a: Record, t: u64) -> bool
-    ensures { result ≡ any (hasTag a.entry.bytes.now t) 0 (tagCount a.entry.bytes.now) }
+    ensures { result ≡ any (has_tag a.entry.bytes.now t) 0 (tag_count a.entry.bytes.now) }
 {
     for i in 0..a.tag_count() {
         if t == a.tag(i) {
@@ -47,7 +47,7 @@ fn has_tag(a: Record, t: u64) -> bool
 
 // The tags that b has and a has not.
 fn added(a: Record, b: Record) -> Tags
-    ensures { result ≡ tagsOf (addedTags a.entry.bytes.now b.entry.bytes.now) }
+    ensures { result ≡ tags_of (added_tags a.entry.bytes.now b.entry.bytes.now) }
 {
     let mut list = [0u64; 16];
     let mut count: u8 = 0;
@@ -71,10 +71,10 @@ fn plain(verdict: SupersetVerdict) -> Comparison
     Comparison { verdict, added }
 }
 
-#[tactic(auto, unfolding(crate::specs::Supersets::comparisonOf))]
+#[tactic(auto, unfolding(crate::specs::Supersets::comparison_of))]
 // Whether the larger fix agrees with the smaller.
 fn compared(smaller: Record, larger: Record) -> Comparison
-    ensures { result ≡ comparisonOf smaller.entry.bytes.now larger.entry.bytes.now }
+    ensures { result ≡ comparison_of smaller.entry.bytes.now larger.entry.bytes.now }
 {
     let a = arithmetic::agreement(
         items::claimed::claimed(smaller),
@@ -91,10 +91,10 @@ fn compared(smaller: Record, larger: Record) -> Comparison
     }
 }
 
-#[tactic(auto, unfolding(crate::specs::Supersets::verdictOf))]
+#[tactic(auto, unfolding(crate::specs::Supersets::verdict_of))]
 // Whether the larger of two fixes, in the bytes of their records, agrees with the smaller.
 pub fn superset_verdict(smaller: &[u8], larger: &[u8]) -> Comparison
-    ensures { result ≡ verdictOf smaller.now larger.now }
+    ensures { result ≡ verdict_of smaller.now larger.now }
 {
     let Some(smaller) = Record::parse(smaller) else {
         return plain(SupersetVerdict::Malformed);

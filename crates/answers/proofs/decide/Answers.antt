@@ -4,20 +4,20 @@ use mathlib.Core.List.{List}
 use Prim.Native.Nat.{ℕ}
 use native.Mathlib.Omega.{arith}
 use Rattle.held.specs.After.{after}
-use Rattle.decision.specs.Answer.{bad, outcome, decided, decision, refusedDecision}
+use Rattle.decision.specs.Answer.{bad, outcome, decided, decision, refused_decision}
 use Rattle.decision.proofs.Passed.{few-items, long-items}
 use Rattle.decision.proofs.Alone.{alone}
-use Rattle.answers.specs.Answer.{answerBytes, handOut}
+use Rattle.answers.specs.Answer.{answer_bytes, hand_out}
 use Rattle.answers.proofs.Parts.{answer-alone}
 use Rattle.answers.proofs.decide.Goals as goal
 
 -- what is handed out of bad items, and of others
-refused-out : (s found : List ℕ) → bad s ≡ true → after 8 found ≡ handOut (decided s) found
-unfolding handOut decided refusedDecision
+refused-out : (s found : List ℕ) → bad s ≡ true → after 8 found ≡ hand_out (decided s) found
+unfolding hand_out decided refused_decision
 refused-out s found e = rw e refl
 
-decided-out : (s found l : List ℕ) → bad s ≡ false → l ≡ answerBytes (decision (outcome s)) → after 0 l ≡ handOut (decided s) found
-unfolding handOut decided decision
+decided-out : (s found l : List ℕ) → bad s ≡ false → l ≡ answer_bytes (decision (outcome s)) → after 0 l ≡ hand_out (decided s) found
+unfolding hand_out decided decision
 decided-out s found l e q = rw (e, q) refl
 
 pub returns-then-is_bad : goal.returns-then-is_bad
@@ -34,7 +34,7 @@ returns-then-n-le1 c =
     let items : List ℕ = c.args.s.now in
     let good : bad items ≡ false = sym c.is_bad.ensures ∙ c.if-is_bad.false in
     let g = good in
-    decided-out _ _ _ g (answer-alone _ ∙ ap answerBytes (alone _ _ (long-items _ g) c.if-n-le1.true g))
+    decided-out _ _ _ g (answer-alone _ ∙ ap answer_bytes (alone _ _ (long-items _ g) c.if-n-le1.true g))
 
 pub put_least-requires : goal.put_least-requires
 put_least-requires c =

@@ -1,11 +1,11 @@
 use mathlib.Core.Path.{◌≡◌}
 use native.Mathlib.Omega.{arith}
-use Rattle.answers.specs.Offsets.{refusalsAt}
+use Rattle.answers.specs.Offsets.{refusals_at}
 use Rattle.answers.proofs.Parts.{answer-put}
 use Rattle.answers.proofs.put_parts.Goals as goal
 
 pub returns : goal.returns
 returns c =
-    let ends : c.put_indices-third.result ≡ refusalsAt = omega (arith, c.put_indices-third.ensures.0, c.put_indices-second.ensures.0) in
+    let ends : c.put_indices-third.result ≡ refusals_at = omega (arith, c.put_indices-third.ensures.0, c.put_indices-second.ensures.0) in
     answer-put _ c.requires.out_value c.ranked.ensures c.dominated.ensures c.put_indices-second.ensures.1 c.put_indices-third.ensures.1
     c.put_refusals.ensures.1 ends (omega (arith, ends, c.put_refusals.ensures.0))

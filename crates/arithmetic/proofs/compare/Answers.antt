@@ -1,7 +1,7 @@
 use mathlib.Core.Path.{ap₂, ◌∙◌}
-use Rattle.arithmetic.specs.Stages.{comparedOf}
+use Rattle.arithmetic.specs.Stages.{compared_of}
 use Rattle.arithmetic.proofs.Staged.{staged}
 use Rattle.arithmetic.proofs.compare.Goals as goal
 
 pub returns-clause-agreement : goal.returns-clause-agreement
-returns-clause-agreement c a b p q = c.judged.ensures ∙ ap₂ comparedOf p q ∙ staged a b
+returns-clause-agreement c a b p q = c.judged.ensures ∙ ap₂ compared_of p q ∙ staged a b

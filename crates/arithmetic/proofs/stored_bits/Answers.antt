@@ -1,11 +1,11 @@
 use mathlib.Core.Path.{sym, ap, ◌∙◌}
-use Rattle.arithmetic.specs.Bits.{storedBits}
+use Rattle.arithmetic.specs.Bits.{stored_bits}
 use Rattle.arithmetic.proofs.stored_bits.Goals as goal
 
 pub returns-in-Measured : goal.returns-in-Measured
-unfolding storedBits
-returns-in-Measured c = c.to_bits.ensures ∙ sym (ap storedBits c.in-Measured.is)
+unfolding stored_bits
+returns-in-Measured c = c.to_bits.ensures ∙ sym (ap stored_bits c.in-Measured.is)
 
 pub returns-in-Unmeasured : goal.returns-in-Unmeasured
-unfolding storedBits
-returns-in-Unmeasured c = sym (ap storedBits c.in-Unmeasured.is)
+unfolding stored_bits
+returns-in-Unmeasured c = sym (ap stored_bits c.in-Unmeasured.is)

@@ -3,7 +3,7 @@ use mathlib.Core.List.{[]}
 use native.Mathlib.Omega.{arith}
 use native.Mathlib.Numerals.{add-one}
 use lib.ListN.{get_or}
-use Rattle.arrange.specs.Blocks.{blocks, Known, olderBlock}
+use Rattle.arrange.specs.Blocks.{blocks, Known, older_block}
 use Rattle.arrange.proofs.Settling.{leading-yes, leading-no, leading_end, count-is, block_at, fixes-at}
 use Rattle.arrange.proofs.Sheets.{known_on, ready_at}
 use Rattle.arrange.proofs.place_below.Invariants.{older-than}
@@ -23,7 +23,7 @@ older_at-requires c =
 pub returns-then-not-older_at : goal.returns-then-not-older_at
 returns-then-not-older_at c =
     let asked : c.older_at.result ≡ older-than c.args.t.now c.args.n c.args.i (get_or (blocks c.args.n c.args.t.now) c.loop-j.j []) = let f = block_at c.args.t.now c.args.n c.requires.filled.0 in
-    c.older_at.ensures.value ∙ ap₂ olderBlock (f c.loop-j.j c.loop-j-test.true) (f c.args.i c.requires.filled.1) in
+    c.older_at.ensures.value ∙ ap₂ older_block (f c.loop-j.j c.loop-j-test.true) (f c.args.i c.requires.filled.1) in
     let still-known : Known c.args.t.now c.older_at.new.known c.args.n = known_on c.loop-j.invariant.1 c.requires.filled.0.few c.older_at.ensures.still c.older_at.auto.known in
     let t = c.args.t.now in
     let n = c.args.n in
@@ -34,7 +34,7 @@ returns-then-not-older_at c =
 pub loop-j-preserved : goal.loop-j-preserved
 loop-j-preserved c =
     let asked : c.older_at.result ≡ older-than c.args.t.now c.args.n c.args.i (get_or (blocks c.args.n c.args.t.now) c.loop-j.j []) = let f = block_at c.args.t.now c.args.n c.requires.filled.0 in
-    c.older_at.ensures.value ∙ ap₂ olderBlock (f c.loop-j.j c.loop-j-test.true) (f c.args.i c.requires.filled.1) in
+    c.older_at.ensures.value ∙ ap₂ older_block (f c.loop-j.j c.loop-j-test.true) (f c.args.i c.requires.filled.1) in
     let still-known : Known c.args.t.now c.older_at.new.known c.args.n = known_on c.loop-j.invariant.1 c.requires.filled.0.few c.older_at.ensures.still c.older_at.auto.known in
     let t = c.args.t.now in
     let n = c.args.n in

@@ -22,11 +22,11 @@ pub slice_bounds-represent-start : goal.slice_bounds-represent-start
 slice_bounds-represent-start c = omega (arith, (opened c.args.memory.now c.requires.memory_value).size)
 
 pub invariant_of-summaries : goal.invariant_of-summaries
-invariant_of-summaries c = record { within = (lends c.args.memory.now c.requires.memory_value c.u16_at-n.result c.u16_at-records.result c.u16_at-n.ensures c.u16_at-records.ensures).summaries-lie }
+invariant_of-summaries c = record { within = (lends c.args.memory.now c.requires.memory_value c.u16_at-n.result c.u16_at-records.result c.u16_at-n.ensures c.u16_at-records.ensures).summaries_lie }
 
 pub represent-requires-clause-recs_len : goal.represent-requires-clause-recs_len
 represent-requires-clause-recs_len c =
-    (lends c.args.memory.now c.requires.memory_value c.u16_at-n.result c.u16_at-records.result c.u16_at-n.ensures c.u16_at-records.ensures).records-lie
+    (lends c.args.memory.now c.requires.memory_value c.u16_at-n.result c.u16_at-records.result c.u16_at-n.ensures c.u16_at-records.ensures).records_lie
 
 pub represent-requires-clause-few : goal.represent-requires-clause-few
 represent-requires-clause-few c =

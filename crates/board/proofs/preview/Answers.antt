@@ -8,16 +8,16 @@ use borrow.Author.Tests.{eqb-false}
 use Rattle.octets.specs.Bytes.{Bytes}
 use Rattle.octets.proofs.Numbers.{all-bytes}
 use Rattle.held.specs.After.{after}
-use Rattle.register.specs.Layout.{registerSize}
-use Rattle.register.specs.Memory.{wellFormed, fresh}
+use Rattle.register.specs.Layout.{register_size}
+use Rattle.register.specs.Memory.{well_formed, fresh}
 use Rattle.register.proofs.Opened.{other-size}
-use Rattle.board.specs.Board.{drawBoard}
-use Rattle.board.specs.Preview.{convict, drawPreview}
+use Rattle.board.specs.Board.{draw_board}
+use Rattle.board.specs.Preview.{convict, draw_preview}
 use Rattle.board.proofs.Previewed.{preview-refused, preview-drawn, no_copy, copy-formed}
 use Rattle.board.proofs.preview.Goals as goal
 
 -- a register's bytes put over as many zeros
-put-over : (m : List ℕ) → length m ≡ registerSize → m ++ drop (length m) fresh ≡ m
+put-over : (m : List ℕ) → length m ≡ register_size → m ++ drop (length m) fresh ≡ m
 put-over m h =
     let k : length fresh ≤ length m = rw (length-replicate, h) (omega arith) in
     rw (drop_of_length-le fresh k) (append-nil m)
@@ -42,7 +42,7 @@ draw_formed-requires c =
     let bytes : Bytes m = all-bytes m (λ i. (c.type_inv.memory i).fits) in
     let copied : c.copy.new.to ≡ m = c.copy.ensures.to_after ∙ put-over m c.if-memory-ne-REGISTER_SIZE.false in
     let convicted : after c.conviction-refusal.result c.conviction-refusal.new.memory ≡ convict e m = c.conviction-refusal.ensures ∙ ap (convict e) copied in
-    let formed : wellFormed c.conviction-refusal.new.memory ≡ true = copy-formed e m _ _ convicted c.if-refusal-ne0.false bytes in
+    let formed : well_formed c.conviction-refusal.new.memory ≡ true = copy-formed e m _ _ convicted c.if-refusal-ne0.false bytes in
     formed
 
 pub returns : goal.returns
@@ -51,5 +51,5 @@ returns c =
     let e : ℕ = c.args.engine in
     let copied : c.copy.new.to ≡ m = c.copy.ensures.to_after ∙ put-over m c.if-memory-ne-REGISTER_SIZE.false in
     let convicted : after c.conviction-refusal.result c.conviction-refusal.new.memory ≡ convict e m = c.conviction-refusal.ensures ∙ ap (convict e) copied in
-    let drawn : (out : List ℕ) → drawPreview e m out ≡ drawBoard c.conviction-refusal.new.memory out = λ out. preview-drawn e m out _ _ convicted c.if-refusal-ne0.false in
+    let drawn : (out : List ℕ) → draw_preview e m out ≡ draw_board c.conviction-refusal.new.memory out = λ out. preview-drawn e m out _ _ convicted c.if-refusal-ne0.false in
     c.draw_formed.ensures ∙ sym (drawn _)

@@ -3,7 +3,7 @@ use mathlib.Core.Bool.{false}
 use mathlib.Core.List.{List}
 use Prim.Native.Nat.{ℕ}
 use native.Mathlib.Omega.{arith}
-use Rattle.decision.specs.Answer.{bad, decided, refusedDecision, indices}
+use Rattle.decision.specs.Answer.{bad, decided, refused_decision, indices}
 use Rattle.decision.specs.Working.{plainly}
 use Rattle.decision.proofs.Passed.{few-items, long-items}
 use Rattle.decision.proofs.Decided.{decided-is}
@@ -11,7 +11,7 @@ use Rattle.decision.proofs.Alone.{alone}
 use Rattle.decision.proofs.decide.Goals as goal
 
 pub returns-then-is_bad : goal.returns-then-is_bad
-unfolding decided refusedDecision plainly indices
+unfolding decided refused_decision plainly indices
 returns-then-is_bad c = rw (sym c.is_bad.ensures ∙ c.if-is_bad.true) c.plain.ensures
 
 pub overflow_cast-n : goal.overflow_cast-n

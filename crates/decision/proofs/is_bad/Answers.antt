@@ -5,20 +5,20 @@ use Prim.Native.Nat.{ℕ, ◌*◌, ◌/◌, ◌%◌, ◌<◌, ◌≤◌}
 use lib.ListN.{length}
 use borrow.Author.Tests.{eq-eqb, ne_eqb, lt-ltb, le-ltb}
 use Rattle.ranges.specs.Lists.{any_of, up_to}
-use Rattle.items.specs.Layout.{maxItems, itemSize}
-use Rattle.decision.specs.Answer.{badAt, bad}
+use Rattle.items.specs.Layout.{max_items, item_size}
+use Rattle.decision.specs.Answer.{bad_at, bad}
 use Rattle.decision.proofs.is_bad.Goals as goal
 
 module _ (s : List ℕ) where
-  too_many : maxItems * itemSize < length s → true ≡ bad s
+  too_many : max_items * item_size < length s → true ≡ bad s
   unfolding bad
   too_many h = rw (lt-ltb _ _ h) refl
 
-  not_whole : length s ≤ maxItems * itemSize → (length s % itemSize ≡ 0 → ⊥) → true ≡ bad s
+  not_whole : length s ≤ max_items * item_size → (length s % item_size ≡ 0 → ⊥) → true ≡ bad s
   unfolding bad
   not_whole h e = rw (le-ltb _ _ h, ne_eqb _ _ e) refl
 
-  each_tested : length s ≤ maxItems * itemSize → length s % itemSize ≡ 0 → any_of (badAt s) (up_to (length s / itemSize)) ≡ bad s
+  each_tested : length s ≤ max_items * item_size → length s % item_size ≡ 0 → any_of (bad_at s) (up_to (length s / item_size)) ≡ bad s
   unfolding bad
   each_tested h e = rw (le-ltb _ _ h, eq-eqb _ _ e) refl
 

@@ -1,8 +1,8 @@
 use Rattle.text.proofs.Appending.{append-then}
 use Rattle.octets.specs.Ascii.{ascii}
-use Rattle.drawing.specs.Lines.{whereWhen}
+use Rattle.drawing.specs.Lines.{where_when}
 use Rattle.drawing.proofs.push_where_when.Goals as goal
 
 pub returns : goal.returns
-unfolding whereWhen ascii
+unfolding where_when ascii
 returns c = search append-then depth 10

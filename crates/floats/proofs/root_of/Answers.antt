@@ -1,5 +1,5 @@
 use Rattle.std.proofs.Common.{ℕ, ◌+◌, ◌*◌, ◌%◌, ◌^◌, ◌<◌, ◌≤◌, sym, le_trans, le_of_eq, lt_of_le_of_lt, mul-le-mul_left, mul-one, arith}
-use Rattle.floats.specs.Root.{rootOf}
+use Rattle.floats.specs.Root.{root_of}
 use Rattle.floats.proofs.root_of.Goals as goal
 
 no_less : (m e : ℕ) → m ≤ m * (1 + e % 2)
@@ -13,5 +13,5 @@ doubled m e h =
     lt_of_le_of_lt (mul-le-mul_left m l) (omega arith)
 
 pub returns : goal.returns
-unfolding rootOf
+unfolding root_of
 returns c = rw (c.of_bits.ensures, c.rounded.ensures.0)

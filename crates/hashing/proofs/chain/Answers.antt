@@ -1,10 +1,10 @@
 use Rattle.std.proofs.Common.{refl, arith}
 use Rattle.hashing.proofs.Blocks.{chain_more}
-use Rattle.hashing.specs.Blake2s.{chainBlocks, firstState, iv}
+use Rattle.hashing.specs.Blake2s.{chain_blocks, first_state, iv}
 use Rattle.hashing.proofs.chain.Goals as goal
 
 pub loop-i-init : goal.loop-i-init
-unfolding chainBlocks firstState iv
+unfolding chain_blocks first_state iv
 loop-i-init c = refl
 
 pub loop-i-preserved : goal.loop-i-preserved

@@ -3,8 +3,8 @@ use mathlib.Core.Path.{refl, sym, ap, ◌∙◌}
 use native.Mathlib.Omega.{arith}
 use lib.ListN.{length, take, get_or}
 use Rattle.ranges.specs.Lists.{insert}
-use Rattle.tracked.specs.Layout.{maxRefused}
-use Rattle.keeping.specs.Working.{lowerRefusal, unread}
+use Rattle.tracked.specs.Layout.{max_refused}
+use Rattle.keeping.specs.Working.{lower_refusal, unread}
 use Rattle.keeping.proofs.Lowering.{lowest-none, lowest-turn, lowest-lies}
 use Rattle.keeping.proofs.lowest_of.Goals as goal
 
@@ -32,6 +32,6 @@ loop-j-preserved c =
     let e = c.insert-l.ensures in (
       e.0,
       e.1
-          ∙ ap (λ m. take maxRefused (insert (lowerRefusal c.args.s.now) (get_or c.args.refusals.list (c.loop-j.j - 1) unread) m)) i.1
+          ∙ ap (λ m. take max_refused (insert (lower_refusal c.args.s.now) (get_or c.args.refusals.list (c.loop-j.j - 1) unread) m)) i.1
           ∙ lowest-turn c.args.s.now c.args.refusals.list c.args.refusals.count c.loop-j.j (omega arith) (omega arith) long,
     )

@@ -1,7 +1,7 @@
 use mathlib.Core.Path.{◌≡◌}
-use Rattle.keeping.specs.Working.{Sized, lowestIn}
-use Rattle.keeping.proofs.Lowering.{lowestFrom}
+use Rattle.keeping.specs.Working.{Sized, lowest_in}
+use Rattle.keeping.proofs.Lowering.{lowest_from}
 use Rattle.keeping.proofs.lowest_of.Given as goal
 
 abbrev pub invariant-loop-j : goal.invariant-loop-j
-invariant-loop-j l = Sized l.l × (lowestIn l.l ≡ lowestFrom l.s l.refused l.count l.j)
+invariant-loop-j l = Sized l.l × (lowest_in l.l ≡ lowest_from l.s l.refused l.count l.j)

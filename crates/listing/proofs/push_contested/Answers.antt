@@ -3,11 +3,11 @@ use Rattle.octets.specs.Ascii.{ascii}
 use Rattle.text.specs.Numbers.{decimal}
 use Rattle.text.specs.Texts.{append}
 use Rattle.text.proofs.Appending.{append-then}
-use Rattle.listing.specs.Listing.{contestedLine}
+use Rattle.listing.specs.Listing.{contested_line}
 use Rattle.listing.proofs.push_contested.Goals as goal
 
 pub returns : goal.returns
-unfolding contestedLine ascii
+unfolding contested_line ascii
 returns c =
     append-then c.args.out.now _ _ _ _ c.push_field.ensures c.push_str.ensures
     ∙ ap (append c.args.out.now) (append_assoc (ascii "contested=") (decimal c.args.contested) (ascii "\n"))

@@ -5,12 +5,12 @@ use native.Mathlib.Omega.{arith}
 use Rattle.octets.proofs.Moves.{tail-lent}
 use Rattle.text.specs.Texts.{append}
 use Rattle.text.proofs.Appending.{append-then}
-use Rattle.tracked.specs.Bytes.{transmissionIn}
+use Rattle.tracked.specs.Bytes.{transmission_in}
 use Rattle.arrange.specs.Blocks.{blocks, Filled}
-use Rattle.stored.specs.Layout.{transmissionsAt}
-use Rattle.stored.specs.Memory.{transmissionCount, decode}
+use Rattle.stored.specs.Layout.{transmissions_at}
+use Rattle.stored.specs.Memory.{transmission_count, decode}
 use Rattle.stored.proofs.Opened.{opened, filled}
-use Rattle.listing.specs.Listing.{contestedLine, heldFrom, listingOf}
+use Rattle.listing.specs.Listing.{contested_line, held_from, listing_of}
 use Rattle.listing.proofs.push_listing.Goals as goal
 
 pub u64_at-requires : goal.u64_at-requires
@@ -28,11 +28,11 @@ slice_bounds-push_all-start c = omega (arith, (opened c.args.memory.now c.requir
 pub push_all-requires : goal.push_all-requires
 push_all-requires c =
     let m : List ℕ = c.args.memory.now in
-    subst (λ (l : List ℕ). Filled l (transmissionCount m)) (sym (tail-lent m transmissionsAt)) (filled m (opened m c.requires))
+    subst (λ (l : List ℕ). Filled l (transmission_count m)) (sym (tail-lent m transmissions_at)) (filled m (opened m c.requires))
 
 pub returns : goal.returns
-unfolding listingOf decode
+unfolding listing_of decode
 returns c =
     let m : List ℕ = c.args.memory.now in
-    append-then c.args.out.now _ _ _ _ (c.push_contested.ensures ∙ ap (λ (n : ℕ). append c.args.out.now (contestedLine n)) c.u64_at.ensures)
-    (c.push_all.ensures ∙ ap (λ (t : List ℕ). append c.push_contested.new.out (heldFrom 1 (map transmissionIn (blocks (transmissionCount m) t)))) (tail-lent m transmissionsAt))
+    append-then c.args.out.now _ _ _ _ (c.push_contested.ensures ∙ ap (λ (n : ℕ). append c.args.out.now (contested_line n)) c.u64_at.ensures)
+    (c.push_all.ensures ∙ ap (λ (t : List ℕ). append c.push_contested.new.out (held_from 1 (map transmission_in (blocks (transmission_count m) t)))) (tail-lent m transmissions_at))

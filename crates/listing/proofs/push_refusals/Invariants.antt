@@ -1,9 +1,9 @@
 use Rattle.std.proofs.Common.{◌≡◌, take}
 use mathlib.Core.List.{map, flat_map}
 use Rattle.text.specs.Texts.{append}
-use Rattle.tracked.specs.Bytes.{refusedIn, refusedPlaces}
-use Rattle.listing.specs.Listing.{refusedText}
+use Rattle.tracked.specs.Bytes.{refused_in, refused_places}
+use Rattle.listing.specs.Listing.{refused_text}
 use Rattle.listing.proofs.push_refusals.Given as goal
 
 abbrev pub invariant-loop-k : goal.invariant-loop-k
-invariant-loop-k l = l.out ≡ append l.initial.out (flat_map refusedText (take l.k (map refusedIn (refusedPlaces l.b))))
+invariant-loop-k l = l.out ≡ append l.initial.out (flat_map refused_text (take l.k (map refused_in (refused_places l.b))))

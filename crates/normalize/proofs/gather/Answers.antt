@@ -4,37 +4,37 @@ use mathlib.Core.List.{List}
 use native.Mathlib.Omega.{arith}
 use lib.ListN.{length}
 use Rattle.ranges.specs.Range.{first}
-use Rattle.items.specs.Layout.{hashSize}
-use Rattle.models.specs.Identity.{setHash}
+use Rattle.items.specs.Layout.{hash_size}
+use Rattle.models.specs.Identity.{set_hash}
 use Rattle.models.proofs.Sets.{identity-length}
 use Rattle.octets.proofs.Puts.{put_as}
-use Rattle.shown.specs.Items.{itemFrom, Formed}
-use Rattle.tracked.specs.Bytes.{recordIn, inputsIn, identityIn, fixIn}
-use Rattle.normalize.specs.Working.{Laid, fixesIn, identified}
+use Rattle.shown.specs.Items.{item_from, Formed}
+use Rattle.tracked.specs.Bytes.{record_in, inputs_in, identity_in, fix_in}
+use Rattle.normalize.specs.Working.{Laid, fixes_in, identified}
 use Rattle.normalize.proofs.Laying.{formed-in, signed, placed}
 use Rattle.normalize.proofs.gather.Goals as goal
 
 pub returns-then-i-n : goal.returns-then-i-n
 returns-then-i-n c =
     let f : List ℕ = c.args.f.bytes.now in
-    let laid : Laid c.args.items.now c.args.signers.now c.args.n (fixesIn c.args.items.now c.args.signers.now c.args.n) = c.requires.laid in
-    let formed : Formed (fixIn f) = formed-in f c.args.f.size c.args.f.formed in
-    let seat-is : c.seat_of-i.result ≡ first (identified c.args.items.now (identityIn f)) 0 c.args.n = c.seat_of-i.ensures ∙ ap (λ x. first (identified c.args.items.now x) 0 c.args.n) c.requires.n_bound.1 in
-    signed laid (fixIn f) formed c.seat_of-i.result c.signers.result seat-is c.signers.ensures c.if-i-n.true
+    let laid : Laid c.args.items.now c.args.signers.now c.args.n (fixes_in c.args.items.now c.args.signers.now c.args.n) = c.requires.laid in
+    let formed : Formed (fix_in f) = formed-in f c.args.f.size c.args.f.formed in
+    let seat-is : c.seat_of-i.result ≡ first (identified c.args.items.now (identity_in f)) 0 c.args.n = c.seat_of-i.ensures ∙ ap (λ x. first (identified c.args.items.now x) 0 c.args.n) c.requires.n_bound.1 in
+    signed laid (fix_in f) formed c.seat_of-i.result c.signers.result seat-is c.signers.ensures c.if-i-n.true
 
 pub put_item-requires : goal.put_item-requires
 put_item-requires c =
     let f : List ℕ = c.args.f.bytes.now in
-    let laid : Laid c.args.items.now c.args.signers.now c.args.n (fixesIn c.args.items.now c.args.signers.now c.args.n) = c.requires.laid in
-    let id-length : length c.args.id.now ≡ hashSize = ap length c.requires.n_bound.1 ∙ identity-length (setHash (recordIn f)) (inputsIn f) in
+    let laid : Laid c.args.items.now c.args.signers.now c.args.n (fixes_in c.args.items.now c.args.signers.now c.args.n) = c.requires.laid in
+    let id-length : length c.args.id.now ≡ hash_size = ap length c.requires.n_bound.1 ∙ identity-length (set_hash (record_in f)) (inputs_in f) in
     record { item_size_in_bounds = omega (arith, laid.room, c.requires.n_bound.0); inputs_len = (c.inputs.ensures.size, id-length) }
 
 pub returns : goal.returns
 returns c =
     let f : List ℕ = c.args.f.bytes.now in
-    let laid : Laid c.args.items.now c.args.signers.now c.args.n (fixesIn c.args.items.now c.args.signers.now c.args.n) = c.requires.laid in
-    let formed : Formed (fixIn f) = formed-in f c.args.f.size c.args.f.formed in
-    let seat-is : c.seat_of-i.result ≡ first (identified c.args.items.now (identityIn f)) 0 c.args.n = c.seat_of-i.ensures ∙ ap (λ x. first (identified c.args.items.now x) 0 c.args.n) c.requires.n_bound.1 in
-    let e = ap₂ (λ (x y : List ℕ). itemFrom x y c.args.id.now) c.record.ensures c.inputs.ensures.value ∙ ap (itemFrom (recordIn f) (inputsIn f)) c.requires.n_bound.1 in
-    placed laid (fixIn f) formed c.seat_of-i.result c.signers-2.result seat-is c.signers-2.ensures c.if-i-n.false c.requires.n_bound.0
+    let laid : Laid c.args.items.now c.args.signers.now c.args.n (fixes_in c.args.items.now c.args.signers.now c.args.n) = c.requires.laid in
+    let formed : Formed (fix_in f) = formed-in f c.args.f.size c.args.f.formed in
+    let seat-is : c.seat_of-i.result ≡ first (identified c.args.items.now (identity_in f)) 0 c.args.n = c.seat_of-i.ensures ∙ ap (λ x. first (identified c.args.items.now x) 0 c.args.n) c.requires.n_bound.1 in
+    let e = ap₂ (λ (x y : List ℕ). item_from x y c.args.id.now) c.record.ensures c.inputs.ensures.value ∙ ap (item_from (record_in f) (inputs_in f)) c.requires.n_bound.1 in
+    placed laid (fix_in f) formed c.seat_of-i.result c.signers-2.result seat-is c.signers-2.ensures c.if-i-n.false c.requires.n_bound.0
     (put_as e c.put_item.ensures.1)

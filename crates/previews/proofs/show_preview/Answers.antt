@@ -1,13 +1,13 @@
 -- `show_preview` is safe: a preview fits what every board fits.
 use Rattle.std.proofs.Common.{◌≡◌, ℕ, ◌<◌, ◌≤◌, List, rules, arith, length, get_or, sym, ap, length-take-le}
 use Rattle.octets.proofs.Numbers.{all-bytes}
-use Rattle.drawing.specs.Text.{boardSize}
-use Rattle.board.specs.Preview.{drawPreview}
+use Rattle.drawing.specs.Text.{board_size}
+use Rattle.board.specs.Preview.{draw_preview}
 use Rattle.board.proofs.Previewed.{preview-fits}
 use Rattle.previews.proofs.show_preview.Goals as goal
 
 -- the output has room for every board, and keeps its length
-within : (e a : ℕ) (m o o' : List ℕ) → ((i : ℕ) → get_or m i 0 < 256) → boardSize ≡ length o → length o' ≡ length o → a ≡ (drawPreview e m o).answer → a ≤ length o'
+within : (e a : ℕ) (m o o' : List ℕ) → ((i : ℕ) → get_or m i 0 < 256) → board_size ≡ length o → length o' ≡ length o → a ≡ (draw_preview e m o).answer → a ≤ length o'
 within e a m o o' b l k p =
     let f = preview-fits e m o (all-bytes m b) (omega (arith, l)) in
     omega (arith, f, k, p, l)

@@ -4,9 +4,9 @@ use lib.ListN.{length}
 use Rattle.ranges.specs.Lists.{up_to}
 use Rattle.ranges.specs.Tables.{Cached}
 use Rattle.rule.specs.Standing.{is_refused}
-use Rattle.rule.specs.Related.{itemRelations}
-use Rattle.items.specs.Layout.{maxItems}
+use Rattle.rule.specs.Related.{item_relations}
+use Rattle.items.specs.Layout.{max_items}
 use Rattle.rule.proofs.refused_table.Given as goal
 
 abbrev pub invariant-loop-i : goal.invariant-loop-i
-invariant-loop-i l = (length l.m ≡ maxItems) × Cached false l.m (is_refused (itemRelations l.s) (up_to l.n)) l.i
+invariant-loop-i l = (length l.m ≡ max_items) × Cached false l.m (is_refused (item_relations l.s) (up_to l.n)) l.i

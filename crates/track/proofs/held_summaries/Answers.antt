@@ -8,4 +8,4 @@ slice_bounds-result-end c = omega (arith, (opened c.args.memory.now c.requires).
 pub invariant_of-result : goal.invariant_of-result
 invariant_of-result c =
     let o = opened c.args.memory.now c.requires in
-    record { within = rw (summary-bytes-length c.args.memory.now o) (omega (arith, o.few-summaries, c.u16_at.ensures)) }
+    record { within = rw (summary-bytes-length c.args.memory.now o) (omega (arith, o.few_summaries, c.u16_at.ensures)) }

@@ -6,4 +6,4 @@ use Rattle.tracked.specs.Parts as P
 use Rattle.tracked.proofs.refused_at.Goals as goal
 
 pub returns : goal.returns
-returns c = let at = P.refusedPlace c.args.k in rw (width L.refusedSize at) (refl, taken L.refusedSize at c.args.b.now (omega arith))
+returns c = let at = P.refused_place c.args.k in rw (width L.refused_size at) (refl, taken L.refused_size at c.args.b.now (omega arith))

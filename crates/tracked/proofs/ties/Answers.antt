@@ -4,28 +4,28 @@ use mathlib.Core.List.{List, []}
 use native.Mathlib.Omega.{arith}
 use lib.ListN.{length, get_or}
 use Rattle.record.specs.Relations.{tied}
-use Rattle.tracked.specs.Bytes.{recordIn}
-use Rattle.tracked.specs.Parts.{heldPlaces, tiesTo}
+use Rattle.tracked.specs.Bytes.{record_in}
+use Rattle.tracked.specs.Parts.{held_places, ties_to}
 use Rattle.tracked.proofs.Holding.{held-length}
 use Rattle.tracked.proofs.Searching.{any_here, any-on, any-over}
 use Rattle.tracked.proofs.ties.Goals as goal
 
 pub returns-then-is_tied_to : goal.returns-then-is_tied_to
 returns-then-is_tied_to c =
-    let asked : c.is_tied_to.result ≡ tiesTo c.args.r.bytes.now (get_or (heldPlaces c.args.b.now) c.loop-k.k []) = c.is_tied_to.ensures
-    ∙ ap (λ (x : List ℕ). tied x c.args.r.bytes.now) (c.record.ensures ∙ ap recordIn c.held.ensures) in
-    let among : c.loop-k.k < length (heldPlaces c.args.b.now) = rw (held-length c.args.b.now) (omega (arith, c.loop-k-test.true, c.held_count-n.ensures)) in
-    sym (c.loop-k.invariant ∙ any_here (tiesTo c.args.r.bytes.now) (heldPlaces c.args.b.now) c.loop-k.k [] among (sym asked ∙ c.if-is_tied_to.true))
+    let asked : c.is_tied_to.result ≡ ties_to c.args.r.bytes.now (get_or (held_places c.args.b.now) c.loop-k.k []) = c.is_tied_to.ensures
+    ∙ ap (λ (x : List ℕ). tied x c.args.r.bytes.now) (c.record.ensures ∙ ap record_in c.held.ensures) in
+    let among : c.loop-k.k < length (held_places c.args.b.now) = rw (held-length c.args.b.now) (omega (arith, c.loop-k-test.true, c.held_count-n.ensures)) in
+    sym (c.loop-k.invariant ∙ any_here (ties_to c.args.r.bytes.now) (held_places c.args.b.now) c.loop-k.k [] among (sym asked ∙ c.if-is_tied_to.true))
 
 pub loop-k-preserved : goal.loop-k-preserved
 loop-k-preserved c =
-    let asked : c.is_tied_to.result ≡ tiesTo c.args.r.bytes.now (get_or (heldPlaces c.args.b.now) c.loop-k.k []) = c.is_tied_to.ensures
-    ∙ ap (λ (x : List ℕ). tied x c.args.r.bytes.now) (c.record.ensures ∙ ap recordIn c.held.ensures) in
-    let among : c.loop-k.k < length (heldPlaces c.args.b.now) = rw (held-length c.args.b.now) (omega (arith, c.loop-k-test.true, c.held_count-n.ensures)) in
+    let asked : c.is_tied_to.result ≡ ties_to c.args.r.bytes.now (get_or (held_places c.args.b.now) c.loop-k.k []) = c.is_tied_to.ensures
+    ∙ ap (λ (x : List ℕ). tied x c.args.r.bytes.now) (c.record.ensures ∙ ap record_in c.held.ensures) in
+    let among : c.loop-k.k < length (held_places c.args.b.now) = rw (held-length c.args.b.now) (omega (arith, c.loop-k-test.true, c.held_count-n.ensures)) in
     let v = c.loop-k.invariant in
-    v ∙ any-on (tiesTo c.args.r.bytes.now) (heldPlaces c.args.b.now) c.loop-k.k [] among (sym asked ∙ c.if-is_tied_to.false)
+    v ∙ any-on (ties_to c.args.r.bytes.now) (held_places c.args.b.now) c.loop-k.k [] among (sym asked ∙ c.if-is_tied_to.false)
 
 pub returns : goal.returns
 returns c =
     let v = c.loop-k.invariant in
-    sym (v ∙ any-over (tiesTo c.args.r.bytes.now) (heldPlaces c.args.b.now) c.loop-k.k (rw (held-length c.args.b.now) (omega (arith, c.loop-k-test.false, c.held_count-n.ensures))))
+    sym (v ∙ any-over (ties_to c.args.r.bytes.now) (held_places c.args.b.now) c.loop-k.k (rw (held-length c.args.b.now) (omega (arith, c.loop-k-test.false, c.held_count-n.ensures))))

@@ -1,13 +1,13 @@
 -- `show_listing` is safe: a listing fits the output.
 use Rattle.std.proofs.Common.{◌≡◌, rules, arith, length, sym, length-take-le}
-use Rattle.drawing.specs.Text.{boardSize}
+use Rattle.drawing.specs.Text.{board_size}
 use Rattle.tracks.proofs.Listed.{listed-fits}
 use Rattle.tracks.proofs.show_listing.Goals as goal
 
 pub slice_bounds-out-end : goal.slice_bounds-out-end
 slice_bounds-out-end g c =
     let o = c.output_buffer-out.result in
-    let l : boardSize ≡ length o = search rules in
+    let l : board_size ≡ length o = search rules in
     let k = c.listing-answer.auto.out in
     let f = listed-fits o c.listing-answer.new.out c.listing-answer.result (omega (arith, l)) k _ c.listing-answer.ensures in
     omega (arith, f, k)
@@ -15,7 +15,7 @@ slice_bounds-out-end g c =
 pub slice_bounds-word-end-2 : goal.slice_bounds-word-end-2
 slice_bounds-word-end-2 g c =
     let o = c.output_buffer-out.result in
-    let l : boardSize ≡ length o = search rules in
+    let l : board_size ≡ length o = search rules in
     let k = c.listing-answer.auto.out in
     let f = listed-fits o c.listing-answer.new.out c.listing-answer.result (omega (arith, l)) k _ c.listing-answer.ensures in
     sym (length-take-le c.listing-answer.result c.listing-answer.new.out (omega (arith, f, k)))

@@ -1,7 +1,7 @@
 use mathlib.Core.Path.{refl}
-use Rattle.verdict.specs.Supersets.{tagsOf}
+use Rattle.verdict.specs.Supersets.{tags_of}
 use Rattle.verdict.proofs.plain.Goals as goal
 
 pub returns : goal.returns
-unfolding tagsOf
+unfolding tags_of
 returns c = refl

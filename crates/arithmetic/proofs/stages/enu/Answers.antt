@@ -1,6 +1,6 @@
-use Rattle.arithmetic.specs.Stages.{enuOf}
+use Rattle.arithmetic.specs.Stages.{enu_of}
 use Rattle.arithmetic.proofs.stages.enu.Goals as goal
 
 pub returns : goal.returns
-unfolding enuOf
+unfolding enu_of
 returns c = rw (c.dot-z.ensures, c.dot-y.ensures, c.dot-x.ensures)

@@ -1,10 +1,10 @@
-use Rattle.arithmetic.specs.Stages.{measuredOf}
+use Rattle.arithmetic.specs.Stages.{measured_of}
 use Rattle.arithmetic.proofs.stages.measured_full.Goals as goal
 
 pub returns-then-three : goal.returns-then-three
-unfolding measuredOf
+unfolding measured_of
 returns-then-three c = rw (c.of_three.ensures, c.full_length.ensures, c.if-three.true)
 
 pub returns : goal.returns
-unfolding measuredOf
+unfolding measured_of
 returns c = rw (c.of_two.ensures, c.flat_length.ensures, c.if-three.false)

@@ -1,4 +1,4 @@
-use Rattle.board.proofs.Fitting.{fits-board, no-refusal}
+use Rattle.board.proofs.Fitting.{fits-board, no_refusal}
 use Rattle.register.specs.Memory.{decode}
 use Rattle.register.proofs.Kept.{decode-valid}
 use Rattle.register.proofs.Opened.{opened}
@@ -8,4 +8,4 @@ pub returns-clause-fits : goal.returns-clause-fits
 returns-clause-fits c = fits-board
 
 pub returns-clause-no_refusal : goal.returns-clause-no_refusal
-returns-clause-no_refusal c = λ m b w. no-refusal (decode m) (decode-valid m (opened m w) b)
+returns-clause-no_refusal c = λ m b w. no_refusal (decode m) (decode-valid m (opened m w) b)

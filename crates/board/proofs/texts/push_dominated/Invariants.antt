@@ -1,8 +1,8 @@
 use Rattle.std.proofs.Common.{◌≡◌, take}
 use Rattle.std.specs.Prelude.{flat_map}
 use Rattle.text.specs.Texts.{append}
-use Rattle.drawing.specs.Text.{dominatedText}
+use Rattle.drawing.specs.Text.{dominated_text}
 use Rattle.board.proofs.texts.push_dominated.Given as goal
 
 abbrev pub invariant-loop-i : goal.invariant-loop-i
-invariant-loop-i l = l.out ≡ append l.initial.out (flat_map dominatedText (take l.i l.shown.dominated))
+invariant-loop-i l = l.out ≡ append l.initial.out (flat_map dominated_text (take l.i l.shown.dominated))

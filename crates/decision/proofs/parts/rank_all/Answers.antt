@@ -3,7 +3,7 @@ use native.Mathlib.Omega.{arith}
 use borrow.Author.Rules.{rules}
 use Rattle.ranges.specs.Lists.{up_to}
 use Rattle.ranges.proofs.Sorting.{Strict}
-use Rattle.items.specs.Items.{aheadAt}
+use Rattle.items.specs.Items.{ahead_at}
 use Rattle.rule.proofs.Choosing.{chose-among}
 use Rattle.decision.proofs.Sound.{by_rank}
 use Rattle.decision.proofs.Ranking.{ranking-none, ranking-more, ranking-end, ranking-full}
@@ -14,7 +14,7 @@ loop-count-init c = ranking-none _ _ _ _ (search rules) c.requires.3
 
 pub returns-in_default : goal.returns-in_default
 returns-in_default c =
-    let strict : Strict (aheadAt c.args.s.now) (up_to c.args.n) = by_rank c.args.s.now c.args.n c.requires.2 in
+    let strict : Strict (ahead_at c.args.s.now) (up_to c.args.n) = by_rank c.args.s.now c.args.n c.requires.2 in
     ranking-end _ _ _ c.requires.0 strict _ _ _ c.loop-count.invariant (sym c.first_left-first.ensures ∙ c.in_default.is)
 
 pub bounds-left-b : goal.bounds-left-b
@@ -24,10 +24,10 @@ bounds-left-b c =
 
 pub loop-count-preserved : goal.loop-count-preserved
 loop-count-preserved c =
-    let strict : Strict (aheadAt c.args.s.now) (up_to c.args.n) = by_rank c.args.s.now c.args.n c.requires.2 in
+    let strict : Strict (ahead_at c.args.s.now) (up_to c.args.n) = by_rank c.args.s.now c.args.n c.requires.2 in
     ranking-more _ _ _ c.requires.0 strict _ _ _ c.loop-count.invariant _ c.loop-count-test.true (sym c.first_left-first.ensures ∙ c.in-Some.is)
 
 pub returns : goal.returns
 returns c =
-    let strict : Strict (aheadAt c.args.s.now) (up_to c.args.n) = by_rank c.args.s.now c.args.n c.requires.2 in
+    let strict : Strict (ahead_at c.args.s.now) (up_to c.args.n) = by_rank c.args.s.now c.args.n c.requires.2 in
     ranking-full _ _ _ c.requires.0 strict _ _ _ c.loop-count.invariant c.loop-count-test.false

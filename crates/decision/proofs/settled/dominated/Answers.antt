@@ -1,9 +1,9 @@
 use mathlib.Core.Path.{refl, sym, ap, ◌∙◌}
 use native.Mathlib.Omega.{arith}
 use lib.ListN.{length-set}
-use Rattle.ranges.specs.Lists.{filter, countFrom}
+use Rattle.ranges.specs.Lists.{filter, count_from}
 use Rattle.ranges.proofs.Searches.{holds-none, listed-hit, listed-miss, listed-done}
-use Rattle.items.specs.Layout.{maxItems}
+use Rattle.items.specs.Layout.{max_items}
 use Rattle.rule.specs.Standing as S
 use Rattle.decision.specs.Answer.{indices}
 use Rattle.decision.proofs.Arrays.{held-indices}
@@ -11,8 +11,8 @@ use Rattle.decision.proofs.Passed.{outcome-is}
 use Rattle.decision.proofs.settled.dominated.Goals as goal
 
 pub loop-i-init : goal.loop-i-init
-unfolding countFrom filter
-loop-i-init c = (refl, omega arith, holds-none maxItems 0)
+unfolding count_from filter
+loop-i-init c = (refl, omega arith, holds-none max_items 0)
 
 pub loop-i-preserved-then-not-dominated_at : goal.loop-i-preserved-then-not-dominated_at
 loop-i-preserved-then-not-dominated_at c =

@@ -1,11 +1,11 @@
 use mir.Syntax.{w32}
 use mir.Facts.{to_z-of_z}
-use Rattle.geometry.specs.Angles.{sincosOf}
+use Rattle.geometry.specs.Angles.{sincos_of}
 use borrow.Author.Rules.{sfits_of}
 use Rattle.geometry.proofs.angles.sincos.Goals as goal
 
 pub returns : goal.returns
-unfolding sincosOf
+unfolding sincos_of
 returns c =
     rw (
       c.turned.ensures,

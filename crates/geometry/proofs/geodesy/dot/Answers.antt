@@ -1,7 +1,7 @@
 use mathlib.Core.Path.{refl}
-use Rattle.geometry.specs.Geodesy.{dotOf}
+use Rattle.geometry.specs.Geodesy.{dot_of}
 use Rattle.geometry.proofs.geodesy.dot.Goals as goal
 
 pub returns : goal.returns
-unfolding dotOf
+unfolding dot_of
 returns c = refl

@@ -1,7 +1,7 @@
 use mathlib.Core.Path.{refl}
-use Rattle.geometry.specs.Factors.{flatLength}
+use Rattle.geometry.specs.Factors.{flat_length}
 use Rattle.geometry.proofs.linalg.flat_length.Goals as goal
 
 pub returns : goal.returns
-unfolding flatLength
+unfolding flat_length
 returns c = refl

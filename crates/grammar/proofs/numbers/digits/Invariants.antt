@@ -3,4 +3,4 @@ use Rattle.grammar.specs.Numbers as Val
 use Rattle.grammar.proofs.numbers.digits.Given as goal
 
 abbrev pub invariant-loop-d : goal.invariant-loop-d
-invariant-loop-d l = (l.value ≤ l.most) × (Val.digitsAfter l.most 0 l.text ≡ Val.digitsAfter l.most l.value (drop l.d-index l.text))
+invariant-loop-d l = (l.value ≤ l.most) × (Val.digits_after l.most 0 l.text ≡ Val.digits_after l.most l.value (drop l.d-index l.text))

@@ -6,7 +6,7 @@ use Rattle.grammar.proofs.numbers.hex.Given as goal
 abbrev pub invariant-loop-rest : goal.invariant-loop-rest
 invariant-loop-rest g l = record {
   room : array_vec_len l.bytes + length l.rest / 2 ≤ g.row.ROOM;
-  whole : Val.hexBytes l.text ≡ option_map (λ (m : List ℕ). l.bytes.items ++ m) (Val.hexBytes l.rest);
+  whole : Val.hex_bytes l.text ≡ option_map (λ (m : List ℕ). l.bytes.items ++ m) (Val.hex_bytes l.rest);
 }
 
 abbrev pub decreases-loop-rest : goal.decreases-loop-rest

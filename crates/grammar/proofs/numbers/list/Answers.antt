@@ -1,6 +1,6 @@
 use Rattle.std.proofs.Common.{◌≡◌, ◌∙◌, sym, ap, ℕ, List, [], ◌∷◌, ◌-◌, ◌<◌, ◌++◌, Some, option_map, arith}
 use Rattle.arrayvec.specs.ArrayVec.{array_vec_len}
-use Rattle.grammar.specs.Numbers.{readNumbers}
+use Rattle.grammar.specs.Numbers.{read_numbers}
 use Rattle.grammar.proofs.Texts.{list_full, list_bad, list-more, last_bad, list-last}
 use Rattle.grammar.proofs.numbers.list.Goals as goal
 
@@ -19,8 +19,8 @@ loop-rest-preserved g c =
     c.loop-rest.invariant
     ∙ list-more c.args.most c.loop-rest.numbers.items c.loop-rest.rest.now n c.in-Some.first.now c.in-Some.others.now c.in_ok-number-in-Some.field-0 left
     (sym c.in-Some.ensures.value) (sym c.in_ok-number-in-Some.ensures.value)
-    ∙ ap (λ (k : ℕ). option_map (λ (m : List ℕ). (c.loop-rest.numbers.items ++ c.in_ok-number-in-Some.field-0 ∷ []) ++ m) (readNumbers c.args.most k c.in-Some.others.now)) fewer
-    ∙ ap (λ (p : List ℕ). option_map (λ (m : List ℕ). p ++ m) (readNumbers c.args.most (g.row.ROOM - array_vec_len c.push.new.self) c.in-Some.others.now)) (sym c.push.ensures.items)
+    ∙ ap (λ (k : ℕ). option_map (λ (m : List ℕ). (c.loop-rest.numbers.items ++ c.in_ok-number-in-Some.field-0 ∷ []) ++ m) (read_numbers c.args.most k c.in-Some.others.now)) fewer
+    ∙ ap (λ (p : List ℕ). option_map (λ (m : List ℕ). p ++ m) (read_numbers c.args.most (g.row.ROOM - array_vec_len c.push.new.self) c.in-Some.others.now)) (sym c.push.ensures.items)
 
 pub returns-in_err-number-in-None : goal.returns-in_err-number-in-None
 returns-in_err-number-in-None g c =

@@ -4,7 +4,7 @@ use Rattle.grammar.specs.Numbers as Val
 use Rattle.grammar.proofs.numbers.list.Given as goal
 
 abbrev pub invariant-loop-rest : goal.invariant-loop-rest
-invariant-loop-rest g l = Val.readNumbers l.most g.row.ROOM l.text ≡ option_map (λ (m : List ℕ). l.numbers.items ++ m) (Val.readNumbers l.most (g.row.ROOM - array_vec_len l.numbers) l.rest)
+invariant-loop-rest g l = Val.read_numbers l.most g.row.ROOM l.text ≡ option_map (λ (m : List ℕ). l.numbers.items ++ m) (Val.read_numbers l.most (g.row.ROOM - array_vec_len l.numbers) l.rest)
 
 abbrev pub decreases-loop-rest : goal.decreases-loop-rest
 decreases-loop-rest g l = g.row.ROOM - array_vec_len l.numbers

@@ -1,8 +1,8 @@
-use Rattle.hashing.specs.Blake2s.{roundBy, sigma}
+use Rattle.hashing.specs.Blake2s.{round_by, sigma}
 use Rattle.hashing.proofs.rounds.rounds_0_1.Goals as goal
 
 pub returns : goal.returns
-unfolding roundBy sigma
+unfolding round_by sigma
 returns c = rw (
   c.diagonals-2.ensures,
   c.columns-2.ensures,

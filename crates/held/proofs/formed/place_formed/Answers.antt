@@ -1,12 +1,12 @@
 use mathlib.Core.Path.{refl, sym, ◌∙◌}
 use native.Mathlib.Omega.{arith}
 use lib.Seq.{length-take-le}
-use Rattle.record.specs.Layout.{recordSize}
+use Rattle.record.specs.Layout.{record_size}
 use Rattle.held.proofs.Signatures.{signers-at}
 use Rattle.held.proofs.formed.place_formed.Goals as goal
 
 pub slice_bounds-parse-end : goal.slice_bounds-parse-end
-slice_bounds-parse-end c = sym (length-take-le recordSize c.args.p.now (omega (arith, c.requires)))
+slice_bounds-parse-end c = sym (length-take-le record_size c.args.p.now (omega (arith, c.requires)))
 
 pub returns-then-not-is_empty : goal.returns-then-not-is_empty
 returns-then-not-is_empty c =

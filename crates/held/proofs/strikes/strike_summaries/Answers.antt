@@ -1,5 +1,5 @@
 use Prim.Native.Nat.{◌*◌}
-use Rattle.models.specs.Summary.{summarySize}
+use Rattle.models.specs.Summary.{summary_size}
 use Rattle.held.proofs.Striking.{left-none, left-gone, left-stays, left-cleared}
 use Rattle.held.proofs.Summarized.{of-engine, of-another, whole-moved}
 use Rattle.held.proofs.strikes.strike_summaries.Goals as goal
@@ -9,13 +9,13 @@ loop-i-init c = left-none c.requires
 
 pub loop-i-preserved-then-t-at : goal.loop-i-preserved-then-t-at
 loop-i-preserved-then-t-at c =
-    left-gone c.loop-i.invariant c.loop-i-test.true (of-engine c.args.engine.number c.loop-i.t (c.loop-i.i * summarySize) c.if-t-at.true)
+    left-gone c.loop-i.invariant c.loop-i-test.true (of-engine c.args.engine.number c.loop-i.t (c.loop-i.i * summary_size) c.if-t-at.true)
 
 pub loop-i-preserved : goal.loop-i-preserved
 loop-i-preserved c =
-    let i = c.loop-i.i * summarySize in
+    let i = c.loop-i.i * summary_size in
     left-stays c.loop-i.invariant c.loop-i-test.true c.copy_down.new.s (of-another c.args.engine.number c.loop-i.t i c.if-t-at.false)
-    (whole-moved c.loop-i.t c.copy_down.new.s i (c.loop-i.j * summarySize) c.copy_down.ensures)
+    (whole-moved c.loop-i.t c.copy_down.new.s i (c.loop-i.j * summary_size) c.copy_down.ensures)
 
 pub returns : goal.returns
 returns c =

@@ -1,7 +1,7 @@
 use mathlib.Core.Path.{sym, ◌∙◌}
 use native.Mathlib.Omega.{arith}
 use lib.ListN.{drop}
-use Rattle.octets.specs.Order.{isBefore}
+use Rattle.octets.specs.Order.{is_before}
 use Rattle.octets.proofs.Comparison.{before_here, before-ended, before-past, before-drop}
 use Rattle.octets.proofs.order.precedes.Goals as goal
 
@@ -18,4 +18,4 @@ pub returns : goal.returns
 returns c =
     let s = c.args in
     let r = c.alike-i in
-    ◌∙◌ {b = isBefore (drop r.result s.a.now) (drop r.result s.b.now)} c.precedes_from.ensures (sym (before-drop r.result s.a.now s.b.now r.ensures.2))
+    ◌∙◌ {b = is_before (drop r.result s.a.now) (drop r.result s.b.now)} c.precedes_from.ensures (sym (before-drop r.result s.a.now s.b.now r.ensures.2))

@@ -8,18 +8,18 @@ use lib.Dec.{eqb}
 use lib.Bits.{bit_or}
 use lib.ListN.{length, get_or, drop, drop_of_length-le}
 use lib.Seq.{drop-cons}
-use Rattle.octets.specs.Runs.{allZero}
+use Rattle.octets.specs.Runs.{all_zero}
 use Rattle.ranges.proofs.Bools.{and_assoc, and-unit}
 use Rattle.octets.proofs.Zeros.{or-zero}
 use Rattle.octets.proofs.runs.is_zero.Goals as goal
 
 -- one byte more joins what was seen
-turn : (s : List ℕ) (i any : ℕ) → i < length s → (eqb any 0 && allZero (drop i s)) ≡ (eqb (bit_or any (get_or s i 0)) 0 && allZero (drop (i + 1) s))
-unfolding allZero
-turn s i any h = rw (add-one, drop-cons s i 0 h, or-zero any (get_or s i 0)) (sym (and_assoc (eqb any 0) (eqb (get_or s i 0) 0) (allZero (drop (suc i) s))))
+turn : (s : List ℕ) (i any : ℕ) → i < length s → (eqb any 0 && all_zero (drop i s)) ≡ (eqb (bit_or any (get_or s i 0)) 0 && all_zero (drop (i + 1) s))
+unfolding all_zero
+turn s i any h = rw (add-one, drop-cons s i 0 h, or-zero any (get_or s i 0)) (sym (and_assoc (eqb any 0) (eqb (get_or s i 0) 0) (all_zero (drop (suc i) s))))
 
-past : (s : List ℕ) (i any : ℕ) → length s ≤ i → (eqb any 0 && allZero (drop i s)) ≡ eqb any 0
-unfolding allZero
+past : (s : List ℕ) (i any : ℕ) → length s ≤ i → (eqb any 0 && all_zero (drop i s)) ≡ eqb any 0
+unfolding all_zero
 past s i any h = rw (drop_of_length-le s h) (and-unit (eqb any 0))
 
 pub loop-byte-preserved : goal.loop-byte-preserved

@@ -6,13 +6,13 @@ use lib.ListN.{length, drop, get_or}
 use Rattle.ranges.specs.Lists.{any_of}
 use Rattle.ranges.proofs.Lists.{any-map}
 use Rattle.places.specs.Places.{places}
-use Rattle.models.specs.Summary.{summarySize}
-use Rattle.tracked.specs.Bytes.{transmissionIn}
-use Rattle.stored.specs.Memory.{summaryCount, summaryTable, summariesIn, transmissionCount, transmissionPlaces}
+use Rattle.models.specs.Summary.{summary_size}
+use Rattle.tracked.specs.Bytes.{transmission_in}
+use Rattle.stored.specs.Memory.{summary_count, summary_table, summaries_in, transmission_count, transmission_places}
 use Rattle.stored.specs.Steps.{block_at}
 use Rattle.stored.proofs.Changing.{any_here, any-later, any-past}
-use Rattle.stored.proofs.Opened.{Opened, opened, placeAt, transmissions-length, at_place, place-room, sound-at}
-use Rattle.recheck.specs.Recheck.{hasStale}
+use Rattle.stored.proofs.Opened.{Opened, opened, place_at, transmissions-length, at_place, place-room, sound-at}
+use Rattle.recheck.specs.Recheck.{has_stale}
 use Rattle.recheck.proofs.rechecks.any_stale.Invariants.{test}
 use Rattle.recheck.proofs.rechecks.any_stale.Goals as goal
 
@@ -27,38 +27,38 @@ has_stale-requires c =
     let m : List ℕ = c.args.memory.now in
     let o : Opened m = opened m c.requires in
     let n : ℕ = c.u16_at-n.result in
-    let n-is : n ≡ summaryCount m = c.u16_at-n.ensures in
+    let n-is : n ≡ summary_count m = c.u16_at-n.ensures in
     let h = c.loop-i-test.true in
-    record { n_le_max_summaries = (rw n-is o.few-summaries, omega arith, place-room m o c.loop-i.i h); sound = sound-at m o c.loop-i.i h }
+    record { n_le_max_summaries = (rw n-is o.few_summaries, omega arith, place-room m o c.loop-i.i h); sound = sound-at m o c.loop-i.i h }
 
 pub returns-then-has_stale : goal.returns-then-has_stale
 returns-then-has_stale c =
     let m : List ℕ = c.args.memory.now in
     let o : Opened m = opened m c.requires in
     let n : ℕ = c.u16_at-n.result in
-    let n-is : n ≡ summaryCount m = c.u16_at-n.ensures in
-    let whole : any_of (hasStale (summariesIn m)) (map transmissionIn (transmissionPlaces m)) ≡ any_of (test m) (drop c.loop-i.i (transmissionPlaces m)) = any-map transmissionIn (test m) (hasStale (summariesIn m)) (transmissionPlaces m) (λ b i. refl) ∙ c.loop-i.invariant in
-    let among : c.loop-i.i < length (transmissionPlaces m) = rw (transmissions-length m o) c.loop-i-test.true in
-    let told : c.has_stale.result ≡ test m (get_or (transmissionPlaces m) c.loop-i.i []) = c.has_stale.ensures
-    ∙ ap (λ (k : ℕ). hasStale (places summarySize k (summaryTable m)) (transmissionIn (block_at (placeAt c.loop-i.i) m))) n-is
-    ∙ ap (test m) (at_place (transmissionCount m) c.loop-i.i m c.loop-i-test.true) in
-    sym (whole ∙ sym (any_here (test m) [] (transmissionPlaces m) c.loop-i.i among _ told c.if-has_stale.true))
+    let n-is : n ≡ summary_count m = c.u16_at-n.ensures in
+    let whole : any_of (has_stale (summaries_in m)) (map transmission_in (transmission_places m)) ≡ any_of (test m) (drop c.loop-i.i (transmission_places m)) = any-map transmission_in (test m) (has_stale (summaries_in m)) (transmission_places m) (λ b i. refl) ∙ c.loop-i.invariant in
+    let among : c.loop-i.i < length (transmission_places m) = rw (transmissions-length m o) c.loop-i-test.true in
+    let told : c.has_stale.result ≡ test m (get_or (transmission_places m) c.loop-i.i []) = c.has_stale.ensures
+    ∙ ap (λ (k : ℕ). has_stale (places summary_size k (summary_table m)) (transmission_in (block_at (place_at c.loop-i.i) m))) n-is
+    ∙ ap (test m) (at_place (transmission_count m) c.loop-i.i m c.loop-i-test.true) in
+    sym (whole ∙ sym (any_here (test m) [] (transmission_places m) c.loop-i.i among _ told c.if-has_stale.true))
 
 pub loop-i-preserved : goal.loop-i-preserved
 loop-i-preserved c =
     let m : List ℕ = c.args.memory.now in
     let o : Opened m = opened m c.requires in
     let n : ℕ = c.u16_at-n.result in
-    let n-is : n ≡ summaryCount m = c.u16_at-n.ensures in
-    let among : c.loop-i.i < length (transmissionPlaces m) = rw (transmissions-length m o) c.loop-i-test.true in
-    let told : c.has_stale.result ≡ test m (get_or (transmissionPlaces m) c.loop-i.i []) = c.has_stale.ensures
-    ∙ ap (λ (k : ℕ). hasStale (places summarySize k (summaryTable m)) (transmissionIn (block_at (placeAt c.loop-i.i) m))) n-is
-    ∙ ap (test m) (at_place (transmissionCount m) c.loop-i.i m c.loop-i-test.true) in
-    c.loop-i.invariant ∙ any-later (test m) [] (transmissionPlaces m) c.loop-i.i among _ told c.if-has_stale.false
+    let n-is : n ≡ summary_count m = c.u16_at-n.ensures in
+    let among : c.loop-i.i < length (transmission_places m) = rw (transmissions-length m o) c.loop-i-test.true in
+    let told : c.has_stale.result ≡ test m (get_or (transmission_places m) c.loop-i.i []) = c.has_stale.ensures
+    ∙ ap (λ (k : ℕ). has_stale (places summary_size k (summary_table m)) (transmission_in (block_at (place_at c.loop-i.i) m))) n-is
+    ∙ ap (test m) (at_place (transmission_count m) c.loop-i.i m c.loop-i-test.true) in
+    c.loop-i.invariant ∙ any-later (test m) [] (transmission_places m) c.loop-i.i among _ told c.if-has_stale.false
 
 pub returns : goal.returns
 returns c =
     let m : List ℕ = c.args.memory.now in
     let o : Opened m = opened m c.requires in
-    let whole : any_of (hasStale (summariesIn m)) (map transmissionIn (transmissionPlaces m)) ≡ any_of (test m) (drop c.loop-i.i (transmissionPlaces m)) = any-map transmissionIn (test m) (hasStale (summariesIn m)) (transmissionPlaces m) (λ b i. refl) ∙ c.loop-i.invariant in
-    sym (whole ∙ sym (any-past (test m) [] (transmissionPlaces m) c.loop-i.i (rw (transmissions-length m o) c.loop-i-test.false)))
+    let whole : any_of (has_stale (summaries_in m)) (map transmission_in (transmission_places m)) ≡ any_of (test m) (drop c.loop-i.i (transmission_places m)) = any-map transmission_in (test m) (has_stale (summaries_in m)) (transmission_places m) (λ b i. refl) ∙ c.loop-i.invariant in
+    sym (whole ∙ sym (any-past (test m) [] (transmission_places m) c.loop-i.i (rw (transmissions-length m o) c.loop-i-test.false)))

@@ -4,7 +4,7 @@ use mathlib.Core.List.{List}
 use Rattle.octets.specs.Bytes.{Bytes}
 use Rattle.octets.proofs.Numbers.{all-bytes}
 use Rattle.arrange.proofs.Sheets.{none-known}
-use Rattle.stored.specs.Memory.{transmissionCount, transmissionTable}
+use Rattle.stored.specs.Memory.{transmission_count, transmission_table}
 use Rattle.stored.proofs.Opened.{Opened, opened}
 use Rattle.recheck.proofs.Rechecked.{all-stand, some-stale}
 use borrow.Author.Rules.{rules}
@@ -21,7 +21,7 @@ pub take_out-requires : goal.take_out-requires
 take_out-requires c =
     let m : List ℕ = c.args.memory.now in
     let o : Opened m = opened m c.requires in
-    (c.requires, none-known (transmissionTable m) (transmissionCount m) o.few)
+    (c.requires, none-known (transmission_table m) (transmission_count m) o.few)
 
 pub returns : goal.returns
 returns c =

@@ -1,10 +1,10 @@
 use mathlib.Core.List.{List, []}
 use Rattle.places.specs.Places.{places}
-use Rattle.models.specs.Summary.{summarySize}
+use Rattle.models.specs.Summary.{summary_size}
 use lib.ListN.{get_or}
-use Rattle.tracked.specs.Bytes.{fixIn}
-use Rattle.tracked.specs.Parts.{heldPlaces}
-use Rattle.stored.specs.Memory.{summaryTable}
+use Rattle.tracked.specs.Bytes.{fix_in}
+use Rattle.tracked.specs.Parts.{held_places}
+use Rattle.stored.specs.Memory.{summary_table}
 use Rattle.recheck.specs.Recheck.{stands}
 use Rattle.recheck.proofs.Standing.{lent-block}
 use Prim.Native.Nat.{ℕ}
@@ -19,4 +19,4 @@ held-fix-requires c =
 pub returns : goal.returns
 returns c =
     let a = c.args in
-    c.stands.ensures ∙ ap (λ (f : List ℕ). stands (places summarySize a.n (summaryTable a.memory.now)) (fixIn f)) (c.held-fix.ensures ∙ ap (λ (b : List ℕ). get_or (heldPlaces b) a.k []) (lent-block a.at a.memory.now))
+    c.stands.ensures ∙ ap (λ (f : List ℕ). stands (places summary_size a.n (summary_table a.memory.now)) (fix_in f)) (c.held-fix.ensures ∙ ap (λ (b : List ℕ). get_or (held_places b) a.k []) (lent-block a.at a.memory.now))

@@ -1,9 +1,9 @@
 use Rattle.std.proofs.Common.{◌≡◌, ◌∙◌, sym, Bool, true, List, ℕ}
-use Rattle.record.specs.Relations.{sameMessage, sharesTag, tied}
+use Rattle.record.specs.Relations.{same_message, shares_tag, tied}
 use Rattle.record.proofs.Record.is_tied_to.Goals as goal
 
 -- where the messages are the same, the tags tell
-by_tags : (a b : List ℕ) (r : Bool) → sameMessage a b ≡ true → r ≡ sharesTag a b → r ≡ tied a b
+by_tags : (a b : List ℕ) (r : Bool) → same_message a b ≡ true → r ≡ shares_tag a b → r ≡ tied a b
 unfolding tied
 by_tags a b r h e = rw h e
 

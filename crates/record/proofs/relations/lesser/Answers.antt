@@ -1,9 +1,9 @@
 use Rattle.std.proofs.Common.{◌≡◌, ◌∙◌, sym, refl, true, List, ℕ}
-use Rattle.octets.specs.Order.{isBefore}
-use Rattle.octets.specs.Lesser.{lesserOf}
+use Rattle.octets.specs.Order.{is_before}
+use Rattle.octets.specs.Lesser.{lesser_of}
 use Rattle.record.proofs.relations.lesser.Goals as goal
 
-second : (a b : List ℕ) → isBefore b a ≡ true → b ≡ lesserOf a b
+second : (a b : List ℕ) → is_before b a ≡ true → b ≡ lesser_of a b
 second a b h = rw h refl
 
 pub returns-then-precedes : goal.returns-then-precedes

@@ -1,10 +1,10 @@
 -- The table, then its places.
 use mathlib.Core.Path.{◌∙◌}
-use Rattle.held.specs.Limits.{placeSize}
-use Rattle.held.specs.Signed.{placeFormed}
+use Rattle.held.specs.Limits.{place_size}
+use Rattle.held.specs.Signed.{place_formed}
 use Rattle.held.proofs.Testing.{whole-places}
 use Rattle.register.proofs.formed.place_table_formed.Goals as goal
 
 pub returns-then-is_table : goal.returns-then-is_table
 returns-then-is_table c =
-    rw (← c.is_table.ensures, c.if-is_table.true) (c.places_formed.ensures ∙ whole-places (placeFormed c.args.convicted.0) placeSize c.args.n c.args.t.now)
+    rw (← c.is_table.ensures, c.if-is_table.true) (c.places_formed.ensures ∙ whole-places (place_formed c.args.convicted.0) place_size c.args.n c.args.t.now)

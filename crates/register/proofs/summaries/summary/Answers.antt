@@ -1,18 +1,18 @@
 use Rattle.std.proofs.Common.{rules, ◌∙◌, ℕ, List, ap, sym}
 use Rattle.octets.proofs.Numbers.{all-bytes}
 use Rattle.held.specs.After.{after}
-use Rattle.register.specs.Register.{takeSummary}
+use Rattle.register.specs.Register.{take_summary}
 use Rattle.register.specs.Memory.{decode}
 use Rattle.register.proofs.Views.{none, encoded, summary-leaves}
 use Rattle.register.proofs.summaries.summary.Goals as goal
 
 pub returns-then-not-well_formed : goal.returns-then-not-well_formed
-returns-then-not-well_formed c = none (takeSummary c.args.engine c.args.model c.args.spec c.args.inputs.now) c.args.memory.now (sym c.well_formed-2.ensures ∙ c.if-not-well_formed.true)
+returns-then-not-well_formed c = none (take_summary c.args.engine c.args.model c.args.spec c.args.inputs.now) c.args.memory.now (sym c.well_formed-2.ensures ∙ c.if-not-well_formed.true)
 
 pub returns : goal.returns
 returns c =
     let m = c.args.memory.now in
-    let f = takeSummary c.args.engine c.args.model c.args.spec c.args.inputs.now in
+    let f = take_summary c.args.engine c.args.model c.args.spec c.args.inputs.now in
     encoded f m (sym c.well_formed-2.ensures ∙ c.if-not-well_formed.false) (all-bytes m (λ i. (c.slice_known-1.given i).fits)) (summary-leaves c.args.engine c.args.model c.args.spec c.args.inputs.now (decode m))
     c.number.result _ c.summary.new.self.memory.now (search rules) c.summary.new.self.formed (all-bytes _ (λ i. (c.type_inv.memory i).fits))
     (ap (λ (n : ℕ). after n (decode c.summary.new.self.memory.now)) c.number.ensures ∙ c.summary.ensures.summarized ∙ ap (λ (x : List ℕ). f (decode x)) c.of.ensures.bytes)

@@ -6,59 +6,59 @@ use lib.ListN.{length, get_or, take, drop}
 use borrow.Author.Tests.{le-leb, lt-leb, eq-eqb, ne_eqb}
 use Rattle.ranges.proofs.Bools.{and_assoc}
 use Rattle.octets.proofs.Moves.{tail-lent}
-use Rattle.places.specs.Places.{places, isTable, allPlaces}
-use Rattle.models.specs.Summary.{summarySize}
-use Rattle.held.specs.Limits.{maxSummaries}
-use Rattle.held.specs.Summaries.{summaryFormed}
-use Rattle.held.specs.Signed.{beginFormed}
-use Rattle.tracked.specs.Layout.{transmissionSize}
-use Rattle.tracked.specs.Bytes.{filledBy, transmissionFormed}
-use Rattle.arrange.specs.Arranged.{maxTransmissions}
-use Rattle.stored.specs.Layout.{pairSize, zeroAt, transmissionsAt, trackSize}
-use Rattle.stored.specs.Memory.{convictedIn, summaryCount, transmissionCount, summaryTable, transmissionTable, summariesIn, wellFormed}
+use Rattle.places.specs.Places.{places, is_table, all_places}
+use Rattle.models.specs.Summary.{summary_size}
+use Rattle.held.specs.Limits.{max_summaries}
+use Rattle.held.specs.Summaries.{summary_formed}
+use Rattle.held.specs.Signed.{begin_formed}
+use Rattle.tracked.specs.Layout.{transmission_size}
+use Rattle.tracked.specs.Bytes.{filled_by, transmission_formed}
+use Rattle.arrange.specs.Arranged.{max_transmissions}
+use Rattle.stored.specs.Layout.{pair_size, zero_at, transmissions_at, track_size}
+use Rattle.stored.specs.Memory.{convicted_in, summary_count, transmission_count, summary_table, transmission_table, summaries_in, well_formed}
 use Rattle.stored.proofs.formed.well_formed.Goals as goal
 
 -- ---- the definition, by the checks of the function
-abbrev summariesFormed : ℕ → ℕ → List ℕ → Bool
-summariesFormed c n t = isTable pairSize summarySize n t && allPlaces (summaryFormed c) (places summarySize n t)
+abbrev summaries_formed : ℕ → ℕ → List ℕ → Bool
+summaries_formed c n t = is_table pair_size summary_size n t && all_places (summary_formed c) (places summary_size n t)
 
-abbrev transmissionsFormed : ℕ → ℕ → List ℕ → Bool
-transmissionsFormed c n t = filledBy (transmissionFormed (beginFormed c)) transmissionSize n t
+abbrev transmissions_formed : ℕ → ℕ → List ℕ → Bool
+transmissions_formed c n t = filled_by (transmission_formed (begin_formed c)) transmission_size n t
 
 module _ (m : List ℕ) where
-  other-size : (length m ≡ trackSize → ⊥) → wellFormed m ≡ false
-  unfolding wellFormed
-  other-size f = rw (ne_eqb (length m) trackSize f) refl
+  other-size : (length m ≡ track_size → ⊥) → well_formed m ≡ false
+  unfolding well_formed
+  other-size f = rw (ne_eqb (length m) track_size f) refl
 
-  module _ (size : length m ≡ trackSize) where
-    many-summaries : maxSummaries < summaryCount m → wellFormed m ≡ false
-    unfolding wellFormed
-    many-summaries h = rw (eq-eqb (length m) trackSize size, lt-leb (summaryCount m) maxSummaries h) refl
+  module _ (size : length m ≡ track_size) where
+    many-summaries : max_summaries < summary_count m → well_formed m ≡ false
+    unfolding well_formed
+    many-summaries h = rw (eq-eqb (length m) track_size size, lt-leb (summary_count m) max_summaries h) refl
 
-    module _ (few-summaries : summaryCount m ≤ maxSummaries) where
-      many-transmissions : maxTransmissions < transmissionCount m → wellFormed m ≡ false
-      unfolding wellFormed
-      many-transmissions h = rw (eq-eqb (length m) trackSize size, le-leb (summaryCount m) maxSummaries few-summaries, lt-leb (transmissionCount m) maxTransmissions h) refl
+    module _ (few_summaries : summary_count m ≤ max_summaries) where
+      many-transmissions : max_transmissions < transmission_count m → well_formed m ≡ false
+      unfolding well_formed
+      many-transmissions h = rw (eq-eqb (length m) track_size size, le-leb (summary_count m) max_summaries few_summaries, lt-leb (transmission_count m) max_transmissions h) refl
 
-      module _ (few : transmissionCount m ≤ maxTransmissions) where
-        not-zero : (get_or m zeroAt 0 ≡ 0 → ⊥) → wellFormed m ≡ false
-        unfolding wellFormed
+      module _ (few : transmission_count m ≤ max_transmissions) where
+        not-zero : (get_or m zero_at 0 ≡ 0 → ⊥) → well_formed m ≡ false
+        unfolding well_formed
         not-zero h =
-            rw (eq-eqb (length m) trackSize size, le-leb (summaryCount m) maxSummaries few-summaries, le-leb (transmissionCount m) maxTransmissions few, ne_eqb (get_or m zeroAt 0) 0 h) refl
+            rw (eq-eqb (length m) track_size size, le-leb (summary_count m) max_summaries few_summaries, le-leb (transmission_count m) max_transmissions few, ne_eqb (get_or m zero_at 0) 0 h) refl
 
         -- with what was read of the header
-        by-tables : (c n : ℕ) (t : List ℕ) → c ≡ convictedIn m → n ≡ summaryCount m → t ≡ transmissionTable m → get_or m zeroAt 0 ≡ 0
-            → wellFormed m ≡ (summariesFormed c n (summaryTable m) && transmissionsFormed c (transmissionCount m) t)
-        unfolding wellFormed
+        by-tables : (c n : ℕ) (t : List ℕ) → c ≡ convicted_in m → n ≡ summary_count m → t ≡ transmission_table m → get_or m zero_at 0 ≡ 0
+            → well_formed m ≡ (summaries_formed c n (summary_table m) && transmissions_formed c (transmission_count m) t)
+        unfolding well_formed
         by-tables c n t c-is n-is t-is z =
-            rw (eq-eqb (length m) trackSize size, le-leb (summaryCount m) maxSummaries few-summaries, le-leb (transmissionCount m) maxTransmissions few, eq-eqb (get_or m zeroAt 0) 0 z, c-is, n-is, t-is)
-            (sym (and_assoc (isTable pairSize summarySize (summaryCount m) (summaryTable m)) (allPlaces (summaryFormed (convictedIn m)) (summariesIn m)) (transmissionsFormed (convictedIn m) (transmissionCount m) (transmissionTable m))))
+            rw (eq-eqb (length m) track_size size, le-leb (summary_count m) max_summaries few_summaries, le-leb (transmission_count m) max_transmissions few, eq-eqb (get_or m zero_at 0) 0 z, c-is, n-is, t-is)
+            (sym (and_assoc (is_table pair_size summary_size (summary_count m) (summary_table m)) (all_places (summary_formed (convicted_in m)) (summaries_in m)) (transmissions_formed (convicted_in m) (transmission_count m) (transmission_table m))))
 
 -- the same of the counts and words that are read, where the header is right
-by-header : (m : List ℕ) → length m ≡ trackSize → (n : ℕ) → n ≡ summaryCount m → n ≤ maxSummaries → transmissionCount m ≤ maxTransmissions → get_or m zeroAt 0 ≡ 0 → (c : ℕ) → c ≡ convictedIn m
-    → wellFormed m ≡ (summariesFormed c n (summaryTable m) && transmissionsFormed c (transmissionCount m) (take (length m - transmissionsAt) (drop transmissionsAt m)))
-by-header m size n n-is few-summaries few z c c-is =
-    by-tables m size (rw n-is at few-summaries) few c n (take (length m - transmissionsAt) (drop transmissionsAt m)) c-is n-is (tail-lent m transmissionsAt) z
+by-header : (m : List ℕ) → length m ≡ track_size → (n : ℕ) → n ≡ summary_count m → n ≤ max_summaries → transmission_count m ≤ max_transmissions → get_or m zero_at 0 ≡ 0 → (c : ℕ) → c ≡ convicted_in m
+    → well_formed m ≡ (summaries_formed c n (summary_table m) && transmissions_formed c (transmission_count m) (take (length m - transmissions_at) (drop transmissions_at m)))
+by-header m size n n-is few_summaries few z c c-is =
+    by-tables m size (rw n-is at few_summaries) few c n (take (length m - transmissions_at) (drop transmissions_at m)) c-is n-is (tail-lent m transmissions_at) z
 
 pub returns-then-m-ne-TRACK_SIZE : goal.returns-then-m-ne-TRACK_SIZE
 returns-then-m-ne-TRACK_SIZE c = sym (other-size c.args.m.now c.if-m-ne-TRACK_SIZE.true)

@@ -6,19 +6,19 @@ use mathlib.Core.List.{List}
 use native.Mathlib.Omega.{arith}
 use borrow.Author.Tests.{le-ltb, ltb-true}
 use Rattle.held.specs.After.{after}
-use Rattle.held.specs.Limits.{maxEngine}
-use Rattle.stored.specs.Memory.{wellFormed, decode, encode, on_memory}
-use Rattle.recheck.specs.Recheck.{recheck, strikeEngine}
-use Rattle.track.specs.Track.{trackConviction}
+use Rattle.held.specs.Limits.{max_engine}
+use Rattle.stored.specs.Memory.{well_formed, decode, encode, on_memory}
+use Rattle.recheck.specs.Recheck.{recheck, strike_engine}
+use Rattle.track.specs.Track.{track_conviction}
 use Rattle.track.proofs.convictions.conviction.Goals as goal
 
-convicted-0 : (m x : List ℕ) (e : ℕ) → wellFormed m ≡ true → e < 32 → x ≡ encode (recheck (strikeEngine e (decode m))) → after 0 x ≡ on_memory (trackConviction e) m
+convicted-0 : (m x : List ℕ) (e : ℕ) → well_formed m ≡ true → e < 32 → x ≡ encode (recheck (strike_engine e (decode m))) → after 0 x ≡ on_memory (track_conviction e) m
 unfolding on_memory
-convicted-0 m x e t h q = rw (t, le-ltb maxEngine e (omega arith)) (ap (after 0) q)
+convicted-0 m x e t h q = rw (t, le-ltb max_engine e (omega arith)) (ap (after 0) q)
 
 pub returns : goal.returns
 returns c =
     let m : List ℕ = c.args.memory.now in
     let left = c.convict.ensures in
     convicted-0 m _ c.args.engine (sym c.well_formed-2.ensures ∙ c.if-not-well_formed.false) (ltb-true c.args.engine 32 (sym c.in-Some.ensures.small))
-    (left ∙ ap (λ (e : ℕ). encode (recheck (strikeEngine e (decode m)))) c.in-Some.ensures.same)
+    (left ∙ ap (λ (e : ℕ). encode (recheck (strike_engine e (decode m)))) c.in-Some.ensures.same)

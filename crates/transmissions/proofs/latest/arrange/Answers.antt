@@ -1,7 +1,7 @@
 use native.Mathlib.Omega.{arith}
 use mathlib.Core.Path.{ap, ◌∙◌}
 use Rattle.shown.specs.Fix.{Fix}
-use Rattle.shown.specs.Ages.{timeOf}
+use Rattle.shown.specs.Ages.{time_of}
 use Rattle.transmissions.proofs.Arranging.{arranged-none, arranged-more, arranged-few}
 use Rattle.transmissions.proofs.latest.arrange.Goals as goal
 
@@ -21,7 +21,7 @@ loop-k-preserved c =
     record {
       most = let m = r.most in omega arith;
       sorted = arranged-more c.args.transmissions.now c.loop-k.k c.nth.result c.first_ranked-first.result.now c.time.result c.first.inside.identity c.loop-k.leads.items _
-          c.loop-k-test.true r.most c.nth.ensures c.first_ranked-first.ensures (c.time.ensures ∙ ap timeOf c.first.view_is) (ap (λ (f : Fix). f.identity) c.first.view_is)
+          c.loop-k-test.true r.most c.nth.ensures c.first_ranked-first.ensures (c.time.ensures ∙ ap time_of c.first.view_is) (ap (λ (f : Fix). f.identity) c.first.view_is)
           r.sorted c.enter.ensures;
       size = omega (arith, r.size);
     }

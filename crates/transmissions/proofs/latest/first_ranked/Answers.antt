@@ -1,6 +1,6 @@
 use mathlib.Core.Path.{sym, ◌∙◌}
-use Rattle.shown.specs.Items.{noFix}
-use Rattle.transmissions.specs.Leads.{firstOf}
+use Rattle.shown.specs.Items.{no_fix}
+use Rattle.transmissions.specs.Leads.{first_of}
 use Rattle.transmissions.proofs.Showing.{alone-first, ranked-some, first-at}
 use Rattle.transmissions.proofs.latest.first_ranked.Goals as goal
 
@@ -11,5 +11,5 @@ pub ranked-requires : goal.ranked-requires
 ranked-requires c = rw c.of.ensures (ranked-some c.args.transmission c.requires.part.some)
 
 pub returns : goal.returns
-unfolding firstOf
-returns c = sym (c.ranked.ensures noFix) ∙ first-at c.args.transmission _ c.of.ensures
+unfolding first_of
+returns c = sym (c.ranked.ensures no_fix) ∙ first-at c.args.transmission _ c.of.ensures

@@ -8,10 +8,10 @@ use Rattle.links.proofs.parts.Transmissions.of.Goals.{then-not-marks-s, else-not
 use Rattle.links.proofs.parts.Transmissions.of.Goals as goal
 
 pub loop-s-init : goal.loop-s-init
-loop-s-init c = record { below = labels-start _ _ c.requires.few; firsts-are = c.new-firsts.ensures ∙ filt-none _ }
+loop-s-init c = record { below = labels-start _ _ c.requires.few; firsts_are = c.new-firsts.ensures ∙ filt-none _ }
 
 pub push-requires : goal.push-requires
-push-requires c = let z = passed-few _ _ _ c.loop-s.invariant.firsts-are in (omega arith, omega (arith, z))
+push-requires c = let z = passed-few _ _ _ c.loop-s.invariant.firsts_are in (omega arith, omega (arith, z))
 
 pub loop-s-preserved : goal.loop-s-preserved
 loop-s-preserved c =
@@ -25,11 +25,11 @@ loop-s-preserved c =
           record {
             below = labels_new _ _ few _ more _ _ k.below (links-turned c.args.fixes.now) w.if-not-marks-s.true _ _ (w.marks-is ∙ v.marks_after)
                 (w.labels-is ∙ v.labels_after ∙ ap (λ m. relabel r.s r.marks m r.labels) (sym w.marks-is));
-            firsts-are = passed-in _ _ _ k.firsts-are _ (is-first _ few _ _ _ k.below more w.if-not-marks-s.true) (ap (λ v. v.items) w.firsts-is ∙ w.push.ensures.items);
+            firsts_are = passed-in _ _ _ k.firsts_are _ (is-first _ few _ _ _ k.below more w.if-not-marks-s.true) (ap (λ v. v.items) w.firsts-is ∙ w.push.ensures.items);
           })
       | else-not-marks-s w ↦ rw (w.marks-is, w.labels-is, w.firsts-is) (record {
         below = labels-old _ _ few _ more _ _ k.below w.if-not-marks-s.false;
-        firsts-are = passed-by _ _ _ k.firsts-are (not-first _ few _ _ _ k.below more w.if-not-marks-s.false);
+        firsts_are = passed-by _ _ _ k.firsts_are (not-first _ few _ _ _ k.below more w.if-not-marks-s.false);
       })
     ]
 
