@@ -1,6 +1,6 @@
-// Prints numbers as their bits, 16 hex digits each: the constants; both series at powers of two, where each coefficient shows;
-// sines and cosines; and for pairs of claims the agreement, the same from a table of prepared fixes, whether they agree, and the
-// smaller's horizontal sigma. make_stdout.py works out the same from the formulas and the Rust's text.
+//! Prints numbers as their bits, 16 hex digits each: the constants; both series at powers of two, where each coefficient shows;
+//! sines and cosines; and for pairs of claims the agreement, the same from a table of prepared fixes, whether they agree, and the
+//! smaller's horizontal sigma. make_stdout.py works out the same from the formulas and the Rust's text.
 #![tactic(auto)]
 
 ghost use Rattle.std.specs.Prelude.{◌≤◌, length};

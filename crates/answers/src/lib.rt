@@ -1,7 +1,7 @@
-// A decision's bytes: ranked, dominated and refusals, each a count and room for all items.
-//
-// Each writer puts its part at a position of a lent buffer and returns the position after it. The parts are asked for one by
-// one, so that no whole decision is made and copied.
+//! A decision's bytes: ranked, dominated and refusals, each a count and room for all items.
+//!
+//! Each writer puts its part at a position of a lent buffer and returns the position after it. The parts are asked for one by
+//! one, so that no whole decision is made and copied.
 #![tactic(auto)]
 
 ghost use Rattle.std.specs.Prelude.{◌≡◌, false, ◌∷◌, map, ◌+◌, ◌*◌, ◌≤◌, length, replicate};
@@ -22,19 +22,19 @@ use decision::{Indices, Refusal};
 use items::layout::{ITEM_SIZE, MAX_ITEMS};
 use rule::Marks;
 
-// A count and room for an index of each item.
+/// A count and room for an index of each item.
 pub const INDICES_SIZE: usize = 1 + MAX_ITEMS;
 
 // Whether there is a chi-square, and its bits.
 const CHI_SQUARE_SIZE: usize = 1 + 8;
 
-// The refused, the kept, whether it is superseded, and the chi-square.
+/// The refused, the kept, whether it is superseded, and the chi-square.
 pub const REFUSAL_SIZE: usize = 3 + CHI_SQUARE_SIZE;
 
-// A count and room for a refusal of each item.
+/// A count and room for a refusal of each item.
 pub const REFUSALS_SIZE: usize = 1 + MAX_ITEMS * REFUSAL_SIZE;
 
-// The ranked, the dominated and the refusals.
+/// The ranked, the dominated and the refusals.
 pub const ANSWER_SIZE: usize = INDICES_SIZE + INDICES_SIZE + REFUSALS_SIZE;
 
 // Up to this many items have tables that cost less to clear than those for `decision::FEW`.
@@ -163,7 +163,7 @@ fn put_many(out: &mut [u8], s: &[u8], n: u8)
     put_in(out, s, n, &mut table, &mut codes);
 }
 
-// Decides items in bytes. The array is written where something is decided, and stays as it is on a refusal.
+/// Decides items in bytes. The array is written where something is decided, and stays as it is on a refusal.
 pub fn decide(s: &[u8], out: &mut [u8; ANSWER_SIZE]) -> u32
     ensures { after result out.new ≡ hand_out (decided s.now) out.old }
 {

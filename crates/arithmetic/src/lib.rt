@@ -1,5 +1,5 @@
-// Whether two fixes of one transmission agree: geodesy, the Cholesky factor of a covariance and a solve with it, in f64, each
-// operation in one fixed order.
+//! Whether two fixes of one transmission agree: geodesy, the Cholesky factor of a covariance and a solve with it, in f64, each
+//! operation in one fixed order.
 #![tactic(auto)]
 
 ghost use Rattle.std.specs.Prelude.{◌≡◌};
@@ -15,7 +15,7 @@ pub mod standing;
 use geometry::linalg::Covariance;
 use standing::{Agreement, ChiSquare, Claimed, Prepared};
 
-// How a larger fix stands to a smaller one.
+/// How a larger fix stands to a smaller one.
 pub fn agreement(smaller: Claimed, larger: Claimed) -> Agreement
     ensures { result ≡ agreement_of smaller larger }
 {
@@ -25,7 +25,7 @@ pub fn agreement(smaller: Claimed, larger: Claimed) -> Agreement
     stages::judged(&from, to, larger.height.is_some())
 }
 
-// Whether that is agreement: what is unmeasurable disagrees.
+/// Whether that is agreement: what is unmeasurable disagrees.
 pub fn agrees(a: Agreement) -> bool
     ensures { result ≡ agrees_of a }
 {
@@ -36,7 +36,7 @@ pub fn agrees(a: Agreement) -> bool
     }
 }
 
-// The chi-square of an agreement, where there is one.
+/// The chi-square of an agreement, where there is one.
 pub fn chi_square(a: Agreement) -> ChiSquare
     ensures { result ≡ chi_square_in a }
 {
@@ -47,7 +47,7 @@ pub fn chi_square(a: Agreement) -> ChiSquare
     }
 }
 
-// A chi-square in 64 bits: the infinity stands where there is no number.
+/// A chi-square in 64 bits: the infinity stands where there is no number.
 pub fn stored_bits(c: ChiSquare) -> u64
     ensures { result ≡ stored_bits c }
 {
@@ -57,7 +57,7 @@ pub fn stored_bits(c: ChiSquare) -> u64
     }
 }
 
-// What any stored bits say.
+/// What any stored bits say.
 pub fn stored_chi_square(bits: u64) -> ChiSquare
     ensures { result ≡ stored_chi_square bits }
 {
@@ -67,7 +67,7 @@ pub fn stored_chi_square(bits: u64) -> ChiSquare
     ChiSquare::Measured(floats::of_bits(bits))
 }
 
-// The horizontal deviation of a covariance, in metres: the root of the mean of its variances east and north, 0 where that is a NaN or below 0.
+/// The horizontal deviation of a covariance, in metres: the root of the mean of its variances east and north, 0 where that is a NaN or below 0.
 pub fn horizontal_sigma_m(c: Covariance) -> f64
     ensures { result ≡ sigma_of c }
 {
@@ -78,7 +78,7 @@ pub fn horizontal_sigma_m(c: Covariance) -> f64
     floats::root(0.0)
 }
 
-// What a fix's agreement with any other needs of it alone.
+/// What a fix's agreement with any other needs of it alone.
 pub fn prepare(claim: Claimed) -> Prepared
     ensures { result ≡ parts_of claim }
 {
@@ -91,7 +91,7 @@ pub fn prepare(claim: Claimed) -> Prepared
     }
 }
 
-// The agreement of two prepared fixes, with no root and no sine or cosine: that of the claims that they were prepared from.
+/// The agreement of two prepared fixes, with no root and no sine or cosine: that of the claims that they were prepared from.
 pub fn compare(smaller: &Prepared, larger: &Prepared) -> Agreement
     ensures compared { result ≡ compared_of smaller.now larger.now }
     ensures agreement { (a b : Claim) → smaller.now ≡ parts_of a → larger.now ≡ parts_of b → result ≡ agreement_of a b }

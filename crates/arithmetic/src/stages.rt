@@ -1,4 +1,5 @@
-// What depends on one fix alone, and the comparison of two prepared fixes.
+//! What depends on one fix alone, and the comparison of two prepared fixes.
+
 ghost use Rattle.std.specs.Prelude.{◌≡◌, true, false, Some};
 ghost use Rattle.std.specs.Float.Ieee.Scale.{finite};
 ghost use Rattle.arithmetic.specs.Agree.{metres_of, geodetic_of, finitely, outcome_of};
@@ -16,7 +17,7 @@ fn metres(height: Option<i32>) -> f64
     height.unwrap_or(0) as f64 / 1000.0
 }
 
-// Where a fix claims to be.
+/// Where a fix claims to be.
 pub fn geodetic(claim: Claimed) -> Geodetic
     ensures { result ≡ geodetic_of claim }
 {
@@ -100,7 +101,7 @@ fn measured(three: bool, f: Factor, v: Vec3) -> Agreement
     }
 }
 
-// How a larger fix at `to`, with a height or without, stands to a prepared one.
+/// How a larger fix at `to`, with a height or without, stands to a prepared one.
 pub fn judged(from: &Prepared, to: Vec3, high: bool) -> Agreement
     ensures { result ≡ judged_of from.now to high }
 {

@@ -1,8 +1,9 @@
-// What a fix claims, and how another stands to it.
+//! What a fix claims, and how another stands to it.
+
 use geometry::geodesy::{Basis, Vec3};
 use geometry::linalg::{Covariance, Factor};
 
-// What a fix claims: 1e-7 degree, millimetres above the ellipsoid where it states a height, and how sure.
+/// What a fix claims: 1e-7 degree, millimetres above the ellipsoid where it states a height, and how sure.
 #[derive(Clone, Copy)]
 pub struct Claimed {
     pub lat: i32,
@@ -11,8 +12,8 @@ pub struct Claimed {
     pub covariance: Covariance,
 }
 
-// What depends on one fix alone, worked out once and compared with many: its position, its directions, the factor of its covariance, if
-// there is one, and whether it has a height.
+/// What depends on one fix alone, worked out once and compared with many: its position, its directions, the factor of its covariance, if
+/// there is one, and whether it has a height.
 #[derive(Clone, Copy)]
 pub struct Prepared {
     pub ecef: Vec3,
@@ -27,7 +28,7 @@ const NOWHERE: Vec3 = Vec3 {
     z: 0.0,
 };
 
-// What fills a table before its fixes are prepared.
+/// What fills a table before its fixes are prepared.
 pub const UNPREPARED: Prepared = Prepared {
     ecef: NOWHERE,
     basis: Basis {
@@ -39,15 +40,15 @@ pub const UNPREPARED: Prepared = Prepared {
     has_height: false,
 };
 
-// The squared length of a difference under the smaller fix's covariance, and the most that agrees.
+/// The squared length of a difference under the smaller fix's covariance, and the most that agrees.
 #[derive(Clone, Copy)]
 pub struct Measure {
     pub chi2: f64,
     pub limit: f64,
 }
 
-// How a larger fix stands to a smaller one: inside the limit or outside it, or there is no number, since the smaller one's
-// covariance has no Cholesky factor or the sum is not finite.
+/// How a larger fix stands to a smaller one: inside the limit or outside it, or there is no number, since the smaller one's
+/// covariance has no Cholesky factor or the sum is not finite.
 #[derive(Clone, Copy)]
 pub enum Agreement {
     Inside(Measure),
@@ -55,14 +56,14 @@ pub enum Agreement {
     Unmeasurable,
 }
 
-// The chi-square of two fixes, where there is one.
+/// The chi-square of two fixes, where there is one.
 #[derive(Clone, Copy)]
 pub enum ChiSquare {
     Measured(f64),
     Unmeasured,
 }
 
-// The most that a chi-square may be and agree: three degrees of freedom at 0.999, and two where either fix has no height.
+/// The most that a chi-square may be and agree: three degrees of freedom at 0.999, and two where either fix has no height.
 pub const AGREE_CHI2: f64 = 16.266;
 
 pub const AGREE_CHI2_2D: f64 = 13.81551;

@@ -1,4 +1,5 @@
-// What is claimed of the order of a track's transmissions, whatever transmissions are given. Each function's contract is the claim; there is nothing to run.
+//! What is claimed of the order of a track's transmissions, whatever transmissions are given. Each function's contract is the claim; there is nothing to run.
+
 ghost use Rattle.arrange.specs.Claims.{ArrangedInOrder, LatestLeft, FewAllLeft, OrderStays};
 
 /// The transmissions that are left ascend, each with a fix; what is in order stays as it is.

@@ -1,10 +1,10 @@
-// The order of a track's transmissions, in a lent table of at most eight: the oldest first, by time and then identity of
-// the fix kept; those without a fix are taken out.
-//
-// A transmission is moved only if it is out of place: a table in order is read once, and nothing in it is written.
-//
-// Identities are not stored in a track. A table of sheets is lent beside that of transmissions, with the identities that the call has worked
-// out of each; a sheet moves with its transmission, so no identity is worked out twice.
+//! The order of a track's transmissions, in a lent table of at most eight: the oldest first, by time and then identity of
+//! the fix kept; those without a fix are taken out.
+//!
+//! A transmission is moved only if it is out of place: a table in order is read once, and nothing in it is written.
+//!
+//! Identities are not stored in a track. A table of sheets is lent beside that of transmissions, with the identities that the call has worked
+//! out of each; a sheet moves with its transmission, so no identity is worked out twice.
 #![tactic(auto)]
 
 ghost use Rattle.std.specs.Prelude.{◌≡◌, [], ◌∷◌, ◌++◌, ◌+◌, ◌*◌, ◌-◌, ◌<◌, ◌≤◌, ltb, length, get_or, take, drop};
@@ -21,10 +21,10 @@ pub mod claims;
 
 pub const MAX_TRANSMISSIONS: usize = 8;
 
-// A sheet for each transmission.
+/// A sheet for each transmission.
 pub const KNOWN_TABLE_SIZE: usize = MAX_TRANSMISSIONS * KNOWN_SIZE;
 
-// Transmission i.
+/// Transmission i.
 pub fn block(t: &[u8], i: usize) -> &[u8]
     requires { i * transmission_size + transmission_size ≤ length t.now }
     ensures { (result.now ≡ take transmission_size (drop (i * transmission_size) t.now)) × (length result.now ≡ transmission_size) }
@@ -185,7 +185,7 @@ fn settle(t: &mut [u8], known: &mut [u8], n: usize, i: usize) -> usize
     n
 }
 
-// Brings the n transmissions of a table into their order, and returns how many are left.
+/// Brings the n transmissions of a table into their order, and returns how many are left.
 pub fn arrange(t: &mut [u8], known: &mut [u8], n: usize) -> usize
     requires { B.Filled t.old n × B.Known t.old known.old n }
     ensures value { result ≡ length (B.arranged_blocks (B.blocks n t.old)) }
@@ -239,7 +239,7 @@ fn admit_arranged(t: &mut [u8], known: &mut [u8], n: usize, b: &[u8], s: &mut [u
     admit_full(t, known, m, b, s)
 }
 
-// Takes a further transmission in among n, and returns how many there are then. Beyond eight the oldest goes. s is the sheet of the further one.
+/// Takes a further transmission in among n, and returns how many there are then. Beyond eight the oldest goes. s is the sheet of the further one.
 pub fn admit(t: &mut [u8], known: &mut [u8], n: usize, b: &[u8], s: &mut [u8]) -> usize
     requires { B.Filled t.old n × Sound b.now × (1 ≤ fix_count b.now) × B.Known t.old known.old n × Knows b.now s.old }
     ensures value { result ≡ length (B.admitted (B.blocks n t.old) b.now) }

@@ -1,4 +1,5 @@
-// What is claimed of boards and previews: each function's contract is the theorem.
+//! What is claimed of boards and previews: each function's contract is the theorem.
+
 ghost use Rattle.std.specs.Prelude.{ℕ, ◌≡◌, ◌≤◌, ◌⊎◌, ◌<◌, List, true, length};
 ghost use Rattle.octets.specs.Bytes.{Bytes};
 ghost use Rattle.drawing.specs.Text.{board_size};
@@ -11,33 +12,33 @@ ghost use Rattle.board.specs.Bursts.{BurstsOnBoards};
 ghost use Rattle.board.specs.Nothing.{NoBytesExactlyWhen};
 ghost use Rattle.board.specs.Positions.{Positions};
 
-// Two control rooms that get the same reports over different links, in different orders, hold the same register and see the same board.
+/// Two control rooms that get the same reports over different links, in different orders, hold the same register and see the same board.
 pub fn whole_lists()
     ensures { WholeLists }
 {}
 
-// On a board no fix is lost, none stands twice, and the oldest transmission comes first.
+/// On a board no fix is lost, none stands twice, and the oldest transmission comes first.
 pub fn what_is_shown()
     ensures { WhatIsShown }
 {}
 
-// Where no fix was sent for longer than a link, the transmissions before and after are what they would be without each other.
+/// Where no fix was sent for longer than a link, the transmissions before and after are what they would be without each other.
 pub fn bursts_on_boards()
     ensures { BurstsOnBoards }
 {}
 
-// A board has no bytes exactly where no record of the register counts.
+/// A board has no bytes exactly where no record of the register counts.
 pub fn no_bytes_exactly_when()
     ensures { NoBytesExactlyWhen }
 {}
 
-// Every board fits, and its length is 0 or greater than every refusal's number.
+/// Every board fits, and its length is 0 or greater than every refusal's number.
 pub fn every_board_fits()
     ensures fits { (m : List ℕ) → Bytes m → well_formed m ≡ true → length (board_in (decode m)) ≤ board_size }
     ensures no_refusal { (m : List ℕ) → Bytes m → well_formed m ≡ true → (length (board_in (decode m)) ≡ 0) ⊎ (greatest_refusal < length (board_in (decode m))) }
 {}
 
-// The preview of a conviction on every memory: how it is refused, what is drawn once the engine is convicted, and when it is the present board.
+/// The preview of a conviction on every memory: how it is refused, what is drawn once the engine is convicted, and when it is the present board.
 pub fn previews()
     ensures refused_in_order { RefusedInOrder }
     ensures then_convicted { ThenConvicted }
@@ -45,13 +46,13 @@ pub fn previews()
     ensures idle_is_present { IdleIsPresent }
 {}
 
-// The preview of a conviction after whole lists of calls.
+/// The preview of a conviction after whole lists of calls.
 pub fn previews_of_lists()
     ensures at_the_end { ConvictionAtTheEnd }
     ensures in_both_rooms { PreviewsInBothRooms }
 {}
 
-// Eight worked cases.
+/// Eight worked cases.
 pub fn positions()
     ensures { Positions }
 {}

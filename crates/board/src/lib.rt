@@ -1,4 +1,4 @@
-// The board of a register: what a control room sees, the same for every order in which reports came.
+//! The board of a register: what a control room sees, the same for every order in which reports came.
 #![tactic(auto)]
 
 ghost use Rattle.std.specs.Prelude.{◌≡◌, true, ◌≤◌, length};
@@ -23,7 +23,7 @@ use register::layout::REGISTER_SIZE;
 pub mod claims;
 mod texts;
 
-// The least output that a board is written to: every board fits.
+/// The least output that a board is written to: every board fits.
 pub const BOARD_SIZE: usize = 16384;
 
 // The most transmissions on a board.
@@ -78,7 +78,7 @@ fn draw_formed(memory: &[u8], out: &mut [u8]) -> u32
     draw(memory, out) as u32
 }
 
-// The board of a register: 1 or 10, or its length.
+/// The board of a register: 1 or 10, or its length.
 pub fn board(memory: &[u8], out: &mut [u8]) -> u32
     ensures { after result out.new ≡ draw_board memory.now out.old }
 {
@@ -88,8 +88,8 @@ pub fn board(memory: &[u8], out: &mut [u8]) -> u32
     draw_formed(memory, out)
 }
 
-// The board of a register as it would be if an engine were convicted: 1, 2 or 10, or its length. The engine is convicted on a copy, which
-// is well-formed then and is not tested again.
+/// The board of a register as it would be if an engine were convicted: 1, 2 or 10, or its length. The engine is convicted on a copy, which
+/// is well-formed then and is not tested again.
 pub fn preview(memory: &[u8], engine: u32, out: &mut [u8]) -> u32
     ensures { after result out.new ≡ draw_preview engine memory.now out.old }
 {

@@ -1,4 +1,5 @@
-// The text of what is shown.
+//! The text of what is shown.
+
 ghost use Rattle.std.specs.Prelude.{◌≡◌, ℕ, ◌*◌, ◌<◌, ◌≤◌, length, get_or, map, flat_map};
 ghost use Rattle.items.specs.Layout.{item_size};
 ghost use Rattle.octets.specs.Put.{Put};
@@ -85,7 +86,7 @@ fn push_latest(
     }
 }
 
-// Their text into a buffer, from its beginning; answers how long it is.
+/// Their text into a buffer, from its beginning; answers how long it is.
 pub fn write_latest(
     out: &mut [u8],
     items: &mut [u8],

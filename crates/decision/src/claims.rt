@@ -1,24 +1,25 @@
-// What is claimed of every decision. Each function's contract is the claim; there is nothing to run.
+//! What is claimed of every decision. Each function's contract is the claim; there is nothing to run.
+
 ghost use Rattle.decision.specs.Claims.{DecisionsLawful, OrderFree, OnlyTheEndsDisagree, Position3};
 ghost use Rattle.decision.specs.Before.{DecidedAsBefore};
 
-// Each item is ranked, dominated or refused, exactly once; ranked is empty only without items and ascends; a refusal names whom it
-// is against, with the chi-square of the two.
+/// Each item is ranked, dominated or refused, exactly once; ranked is empty only without items and ascends; a refusal names whom it
+/// is against, with the chi-square of the two.
 pub fn decisions_are_lawful()
     ensures { DecisionsLawful }
 {}
 
-// What is decided does not depend on the order of the items.
+/// What is decided does not depend on the order of the items.
 pub fn order_of_items_is_free()
     ensures { OrderFree }
 {}
 
-// What is decided is what the Rust decides, by agreement with an infinity where nothing was measured.
+/// What is decided is what the Rust decides, by agreement with an infinity where nothing was measured.
 pub fn decided_as_before()
     ensures { DecidedAsBefore }
 {}
 
-// Of three nested sets of which only the ends disagree, the middle one is ranked, the least dominated, the greatest refused.
+/// Of three nested sets of which only the ends disagree, the middle one is ranked, the least dominated, the greatest refused.
 pub fn middle_of_three_is_ranked()
     ensures disagree { OnlyTheEndsDisagree }
     ensures decided { Position3 }

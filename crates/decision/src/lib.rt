@@ -1,7 +1,7 @@
-// Which of one transmission's fixes stand, in rank, which are dominated, and which are refused, and against whom.
-//
-// The work is done by the crate `rule`, over tables that `items::pairs` fills, and by `parts`. `decide` takes any bytes; `settled`
-// is for callers who lend the tables.
+//! Which of one transmission's fixes stand, in rank, which are dominated, and which are refused, and against whom.
+//!
+//! The work is done by the crate `rule`, over tables that `items::pairs` fills, and by `parts`. `decide` takes any bytes; `settled`
+//! is for callers who lend the tables.
 #![tactic(auto)]
 
 ghost use Rattle.std.specs.Prelude.{◌≡◌, false, ◌+◌, ◌*◌, ◌≤◌, ◌<◌, length};
@@ -19,16 +19,16 @@ pub mod claims;
 mod parts;
 pub mod settled;
 
-// Up to this many items have small tables, which cost little to clear.
+/// Up to this many items have small tables, which cost little to clear.
 pub const FEW: usize = 10;
 
-// The sizes of the tables of codes.
+/// The sizes of the tables of codes.
 pub const FEW_CODES: usize = FEW * MAX_ITEMS;
 
 pub const MANY_CODES: usize = MAX_ITEMS * MAX_ITEMS;
 
-// A refused item, the one that it is refused against, and the chi-square between them where there is one. `superseded`: it is the smaller,
-// and a verified superset with more standing took its place; else it is the larger.
+/// A refused item, the one that it is refused against, and the chi-square between them where there is one. `superseded`: it is the smaller,
+/// and a verified superset with more standing took its place; else it is the larger.
 #[derive(Clone, Copy)]
 pub struct Refusal {
     pub chi2: ChiSquare,
@@ -37,14 +37,14 @@ pub struct Refusal {
     pub superseded: bool,
 }
 
-// Refusals, ascending by the refused item, and how many they are.
+/// Refusals, ascending by the refused item, and how many they are.
 #[derive(Clone, Copy)]
 pub struct Refusals {
     pub list: [Refusal; MAX_ITEMS],
     pub count: u8,
 }
 
-// Indices of items, and how many they are.
+/// Indices of items, and how many they are.
 #[derive(Clone, Copy)]
 pub struct Indices {
     pub list: [u8; MAX_ITEMS],
@@ -56,7 +56,7 @@ const DECIDED: u8 = 0;
 
 const BAD_ITEMS: u8 = 8;
 
-// The answer is 0, or 8 with nothing decided. Ranked in rank, dominated and refusals ascending by index.
+/// The answer is 0, or 8 with nothing decided. Ranked in rank, dominated and refusals ascending by index.
 #[derive(Clone, Copy)]
 pub struct Decision {
     pub answer: u8,
@@ -98,7 +98,7 @@ fn any_bad(s: &[u8], n: u8) -> bool
     false
 }
 
-// Over 96 items, no whole number of items, a malformed one, or two with one identity.
+/// Over 96 items, no whole number of items, a malformed one, or two with one identity.
 pub fn is_bad(s: &[u8]) -> bool
     ensures { result ≡ bad s.now }
 {
@@ -175,7 +175,7 @@ fn decide_many(s: &[u8], n: u8) -> Decision
     decide_in(s, n, &mut table, &mut codes)
 }
 
-// What is decided of items in bytes, of `items::layout::ITEM_SIZE` each: any bytes may be lent.
+/// What is decided of items in bytes, of `items::layout::ITEM_SIZE` each: any bytes may be lent.
 pub fn decide(s: &[u8]) -> Decision
     ensures { result ≡ decided s.now }
 {

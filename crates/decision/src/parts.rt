@@ -1,4 +1,5 @@
-// The parts of a decision, from what `rule` finds in the tables: the refusal of an item, and the list by rank.
+//! The parts of a decision, from what `rule` finds in the tables: the refusal of an item, and the list by rank.
+
 ghost use Rattle.std.specs.Prelude.{◌≡◌, false, ◌*◌, ◌≤◌, ◌<◌, length};
 ghost use Rattle.ranges.specs.Lists.{any_of, filter, sort, up_to};
 ghost use Rattle.ranges.specs.Range.{Holds};
@@ -61,7 +62,7 @@ fn contested(
     })
 }
 
-// The refusal of item i, if it is refused.
+/// The refusal of item i, if it is refused.
 pub fn refusal_of(
     s: &[u8],
     codes: &[u8],
@@ -84,7 +85,7 @@ pub fn refusal_of(
     contested(s, codes, table, n, sd, i)
 }
 
-// The items that stand, in rank.
+/// The items that stand, in rank.
 pub fn rank_all(s: &[u8], n: u8, stands: [bool; MAX_ITEMS]) -> Indices
     requires { (n ≤ max_items) × (n * item_size ≤ length s.now) × (any_of (bad_at s.now) (up_to n) ≡ false) × Cached false stands (is_standing (item_relations s.now) (up_to n)) n }
     ensures { Holds max_items 0 result.list result.count (sort (ahead_at s.now) (filter (is_standing (item_relations s.now) (up_to n)) (up_to n))) }

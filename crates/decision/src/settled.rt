@@ -1,5 +1,6 @@
-// What is decided of items that are not bad, in memory that the caller lends: `settle` fills it, and the others read a part of
-// the decision from it. So nobody pays for a part that he does not ask for, or for room that his items do not need.
+//! What is decided of items that are not bad, in memory that the caller lends: `settle` fills it, and the others read a part of
+//! the decision from it. So nobody pays for a part that he does not ask for, or for room that his items do not need.
+
 ghost use Rattle.std.specs.Prelude.{◌≡◌, false, map, ◌*◌, ◌≤◌, ◌<◌, length};
 ghost use Rattle.ranges.specs.Lists.{up_to};
 ghost use Rattle.items.specs.Layout.{item_size};
@@ -14,7 +15,7 @@ use arithmetic::standing::{ChiSquare, Prepared};
 use items::layout::MAX_ITEMS;
 use rule::Marks;
 
-// Prepares n items, compares them, and marks them.
+/// Prepares n items, compares them, and marks them.
 pub fn settle(s: &[u8], n: u8, table: &mut [Prepared], codes: &mut [u8]) -> Marks
     requires { (D.bad s.now ≡ false) × (length s.now ≡ n * item_size) × (n ≤ length table.old) × (n * stride ≤ length codes.old) }
     ensures { AllPrepared s.now table.new n × Settled s.now n codes.new result }
@@ -24,7 +25,7 @@ pub fn settle(s: &[u8], n: u8, table: &mut [Prepared], codes: &mut [u8]) -> Mark
     rule::mark_all(s, codes, n)
 }
 
-// The ranked, in rank.
+/// The ranked, in rank.
 pub fn ranked(s: &[u8], n: u8, codes: &[u8], m: Marks) -> Indices
     requires { Settled s.now n codes.now m }
     ensures { result ≡ D.indices (D.outcome s.now).ranked }
@@ -33,7 +34,7 @@ pub fn ranked(s: &[u8], n: u8, codes: &[u8], m: Marks) -> Indices
     parts::rank_all(s, n, rule::stands_table(s, codes, n, &rf))
 }
 
-// The dominated.
+/// The dominated.
 pub fn dominated(s: &[u8], n: u8, codes: &[u8], m: Marks) -> Indices
     requires { Settled s.now n codes.now m }
     ensures { result ≡ D.indices (D.outcome s.now).dominated }
@@ -51,7 +52,7 @@ pub fn dominated(s: &[u8], n: u8, codes: &[u8], m: Marks) -> Indices
     Indices { list, count }
 }
 
-// The refusal of item i, if it is refused.
+/// The refusal of item i, if it is refused.
 pub fn refusal(
     s: &[u8],
     n: u8,
@@ -69,7 +70,7 @@ pub fn refusal(
     parts::refusal_of(s, codes, table, n, &sup, &sd, &rf, i)
 }
 
-// The refusals.
+/// The refusals.
 pub fn refusals(s: &[u8], n: u8, table: &[Prepared], codes: &[u8], m: Marks) -> Refusals
     requires { AllPrepared s.now table.now n × Settled s.now n codes.now m }
     ensures { result ≡ D.refusals (map D.refusal (D.outcome s.now).refused) }

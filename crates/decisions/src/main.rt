@@ -1,6 +1,6 @@
-// Decides lists of items read from standard input, each as its length in two bytes, lowest first, and its bytes, and prints what
-// is decided. Then, of the first two records of each list, the verdict. make_stdout.py writes the lists and works out the same
-// from the rules and the Rust's text.
+//! Decides lists of items read from standard input, each as its length in two bytes, lowest first, and its bytes, and prints what
+//! is decided. Then, of the first two records of each list, the verdict. make_stdout.py writes the lists and works out the same
+//! from the rules and the Rust's text.
 #![tactic(auto)]
 
 ghost use Rattle.std.specs.Prelude.{◌<◌};

@@ -1,6 +1,6 @@
-// Prints BLAKE2s-256 digests in hex, a line each: of 'abc', of the empty input, of the bytes i mod
-// 251 for every length from 0 to 260, and of 1,000 and 4,096 of them. What it must write was made
-// by another implementation (make_stdout.py).
+//! Prints BLAKE2s-256 digests in hex, a line each: of 'abc', of the empty input, of the bytes i mod
+//! 251 for every length from 0 to 260, and of 1,000 and 4,096 of them. What it must write was made
+//! by another implementation (make_stdout.py).
 #![tactic(auto)]
 
 ghost use Rattle.std.specs.Prelude.{◌≡◌, ◌≤◌, length};

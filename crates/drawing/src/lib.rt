@@ -1,4 +1,4 @@
-// The lines of a board: a header for each transmission, and a line for each of its fixes, each into a text in a lent buffer.
+//! The lines of a board: a header for each transmission, and a line for each of its fixes, each into a text in a lent buffer.
 #![tactic(auto)]
 
 ghost use Rattle.std.specs.Prelude.{◌≡◌, ◌++◌};
@@ -15,7 +15,7 @@ use text::{Append, Hex, Metres, Text};
 
 pub mod claims;
 
-// What became of a fix.
+/// What became of a fix.
 #[derive(Clone, Copy)]
 pub enum Role {
     Ranked,
@@ -94,7 +94,7 @@ fn push_fix(out: &mut Text, role: Role, report: Record, signers: u32)
     out.push_field(" signers=", &Hex::<8>(signers as u64));
 }
 
-// The line of a fix that is ranked or dominated.
+/// The line of a fix that is ranked or dominated.
 pub fn push_line(out: &mut Text, role: Role, report: Record, signers: u32)
     ensures { out.new ≡ append out.old (L.line (role_name role) report.entry.bytes.now signers) }
 {
@@ -113,7 +113,7 @@ fn push_chi_square(out: &mut Text, chi2: ChiSquare)
     }
 }
 
-// The line of a refused fix, with its refusal's chi-square.
+/// The line of a refused fix, with its refusal's chi-square.
 pub fn push_refused(out: &mut Text, report: Record, signers: u32, chi2: ChiSquare)
     ensures { out.new ≡ append out.old (L.refused_line report.entry.bytes.now signers chi2) }
 {
@@ -122,7 +122,7 @@ pub fn push_refused(out: &mut Text, report: Record, signers: u32, chi2: ChiSquar
     out.push_str("\n");
 }
 
-// The header of a transmission: its number, and how many of its fixes have each role.
+/// The header of a transmission: its number, and how many of its fixes have each role.
 pub fn push_header(out: &mut Text, number: u64, ranked: usize, dominated: usize, refused: usize)
     ensures { out.new ≡ append out.old (L.header number ranked dominated refused) }
 {

@@ -1,4 +1,5 @@
-// A fix: a record that is lent, what it is known by, and who signed it.
+//! A fix: a record that is lent, what it is known by, and who signed it.
+
 ghost use Rattle.std.specs.Prelude.{◌≡◌};
 ghost use Rattle.models.specs.Answers.{listed};
 ghost use Rattle.fixes.specs.Fixes as F;
@@ -14,15 +15,15 @@ use record::relations::lesser;
 use std::cmp::Ordering;
 use std::marker::Model;
 
-// A fix of a board: one for each identity.
+/// A fix of a board: one for each identity.
 #[derive(Drop)]
 pub struct Fix<'a> {
     pub identity: Identity,
-    // The record that represents it.
+    /// The record that represents it.
     pub report: Record<'a>,
-    // The model inputs of that record.
+    /// The model inputs of that record.
     pub inputs: Inputs,
-    // The engines that signed a record of this identity, bit n for engine n.
+    /// The engines that signed a record of this identity, bit n for engine n.
     pub signers: u32,
 }
 
@@ -58,7 +59,7 @@ impl Default for Fix<'_> {
 }
 
 impl<'a> Fix<'a> {
-    // A record alone as a fix, with its signers.
+    /// A record alone as a fix, with its signers.
     pub fn of_record(all: Summaries, report: Record<'a>, signers: u32) -> Fix<'a>
         ensures { result ≡ fix_of (listed all.entry) report.entry.bytes.now signers }
     {
@@ -72,7 +73,7 @@ impl<'a> Fix<'a> {
         }
     }
 
-    // How two fixes stand in the order of identities.
+    /// How two fixes stand in the order of identities.
     pub fn compare(&self, other: &Fix<'_>) -> Ordering
         ensures { result ≡ order self.now other.now }
     {
@@ -85,7 +86,7 @@ impl<'a> Fix<'a> {
         Ordering::Equal
     }
 
-    // Takes a further fix of this identity in: the lesser of the two records represents both.
+    /// Takes a further fix of this identity in: the lesser of the two records represents both.
     pub fn unite(&mut self, other: Fix<'a>)
         ensures { self.new ≡ F.unite self.old other.entry }
     {

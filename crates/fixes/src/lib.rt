@@ -1,4 +1,4 @@
-// The fixes of a board: of the records that count, one for each identity, with the signers of all.
+//! The fixes of a board: of the records that count, one for each identity, with the signers of all.
 #![tactic(auto)]
 
 ghost use Rattle.std.specs.Prelude.{◌≡◌, true, [], ◌+◌, ◌*◌, ◌<◌, ◌≤◌, length};
@@ -20,10 +20,10 @@ use models::summaries::Summaries;
 use record::Record;
 use record::layout::RECORD_SIZE;
 
-// The most fixes on a board: as many as are decided at once.
+/// The most fixes on a board: as many as are decided at once.
 pub const MAX_FIXES: usize = MAX_ITEMS;
 
-// The fixes of a board, in ascending identity.
+/// The fixes of a board, in ascending identity.
 pub type Fixes<'a> = ArrayVec<Fix<'a>, MAX_FIXES>;
 
 // A place of a register's records: the record, and its signers.
@@ -41,7 +41,7 @@ fn enter<'a>(fixes: &mut Fixes<'a>, fix: Fix<'a>)
     }
 }
 
-// Puts the fixes of nr places of a register's records into an empty list.
+/// Puts the fixes of nr places of a register's records into an empty list.
 pub fn represent<'a>(all: Summaries, recs: &'a [u8], nr: usize, fixes: &mut Fixes<'a>)
     requires recs_len { nr * (record_size + 4) ≤ length recs.now }
     requires few { nr ≤ MAX_FIXES }

@@ -1,7 +1,8 @@
-// What is claimed of the root. Each function's contract is the claim; there is nothing to run.
+//! What is claimed of the root. Each function's contract is the claim; there is nothing to run.
+
 ghost use Rattle.floats.specs.Claims.{RootIsIeee754};
 
-// The root is the one that IEEE 754 asks for, and no other value is.
+/// The root is the one that IEEE 754 asks for, and no other value is.
 pub fn root_is_ieee754()
     ensures { RootIsIeee754 }
 {}

@@ -1,4 +1,4 @@
-// An f64 from and to its 64 bits, and the square root worked out from the bits.
+//! An f64 from and to its 64 bits, and the square root worked out from the bits.
 #![tactic(auto)]
 
 ghost use Rattle.std.specs.Prelude.{◌≡◌, ◌+◌, ◌*◌, ◌^◌, ◌<◌, ◌≤◌, from_bits, to_bits};
@@ -18,7 +18,7 @@ const NAN: u64 = 0x7ff8_0000_0000_0000;
 
 const FIELD: u64 = 0x10_0000_0000_0000;
 
-// The f64 of any 64 bits. Every NaN pattern gives NaN.
+/// The f64 of any 64 bits. Every NaN pattern gives NaN.
 pub fn of_bits(n: u64) -> f64
     ensures { result ≡ from_bits binary64 n }
 {
@@ -28,7 +28,7 @@ pub fn of_bits(n: u64) -> f64
     f64::from_bits(n)
 }
 
-// The bits of an f64. A NaN is written 7ff8000000000000, whatever its sign and payload are.
+/// The bits of an f64. A NaN is written 7ff8000000000000, whatever its sign and payload are.
 pub fn to_bits(x: f64) -> u64
     ensures { result ≡ to_bits binary64 x }
 {
@@ -178,7 +178,7 @@ fn root_bits(b: u64) -> f64
     root_finite(b)
 }
 
-// IEEE 754's square root, to the nearest: a zero and the infinity are their own roots, a negative value or a NaN gives NaN.
+/// IEEE 754's square root, to the nearest: a zero and the infinity are their own roots, a negative value or a NaN gives NaN.
 pub fn root(x: f64) -> f64
     ensures { result ≡ Root.root x }
 {

@@ -1,8 +1,9 @@
-// The sine and the cosine of an angle in 1e-7 degree.
+//! The sine and the cosine of an angle in 1e-7 degree.
+
 ghost use Rattle.std.specs.Prelude.{◌≡◌};
 ghost use Rattle.geometry.specs.Angles.{quadrant_of, right_angles, rest_of, radians_of, sine_series, cosine_series, turn_of, sincos_of};
 
-// The number q of right angles that an angle is nearest to.
+/// The number q of right angles that an angle is nearest to.
 #[derive(Clone, Copy)]
 pub enum Quadrant {
     MinusTwo = -2,
@@ -12,14 +13,14 @@ pub enum Quadrant {
     Two = 2,
 }
 
-// The sine and the cosine of one angle.
+/// The sine and the cosine of one angle.
 #[derive(Clone, Copy)]
 pub struct Turn {
     pub sin: f64,
     pub cos: f64,
 }
 
-// The unit of an angle, in degrees, and a degree in radians.
+/// The unit of an angle, in degrees, and a degree in radians.
 pub const E7: f64 = 1e-7;
 
 pub const DEGREE: f64 = 0.017453292519943295;
@@ -57,7 +58,7 @@ fn radians(r: i32) -> f64
     r as f64 * E7 * DEGREE
 }
 
-// The sine of an angle in radians, by its series.
+/// The sine of an angle in radians, by its series.
 pub fn sine_series(u: f64) -> f64
     ensures { result ≡ sine_series u }
 {
@@ -71,7 +72,7 @@ pub fn sine_series(u: f64) -> f64
     g * u + 1.0
 }
 
-// The cosine of an angle in radians, by its series.
+/// The cosine of an angle in radians, by its series.
 pub fn cosine_series(u: f64) -> f64
     ensures { result ≡ cosine_series u }
 {
@@ -98,7 +99,7 @@ fn turned(q: Quadrant, s: f64, c: f64) -> Turn
     }
 }
 
-// The sine and the cosine of an angle in 1e-7 degree.
+/// The sine and the cosine of an angle in 1e-7 degree.
 pub fn sincos(v: i32) -> Turn
     ensures { result ≡ sincos_of v }
 {

@@ -1,10 +1,11 @@
-// Positions on the WGS84 ellipsoid, in Earth-centred Earth-fixed metres, and the local east, north and up.
+//! Positions on the WGS84 ellipsoid, in Earth-centred Earth-fixed metres, and the local east, north and up.
+
 ghost use Rattle.std.specs.Prelude.{◌≡◌};
 ghost use Rattle.geometry.specs.Geodesy.{to_ecef, enu_basis, sub_of, dot_of};
 
 use crate::angles::Turn;
 
-// A vector of the earth's frame, or of east, north and up, in metres.
+/// A vector of the earth's frame, or of east, north and up, in metres.
 #[derive(Clone, Copy)]
 pub struct Vec3 {
     pub x: f64,
@@ -12,7 +13,7 @@ pub struct Vec3 {
     pub z: f64,
 }
 
-// Unit vectors.
+/// Unit vectors.
 #[derive(Clone, Copy)]
 pub struct Basis {
     pub east: Vec3,
@@ -20,7 +21,7 @@ pub struct Basis {
     pub up: Vec3,
 }
 
-// A place: latitude and longitude by their sines and cosines, and metres above the ellipsoid.
+/// A place: latitude and longitude by their sines and cosines, and metres above the ellipsoid.
 #[derive(Clone, Copy)]
 pub struct Geodetic {
     pub lat: Turn,
@@ -28,14 +29,14 @@ pub struct Geodetic {
     pub height_m: f64,
 }
 
-// The semi-major axis, the flattening, and the first eccentricity squared.
+/// The semi-major axis, the flattening, and the first eccentricity squared.
 pub const A: f64 = 6378137.0;
 
 pub const F: f64 = 1.0 / 298.257223563;
 
 pub const E2: f64 = F * (2.0 - F);
 
-// A place in the earth's frame.
+/// A place in the earth's frame.
 pub fn to_ecef(position: Geodetic) -> Vec3
     ensures { result ≡ to_ecef position }
 {
@@ -49,7 +50,7 @@ pub fn to_ecef(position: Geodetic) -> Vec3
     }
 }
 
-// East, north and up at a place.
+/// East, north and up at a place.
 pub fn enu_basis(position: Geodetic) -> Basis
     ensures { result ≡ enu_basis position }
 {
@@ -73,7 +74,7 @@ pub fn enu_basis(position: Geodetic) -> Basis
     Basis { east, north, up }
 }
 
-// The difference of two vectors.
+/// The difference of two vectors.
 pub fn sub(a: Vec3, b: Vec3) -> Vec3
     ensures { result ≡ sub_of a b }
 {
@@ -84,7 +85,7 @@ pub fn sub(a: Vec3, b: Vec3) -> Vec3
     }
 }
 
-// The product of two vectors.
+/// The product of two vectors.
 pub fn dot(a: Vec3, b: Vec3) -> f64
     ensures { result ≡ dot_of a b }
 {

@@ -1,10 +1,11 @@
-// The Cholesky factor of a covariance, for two rows and for three, and the squared length of a difference under it.
+//! The Cholesky factor of a covariance, for two rows and for three, and the squared length of a difference under it.
+
 ghost use Rattle.std.specs.Prelude.{◌≡◌};
 ghost use Rattle.geometry.specs.Factors.{factor_of, flat_length, full_length};
 
 use crate::geodesy::Vec3;
 
-// A fix's covariance, square metres, in east (x), north (y) and up (z).
+/// A fix's covariance, square metres, in east (x), north (y) and up (z).
 #[derive(Clone, Copy)]
 pub struct Covariance {
     pub xx: f64,
@@ -15,7 +16,7 @@ pub struct Covariance {
     pub zz: f64,
 }
 
-// The factor for two rows, and the row that the factor for three has below them: the lower triangle.
+/// The factor for two rows, and the row that the factor for three has below them: the lower triangle.
 #[derive(Clone, Copy)]
 pub struct TwoRows {
     pub l00: f64,
@@ -23,7 +24,7 @@ pub struct TwoRows {
     pub l11: f64,
 }
 
-// The row of the factor for three that the factor for two has not.
+/// The row of the factor for three that the factor for two has not.
 #[derive(Clone, Copy)]
 pub struct ThirdRow {
     pub l20: f64,
@@ -31,14 +32,14 @@ pub struct ThirdRow {
     pub l22: f64,
 }
 
-// A covariance's factor: one for two rows alone, or one for three, whose first two rows are that for two.
+/// A covariance's factor: one for two rows alone, or one for three, whose first two rows are that for two.
 #[derive(Clone, Copy)]
 pub enum Factor {
     Flat(TwoRows),
     Full(TwoRows, ThirdRow),
 }
 
-// The factor of a covariance, where it has one. A diagonal that is a NaN is not above zero either.
+/// The factor of a covariance, where it has one. A diagonal that is a NaN is not above zero either.
 pub fn cholesky(c: Covariance) -> Option<Factor>
     ensures { result ≡ factor_of c }
 {
@@ -62,7 +63,7 @@ pub fn cholesky(c: Covariance) -> Option<Factor>
     Some(Factor::Full(TwoRows { l00, l10, l11 }, ThirdRow { l20, l21, l22 }))
 }
 
-// Forward, backward and the sum of products, in east and north.
+/// Forward, backward and the sum of products, in east and north.
 pub fn flat_length(f: TwoRows, v: Vec3) -> f64
     ensures { result ≡ flat_length f v }
 {
@@ -73,7 +74,7 @@ pub fn flat_length(f: TwoRows, v: Vec3) -> f64
     v.x * x0 + v.y * x1
 }
 
-// The same in east, north and up.
+/// The same in east, north and up.
 pub fn full_length(f: TwoRows, g: ThirdRow, v: Vec3) -> f64
     ensures { result ≡ full_length f g v }
 {

@@ -1,5 +1,5 @@
-// A session's bytes, read as calls on a register (docs/REFERENCE.md, 'Session'): the lines that are left, what is due on the next one, and
-// the first line that is bad.
+//! A session's bytes, read as calls on a register (docs/REFERENCE.md, 'Session'): the lines that are left, what is due on the next one, and
+//! the first line that is bad.
 #![tactic(auto)]
 
 pub mod claims;

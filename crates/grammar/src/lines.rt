@@ -1,9 +1,10 @@
-// The lines of a session, what they say, and the first that is bad.
+//! The lines of a session, what they say, and the first that is bad.
+
 ghost use Rattle.std.specs.Prelude.{◌+◌, ◌^◌, ◌<◌, length};
 
 use arrayvec::ArrayVec;
 
-// The lines that are left, and the number of the first of them.
+/// The lines that are left, and the number of the first of them.
 #[derive(Drop)]
 pub struct Lines<'a> {
     pub rest: &'a [u8],
@@ -11,7 +12,7 @@ pub struct Lines<'a> {
     ghost fits: { line + length rest.now < 2 ^ 64 },
 }
 
-// What is due on a line.
+/// What is due on a line.
 #[derive(Clone, Copy)]
 pub enum Due {
     Op,
@@ -30,14 +31,14 @@ pub enum Due {
     Cov,
 }
 
-// A bad line: its number, and what is due there.
+/// A bad line: its number, and what is due there.
 #[derive(Clone, Copy)]
 pub struct BadLine {
     pub line: usize,
     pub due: Due,
 }
 
-// Which operation a session's first line names.
+/// Which operation a session's first line names.
 #[derive(Clone, Copy)]
 pub enum Kind {
     Summary,
@@ -45,7 +46,7 @@ pub enum Kind {
     Report,
 }
 
-// A report's lines after the engine's. Time is in nanoseconds, places in 1e-7 degree, a height in millimetres.
+/// A report's lines after the engine's. Time is in nanoseconds, places in 1e-7 degree, a height in millimetres.
 #[derive(Drop)]
 pub struct Report {
     pub time: u64,
@@ -57,11 +58,11 @@ pub struct Report {
     pub used: u16,
     pub models: ArrayVec<u64, 4>,
     pub spec: u16,
-    // The bits of its six numbers, as they stand in memory.
+    /// The bits of its six numbers, as they stand in memory.
     pub covariance: [u8; 48],
 }
 
-// A call on a register.
+/// A call on a register.
 #[derive(Drop)]
 pub enum Call {
     Summary {

@@ -1,4 +1,5 @@
-// The values of lines, each from the whole text of a value.
+//! The values of lines, each from the whole text of a value.
+
 ghost use Rattle.std.specs.Prelude.{◌≡◌, ◌≤◌, ◌<◌, ◌==◌, ◌&&◌, nat_lt, slice_index, length, IfSome, option_map, position};
 ghost use Rattle.grammar.specs.Numbers as Val;
 ghost use Rattle.grammar.specs.Operations.{kind_of};
@@ -14,7 +15,7 @@ fn find(bytes: &[u8], byte: u8) -> Option<usize>
     bytes.iter().position(|b| *b == byte)
 }
 
-// What stands before the first separator, and what behind it.
+/// What stands before the first separator, and what behind it.
 pub fn split_once(bytes: &[u8], separator: u8) -> Option<(&[u8], &[u8])>
     ensures value { option_map (λ x. (x.0.now, x.1.now)) result ≡ Val.split_once separator bytes.now }
     ensures shorter { IfSome result (λ x. length x.1.now < length bytes.now) }
@@ -50,7 +51,7 @@ fn has_leading_zero(text: &[u8]) -> bool
     1 < text.len() && text[0] == b'0'
 }
 
-// A number of at most `most`, in decimal without leading zeros.
+/// A number of at most `most`, in decimal without leading zeros.
 #[tactic(auto, unfolding(crate::specs::Numbers::read_number))]
 pub fn number(text: &[u8], most: u64) -> Option<u64>
     ensures value { result ≡ Val.read_number most text.now }
@@ -62,7 +63,7 @@ pub fn number(text: &[u8], most: u64) -> Option<u64>
     digits(text, most)
 }
 
-// A number of 32 bits, with a minus only where it is negative.
+/// A number of 32 bits, with a minus only where it is negative.
 #[tactic(auto, unfolding(crate::specs::Numbers::read_signed))]
 pub fn signed(text: &[u8]) -> Option<i32>
     ensures { result ≡ Val.read_signed text.now }
@@ -76,7 +77,7 @@ pub fn signed(text: &[u8]) -> Option<i32>
     }
 }
 
-// A height, which may be unknown.
+/// A height, which may be unknown.
 #[tactic(auto, unfolding(crate::specs::Numbers::read_height))]
 pub fn height(text: &[u8]) -> Option<Option<i32>>
     ensures { result ≡ Val.read_height text.now }
@@ -122,7 +123,7 @@ fn hex<const ROOM: usize>(text: &[u8]) -> Option<ArrayVec<u8, ROOM>>
     if rest.is_empty() { Some(bytes) } else { None }
 }
 
-// Hex of a due number of bytes.
+/// Hex of a due number of bytes.
 #[tactic(auto, unfolding(crate::specs::Numbers::read_hex))]
 pub fn hex_array<const SIZE: usize>(text: &[u8]) -> Option<[u8; SIZE]>
     requires { SIZE ≤ 65536 }
@@ -134,7 +135,7 @@ pub fn hex_array<const SIZE: usize>(text: &[u8]) -> Option<[u8; SIZE]>
     }
 }
 
-// A message of 7 or 14 bytes.
+/// A message of 7 or 14 bytes.
 #[tactic(auto, unfolding(crate::specs::Numbers::read_message))]
 pub fn message(text: &[u8]) -> Option<ArrayVec<u8, 14>>
     ensures { option_map (λ v. v.items) result ≡ Val.read_message text.now }
@@ -145,7 +146,7 @@ pub fn message(text: &[u8]) -> Option<ArrayVec<u8, 14>>
     None
 }
 
-// Numbers with commas between, each of at most `most`: at least one, and no more than there is room for.
+/// Numbers with commas between, each of at most `most`: at least one, and no more than there is room for.
 pub fn list<const ROOM: usize>(text: &[u8], most: u64) -> Option<ArrayVec<u64, ROOM>>
     ensures { option_map (λ v. v.items) result ≡ Val.read_numbers most ROOM text.now }
 {
@@ -166,7 +167,7 @@ pub fn list<const ROOM: usize>(text: &[u8], most: u64) -> Option<ArrayVec<u64, R
     None
 }
 
-// Models, of which there may be none.
+/// Models, of which there may be none.
 #[tactic(auto, unfolding(crate::specs::Numbers::read_models))]
 pub fn models(text: &[u8]) -> Option<ArrayVec<u64, 4>>
     ensures { option_map (λ v. v.items) result ≡ Val.read_models text.now }
@@ -191,7 +192,7 @@ fn swap_bytes(s: &[u8]) -> [u8; 48]
     out
 }
 
-// The bits of a covariance's six numbers, as they stand in memory.
+/// The bits of a covariance's six numbers, as they stand in memory.
 #[tactic(auto, unfolding(crate::specs::Numbers::read_covariance))]
 pub fn covariance(text: &[u8]) -> Option<[u8; 48]>
     ensures { result ≡ Val.read_covariance text.now }
@@ -199,7 +200,7 @@ pub fn covariance(text: &[u8]) -> Option<[u8; 48]>
     Some(swap_bytes(&hex_array::<48>(text)?))
 }
 
-// The operation that a text names.
+/// The operation that a text names.
 #[tactic(auto, unfolding(crate::specs::Operations::kind_of))]
 pub fn kind(text: &[u8]) -> Option<Kind>
     ensures { result ≡ kind_of text.now }

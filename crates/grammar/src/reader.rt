@@ -1,4 +1,5 @@
-// Reading the lines.
+//! Reading the lines.
+
 ghost use Rattle.std.specs.Prelude.{◌≡◌, ◌≤◌, ◌+◌, ◌<◌, length, List, ℕ, take, drop, MatchOption, IfOk};
 ghost use Rattle.models.specs.Summary.{inputs_size};
 ghost use Rattle.grammar.specs.Numbers as Val;
@@ -12,7 +13,7 @@ use crate::numbers;
 use arrayvec::ArrayVec;
 
 impl Due {
-    // What the line begins with.
+    /// What the line begins with.
     pub fn key(self) -> &'static [u8]
         ensures { result.now ≡ key_of self }
     {
@@ -34,7 +35,7 @@ impl Due {
         }
     }
 
-    // What the value of the line is to be, in words.
+    /// What the value of the line is to be, in words.
     pub fn words(self) -> &'static [u8]
         ensures { result.now ≡ words_of self }
     {
@@ -44,18 +45,22 @@ impl Due {
             Due::Spec | Due::Used => b"a decimal number from 0 to 65535 without leading zeros",
             Due::Inputs => b"64 lowercase hex digits",
             Due::Time => b"a decimal number from 0 to 18446744073709551615 without leading zeros",
-            Due::Lat | Due::Lon => b"a decimal number from -2147483648 to 2147483647 without leading zeros",
-            Due::Height => b"the word none, or a decimal number from -2147483648 to 2147483647 without leading zeros",
+            Due::Lat | Due::Lon =>
+                b"a decimal number from -2147483648 to 2147483647 without leading zeros",
+            Due::Height =>
+                b"the word none, or a decimal number from -2147483648 to 2147483647 without leading zeros",
             Due::Message => b"14 or 28 lowercase hex digits",
-            Due::Tags => b"1 to 16 decimal numbers from 0 to 18446744073709551615 without leading zeros, with commas between",
-            Due::Models => b"the word none, or 1 to 4 decimal numbers from 0 to 255 without leading zeros, with commas between",
+            Due::Tags =>
+                b"1 to 16 decimal numbers from 0 to 18446744073709551615 without leading zeros, with commas between",
+            Due::Models =>
+                b"the word none, or 1 to 4 decimal numbers from 0 to 255 without leading zeros, with commas between",
             Due::Cov => b"96 lowercase hex digits, 16 for each of six numbers",
         }
     }
 }
 
 impl<'a> Lines<'a> {
-    // All lines of an input, of which the first has the number 1.
+    /// All lines of an input, of which the first has the number 1.
     pub fn new(input: &'a [u8]) -> Self
         ensures line { result.line ≡ 1 }
         ensures rest { result.rest.now ≡ input.now }
@@ -236,7 +241,7 @@ impl<'a> Lines<'a> {
         })
     }
 
-    // The operation whose first line is due.
+    /// The operation whose first line is due.
     #[tactic(auto, unfolding(crate::specs::Operations::operation_at))]
     pub fn operation(&mut self) -> Result<Call, BadLine>
         ensures { Gives call_of result self.new (G.operation_at (at self.old)) }

@@ -1,4 +1,5 @@
-// A report as the bytes of a record.
+//! A report as the bytes of a record.
+
 ghost use Rattle.std.specs.Prelude.{◌≡◌, ◌≤◌, ◌∷◌, ◌++◌, length};
 ghost use Rattle.octets.specs.Words.{word_bytes};
 ghost use Rattle.text.specs.Texts.{append};
@@ -109,7 +110,7 @@ impl Report {
         self.push_fields(&mut out);
     }
 
-    // The record that says this.
+    /// The record that says this.
     pub fn record(&self) -> [u8; RECORD_SIZE]
         ensures { result ≡ record_bytes self.now }
     {

@@ -1,12 +1,13 @@
-// The compression function F (RFC 7693, 3.2), over the bytes of a block.
+//! The compression function F (RFC 7693, 3.2), over the bytes of a block.
+
 ghost use Rattle.std.specs.Prelude.{◌≡◌, length};
 ghost use Rattle.hashing.specs.Blake2s.{words_of, start_state, fold_state, compress_block, block_bytes};
 
 use crate::rounds::all_rounds;
 use octets::words::u32_at;
 
-// The initialization vector IV (2.6). Eight numbers and no array, which would be built anew
-// wherever it is read.
+/// The initialization vector IV (2.6). Eight numbers and no array, which would be built anew
+/// wherever it is read.
 pub const IV0: u32 = 0x6a09e667;
 
 pub const IV1: u32 = 0xbb67ae85;
@@ -90,7 +91,7 @@ fn fold(h: &[u32; 8], v: &[u32; 16]) -> [u32; 8]
     ]
 }
 
-// F on a block of 64 bytes: t bytes are hashed with it, and f is all ones if it is the last.
+/// F on a block of 64 bytes: t bytes are hashed with it, and f is all ones if it is the last.
 pub fn compress(h: &[u32; 8], b: &[u8], t: u64, f: u32) -> [u32; 8]
     requires { length b.now ≡ block_bytes }
     ensures { result ≡ compress_block h.now (words_of b.now) t f }

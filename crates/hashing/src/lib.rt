@@ -1,4 +1,4 @@
-// BLAKE2s-256 without a key (RFC 7693), of any string of bytes in memory.
+//! BLAKE2s-256 without a key (RFC 7693), of any string of bytes in memory.
 #![tactic(auto)]
 
 pub mod claims;
@@ -88,7 +88,7 @@ fn word_bytes(h: [u32; 8]) -> [u8; 32]
     out
 }
 
-// The BLAKE2s-256 hash of the input.
+/// The BLAKE2s-256 hash of the input.
 pub fn blake2s256(input: &[u8]) -> [u8; 32]
     ensures { result ≡ blake2s256 input.now }
 {

@@ -1,4 +1,5 @@
-// The mixing function G and the halves of a round (RFC 7693, 3.1 and 3.2).
+//! The mixing function G and the halves of a round (RFC 7693, 3.1 and 3.2).
+
 ghost use Rattle.std.specs.Prelude.{◌≡◌, ◌<◌};
 ghost use Rattle.hashing.specs.Blake2s.{at, rotate_right, add_word, turn_word, half_mix, mix_words, mix_columns, mix_diagonals};
 
@@ -54,7 +55,7 @@ fn mix(v: &mut [u32; 16], m: &[u32; 16], a: usize, b: usize, c: usize, d: usize,
     half_mix(v, a, b, c, d, m[j], R3, R4);
 }
 
-// The first half of a round.
+/// The first half of a round.
 pub fn columns(
     v: &mut [u32; 16],
     m: &[u32; 16],
@@ -76,7 +77,7 @@ pub fn columns(
     mix(v, m, 3, 7, 11, 15, s6, s7);
 }
 
-// The second half of a round.
+/// The second half of a round.
 pub fn diagonals(
     v: &mut [u32; 16],
     m: &[u32; 16],

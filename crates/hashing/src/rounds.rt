@@ -1,5 +1,6 @@
-// The ten rounds (RFC 7693, 3.2), with the rows of SIGMA (2.7) as literal indices: a table would be
-// built anew on the stack in each call that reads it.
+//! The ten rounds (RFC 7693, 3.2), with the rows of SIGMA (2.7) as literal indices: a table would be
+//! built anew on the stack in each call that reads it.
+
 ghost use Rattle.std.specs.Prelude.{◌≡◌};
 ghost use Rattle.hashing.specs.Blake2s.{round, rounds};
 
@@ -60,7 +61,7 @@ fn rounds_8_9(start: [u32; 16], m: &[u32; 16]) -> [u32; 16]
     v
 }
 
-// All ten.
+/// All ten.
 pub fn all_rounds(start: [u32; 16], m: &[u32; 16]) -> [u32; 16]
     ensures { result ≡ rounds 10 m.now start }
 {

@@ -1,4 +1,5 @@
-// Which bytes are summaries and records with signers.
+//! Which bytes are summaries and records with signers.
+
 ghost use Rattle.std.specs.Prelude.{◌≡◌, ◌&&◌, ◌*◌, ◌≤◌, length};
 ghost use Rattle.places.specs.Places.{places, is_table, all_places};
 ghost use Rattle.models.specs.Answers.{listed};
@@ -32,7 +33,7 @@ fn summaries_formed(mut all: Summaries, convicted: Signers) -> bool
     all.all(|s| summary_formed(s, convicted))
 }
 
-// Whether these summaries are, they are ordered by their first KEY bytes, and the rest of their table is zero.
+/// Whether these summaries are, they are ordered by their first KEY bytes, and the rest of their table is zero.
 pub fn summary_table_formed<const KEY: usize>(all: Summaries, convicted: Signers) -> bool
     ensures { result ≡ (is_table KEY summary_size all.entry.count all.entry.table.now && all_places (summary_formed convicted.0) (listed all.entry)) }
 {
@@ -51,7 +52,7 @@ fn place_formed(p: &[u8], convicted: Signers) -> bool
     !signers.is_empty() && signers.is_disjoint(convicted)
 }
 
-// Whether each of the first n places, of w bytes each, begins with such a record.
+/// Whether each of the first n places, of w bytes each, begins with such a record.
 pub fn places_formed(t: &[u8], n: usize, w: usize, convicted: Signers) -> bool
     requires w_in_bounds { n * w ≤ length t.now }
     requires place_size_le_w { place_size ≤ w }

@@ -1,4 +1,5 @@
-// A conviction over a table: those that stay are moved down, and the rest is cleared.
+//! A conviction over a table: those that stay are moved down, and the rest is cleared.
+
 ghost use Rattle.std.specs.Prelude.{◌≡◌, ◌++◌, ◌*◌, ◌-◌, ◌≤◌, length, take, replicate};
 ghost use Rattle.places.specs.Places.{places, keep_places};
 ghost use Rattle.models.specs.Summary.{summary_size};
@@ -8,7 +9,7 @@ ghost use Rattle.held.specs.Strikes.{Struck};
 use crate::engines::Engine;
 use models::layout::SUMMARY_SIZE;
 
-// Clears what follows the first n places of w bytes each.
+/// Clears what follows the first n places of w bytes each.
 pub fn clear_rest(t: &mut [u8], n: usize, w: usize)
     requires { n * w ≤ length t.old }
     ensures { t.new ≡ take (n * w) t.old ++ replicate (length t.old - n * w) 0 }
@@ -17,7 +18,7 @@ pub fn clear_rest(t: &mut [u8], n: usize, w: usize)
     octets::runs::clear(&mut t[end..]);
 }
 
-// Takes an engine's summaries out of the first n of a table, and returns how many are left.
+/// Takes an engine's summaries out of the first n of a table, and returns how many are left.
 pub fn strike_summaries(t: &mut [u8], n: usize, engine: Engine) -> usize
     requires { n * summary_size ≤ length t.old }
     ensures { Struck summary_size (keep_places summary_size (is_of_another engine.number) no_value (places summary_size n t.old)) t.old result t.new }

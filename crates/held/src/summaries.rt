@@ -1,11 +1,12 @@
-// A summary's bytes.
+//! A summary's bytes.
+
 ghost use Rattle.std.specs.Prelude.{◌≡◌};
 ghost use Rattle.models.specs.Summary.{summary_of};
 
 use crate::engines::Engine;
 use models::layout::{INPUTS_SIZE, SUMMARY_SIZE};
 
-// The bytes of a summary.
+/// The bytes of a summary.
 pub fn new_summary(
     engine: Engine,
     model: u8,

@@ -1,8 +1,8 @@
-// Prints, of cases read from standard input, what is known of a record among summaries. A case is a
-// number of summaries in two bytes, lowest first, a record, and so many summaries. A line has the
-// states of the models 0 to 4, each as its number and, where it is agreed, the place of its first
-// summary; whether the record counts; whether it cites a model that is missing; its model inputs, set
-// hash and identity. make_stdout.py works out the same with another BLAKE2s.
+//! Prints, of cases read from standard input, what is known of a record among summaries. A case is a
+//! number of summaries in two bytes, lowest first, a record, and so many summaries. A line has the
+//! states of the models 0 to 4, each as its number and, where it is agreed, the place of its first
+//! summary; whether the record counts; whether it cites a model that is missing; its model inputs, set
+//! hash and identity. make_stdout.py works out the same with another BLAKE2s.
 #![tactic(auto)]
 
 use models::layout::SUMMARY_SIZE;

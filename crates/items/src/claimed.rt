@@ -1,4 +1,5 @@
-// What a record claims.
+//! What a record claims.
+
 ghost use Rattle.std.specs.Prelude.{◌≡◌, ◌<◌};
 ghost use Rattle.items.specs.Claimed as C;
 
@@ -27,7 +28,7 @@ fn covariance(r: Record) -> Covariance
     }
 }
 
-// What a record claims.
+/// What a record claims.
 pub fn claimed(r: Record) -> Claimed
     ensures { result ≡ C.claim_of r.entry.bytes.now }
 {

@@ -1,9 +1,10 @@
-// The layout of an item: a record, model inputs, an identity, standing, and three flags.
+//! The layout of an item: a record, model inputs, an identity, standing, and three flags.
+
 pub const MAX_ITEMS: usize = 96;
 
 pub const HASH_SIZE: usize = 32;
 
-// The numbers that say that an item was verified, and passed or failed.
+/// The numbers that say that an item was verified, and passed or failed.
 pub const PASSED: u8 = 1;
 
 pub const FAILED: u8 = 2;

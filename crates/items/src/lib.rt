@@ -1,5 +1,5 @@
-// The items of a decision, in lent bytes of `layout::ITEM_SIZE` each: their fields, how two of them relate, and the tables
-// that a decision is worked out from.
+//! The items of a decision, in lent bytes of `layout::ITEM_SIZE` each: their fields, how two of them relate, and the tables
+//! that a decision is worked out from.
 #![tactic(auto)]
 
 ghost use Rattle.std.specs.Prelude.{◌≡◌, ◌+◌, ◌*◌, ◌≤◌, ◌<◌, length, is_some};
@@ -16,7 +16,7 @@ pub mod claimed;
 pub mod layout;
 pub mod pairs;
 
-// Whether a holder of an item's raw data verified it.
+/// Whether a holder of an item's raw data verified it.
 #[derive(Clone, Copy)]
 pub enum Verified {
     Passed,
@@ -24,7 +24,7 @@ pub enum Verified {
     Unjudged,
 }
 
-// What a decision goes by of an item, besides its record, its model inputs and its identity.
+/// What a decision goes by of an item, besides its record, its model inputs and its identity.
 #[derive(Clone, Copy)]
 pub struct Candidate {
     pub standing: u64,
@@ -34,7 +34,7 @@ pub struct Candidate {
     pub verified: Verified,
 }
 
-// The case of a number.
+/// The case of a number.
 pub fn verified_case(b: u8) -> Verified
     ensures { result ≡ I.verified_case b }
 {
@@ -47,7 +47,7 @@ pub fn verified_case(b: u8) -> Verified
     Verified::Unjudged
 }
 
-// Whether an item was verified and passed.
+/// Whether an item was verified and passed.
 pub fn is_passed(v: Verified) -> bool
     ensures { result ≡ I.is_passed v }
 {
@@ -58,7 +58,7 @@ pub fn is_passed(v: Verified) -> bool
     }
 }
 
-// The bytes of item i's record, which are a record where the items are whole.
+/// The bytes of item i's record, which are a record where the items are whole.
 pub fn record_bytes(s: &[u8], i: u8) -> &[u8]
     requires { i * item_size + item_size ≤ length s.now }
     ensures { (result.now ≡ I.item_record s.now i) × (length result.now ≡ record_size) }
@@ -68,7 +68,7 @@ pub fn record_bytes(s: &[u8], i: u8) -> &[u8]
     &s[a..e]
 }
 
-// The record of item i, if its bytes are one.
+/// The record of item i, if its bytes are one.
 pub fn parsed_record(s: &[u8], i: u8) -> Option<Record>
     requires { i * item_size + item_size ≤ length s.now }
     ensures { is_some result ≡ well_formed (I.item_record s.now i) }
@@ -76,7 +76,7 @@ pub fn parsed_record(s: &[u8], i: u8) -> Option<Record>
     Record::parse(record_bytes(s, i))
 }
 
-// The record of item i of n whole items.
+/// The record of item i of n whole items.
 pub fn record_of(s: &[u8], n: u8, i: u8) -> Record
     requires { (i < n) × Whole s.now n }
     ensures { result.bytes.now ≡ I.item_record s.now i }
@@ -84,7 +84,7 @@ pub fn record_of(s: &[u8], n: u8, i: u8) -> Record
     Record::of(record_bytes(s, i))
 }
 
-// The 32 bytes of item i from `at` on: its model inputs or its identity.
+/// The 32 bytes of item i from `at` on: its model inputs or its identity.
 pub fn hash_of(s: &[u8], i: u8, at: usize) -> &[u8]
     requires { (i * item_size + item_size ≤ length s.now) × (at + hash_size ≤ item_size) }
     ensures { (result.now ≡ I.hash_of at s.now i) × (length result.now ≡ hash_size) }
@@ -111,7 +111,7 @@ fn verified_at(s: &[u8], i: u8) -> Verified
     verified_case(s[at])
 }
 
-// Whether item i is consistent.
+/// Whether item i is consistent.
 pub fn consistent(s: &[u8], i: u8) -> bool
     requires { i * item_size + item_size ≤ length s.now }
     ensures { result ≡ I.item_consistent s.now i }
@@ -119,7 +119,7 @@ pub fn consistent(s: &[u8], i: u8) -> bool
     flag(s, i, layout::CONSISTENT_AT)
 }
 
-// What a decision goes by of item i.
+/// What a decision goes by of item i.
 pub fn candidate_at(s: &[u8], i: u8) -> Candidate
     requires { i * item_size + item_size ≤ length s.now }
     ensures { result ≡ I.candidate_of s.now i }
@@ -139,7 +139,7 @@ pub fn candidate_at(s: &[u8], i: u8) -> Candidate
     }
 }
 
-// Whether it is verified, and passed.
+/// Whether it is verified, and passed.
 pub fn passed(a: Candidate) -> bool
     ensures { result ≡ I.is_passed a.verified }
 {
@@ -147,14 +147,14 @@ pub fn passed(a: Candidate) -> bool
     is_passed(v)
 }
 
-// Whether a has strictly more standing than b.
+/// Whether a has strictly more standing than b.
 pub fn outstands(a: Candidate, b: Candidate) -> bool
     ensures { result ≡ I.outstands a b }
 {
     b.standing < a.standing
 }
 
-// Whether item i has the lower identity.
+/// Whether item i has the lower identity.
 pub fn lower(s: &[u8], i: u8, j: u8) -> bool
     requires { (i * item_size + item_size ≤ length s.now) × (j * item_size + item_size ≤ length s.now) }
     ensures { result ≡ I.lower_at s.now i j }
@@ -173,7 +173,7 @@ fn same_hash(s: &[u8], i: u8, j: u8, at: usize) -> bool
     octets::order::equal(hash_of(s, i, at), hash_of(s, j, at))
 }
 
-// Whether two items have one identity.
+/// Whether two items have one identity.
 pub fn same_identity(s: &[u8], i: u8, j: u8) -> bool
     requires { (i * item_size + item_size ≤ length s.now) × (j * item_size + item_size ≤ length s.now) }
     ensures { result ≡ I.same_identity s.now i j }
@@ -181,7 +181,7 @@ pub fn same_identity(s: &[u8], i: u8, j: u8) -> bool
     same_hash(s, i, j, layout::IDENTITY_AT)
 }
 
-// Whether two items have the same model inputs.
+/// Whether two items have the same model inputs.
 pub fn same_inputs(s: &[u8], i: u8, j: u8) -> bool
     requires { (i * item_size + item_size ≤ length s.now) × (j * item_size + item_size ≤ length s.now) }
     ensures { result ≡ I.same_inputs s.now i j }
@@ -221,8 +221,8 @@ fn ahead_by_standing(s: &[u8], i: u8, j: u8, a: Candidate, b: Candidate) -> bool
     ahead_by_weight(s, i, j, a, b)
 }
 
+/// Whether item i ranks before item j: preferred first, then as above.
 #[tactic(auto, unfolding(crate::specs::Items::ahead_at))]
-// Whether item i ranks before item j: preferred first, then as above.
 pub fn ahead(s: &[u8], i: u8, j: u8) -> bool
     requires { (i * item_size + item_size ≤ length s.now) × (j * item_size + item_size ≤ length s.now) }
     ensures { result ≡ I.ahead_at s.now i j }

@@ -1,6 +1,7 @@
-// The tables that a decision is worked out from. Each item's claim is prepared once, so that the comparison of a pair takes
-// no root and no sine or cosine, and each ordered pair is compared once: its code is kept. The chi-square of a pair is worked
-// out again where it is asked for: at most once for each item that is refused.
+//! The tables that a decision is worked out from. Each item's claim is prepared once, so that the comparison of a pair takes
+//! no root and no sine or cosine, and each ordered pair is compared once: its code is kept. The chi-square of a pair is worked
+//! out again where it is asked for: at most once for each item that is refused.
+
 ghost use Rattle.std.specs.Prelude.{◌≡◌, ◌+◌, ◌*◌, ◌≤◌, ◌<◌, length};
 ghost use Rattle.arithmetic.specs.Agree.{chi_square_in};
 ghost use Rattle.items.specs.Items.{agreement_at};
@@ -9,14 +10,14 @@ ghost use Rattle.items.specs.Pairs.{pair_code, stride, Whole, AllPrepared, Coded
 use crate::layout::MAX_ITEMS;
 use arithmetic::standing::{Agreement, ChiSquare, Prepared};
 
-// The codes of a pair of items: the second is no subset of the first; a subset; a consistent one that disagrees.
+/// The codes of a pair of items: the second is no subset of the first; a subset; a consistent one that disagrees.
 pub const APART: u8 = 0;
 
 pub const SUBSET: u8 = 1;
 
 pub const DISAGREES: u8 = 2;
 
-// Prepares the claim of each of n items.
+/// Prepares the claim of each of n items.
 pub fn prepare_all(s: &[u8], n: u8, table: &mut [Prepared])
     requires { (n ≤ length table.old) × Whole s.now n }
     ensures { AllPrepared s.now table.new n }
@@ -64,7 +65,7 @@ fn code_row(s: &[u8], n: u8, table: &[Prepared], i: u8, codes: &mut [u8])
     }
 }
 
-// The codes of each pair of n items.
+/// The codes of each pair of n items.
 pub fn code_all(s: &[u8], n: u8, table: &[Prepared], codes: &mut [u8])
     requires { (n * stride ≤ length codes.old) × Whole s.now n × AllPrepared s.now table.now n }
     ensures { Coded s.now codes.new n }
@@ -74,7 +75,7 @@ pub fn code_all(s: &[u8], n: u8, table: &[Prepared], codes: &mut [u8])
     }
 }
 
-// The chi-square of item i against its subset j.
+/// The chi-square of item i against its subset j.
 pub fn chi_square(s: &[u8], n: u8, table: &[Prepared], i: u8, j: u8) -> ChiSquare
     requires { (i < n) × (j < n) × AllPrepared s.now table.now n }
     ensures { result ≡ chi_square_in (agreement_at s.now i j) }

@@ -1,5 +1,5 @@
-// What is kept of the items of a decision: the best of those that stand, and the refused of lowest identity; and how they are
-// written as a transmission of a track.
+//! What is kept of the items of a decision: the best of those that stand, and the refused of lowest identity; and how they are
+//! written as a transmission of a track.
 #![tactic(auto)]
 
 ghost use Rattle.std.specs.Prelude.{◌≡◌, false, not, ◌++◌, map, ℕ, ◌+◌, ◌*◌, ◌<◌, ◌≤◌, length, get_or, take, drop};
@@ -22,14 +22,14 @@ use tracked::layout::{
     FIX_COUNT_AT, FIXES_AT, IDENTITIES_AT, MAX_REFUSED, MAX_STANDING, REFUSED_AT, REFUSED_COUNT_AT,
 };
 
-// The refused of lowest identity: the first `count` of a list.
+/// The refused of lowest identity: the first `count` of a list.
 #[derive(Clone, Copy)]
 pub struct Lowest {
     pub list: [Refusal; MAX_REFUSED],
     pub count: u8,
 }
 
-// The items that are kept: the first `standing` of the ranked, and the refused.
+/// The items that are kept: the first `standing` of the ranked, and the refused.
 #[derive(Clone, Copy)]
 pub struct Kept {
     pub ranked: [u8; MAX_ITEMS],
@@ -37,7 +37,7 @@ pub struct Kept {
     pub refused: Lowest,
 }
 
-// The lesser of two numbers.
+/// The lesser of two numbers.
 pub fn at_most(a: u8, b: u8) -> u8
     ensures { result ≡ K.lesser a b }
 {
@@ -113,7 +113,7 @@ fn lowest_of(s: &[u8], refusals: Refusals) -> Lowest
     l
 }
 
-// What is kept of items that are decided: of those that stand the best, of the refused those of lowest identity.
+/// What is kept of items that are decided: of those that stand the best, of the refused those of lowest identity.
 pub fn keep(s: &[u8]) -> Kept
     requires { bad s.now ≡ false }
     ensures { K.Keeps s.now result }
@@ -183,7 +183,7 @@ fn write_refused(t: &mut [u8], s: &[u8], g: &[u32], l: Lowest)
     }
 }
 
-// Writes a transmission of the items that are kept.
+/// Writes a transmission of the items that are kept.
 pub fn write(b: &mut [u8], s: &[u8], g: &[u32], k: Kept)
     requires b_len { length b.old ≡ L.transmission_size }
     requires keeps { K.Keeps s.now k × K.Signed s.now g.now }
@@ -197,7 +197,7 @@ pub fn write(b: &mut [u8], s: &[u8], g: &[u32], k: Kept)
     write_refused(&mut b[REFUSED_AT..], s, g, refused);
 }
 
-// The items of refusals.
+/// The items of refusals.
 pub fn refused_items(l: Lowest) -> [u8; MAX_REFUSED]
     requires { K.Sized l }
     ensures { (length result ≡ L.max_refused) × (take l.count result ≡ map K.refused_of (K.lowest_in l)) }
@@ -226,7 +226,7 @@ fn put_identities(t: &mut [u8], at: usize, s: &[u8], list: &[u8], count: u8) -> 
     a
 }
 
-// Writes the identities of the items that are kept, so that nothing of what was decided is hashed again.
+/// Writes the identities of the items that are kept, so that nothing of what was decided is hashed again.
 pub fn write_identities(t: &mut [u8], s: &[u8], k: Kept)
     requires t_len { length t.old ≡ known_size }
     requires keeps { K.Keeps s.now k }

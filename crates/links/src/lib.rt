@@ -1,8 +1,8 @@
-// Which fixes of a board are one transmission: all that are linked through any chain.
-//
-// One table of marks serves all walks of a board. A visit marks a fix and visits what is linked to it and has no mark, so
-// that the number without a mark falls at each visit: each fix is visited once, and n fixes cost at most n * n tests of a
-// link. A fix that an earlier walk marked has a label, and no link leads to it from one without a mark.
+//! Which fixes of a board are one transmission: all that are linked through any chain.
+//!
+//! One table of marks serves all walks of a board. A visit marks a fix and visits what is linked to it and has no mark, so
+//! that the number without a mark falls at each visit: each fix is visited once, and n fixes cost at most n * n tests of a
+//! link. A fix that an earlier walk marked has a label, and no link leads to it from one without a mark.
 #![tactic(auto)]
 
 ghost use Rattle.std.specs.Prelude.{◌≡◌, true, false, ◌≤◌, ◌<◌, length};
@@ -31,8 +31,8 @@ fn near_in_time(s: u64, t: u64) -> bool
     s.abs_diff(t) <= LINK_SPAN
 }
 
-// Whether two fixes link: message and at least one tag are common, and the times are near. The times are asked first, since two
-// numbers are compared sooner than messages and tags.
+/// Whether two fixes link: message and at least one tag are common, and the times are near. The times are asked first, since two
+/// numbers are compared sooner than messages and tags.
 pub fn is_linked(f: &Fix<'_>, g: &Fix<'_>) -> bool
     ensures { result ≡ L.linked f.now g.now }
 {

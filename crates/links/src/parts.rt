@@ -1,4 +1,5 @@
-// The transmissions of fixes.
+//! The transmissions of fixes.
+
 ghost use Rattle.std.specs.Prelude.{◌≡◌, ◌≤◌, ◌<◌, length, slice_index_or, []};
 ghost use Rattle.shown.specs.Items.{AllFormed, Apart};
 ghost use Rattle.links.specs.Transmissions.{transmissions_of};
@@ -8,7 +9,7 @@ use arrayvec::ArrayVec;
 use fixes::{Fix, MAX_FIXES};
 use std::marker::Model;
 
-// Fixes, of each the label of its transmission, which is its first fix, and these first fixes.
+/// Fixes, of each the label of its transmission, which is its first fix, and these first fixes.
 #[derive(Drop)]
 pub struct Transmissions<'s, 'a> {
     fixes: &'s [Fix<'a>],
@@ -28,7 +29,7 @@ impl<'s, 'a> Model for Transmissions<'s, 'a> {
     ghost invariant = { λ t. length t.fixes.now ≤ 96 };
 }
 
-// A transmission: fixes, and which of them are its members.
+/// A transmission: fixes, and which of them are its members.
 #[derive(Drop)]
 pub struct Transmission<'s, 'a> {
     fixes: &'s [Fix<'a>],
@@ -49,7 +50,7 @@ impl<'s, 'a> Model for Transmission<'s, 'a> {
 }
 
 impl<'s, 'a> Transmissions<'s, 'a> {
-    // The transmissions of fixes.
+    /// The transmissions of fixes.
     pub fn of(fixes: &'s [Fix<'a>]) -> Transmissions<'s, 'a>
         requires few { length fixes.now ≤ MAX_FIXES }
         requires formed { AllFormed fixes.now }
@@ -72,14 +73,14 @@ impl<'s, 'a> Transmissions<'s, 'a> {
         }
     }
 
-    // How many there are.
+    /// How many there are.
     pub fn len(&self) -> usize
         ensures { result ≡ length self.now }
     {
         self.firsts.len()
     }
 
-    // One of them.
+    /// One of them.
     pub fn nth(&self, k: usize) -> Transmission<'s, 'a>
         requires { k < length self.now }
         ensures { result ≡ slice_index_or self.now k [] }
@@ -97,14 +98,14 @@ impl<'s, 'a> Transmissions<'s, 'a> {
 }
 
 impl<'s, 'a> Transmission<'s, 'a> {
-    // How many fixes it has.
+    /// How many fixes it has.
     pub fn len(&self) -> usize
         ensures { result ≡ length self.now }
     {
         self.members.len()
     }
 
-    // One of its fixes, in ascending identity.
+    /// One of its fixes, in ascending identity.
     pub fn fix(&self, i: usize) -> &'s Fix<'a>
         requires { i < length self.now }
         ensures { result.now ≡ slice_index_or self.now i result.now }

@@ -1,4 +1,4 @@
-// The listing of a track: its transmissions in their order, as the lines of a board.
+//! The listing of a track: its transmissions in their order, as the lines of a board.
 #![tactic(auto)]
 
 ghost use Rattle.std.specs.Prelude.{◌≡◌, true, ◌<◌, ◌≤◌, length, get_or};
@@ -112,7 +112,7 @@ fn write(memory: &[u8], out: &mut [u8]) -> usize
     text.len()
 }
 
-// The listing of a track: 1 or 10, or its length.
+/// The listing of a track: 1 or 10, or its length.
 pub fn listing(memory: &[u8], out: &mut [u8]) -> u32
     ensures { after result out.new ≡ T.list_track memory.now out.old }
 {

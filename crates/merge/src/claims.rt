@@ -1,4 +1,5 @@
-// What is claimed of what a track does with a further fix, whatever transmissions it holds. Each function's contract is the claim; there is nothing to run.
+//! What is claimed of what a track does with a further fix, whatever transmissions it holds. Each function's contract is the claim; there is nothing to run.
+
 ghost use Rattle.merge.specs.Claims.{JoiningEnters, OthersEnterNone, FewEnter, OrderKept};
 
 /// A fix lets enter those that are refused now and were not, where it joins one transmission as new, and none in every other case; at most four.

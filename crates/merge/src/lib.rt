@@ -1,4 +1,4 @@
-// What a track does with a further fix.
+//! What a track does with a further fix.
 #![tactic(auto)]
 
 ghost use Rattle.std.specs.Prelude.{◌≡◌, true, [], ◌∷◌, map, ◌*◌, ◌<◌, ◌≤◌, length, get_or};
@@ -22,7 +22,7 @@ use tracked::layout::{KNOWN_SIZE, MAX_REFUSED, MAX_STANDING, TRANSMISSION_SIZE};
 
 pub mod claims;
 
-// What became of a fix that was reported.
+/// What became of a fix that was reported.
 #[derive(Clone, Copy)]
 pub enum Merged {
     // A transmission's kept fix is another one, or the fix stands.
@@ -35,7 +35,7 @@ pub enum Merged {
     Dropped,
 }
 
-// What was answered, how many fixes entered a list of refused, and how many transmissions there are then.
+/// What was answered, how many fixes entered a list of refused, and how many transmissions there are then.
 #[derive(Clone, Copy)]
 pub struct Outcome {
     pub answer: Merged,
@@ -43,14 +43,14 @@ pub struct Outcome {
     pub count: usize,
 }
 
-// Where a search found something.
+/// Where a search found something.
 #[derive(Clone, Copy)]
 pub enum Found {
     Nobody,
     At(usize),
 }
 
-// The transmissions that a fix is tied to.
+/// The transmissions that a fix is tied to.
 #[derive(Clone, Copy)]
 pub enum Tied {
     Nothing,
@@ -58,8 +58,8 @@ pub enum Tied {
     Several,
 }
 
-// What became of a fix in the transmission that it is tied to: its identity was held and gained a signer, or all fixes were
-// decided again.
+/// What became of a fix in the transmission that it is tied to: its identity was held and gained a signer, or all fixes were
+/// decided again.
 #[derive(Clone, Copy)]
 pub enum Joint {
     Signed,
@@ -330,7 +330,7 @@ fn join_at(t: &mut [u8], n: usize, i: usize, f: Fix) -> Outcome
     }
 }
 
-// Takes a further fix f in among n transmissions.
+/// Takes a further fix f in among n transmissions.
 pub fn merge(t: &mut [u8], n: usize, f: Fix) -> Outcome
     requires { S.Ready t.old n }
     ensures { S.Leaves (merged (fix_in f.entry.bytes.now) (map transmission_in (blocks n t.old))) result t.new }

@@ -1,33 +1,34 @@
-// Hashes, each of a type of its own, and the bytes that they are worked out from.
+//! Hashes, each of a type of its own, and the bytes that they are worked out from.
+
 ghost use Rattle.std.specs.Prelude.{◌≡◌, ◌++◌, ◌+◌, ◌≤◌, length};
 ghost use Rattle.octets.specs.Order.{is_before};
 ghost use Rattle.arrayvec.specs.ArrayVec.{array_vec_len};
 
 use arrayvec::ArrayVec;
 
-// A hash's bytes.
+/// A hash's bytes.
 pub const HASH_SIZE: usize = 32;
 
-// The inputs of the models that a record cites.
+/// The inputs of the models that a record cites.
 #[derive(Clone, Copy, PartialEq, Eq)]
 pub struct Inputs(pub [u8; HASH_SIZE]);
 
-// What a record was worked out from.
+/// What a record was worked out from.
 #[derive(Clone, Copy, PartialEq, Eq)]
 pub struct SetHash(pub [u8; HASH_SIZE]);
 
-// What a record is known by.
+/// What a record is known by.
 #[derive(Clone, Copy, PartialEq, Eq)]
 pub struct Identity(pub [u8; HASH_SIZE]);
 
-// Whether an identity comes before another, in the order of their bytes.
+/// Whether an identity comes before another, in the order of their bytes.
 pub fn precedes(a: &Identity, b: &Identity) -> bool
     ensures { result ≡ is_before a.now.0 b.now.0 }
 {
     octets::order::precedes(&a.0, &b.0)
 }
 
-// Puts a piece after what is there.
+/// Puts a piece after what is there.
 pub fn join<const N: usize>(b: &mut ArrayVec<u8, N>, piece: &[u8])
     requires { array_vec_len b.old + length piece.now ≤ N }
     ensures items { b.new.items ≡ b.old.items ++ piece.now }

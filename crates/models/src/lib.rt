@@ -1,8 +1,8 @@
-// Models and identity: what the summaries held of a model say of it, which records count, and the
-// hashes that a record is known by.
-//
-// Summaries are lent as bytes, of which the first `count` places of 36 are used, and are gone through as an iterator; a record is
-// one by its type.
+//! Models and identity: what the summaries held of a model say of it, which records count, and the
+//! hashes that a record is known by.
+//!
+//! Summaries are lent as bytes, of which the first `count` places of 36 are used, and are gone through as an iterator; a record is
+//! one by its type.
 #![tactic(auto)]
 
 pub mod citations;

@@ -1,4 +1,5 @@
-// A table of summaries in lent bytes, which are gone through in their order.
+//! A table of summaries in lent bytes, which are gone through in their order.
+
 ghost use Rattle.std.specs.Prelude.{◌≡◌, ◌*◌, ◌≤◌, length};
 ghost use Rattle.std.specs.Iterator.{YieldsFirstBy, item_count};
 ghost use Rattle.places.specs.Places.{places};
@@ -6,7 +7,7 @@ ghost use Rattle.models.specs.Summary.{summary_size, inputs_size, model_of, spec
 
 use crate::layout;
 
-// One summary.
+/// One summary.
 #[derive(Clone, Copy)]
 pub struct Summary<'a> {
     pub bytes: &'a [u8],
@@ -14,21 +15,21 @@ pub struct Summary<'a> {
 }
 
 impl<'a> Summary<'a> {
-    // The model that it is of.
+    /// The model that it is of.
     pub fn model(self) -> u8
         ensures { result ≡ model_of self.entry.bytes.now }
     {
         self.bytes[layout::MODEL_AT]
     }
 
-    // The spec that it states.
+    /// The spec that it states.
     pub fn spec(self) -> u16
         ensures { result ≡ spec_of self.entry.bytes.now }
     {
         octets::words::u16_at(self.bytes, layout::SPEC_AT)
     }
 
-    // The hash of the model's inputs that it states.
+    /// The hash of the model's inputs that it states.
     pub fn inputs(self) -> &'a [u8]
         ensures value { result.now ≡ summary_inputs self.entry.bytes.now }
         ensures size { length result.now ≡ inputs_size }
@@ -38,7 +39,7 @@ impl<'a> Summary<'a> {
     }
 }
 
-// The first `count` summaries of a table. As an iterator it gives one after another.
+/// The first `count` summaries of a table. As an iterator it gives one after another.
 #[derive(Clone, Copy)]
 pub struct Summaries<'a> {
     pub table: &'a [u8],

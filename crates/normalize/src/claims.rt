@@ -1,4 +1,5 @@
-// What is claimed of what a track keeps of fixes, whatever fixes are given. Each function's contract is the claim; there is nothing to run.
+//! What is claimed of what a track keeps of fixes, whatever fixes are given. Each function's contract is the claim; there is nothing to run.
+
 ghost use Rattle.normalize.specs.Claims.{SomeStand, FewKept, IdentitiesDiffer, SignersUnited, AloneStands, OneOfEach, NoneLost, KeptAsGiven, RefusedAgainst};
 
 /// Where any fix is given one to five stand, and at most four refused are kept.

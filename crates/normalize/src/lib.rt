@@ -1,5 +1,5 @@
-// The fixes of one transmission of a track decided again: of one identity one fix, the best five of those that stand, and of the refused
-// the four of lowest identity.
+//! The fixes of one transmission of a track decided again: of one identity one fix, the best five of those that stand, and of the refused
+//! the four of lowest identity.
 #![tactic(auto)]
 
 ghost use Rattle.std.specs.Prelude.{◌≡◌, true, [], ◌++◌, map, ℕ, ◌+◌, ◌*◌, ◌-◌, ◌<◌, ◌≤◌, length, get_or, take, drop};
@@ -32,7 +32,7 @@ pub mod claims;
 // The most fixes that are decided at once: those that a transmission holds, and one more.
 const MAX_GATHERED: usize = MAX_STANDING + MAX_REFUSED + 1;
 
-// What a further fix did: it is among the refused, the fix kept is another one, it stands, and how many entered the refused.
+/// What a further fix did: it is among the refused, the fix kept is another one, it stands, and how many entered the refused.
 #[derive(Clone, Copy)]
 pub struct Joined {
     pub refused: bool,
@@ -57,7 +57,7 @@ fn put_identity(ids: &mut [u8], at: usize, b: &[u8], s: &[u8], k: u8) -> usize
     octets::runs::put_bytes(ids, at, &f.identity().0)
 }
 
-// The identities of the fixes that b holds, one after another.
+/// The identities of the fixes that b holds, one after another.
 pub fn identities(b: &[u8], s: &[u8], ids: &mut [u8])
     requires sound { P.Sound b.now × Knows b.now s.now }
     requires hash_size_in_bounds { P.held_count b.now * hash_size ≤ length ids.old }
@@ -239,8 +239,8 @@ fn gather_with(items: &mut [u8], signers: &mut [u32], b: &[u8], f: Fix, id: &[u8
     gather_held(items, signers, m, b, ids, c, e)
 }
 
-// Decides the fixes of b that are signed again. A fix whose signers are none is left out: its engine was convicted, or its models no longer stand.
-// What s knows is not hashed again, and then it knows all that is kept.
+/// Decides the fixes of b that are signed again. A fix whose signers are none is left out: its engine was convicted, or its models no longer stand.
+/// What s knows is not hashed again, and then it knows all that is kept.
 pub fn normalize(b: &mut [u8], s: &mut [u8])
     requires { P.Sound b.old × Knows b.old s.old }
     ensures { (b.new ≡ B.transmission_bytes (N.normalized (filter is_signed (held_in (B.transmission_in b.old))))) × Knows b.new s.new × (known_count s.new ≡ P.held_count b.new) }
@@ -254,7 +254,7 @@ pub fn normalize(b: &mut [u8], s: &mut [u8])
     settle(b, &items, &signers, n, s);
 }
 
-// Puts a further fix among the fixes of b, which are signed, and decides all again; s knows then all that is kept.
+/// Puts a further fix among the fixes of b, which are signed, and decides all again; s knows then all that is kept.
 pub fn join(b: &mut [u8], f: Fix, id: &Identity, ids: &[u8], s: &mut [u8]) -> Joined
     requires sound { P.Sound b.old × (1 ≤ B.fix_count b.old) × (all_places W.signed_place (P.held_places b.old) ≡ true) × W.Listed b.old ids.now }
     requires identified { id.now.0 ≡ B.identity_in f.bytes.now }

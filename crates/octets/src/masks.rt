@@ -1,9 +1,10 @@
-// Sets of small numbers as the bits of a mask: bit n stands for n. A mask of 16 bits is handled as
-// one of 32 whose upper half is zero.
+//! Sets of small numbers as the bits of a mask: bit n stands for n. A mask of 16 bits is handled as
+//! one of 32 whose upper half is zero.
+
 ghost use Rattle.std.specs.Prelude.{◌≡◌, ◌<◌};
 ghost use Rattle.octets.specs.Masks.{bit, with_bit, without_bit, bits};
 
-// Whether bit n is set.
+/// Whether bit n is set.
 pub fn has_u32(mask: u32, n: u32) -> bool
     requires { n < 32 }
     ensures { result ≡ bit mask n }
@@ -11,7 +12,7 @@ pub fn has_u32(mask: u32, n: u32) -> bool
     (mask >> n) % 2 == 1
 }
 
-// The mask with bit n set.
+/// The mask with bit n set.
 pub fn with_u32(mask: u32, n: u32) -> u32
     requires { n < 32 }
     ensures { result ≡ with_bit mask n }
@@ -19,7 +20,7 @@ pub fn with_u32(mask: u32, n: u32) -> u32
     mask | (1 << n)
 }
 
-// The mask with bit n clear.
+/// The mask with bit n clear.
 pub fn without_u32(mask: u32, n: u32) -> u32
     requires { n < 32 }
     ensures { result ≡ without_bit mask n }
@@ -31,7 +32,7 @@ pub fn without_u32(mask: u32, n: u32) -> u32
     }
 }
 
-// How many bits are set.
+/// How many bits are set.
 pub fn count_u16(mask: u16) -> u32
     ensures { result ≡ bits 16 mask }
 {

@@ -1,4 +1,5 @@
-// Byte order: strings are compared by their first differing byte.
+//! Byte order: strings are compared by their first differing byte.
+
 ghost use Rattle.std.specs.Prelude.{◌≡◌, ◌≤◌, length, take, drop};
 ghost use Rattle.octets.specs.Order.{is_before, same};
 
@@ -42,7 +43,7 @@ fn precedes_from(a: &[u8], b: &[u8], at: usize) -> bool
     false
 }
 
-// Whether a comes before b. Most strings differ in their first byte: it is looked at alone.
+/// Whether a comes before b. Most strings differ in their first byte: it is looked at alone.
 pub fn precedes(a: &[u8], b: &[u8]) -> bool
     ensures { result ≡ is_before a.now b.now }
 {
@@ -72,8 +73,8 @@ fn equal_from(a: &[u8], b: &[u8], at: usize) -> bool
     true
 }
 
-// Whether a and b are the same bytes. The last eight are compared together first, so that what is left after eight at a time is not
-// gone through byte by byte.
+/// Whether a and b are the same bytes. The last eight are compared together first, so that what is left after eight at a time is not
+/// gone through byte by byte.
 pub fn equal(a: &[u8], b: &[u8]) -> bool
     ensures { result ≡ same a.now b.now }
 {

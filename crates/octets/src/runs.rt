@@ -1,9 +1,10 @@
-// Runs of zeros, and moves within a slice.
+//! Runs of zeros, and moves within a slice.
+
 ghost use Rattle.std.specs.Prelude.{◌≡◌, ◌++◌, ◌+◌, ◌-◌, ◌≤◌, length, take, drop, replicate};
 ghost use Rattle.octets.specs.Runs.{all_zero};
 ghost use Rattle.octets.specs.Put.{Put};
 
-// Whether every byte is zero. Looks at all of them, without a branch for each.
+/// Whether every byte is zero. Looks at all of them, without a branch for each.
 pub fn is_zero(s: &[u8]) -> bool
     ensures { result ≡ all_zero s.now }
 {
@@ -14,14 +15,14 @@ pub fn is_zero(s: &[u8]) -> bool
     any == 0
 }
 
-// Sets every byte to zero.
+/// Sets every byte to zero.
 pub fn clear(s: &mut [u8])
     ensures { s.new ≡ replicate (length s.old) 0 }
 {
     s.fill(0);
 }
 
-// Copies `from` to the front of `to`, where the bytes behind them stay, and answers how many that were.
+/// Copies `from` to the front of `to`, where the bytes behind them stay, and answers how many that were.
 pub fn copy(from: &[u8], to: &mut [u8]) -> usize
     requires { length from.now ≤ length to.old }
     ensures value { result ≡ length from.now }
@@ -32,7 +33,7 @@ pub fn copy(from: &[u8], to: &mut [u8]) -> usize
     n
 }
 
-// Copies `from` to a place of `to`, and answers the place behind it.
+/// Copies `from` to a place of `to`, and answers the place behind it.
 pub fn put_bytes(to: &mut [u8], at: usize, from: &[u8]) -> usize
     requires { at + length from.now ≤ length to.old }
     ensures { Put to.old at from.now result to.new }
@@ -42,7 +43,7 @@ pub fn put_bytes(to: &mut [u8], at: usize, from: &[u8]) -> usize
     end
 }
 
-// Moves the bytes up by w. The first w stay, and the last w are lost.
+/// Moves the bytes up by w. The first w stay, and the last w are lost.
 pub fn shift_up(s: &mut [u8], w: usize)
     requires { w ≤ length s.old }
     ensures { s.new ≡ take w s.old ++ take (length s.old - w) s.old }
@@ -52,7 +53,7 @@ pub fn shift_up(s: &mut [u8], w: usize)
     }
 }
 
-// Copies the w bytes at `from` down to `to`.
+/// Copies the w bytes at `from` down to `to`.
 pub fn copy_down(s: &mut [u8], from: usize, to: usize, w: usize)
     requires to_le_from { to ≤ from }
     requires w_in_bounds { from + w ≤ length s.old }

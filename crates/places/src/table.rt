@@ -1,4 +1,4 @@
-// A sorted table in lent bytes.
+//! A sorted table in lent bytes.
 
 ghost use Rattle.std.specs.Prelude.{◌≡◌, ◌&&◌, ◌+◌, ◌*◌, ◌^◌, ◌≤◌, ◌<◌, length, take, true, false};
 ghost use Rattle.octets.specs.Order.{is_before};
@@ -16,7 +16,7 @@ fn key_of<const WIDTH: usize, const KEY: usize>(place: &[u8; WIDTH]) -> &[u8]
     if KEY < WIDTH { &place[..KEY] } else { place }
 }
 
-// The first places of a table.
+/// The first places of a table.
 pub fn places_of<const WIDTH: usize>(t: &[u8], count: usize) -> &[[u8; WIDTH]]
     requires width { 0 < WIDTH }
     requires fits { count * WIDTH ≤ length t.now }
@@ -26,7 +26,7 @@ pub fn places_of<const WIDTH: usize>(t: &[u8], count: usize) -> &[[u8; WIDTH]]
     &all[..count]
 }
 
-// Whether t holds a table of so many places: their keys ascend strictly, and the rest is zero.
+/// Whether t holds a table of so many places: their keys ascend strictly, and the rest is zero.
 pub fn is_table<const WIDTH: usize, const KEY: usize>(t: &[u8], count: usize) -> bool
     requires width { 0 < WIDTH }
     requires room { WIDTH < 2 ^ 63 }
@@ -42,7 +42,7 @@ pub fn is_table<const WIDTH: usize, const KEY: usize>(t: &[u8], count: usize) ->
     ascends && is_zero(&t[count * WIDTH..])
 }
 
-// Where a key stands among places that ascend, or where it would go in.
+/// Where a key stands among places that ascend, or where it would go in.
 pub fn search<const WIDTH: usize, const KEY: usize>(
     places: &[[u8; WIDTH]],
     key: &[u8],
@@ -62,7 +62,7 @@ pub fn search<const WIDTH: usize, const KEY: usize>(
     Err(i)
 }
 
-// Puts x in at a byte, before what stands there. As many bytes at the end are lost.
+/// Puts x in at a byte, before what stands there. As many bytes at the end are lost.
 pub fn insert(t: &mut [u8], at: usize, x: &[u8])
     requires { at + length x.now ≤ length t.old }
     ensures { t.new ≡ insert_at at x.now t.old }
@@ -71,7 +71,7 @@ pub fn insert(t: &mut [u8], at: usize, x: &[u8])
     octets::runs::copy(x, &mut t[at..]);
 }
 
-// A sorted table of CAP places of WIDTH bytes in lent bytes; the first KEY bytes of a place are its key.
+/// A sorted table of CAP places of WIDTH bytes in lent bytes; the first KEY bytes of a place are its key.
 #[derive(Drop)]
 pub struct Table<'a, const WIDTH: usize, const KEY: usize, const CAP: usize> {
     pub places: &'a mut [u8],
@@ -107,7 +107,7 @@ fn put_place<const WIDTH: usize, const KEY: usize, const CAP: usize>(
 }
 
 impl<'a, const WIDTH: usize, const KEY: usize, const CAP: usize> Table<'a, WIDTH, KEY, CAP> {
-    // The table that lent bytes hold.
+    /// The table that lent bytes hold.
     pub fn of(places: &'a mut [u8], count: usize) -> Self
         requires { Sorted WIDTH KEY CAP count places.old }
         ensures same_reference { result.places.ghost_name ≡ places.entry.ghost_name }
@@ -117,35 +117,35 @@ impl<'a, const WIDTH: usize, const KEY: usize, const CAP: usize> Table<'a, WIDTH
         Table { places, count }
     }
 
-    // How many places are used.
+    /// How many places are used.
     pub fn count(&self) -> usize
         ensures { result ≡ self.now.count }
     {
         self.count
     }
 
-    // Whether what was not found finds every place used.
+    /// Whether what was not found finds every place used.
     pub fn is_full(&self, found: Result<usize, usize>) -> bool
         ensures { result ≡ full CAP self.now.count found }
     {
         found.is_err() && CAP <= self.count
     }
 
-    // The places used.
+    /// The places used.
     pub fn places(&self) -> &[[u8; WIDTH]]
         ensures { result.now ≡ places WIDTH self.now.count self.now.places.now }
     {
         places_of::<WIDTH>(self.places, self.count)
     }
 
-    // Where a key stands, or where it would go in.
+    /// Where a key stands, or where it would go in.
     pub fn search(&self, key: &[u8]) -> Result<usize, usize>
         ensures { result ≡ sought KEY key.now (places WIDTH self.now.count self.now.places.now) }
     {
         search::<WIDTH, KEY>(self.places(), key)
     }
 
-    // Puts a place where its key was found, or where it goes in.
+    /// Puts a place where its key was found, or where it goes in.
     pub fn put(&mut self, found: Result<usize, usize>, place: &[u8; WIDTH])
         requires found { found ≡ sought KEY (take KEY place.now) (places WIDTH self.old.count self.old.places.now) }
         requires room { full CAP self.old.count found ≡ false }

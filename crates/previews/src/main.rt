@@ -1,7 +1,7 @@
-// Previews the conviction of every engine in registers that are read one after another, and prints what each is answered, with the
-// text. The expected output is that of a second writing of the register and the board (make_stdout.py).
-//
-// A register that is cut short ends the work.
+//! Previews the conviction of every engine in registers that are read one after another, and prints what each is answered, with the
+//! text. The expected output is that of a second writing of the register and the board (make_stdout.py).
+//!
+//! A register that is cut short ends the work.
 #![tactic(auto)]
 
 use board::BOARD_SIZE;

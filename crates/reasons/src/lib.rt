@@ -1,4 +1,4 @@
-// Why a session is refused, in a sentence.
+//! Why a session is refused, in a sentence.
 #![tactic(auto)]
 
 ghost use Rattle.std.specs.Prelude.{◌≡◌, ◌≤◌};
@@ -12,7 +12,7 @@ use text::{Append, Text};
 
 pub mod claims;
 
-// What a reason takes at most.
+/// What a reason takes at most.
 pub const REASON_SIZE: usize = 192;
 
 // Which line is due, and what its value is to be.
@@ -50,7 +50,7 @@ impl Append for Sentence {
     }
 }
 
-// The reason why a session is refused, at the start of `out`; the answer is its length, which is 0 where it is not refused.
+/// The reason why a session is refused, at the start of `out`; the answer is its length, which is 0 where it is not refused.
 pub fn reason(input: &[u8], out: &mut [u8; REASON_SIZE]) -> usize
     ensures { (result ≤ REASON_SIZE) × Put out.old 0 (R.reason_of input.now) result out.new }
 {

@@ -1,4 +1,5 @@
-// Which fixes a track's summaries still bear out, and those that they do not taken out.
+//! Which fixes a track's summaries still bear out, and those that they do not taken out.
+
 ghost use Rattle.std.specs.Prelude.{◌≡◌, true, not, map, ◌++◌, ◌+◌, ◌*◌, ◌<◌, ◌≤◌, length, take, drop};
 ghost use Rattle.ranges.specs.Lists.{any_of};
 ghost use Rattle.places.specs.Places.{places};
@@ -139,7 +140,7 @@ fn take_out(memory: &mut [u8], known: &mut [u8])
     memory[layout::TRANSMISSION_COUNT_AT] = left as u8;
 }
 
-// Takes the fixes that do not stand out of a track of which some identities are known. Where all stand nothing is decided again.
+/// Takes the fixes that do not stand out of a track of which some identities are known. Where all stand nothing is decided again.
 pub fn recheck_known(memory: &mut [u8], known: &mut [u8])
     requires { (well_formed memory.old ≡ true) × Known (transmission_table memory.old) known.old (transmission_count memory.old) }
     ensures { memory.new ≡ encode (T.recheck (decode memory.old)) }
@@ -150,7 +151,7 @@ pub fn recheck_known(memory: &mut [u8], known: &mut [u8])
     take_out(memory, known);
 }
 
-// Takes the fixes that do not stand out of a track. Where all stand nothing is decided again, and no table is cleared.
+/// Takes the fixes that do not stand out of a track. Where all stand nothing is decided again, and no table is cleared.
 pub fn recheck(memory: &mut [u8])
     requires { well_formed memory.old ≡ true }
     ensures { memory.new ≡ encode (T.recheck (decode memory.old)) }

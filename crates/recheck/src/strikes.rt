@@ -1,5 +1,6 @@
-// An engine struck from a track. A conviction decides every transmission, and again where a fix no longer stands: a table of sheets goes
-// with it, so that no identity is worked out twice.
+//! An engine struck from a track. A conviction decides every transmission, and again where a fix no longer stands: a table of sheets goes
+//! with it, so that no identity is worked out twice.
+
 ghost use Rattle.std.specs.Prelude.{◌≡◌, true, map, ◌++◌, ◌<◌, ◌≤◌, length, take, set};
 ghost use Rattle.octets.specs.Writes.{put_word};
 ghost use Rattle.tracked.specs.Held.{held_in};
@@ -97,7 +98,7 @@ fn strike(memory: &mut [u8], known: &mut [u8], engine: Engine)
     put_header(memory, convicted.with(engine), summaries as u16, left as u8);
 }
 
-// Strikes an engine from a track, and checks the fixes again.
+/// Strikes an engine from a track, and checks the fixes again.
 pub fn convict(memory: &mut [u8], engine: Engine)
     requires { well_formed memory.old ≡ true }
     ensures { memory.new ≡ encode (recheck (strike_engine engine.number (decode memory.old))) }

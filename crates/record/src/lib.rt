@@ -1,5 +1,5 @@
-// A record: one engine's fix of one transmission, in 222 lent bytes. A `Record` is made by `parse` alone, or where a caller shows
-// that the bytes are a record; so whoever has one asks for nothing more.
+//! A record: one engine's fix of one transmission, in 222 lent bytes. A `Record` is made by `parse` alone, or where a caller shows
+//! that the bytes are a record; so whoever has one asks for nothing more.
 #![tactic(auto)]
 
 ghost use Rattle.std.specs.Prelude.{◌≡◌, ◌≤◌, ◌<◌, ◌*◌, true, length, take, drop, is_some, IfSome};
@@ -12,7 +12,7 @@ mod formed;
 pub mod layout;
 pub mod relations;
 
-// The fields of `formed` that the code goes by stand beside it, so that they are at hand wherever a record is.
+/// The fields of `formed` that the code goes by stand beside it, so that they are at hand wherever a record is.
 #[derive(Clone, Copy)]
 pub struct Record<'a> {
     pub bytes: &'a [u8],
@@ -25,7 +25,7 @@ pub struct Record<'a> {
 }
 
 impl<'a> Record<'a> {
-    // The record that these bytes are, if they are one.
+    /// The record that these bytes are, if they are one.
     pub fn parse(bytes: &'a [u8]) -> Option<Record<'a>>
         ensures formed { is_some result ≡ well_formed bytes.now }
         ensures same { IfSome result (λ r. r.bytes.now ≡ bytes.now) }
@@ -37,7 +37,7 @@ impl<'a> Record<'a> {
         }
     }
 
-    // The record that these bytes are known to be.
+    /// The record that these bytes are known to be.
     pub fn of(bytes: &'a [u8]) -> Record<'a>
         requires { well_formed bytes.now ≡ true }
         ensures { result.bytes.now ≡ bytes.now }
@@ -45,28 +45,28 @@ impl<'a> Record<'a> {
         Record { bytes }
     }
 
-    // Transmit time, in nanoseconds.
+    /// Transmit time, in nanoseconds.
     pub fn time(self) -> u64
         ensures { result ≡ F.time self.entry.bytes.now }
     {
         octets::words::u64_at(self.bytes, layout::TIME_AT)
     }
 
-    // Latitude, in 1e-7 degree.
+    /// Latitude, in 1e-7 degree.
     pub fn latitude(self) -> i32
         ensures { result ≡ F.latitude self.entry.bytes.now }
     {
         octets::words::i32_at(self.bytes, layout::LAT_AT)
     }
 
-    // Longitude, in 1e-7 degree.
+    /// Longitude, in 1e-7 degree.
     pub fn longitude(self) -> i32
         ensures { result ≡ F.longitude self.entry.bytes.now }
     {
         octets::words::i32_at(self.bytes, layout::LON_AT)
     }
 
-    // Height in millimetres, where there is one.
+    /// Height in millimetres, where there is one.
     pub fn height(self) -> Option<i32>
         ensures { result ≡ F.height self.entry.bytes.now }
     {
@@ -77,7 +77,7 @@ impl<'a> Record<'a> {
         }
     }
 
-    // The message, of 7 or 14 bytes.
+    /// The message, of 7 or 14 bytes.
     pub fn message(self) -> &'a [u8]
         ensures value { result.now ≡ F.message self.entry.bytes.now }
         ensures size { length result.now ≡ F.message_length self.entry.bytes.now }
@@ -88,7 +88,7 @@ impl<'a> Record<'a> {
         &bytes[layout::MESSAGE_AT..end]
     }
 
-    // The number of tags.
+    /// The number of tags.
     pub fn tag_count(self) -> usize
         ensures value { result ≡ F.tag_count self.entry.bytes.now }
         ensures bounds { (1 ≤ result) × (result ≤ max_tags) }
@@ -96,7 +96,7 @@ impl<'a> Record<'a> {
         self.bytes[layout::TAG_COUNT_AT] as usize
     }
 
-    // The i-th tag.
+    /// The i-th tag.
     pub fn tag(self, i: usize) -> u64
         requires { i < max_tags }
         ensures { result ≡ F.tag_at self.entry.bytes.now i }
@@ -104,7 +104,7 @@ impl<'a> Record<'a> {
         octets::words::u64_at(self.bytes, layout::TAGS_AT + 8 * i)
     }
 
-    // The tags as they stand, each in 8 bytes with the lowest first.
+    /// The tags as they stand, each in 8 bytes with the lowest first.
     pub fn tag_bytes(self) -> &'a [u8]
         ensures value { result.now ≡ take (8 * F.tag_count self.entry.bytes.now) (drop tags_at self.entry.bytes.now) }
         ensures size { length result.now ≡ 8 * F.tag_count self.entry.bytes.now }
@@ -114,21 +114,21 @@ impl<'a> Record<'a> {
         &bytes[layout::TAGS_AT..end]
     }
 
-    // Which tags were used: bit i stands for the i-th.
+    /// Which tags were used: bit i stands for the i-th.
     pub fn used(self) -> u16
         ensures { result ≡ F.used self.entry.bytes.now }
     {
         octets::words::u16_at(self.bytes, layout::USED_AT)
     }
 
-    // The number of used tags.
+    /// The number of used tags.
     pub fn weight(self) -> u32
         ensures { result ≡ F.weight self.entry.bytes.now }
     {
         octets::masks::count_u16(self.used())
     }
 
-    // The models cited, in their order.
+    /// The models cited, in their order.
     pub fn models(self) -> &'a [u8]
         ensures value { result.now ≡ F.models self.entry.bytes.now }
         ensures few { length result.now ≤ max_models }
@@ -138,14 +138,14 @@ impl<'a> Record<'a> {
         &bytes[layout::MODELS_AT..end]
     }
 
-    // The spec.
+    /// The spec.
     pub fn spec(self) -> u16
         ensures { result ≡ F.spec self.entry.bytes.now }
     {
         octets::words::u16_at(self.bytes, layout::SPEC_AT)
     }
 
-    // The bits of the i-th number of the covariance.
+    /// The bits of the i-th number of the covariance.
     pub fn covariance_bits(self, i: usize) -> u64
         requires { i < 6 }
         ensures { result ≡ F.covariance_bits self.entry.bytes.now i }

@@ -1,4 +1,5 @@
-// How two records relate. Tags ascend, so two records' tags are gone through together, once.
+//! How two records relate. Tags ascend, so two records' tags are gone through together, once.
+
 ghost use Rattle.std.specs.Prelude.{◌≡◌, true, ◌-◌, ltb};
 ghost use Rattle.octets.specs.Lesser.{lesser_of};
 ghost use Rattle.record.specs.Fields.{tag_at, tag_count, tags};
@@ -7,7 +8,7 @@ ghost use Rattle.record.specs.Relations as R;
 use crate::Record;
 
 impl<'a> Record<'a> {
-    // Whether the messages are the same, their lengths included.
+    /// Whether the messages are the same, their lengths included.
     pub fn has_message_of(self, other: Record<'a>) -> bool
         ensures { result ≡ R.same_message self.entry.bytes.now other.entry.bytes.now }
     {
@@ -21,16 +22,16 @@ impl<'a> Record<'a> {
         self.tag_count() < other.tag_count()
     }
 
+    /// Whether this is a subset of the other: the same message, fewer tags, and all of them the other's.
     #[tactic(auto, unfolding(crate::specs::Relations::subset))]
-    // Whether this is a subset of the other: the same message, fewer tags, and all of them the other's.
     pub fn is_subset_of(self, other: Record<'a>) -> bool
         ensures { result ≡ R.subset self.entry.bytes.now other.entry.bytes.now }
     {
         self.has_fewer_tags_than(other) && self.has_message_of(other) && contained(self, other)
     }
 
+    /// Whether the two are tied: message and at least one tag are common.
     #[tactic(auto, unfolding(crate::specs::Relations::tied))]
-    // Whether the two are tied: message and at least one tag are common.
     pub fn is_tied_to(self, other: Record<'a>) -> bool
         ensures { result ≡ R.tied self.entry.bytes.now other.entry.bytes.now }
     {
@@ -38,7 +39,7 @@ impl<'a> Record<'a> {
     }
 }
 
-// Of two records the one whose bytes come first; the first where they are equal.
+/// Of two records the one whose bytes come first; the first where they are equal.
 pub fn lesser<'a>(a: Record<'a>, b: Record<'a>) -> Record<'a>
     ensures { result.bytes.now ≡ lesser_of a.entry.bytes.now b.entry.bytes.now }
 {
@@ -49,7 +50,7 @@ pub fn lesser<'a>(a: Record<'a>, b: Record<'a>) -> Record<'a>
     }
 }
 
-// Whether every tag of a is one of b's.
+/// Whether every tag of a is one of b's.
 pub fn contained(a: Record, b: Record) -> bool
     ensures { result ≡ R.all_in (tags a.entry.bytes.now) (tags b.entry.bytes.now) }
 {

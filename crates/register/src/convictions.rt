@@ -1,4 +1,5 @@
-// A conviction in a register.
+//! A conviction in a register.
+
 ghost use Rattle.std.specs.Prelude.{◌≡◌, true, ◌+◌, ◌*◌, ◌≤◌, length};
 ghost use Rattle.places.specs.Places.{places, keep_places};
 ghost use Rattle.record.specs.Layout.{record_size};
@@ -71,7 +72,7 @@ fn strike(memory: &mut [u8], engine: Engine)
 }
 
 impl<'a> Register<'a> {
-    // Convicts an engine.
+    /// Convicts an engine.
     pub fn conviction(&mut self, engine: u32) -> Result<(), Refusal>
         ensures same_reference { self.new.memory.ghost_name ≡ self.old.memory.ghost_name }
         ensures convicted { after (number_of result) (decode self.new.memory.now) ≡ take_conviction engine (decode self.old.memory.now) }
@@ -84,7 +85,7 @@ impl<'a> Register<'a> {
     }
 }
 
-// Convicts an engine.
+/// Convicts an engine.
 pub fn conviction(memory: &mut [u8], engine: u32) -> u32
     ensures { after result memory.new ≡ on_memory (take_conviction engine) memory.old }
 {

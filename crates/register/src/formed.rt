@@ -1,4 +1,5 @@
-// Which bytes are a register.
+//! Which bytes are a register.
+
 ghost use Rattle.std.specs.Prelude.{◌≡◌, ◌&&◌, ◌*◌, ◌≤◌, length};
 ghost use Rattle.places.specs.Places.{places, is_table, all_places};
 ghost use Rattle.record.specs.Layout.{record_size};
@@ -23,8 +24,8 @@ fn place_table_formed(t: &[u8], n: usize, convicted: Signers) -> bool
         && held::formed::places_formed(t, n, PLACE_SIZE, convicted)
 }
 
+/// Whether the bytes are a register.
 #[tactic(auto, unfolding(crate::specs::Memory::well_formed))]
-// Whether the bytes are a register.
 pub fn well_formed(m: &[u8]) -> bool
     ensures { result ≡ well_formed m.now }
 {

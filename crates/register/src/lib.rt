@@ -1,9 +1,9 @@
-// The register of one aircraft: every report and summary that was made, and the engines convicted, in
-// 30,920 lent bytes. What it holds does not depend on the order in which calls came.
-//
-// A `Register` is bytes that are one; its operations take any numbers and any slices, and say why they take a call or not.
-// report, summary and conviction do the same to any bytes, and answer 0 or a refusal's number (docs/REFERENCE.md, 'Operations'); a
-// refusal changes no byte.
+//! The register of one aircraft: every report and summary that was made, and the engines convicted, in
+//! 30,920 lent bytes. What it holds does not depend on the order in which calls came.
+//!
+//! A `Register` is bytes that are one; its operations take any numbers and any slices, and say why they take a call or not.
+//! report, summary and conviction do the same to any bytes, and answer 0 or a refusal's number (docs/REFERENCE.md, 'Operations'); a
+//! refusal changes no byte.
 #![tactic(auto)]
 
 ghost use Rattle.std.specs.Prelude.{◌≡◌, true};
@@ -21,7 +21,7 @@ pub mod refusals;
 pub mod reports;
 pub mod summaries;
 
-// A register in lent bytes.
+/// A register in lent bytes.
 #[derive(Drop)]
 pub struct Register<'a> {
     pub memory: &'a mut [u8],
@@ -29,7 +29,7 @@ pub struct Register<'a> {
 }
 
 impl<'a> Register<'a> {
-    // The register that these bytes are known to be.
+    /// The register that these bytes are known to be.
     pub fn of(memory: &'a mut [u8]) -> Self
         requires { well_formed memory.old ≡ true }
         ensures same_reference { result.memory.ghost_name ≡ memory.entry.ghost_name }
@@ -38,8 +38,8 @@ impl<'a> Register<'a> {
         Register { memory }
     }
 
+    /// Whether an engine is convicted.
     #[tactic(auto, unfolding(crate::specs::Memory::decode))]
-    // Whether an engine is convicted.
     pub fn is_convicted(&self, engine: Engine) -> bool
         ensures { result ≡ bit (decode self.now.memory.now).convicted engine.number }
     {

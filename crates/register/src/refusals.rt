@@ -1,8 +1,9 @@
-// Why a register takes no call.
+//! Why a register takes no call.
+
 ghost use Rattle.std.specs.Prelude.{◌≡◌};
 ghost use Rattle.register.specs.Refusals.{number_of};
 
-// Why a register does not take a call.
+/// Why a register does not take a call.
 #[derive(Clone, Copy)]
 pub enum Refusal {
     // No engine has this number.
@@ -17,7 +18,7 @@ pub enum Refusal {
     NoSummary,
 }
 
-// The number of an answer.
+/// The number of an answer.
 pub fn number(answer: Result<(), Refusal>) -> u32
     ensures { result ≡ number_of answer }
 {

@@ -1,4 +1,5 @@
-// A report into a register.
+//! A report into a register.
+
 ghost use Rattle.std.specs.Prelude.{◌≡◌, ◌<◌, ◌++◌, true, false, length, IfOk};
 ghost use Rattle.octets.specs.Masks.{bit, with_bit};
 ghost use Rattle.octets.specs.Words.{word_bytes};
@@ -82,7 +83,7 @@ fn sign(memory: &mut [u8], engine: Engine, r: Record) -> Result<(), Refusal>
 }
 
 impl<'a> Register<'a> {
-    // Reports a record for an engine.
+    /// Reports a record for an engine.
     pub fn report(&mut self, engine: u32, r: &[u8]) -> Result<(), Refusal>
         ensures same_reference { self.new.memory.ghost_name ≡ self.old.memory.ghost_name }
         ensures reported { after (number_of result) (decode self.new.memory.now) ≡ take_report engine r.now (decode self.old.memory.now) }
@@ -100,7 +101,7 @@ impl<'a> Register<'a> {
     }
 }
 
-// Reports a record for an engine.
+/// Reports a record for an engine.
 pub fn report(memory: &mut [u8], engine: u32, r: &[u8]) -> u32
     ensures { after result memory.new ≡ on_memory (take_report engine r.now) memory.old }
 {

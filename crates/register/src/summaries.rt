@@ -1,4 +1,5 @@
-// A summary into a register.
+//! A summary into a register.
+
 ghost use Rattle.std.specs.Prelude.{◌≡◌, true};
 ghost use Rattle.held.specs.After.{after};
 ghost use Rattle.held.specs.Summaries.{summary_formed};
@@ -43,7 +44,7 @@ fn hold(memory: &mut [u8], summary: &[u8; SUMMARY_SIZE]) -> Result<(), Refusal>
 }
 
 impl<'a> Register<'a> {
-    // Takes a summary of a model from an engine.
+    /// Takes a summary of a model from an engine.
     pub fn summary(
         &mut self,
         engine: u32,
@@ -70,7 +71,7 @@ impl<'a> Register<'a> {
     }
 }
 
-// Takes a summary of a model from an engine.
+/// Takes a summary of a model from an engine.
 pub fn summary(memory: &mut [u8], engine: u32, model: u32, spec: u16, inputs: &[u8]) -> u32
     ensures { after result memory.new ≡ on_memory (take_summary engine model spec inputs.now) memory.old }
 {

@@ -1,5 +1,5 @@
-// Runs sessions one after another and prints what each prints: on standard input each has its length before it, in four bytes, lowest
-// first. The expected output is that of a second writing of the session, the register and the board (make_stdout.py).
+//! Runs sessions one after another and prints what each prints: on standard input each has its length before it, in four bytes, lowest
+//! first. The expected output is that of a second writing of the session, the register and the board (make_stdout.py).
 #![tactic(auto)]
 
 ghost use Rattle.std.specs.Prelude.{◌≡◌, ◌≤◌, length, IfOk};

@@ -1,5 +1,5 @@
-// Replays the Rust's cases and prints what ours answers: on standard input 'a' and two claims of 61 bytes, or 'd', a length in two
-// bytes, and so many bytes of items. The expected output is what the Rust answered (make_stdout.py).
+//! Replays the Rust's cases and prints what ours answers: on standard input 'a' and two claims of 61 bytes, or 'd', a length in two
+//! bytes, and so many bytes of items. The expected output is what the Rust answered (make_stdout.py).
 #![tactic(auto)]
 
 ghost use Rattle.std.specs.Prelude.{◌+◌, ◌<◌, ◌≤◌, length};

@@ -1,5 +1,5 @@
-// Prints the bits of square roots, 16 hex digits to a line: of edge values, of squares and their neighbours, and of a sequence of
-// pseudo-random patterns. make_stdout.py makes the same inputs, and takes the roots from the machine's own square root.
+//! Prints the bits of square roots, 16 hex digits to a line: of edge values, of squares and their neighbours, and of a sequence of
+//! pseudo-random patterns. make_stdout.py makes the same inputs, and takes the roots from the machine's own square root.
 #![tactic(auto)]
 
 use std::io;

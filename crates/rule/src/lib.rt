@@ -1,5 +1,5 @@
-// The rule, over tables: who supersedes, who is superseded, who is refused and against whom, who is dominated, and the first
-// of the rest by rank. Each test is a function of one or two indices, and each table is filled by one loop.
+//! The rule, over tables: who supersedes, who is superseded, who is refused and against whom, who is dominated, and the first
+//! of the rest by rank. Each test is a function of one or two indices, and each table is filled by one loop.
 #![tactic(auto)]
 
 ghost use Rattle.std.specs.Prelude.{◌≡◌, false, ◌*◌, ◌≤◌, ◌<◌, length, None};
@@ -16,7 +16,7 @@ ghost use Rattle.rule.specs.Rule.{stands as is_standing, dominated as is_dominat
 use items::layout::MAX_ITEMS;
 use items::pairs::{APART, DISAGREES};
 
-// Of each item, whether it takes the place of another, whether another takes its place, and whether it is refused.
+/// Of each item, whether it takes the place of another, whether another takes its place, and whether it is refused.
 #[derive(Clone, Copy)]
 pub struct Marks {
     pub superseding: [bool; MAX_ITEMS],
@@ -225,7 +225,7 @@ fn refused_table(
     m
 }
 
-// The three tables.
+/// The three tables.
 pub fn mark_all(s: &[u8], codes: &[u8], n: u8) -> Marks
     requires { (n ≤ max_items) × Ready s.now codes.now n }
     ensures { Marked s.now n result }
@@ -254,7 +254,7 @@ fn better_identity(s: &[u8], n: u8, best: Option<u8>, k: u8) -> Option<u8>
     best
 }
 
-// The lowest identity of what takes the place of item i.
+/// The lowest identity of what takes the place of item i.
 pub fn replacing(s: &[u8], codes: &[u8], n: u8, sup: &[bool; MAX_ITEMS], i: u8) -> Option<u8>
     requires { (i < n) × (n ≤ max_items) × Ready s.now codes.now n × Cached false sup.now (S.supersedes (item_relations s.now) (up_to n)) n }
     ensures { result ≡ choose (lower_at s.now) None (filter (S.replaces (item_relations s.now) (up_to n) i) (up_to n)) }
@@ -269,7 +269,7 @@ pub fn replacing(s: &[u8], codes: &[u8], n: u8, sup: &[bool; MAX_ITEMS], i: u8) 
     best
 }
 
-// The lowest identity of what opposes item i.
+/// The lowest identity of what opposes item i.
 pub fn opposing(s: &[u8], codes: &[u8], n: u8, sd: &[bool; MAX_ITEMS], i: u8) -> Option<u8>
     requires { (i < n) × (n ≤ max_items) × Ready s.now codes.now n × Cached false sd.now (S.is_superseded (item_relations s.now) (up_to n)) n }
     ensures { result ≡ choose (lower_at s.now) None (filter (S.opposes (item_relations s.now) (up_to n) i) (up_to n)) }
@@ -315,7 +315,7 @@ fn covered(s: &[u8], codes: &[u8], n: u8, rf: &[bool; MAX_ITEMS], i: u8) -> bool
     false
 }
 
-// Whether item i is dominated.
+/// Whether item i is dominated.
 pub fn dominated_at(s: &[u8], codes: &[u8], n: u8, rf: &[bool; MAX_ITEMS], i: u8) -> bool
     requires { (i < n) × (n ≤ max_items) × Ready s.now codes.now n × Cached false rf.now (S.is_refused (item_relations s.now) (up_to n)) n }
     ensures { result ≡ is_dominated (item_relations s.now) (up_to n) i }
@@ -336,7 +336,7 @@ fn stands_at(s: &[u8], codes: &[u8], n: u8, rf: &[bool; MAX_ITEMS], i: u8) -> bo
     !covered(s, codes, n, rf, i)
 }
 
-// Who stands.
+/// Who stands.
 pub fn stands_table(s: &[u8], codes: &[u8], n: u8, rf: &[bool; MAX_ITEMS]) -> [bool; MAX_ITEMS]
     requires { (n ≤ max_items) × Ready s.now codes.now n × Cached false rf.now (S.is_refused (item_relations s.now) (up_to n)) n }
     ensures { Cached false result (is_standing (item_relations s.now) (up_to n)) n }
@@ -362,7 +362,7 @@ fn better_rank(s: &[u8], n: u8, best: Option<u8>, k: u8) -> Option<u8>
     best
 }
 
-// The first by rank of those that are left.
+/// The first by rank of those that are left.
 pub fn first_left(s: &[u8], n: u8, left: &[bool; MAX_ITEMS]) -> Option<u8>
     requires { (n ≤ max_items) × (n * item_size ≤ length s.now) }
     ensures { result ≡ choose (ahead_at s.now) None (filter (marked left.now) (up_to n)) }

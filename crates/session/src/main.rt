@@ -1,5 +1,5 @@
-// A session: standard input to standard output, and a sentence on standard error where it is refused. One byte more than is read is
-// enough to know that there are more.
+//! A session: standard input to standard output, and a sentence on standard error where it is refused. One byte more than is read is
+//! enough to know that there are more.
 #![tactic(auto)]
 
 use reasons::REASON_SIZE;

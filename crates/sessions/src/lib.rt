@@ -1,4 +1,4 @@
-// A session: its bytes to the bytes that it prints. All lines are read before any answer is written.
+//! A session: its bytes to the bytes that it prints. All lines are read before any answer is written.
 #![tactic(auto)]
 
 ghost use Rattle.std.specs.Prelude.{◌≡◌, true, ◌+◌, ◌≤◌, length};
@@ -22,10 +22,10 @@ mod refusals;
 
 pub use refusals::{Refusal, check};
 
-// The longest input that is read.
+/// The longest input that is read.
 pub const MAX_INPUT: usize = 65536;
 
-// What a session may print: the answers, each shorter than its operation, and a board.
+/// What a session may print: the answers, each shorter than its operation, and a board.
 pub const OUTPUT_SIZE: usize = MAX_INPUT + board::BOARD_SIZE;
 
 // The line of an answer.
@@ -102,7 +102,7 @@ fn perform_all(input: &[u8], out: &mut [u8]) -> usize
     end + write_board(&memory, &mut out[end..])
 }
 
-// What a session prints, at the start of `out`; the answer is its length.
+/// What a session prints, at the start of `out`; the answer is its length.
 pub fn run(input: &[u8], out: &mut [u8; OUTPUT_SIZE]) -> usize
     ensures { (result ≤ O.output_size) × Put out.old 0 (O.output_of input.now) result out.new }
 {

@@ -1,4 +1,5 @@
-// Why a session is refused, and what it prints then.
+//! Why a session is refused, and what it prints then.
+
 ghost use Rattle.std.specs.Prelude.{◌≡◌};
 ghost use Rattle.std.specs.Result.{result_err};
 ghost use Rattle.sessions.specs.Output.{calls_of, refusal_text};
@@ -7,7 +8,7 @@ use crate::MAX_INPUT;
 use grammar::BadLine;
 use text::{Append, Text};
 
-// Why a session is refused.
+/// Why a session is refused.
 #[derive(Clone, Copy)]
 pub enum Refusal {
     // The input is longer than the longest that is read.
@@ -31,7 +32,7 @@ impl Append for Refusal {
     }
 }
 
-// Whether a session is refused, and why.
+/// Whether a session is refused, and why.
 #[tactic(auto, unfolding(crate::specs::Output::calls_of))]
 pub fn check(input: &[u8]) -> Result<(), Refusal>
     ensures { result_err result ≡ result_err (calls_of input.now) }

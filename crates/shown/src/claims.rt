@@ -1,4 +1,5 @@
-// What is claimed of a transmission that is shown, of whatever fixes.
+//! What is claimed of a transmission that is shown, of whatever fixes.
+
 ghost use Rattle.shown.specs.Claims.{ShownIsDecided};
 
 /// What is shown of fixes is the decision of them.

@@ -1,4 +1,4 @@
-// Fixes as the items of a decision.
+//! Fixes as the items of a decision.
 #![tactic(auto)]
 
 ghost use Rattle.std.specs.Prelude.{◌≡◌, ◌+◌, ◌≤◌, length};
@@ -10,7 +10,7 @@ use record::Record;
 
 pub mod claims;
 
-// Puts a fix in as an item: standing 0, consistent, unjudged, not preferred.
+/// Puts a fix in as an item: standing 0, consistent, unjudged, not preferred.
 pub fn put_item(items: &mut [u8], at: usize, r: Record, inputs: &[u8], identity: &[u8]) -> usize
     requires item_size_in_bounds { at + item_size ≤ length items.old }
     requires inputs_len { (length inputs.now ≡ hash_size) × (length identity.now ≡ hash_size) }

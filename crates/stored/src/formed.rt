@@ -1,4 +1,5 @@
-// Which bytes are a track.
+//! Which bytes are a track.
+
 ghost use Rattle.std.specs.Prelude.{◌≡◌, ◌*◌, ◌≤◌, length};
 ghost use Rattle.places.specs.Places.{places, all_places};
 ghost use Rattle.held.specs.Limits.{place_size};
@@ -78,7 +79,7 @@ fn transmission_table_formed(t: &[u8], n: usize, convicted: Signers) -> bool
     octets::runs::is_zero(&t[used..])
 }
 
-// Whether the bytes are a track.
+/// Whether the bytes are a track.
 pub fn well_formed(m: &[u8]) -> bool
     ensures { result ≡ well_formed m.now }
 {

@@ -1,10 +1,11 @@
-// The layout of a track: where each part begins, each from the one before it.
+//! The layout of a track: where each part begins, each from the one before it.
+
 use arrange::MAX_TRANSMISSIONS;
 use held::layout::SUMMARIES_SIZE;
 use models::layout::SPEC_AT;
 use tracked::layout::TRANSMISSION_SIZE;
 
-// A summary's key: its engine and its model.
+/// A summary's key: its engine and its model.
 pub const PAIR_SIZE: usize = SPEC_AT;
 
 pub const CONVICTED_AT: usize = 0;

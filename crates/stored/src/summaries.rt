@@ -1,4 +1,5 @@
-// A summary by its engine and model into a track.
+//! A summary by its engine and model into a track.
+
 ghost use Rattle.std.specs.Prelude.{◌≡◌, true};
 ghost use Rattle.held.specs.After.{after};
 ghost use Rattle.stored.specs.Memory.{well_formed, decode, commit};
@@ -13,7 +14,7 @@ use places::table::Table;
 // The summaries held, one for each engine and model.
 type Pairs<'a> = Table<'a, SUMMARY_SIZE, PAIR_SIZE, MAX_SUMMARIES>;
 
-// Puts a summary in by its engine and model, in the place of the one that is held of them.
+/// Puts a summary in by its engine and model, in the place of the one that is held of them.
 pub fn put_pair(memory: &mut [u8], p: &[u8; SUMMARY_SIZE]) -> u32
     requires { well_formed memory.old ≡ true }
     ensures { after result memory.new ≡ commit memory.old (put_pair p.now (decode memory.old)) }

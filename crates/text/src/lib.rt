@@ -1,5 +1,5 @@
-// A text that grows in a lent buffer: words, decimal and hexadecimal numbers, and heights in whole metres. What there is no room for
-// is left out, so a caller who must have it all shows at the end that the whole text fits.
+//! A text that grows in a lent buffer: words, decimal and hexadecimal numbers, and heights in whole metres. What there is no room for
+//! is left out, so a caller who must have it all shows at the end that the whole text fits.
 #![tactic(auto)]
 
 ghost use Rattle.std.specs.Prelude.{◌≡◌, ◌+◌, ◌≤◌, ◌<◌, ◌++◌, [], ◌∷◌, length, take, drop};
@@ -13,7 +13,7 @@ mod values;
 
 pub use values::{Append, Hex, Metres, write};
 
-// A text in a lent buffer, from its first byte on.
+/// A text in a lent buffer, from its first byte on.
 #[derive(Drop)]
 pub struct Text<'a> {
     out: &'a mut [u8],
@@ -23,21 +23,21 @@ pub struct Text<'a> {
 impl<'a> Text<'a> {
     ghost use Rattle.text.specs.Texts.{start, append};
 
-    // No text yet, in this buffer.
+    /// No text yet, in this buffer.
     pub fn new(out: &'a mut [u8]) -> Text<'a>
         ensures { result ≡ start out.entry }
     {
         Text { out, len: 0 }
     }
 
-    // How many bytes have been written.
+    /// How many bytes have been written.
     pub fn len(&self) -> usize
         ensures { result ≡ self.now.len }
     {
         self.len
     }
 
-    // Appends a byte.
+    /// Appends a byte.
     #[tactic(auto, unfolding(crate::specs::Texts::bytes_after, crate::specs::Texts::length_after))]
     pub fn push_byte(&mut self, byte: u8)
         ensures { self.new ≡ append self.old (byte ∷ []) }
@@ -48,7 +48,7 @@ impl<'a> Text<'a> {
         }
     }
 
-    // Appends bytes.
+    /// Appends bytes.
     #[tactic(auto, unfolding(crate::specs::Texts::bytes_after, crate::specs::Texts::length_after))]
     pub fn push_bytes(&mut self, word: &[u8])
         ensures { self.new ≡ append self.old word.now }
@@ -64,35 +64,35 @@ impl<'a> Text<'a> {
         }
     }
 
-    // Appends a word.
+    /// Appends a word.
     pub fn push_str(&mut self, word: &str)
         ensures { self.new ≡ append self.old word.now }
     {
         self.push_bytes(word.as_bytes());
     }
 
-    // n in decimal.
+    /// n in decimal.
     pub fn push_u64(&mut self, n: u64)
         ensures { self.new ≡ append self.old (decimal n) }
     {
         self.push_str(Buffer::new().format(n));
     }
 
-    // v in decimal, with a minus where it is negative.
+    /// v in decimal, with a minus where it is negative.
     pub fn push_i32(&mut self, v: i32)
         ensures { self.new ≡ append self.old (signed v) }
     {
         self.push_str(Buffer::new().format(v));
     }
 
-    // The whole metres of a height in millimetres, in decimal.
+    /// The whole metres of a height in millimetres, in decimal.
     pub fn push_metres(&mut self, height: i32)
         ensures { self.new ≡ append self.old (signed (metres height)) }
     {
         self.push_i32(whole_metres(height));
     }
 
-    // The k lowest hex digits of n, highest first.
+    /// The k lowest hex digits of n, highest first.
     pub fn push_hex(&mut self, k: usize, n: u64)
         ensures { self.new ≡ append self.old (hex k n) }
     {
@@ -103,7 +103,7 @@ impl<'a> Text<'a> {
     }
 }
 
-// A hex digit.
+/// A hex digit.
 pub fn hex_digit(d: u8) -> u8
     requires { d < 16 }
     ensures { result ≡ hex_digit d }

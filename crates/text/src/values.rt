@@ -1,4 +1,5 @@
-// Values that have a text.
+//! Values that have a text.
+
 ghost use Rattle.std.specs.Prelude.{◌≡◌, ◌≤◌, ◌++◌, ℕ, List, flat_map, length};
 ghost use Rattle.octets.specs.Put.{Put};
 ghost use Rattle.text.specs.Numbers.{decimal, signed, hex};
@@ -8,7 +9,7 @@ ghost use Rattle.text.specs.Texts.{append};
 
 use super::Text;
 
-// What has a text of its own, which can be appended.
+/// What has a text of its own, which can be appended.
 pub trait Append {
     // the text of a value
     ghost text: { Self → List ℕ };
@@ -35,7 +36,7 @@ impl Append for i32 {
     }
 }
 
-// A height in millimetres, as its whole metres.
+/// A height in millimetres, as its whole metres.
 #[derive(Clone, Copy)]
 pub struct Metres(pub i32);
 
@@ -47,7 +48,7 @@ impl Append for Metres {
     }
 }
 
-// The lowest hex digits of a number, highest first.
+/// The lowest hex digits of a number, highest first.
 #[derive(Clone, Copy)]
 pub struct Hex<const DIGITS: usize>(pub u64);
 
@@ -60,14 +61,14 @@ impl<const DIGITS: usize> Append for Hex<DIGITS> {
 }
 
 impl<'a> Text<'a> {
-    // Appends the text of a value.
+    /// Appends the text of a value.
     pub fn push<T: Append>(&mut self, value: &T)
         ensures { self.new ≡ append self.old (T.text value.now) }
     {
         value.append_to(self);
     }
 
-    // A key and a value.
+    /// A key and a value.
     pub fn push_field<T: Append>(&mut self, key: &str, value: &T)
         ensures { self.new ≡ append self.old (key.now ++ T.text value.now) }
     {
@@ -75,7 +76,7 @@ impl<'a> Text<'a> {
         value.append_to(self);
     }
 
-    // Values one after another.
+    /// Values one after another.
     pub fn push_all<T: Append>(&mut self, values: &[T])
         ensures { self.new ≡ append self.old (flat_map T.text values.now) }
     {
@@ -85,7 +86,7 @@ impl<'a> Text<'a> {
     }
 }
 
-// The text of a value into a buffer, from its beginning; answers how long it is.
+/// The text of a value into a buffer, from its beginning; answers how long it is.
 pub fn write<T: Append>(out: &mut [u8], value: &T) -> usize
     ensures { length (T.text value.now) ≤ length out.old → Put out.old 0 (T.text value.now) result out.new }
 {

@@ -1,5 +1,5 @@
-// What other products call by C names: one thin call each, for any bytes and any numbers. A refusal is the number that is answered;
-// include/toastlagoon.h says the same for C.
+//! What other products call by C names: one thin call each, for any bytes and any numbers. A refusal is the number that is answered;
+//! include/toastlagoon.h says the same for C.
 #![tactic(auto)]
 
 ghost use Rattle.std.specs.Prelude.{◌≡◌};
@@ -29,7 +29,7 @@ const OUTSIDE: u32 = 1;
 
 const UNMEASURABLE: u32 = 2;
 
-// The BLAKE2s-256 hash of any bytes. Answers 0.
+/// The BLAKE2s-256 hash of any bytes. Answers 0.
 #[unsafe(no_mangle)]
 pub extern "C" fn tl_blake2s256(input: &[u8], out: &mut [u8; 32]) -> u32
     ensures { (result ≡ 0) × (out.new ≡ Hash.blake2s256 input.now) }
@@ -38,7 +38,7 @@ pub extern "C" fn tl_blake2s256(input: &[u8], out: &mut [u8; 32]) -> u32
     0
 }
 
-// The square root, as IEEE 754 has it.
+/// The square root, as IEEE 754 has it.
 #[unsafe(no_mangle)]
 pub extern "C" fn tl_root(x: f64) -> f64
     ensures { result ≡ Root.root x }
@@ -59,7 +59,7 @@ fn covariance(xx: f64, xy: f64, xz: f64, yy: f64, yz: f64, zz: f64) -> Covarianc
     }
 }
 
-// The horizontal deviation of a covariance, in metres.
+/// The horizontal deviation of a covariance, in metres.
 #[unsafe(no_mangle)]
 pub extern "C" fn tl_horizontal_sigma(xx: f64, xy: f64, xz: f64, yy: f64, yz: f64, zz: f64) -> f64
     ensures { result ≡ sigma_of (covariance_from xx xy xz yy yz zz) }
@@ -115,8 +115,8 @@ fn put_agreement(g: Agreement, chi2: &mut f64, limit: &mut f64) -> u32
     }
 }
 
-// How a larger fix stands to a smaller one, with the chi-square of its position under the smaller one's covariance and the most that
-// agrees. Answers 0 where it is inside, 1 where it is outside, and 2 where nothing could be measured: then neither number is written.
+/// How a larger fix stands to a smaller one, with the chi-square of its position under the smaller one's covariance and the most that
+/// agrees. Answers 0 where it is inside, 1 where it is outside, and 2 where nothing could be measured: then neither number is written.
 #[unsafe(no_mangle)]
 pub extern "C" fn tl_agreement(
     lat: i32,
@@ -163,7 +163,7 @@ pub extern "C" fn tl_agreement(
     put_agreement(a, chi2, limit)
 }
 
-// Decides items in bytes. The array is written where something is decided, and stays as it is on a refusal.
+/// Decides items in bytes. The array is written where something is decided, and stays as it is on a refusal.
 #[unsafe(no_mangle)]
 pub extern "C" fn tl_decide(items: &[u8], answer: &mut [u8; ANSWER_SIZE]) -> u32
     ensures { after result answer.new ≡ hand_out (decided items.now) answer.old }
@@ -171,7 +171,7 @@ pub extern "C" fn tl_decide(items: &[u8], answer: &mut [u8; ANSWER_SIZE]) -> u32
     answers::decide(items, answer)
 }
 
-// Reports a record for an engine into a register.
+/// Reports a record for an engine into a register.
 #[unsafe(no_mangle)]
 pub extern "C" fn tl_register_report(memory: &mut [u8], engine: u32, r: &[u8]) -> u32
     ensures { after result memory.new ≡ on_memory (take_report engine r.now) memory.old }
@@ -179,7 +179,7 @@ pub extern "C" fn tl_register_report(memory: &mut [u8], engine: u32, r: &[u8]) -
     register::reports::report(memory, engine, r)
 }
 
-// Puts an engine's summary of a model into a register.
+/// Puts an engine's summary of a model into a register.
 #[unsafe(no_mangle)]
 pub extern "C" fn tl_register_summary(
     memory: &mut [u8],
@@ -193,7 +193,7 @@ pub extern "C" fn tl_register_summary(
     register::summaries::summary(memory, engine, model, spec, inputs)
 }
 
-// Strikes an engine from a register, with all that it alone said.
+/// Strikes an engine from a register, with all that it alone said.
 #[unsafe(no_mangle)]
 pub extern "C" fn tl_register_conviction(memory: &mut [u8], engine: u32) -> u32
     ensures { after result memory.new ≡ on_memory (take_conviction engine) memory.old }
@@ -201,7 +201,7 @@ pub extern "C" fn tl_register_conviction(memory: &mut [u8], engine: u32) -> u32
     register::convictions::conviction(memory, engine)
 }
 
-// The board of a register into `out`: 1 or 10, or its length, which is 0 or greater than every refusal's number.
+/// The board of a register into `out`: 1 or 10, or its length, which is 0 or greater than every refusal's number.
 #[unsafe(no_mangle)]
 pub extern "C" fn tl_board(memory: &[u8], out: &mut [u8]) -> u32
     ensures { after result out.new ≡ draw_board memory.now out.old }
@@ -209,8 +209,8 @@ pub extern "C" fn tl_board(memory: &[u8], out: &mut [u8]) -> u32
     board::board(memory, out)
 }
 
-// The board of a register as it would be if an engine were convicted, into `out`: 1, 2 or 10, or its length, which is 0 or greater than
-// every refusal's number. The register is only read.
+/// The board of a register as it would be if an engine were convicted, into `out`: 1, 2 or 10, or its length, which is 0 or greater than
+/// every refusal's number. The register is only read.
 #[unsafe(no_mangle)]
 pub extern "C" fn tl_register_preview(memory: &[u8], engine: u32, out: &mut [u8]) -> u32
     ensures { after result out.new ≡ draw_preview engine memory.now out.old }
@@ -218,7 +218,7 @@ pub extern "C" fn tl_register_preview(memory: &[u8], engine: u32, out: &mut [u8]
     board::preview(memory, engine, out)
 }
 
-// Reports a record for an engine into a track.
+/// Reports a record for an engine into a track.
 #[unsafe(no_mangle)]
 pub extern "C" fn tl_track_report(memory: &mut [u8], engine: u32, r: &[u8]) -> u32
     ensures { after result memory.new ≡ T.on_memory (track_report engine r.now) memory.old }
@@ -226,7 +226,7 @@ pub extern "C" fn tl_track_report(memory: &mut [u8], engine: u32, r: &[u8]) -> u
     track::reports::report(memory, engine, r)
 }
 
-// Puts an engine's summary of a model into a track.
+/// Puts an engine's summary of a model into a track.
 #[unsafe(no_mangle)]
 pub extern "C" fn tl_track_summary(
     memory: &mut [u8],
@@ -240,7 +240,7 @@ pub extern "C" fn tl_track_summary(
     track::summaries::summary(memory, engine, model, spec, inputs)
 }
 
-// Convicts an engine in a track, and decides again what it signed.
+/// Convicts an engine in a track, and decides again what it signed.
 #[unsafe(no_mangle)]
 pub extern "C" fn tl_track_conviction(memory: &mut [u8], engine: u32) -> u32
     ensures { after result memory.new ≡ T.on_memory (track_conviction engine) memory.old }
@@ -248,7 +248,7 @@ pub extern "C" fn tl_track_conviction(memory: &mut [u8], engine: u32) -> u32
     track::convictions::conviction(memory, engine)
 }
 
-// The listing of a track into `out`: 1 or 10, or its length, which is 0 or greater than every refusal's number.
+/// The listing of a track into `out`: 1 or 10, or its length, which is 0 or greater than every refusal's number.
 #[unsafe(no_mangle)]
 pub extern "C" fn tl_track_listing(memory: &[u8], out: &mut [u8]) -> u32
     ensures { after result out.new ≡ list_track memory.now out.old }

@@ -1,4 +1,5 @@
-// A conviction in a track.
+//! A conviction in a track.
+
 ghost use Rattle.std.specs.Prelude.{◌≡◌};
 ghost use Rattle.held.specs.After.{after};
 ghost use Rattle.stored.specs.Memory.{on_memory};
@@ -8,7 +9,7 @@ use held::engines::Engine;
 use recheck::strikes;
 use stored::formed;
 
-// Convicts an engine. A repeated conviction checks the fixes again too.
+/// Convicts an engine. A repeated conviction checks the fixes again too.
 #[tactic(auto, unfolding(stored::specs::Memory::on_memory))]
 pub fn conviction(memory: &mut [u8], engine: u32) -> u32
     ensures { after result memory.new ≡ on_memory (track_conviction engine) memory.old }

@@ -1,8 +1,8 @@
-// The track of one aircraft: the latest transmissions, each with the fixes that stand and those refused, the summaries,
-// and the engines convicted, in 29,104 lent bytes.
-//
-// report, summary and conviction take any numbers and any slices, and answer with the numbers of docs/REFERENCE.md, 'Operations'; a
-// refusal changes no byte.
+//! The track of one aircraft: the latest transmissions, each with the fixes that stand and those refused, the summaries,
+//! and the engines convicted, in 29,104 lent bytes.
+//!
+//! report, summary and conviction take any numbers and any slices, and answer with the numbers of docs/REFERENCE.md, 'Operations'; a
+//! refusal changes no byte.
 #![tactic(auto)]
 
 ghost use Rattle.std.specs.Prelude.{◌≡◌, true};

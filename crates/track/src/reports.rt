@@ -1,4 +1,5 @@
-// A report into a track.
+//! A report into a track.
+
 ghost use Rattle.std.specs.Prelude.{◌≡◌, ◌+◌, ◌%◌, ◌^◌, ◌≤◌, true, length, slice_set};
 ghost use Rattle.octets.specs.Words.{word_at};
 ghost use Rattle.octets.specs.Writes.{put_word};
@@ -94,7 +95,7 @@ fn misses_model(memory: &[u8], r: Record) -> bool
     models::citations::cites_missing(held_summaries(memory), r)
 }
 
-// Reports a record for an engine.
+/// Reports a record for an engine.
 #[tactic(auto, unfolding(stored::specs::Memory::on_memory))]
 pub fn report(memory: &mut [u8], engine: u32, r: &[u8]) -> u32
     ensures { after result memory.new ≡ on_memory (track_report engine r.now) memory.old }

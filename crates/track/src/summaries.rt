@@ -1,4 +1,5 @@
-// A summary into a track.
+//! A summary into a track.
+
 ghost use Rattle.std.specs.Prelude.{◌≡◌, true, not, ◌&&◌};
 ghost use Rattle.models.specs.Answers.{listed};
 ghost use Rattle.models.specs.Models.{state_of};
@@ -61,7 +62,7 @@ fn hold(memory: &mut [u8], model: u8, p: &[u8; SUMMARY_SIZE]) -> u32
     0
 }
 
-// Takes a summary of a model from an engine.
+/// Takes a summary of a model from an engine.
 #[tactic(auto, unfolding(stored::specs::Memory::on_memory))]
 pub fn summary(memory: &mut [u8], engine: u32, model: u32, spec: u16, inputs: &[u8]) -> u32
     ensures { after result memory.new ≡ on_memory (track_summary engine model spec inputs.now) memory.old }

@@ -1,8 +1,9 @@
-// The layout of a transmission in a track: limits, and where each part begins, each from the one before it.
+//! The layout of a transmission in a track: limits, and where each part begins, each from the one before it.
+
 use items::layout::HASH_SIZE;
 use record::layout::RECORD_SIZE;
 
-// How many fixes are kept beside the best, and how many refused.
+/// How many fixes are kept beside the best, and how many refused.
 pub const ALTERNATIVES: usize = 4;
 
 pub const MAX_STANDING: usize = ALTERNATIVES + 1;
@@ -31,7 +32,7 @@ pub const REFUSED_AT: usize = FIXES_AT + MAX_STANDING * FIX_SIZE;
 
 pub const TRANSMISSION_SIZE: usize = REFUSED_AT + MAX_REFUSED * REFUSED_SIZE;
 
-// The identities that a call has worked out of a transmission's held fixes: how many, and each.
+/// The identities that a call has worked out of a transmission's held fixes: how many, and each.
 pub const MAX_HELD: usize = MAX_STANDING + MAX_REFUSED;
 
 pub const IDENTITIES_AT: usize = 1;

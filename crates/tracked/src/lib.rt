@@ -1,4 +1,4 @@
-// One transmission of a track, in 2,484 lent bytes: the fixes that stand, the best first, and the refused.
+//! One transmission of a track, in 2,484 lent bytes: the fixes that stand, the best first, and the refused.
 #![tactic(auto)]
 
 ghost use Rattle.std.specs.Prelude.{◌≡◌, ℕ, true, [], ◌+◌, ◌<◌, ◌≤◌, length, take, drop, get_or};
@@ -20,8 +20,8 @@ use record::layout::{MESSAGE_LENGTH_AT, MODEL_COUNT_AT, RECORD_SIZE, TAGS_AT, US
 pub mod known;
 pub mod layout;
 
-// A fix, as it lies in a track: a record, the engines that signed it, and the model inputs that it was checked under. Whoever has one
-// knows that its record is one.
+/// A fix, as it lies in a track: a record, the engines that signed it, and the model inputs that it was checked under. Whoever has one
+/// knows that its record is one.
 #[derive(Clone, Copy)]
 pub struct Fix<'a> {
     pub bytes: &'a [u8],
@@ -31,7 +31,7 @@ pub struct Fix<'a> {
 }
 
 impl<'a> Fix<'a> {
-    // The fix in these bytes, which are known to be one.
+    /// The fix in these bytes, which are known to be one.
     pub fn of(bytes: &'a [u8]) -> Fix<'a>
         requires { (length bytes.now ≡ L.fix_size) × (well_formed (B.record_in bytes.now) ≡ true) }
         ensures { result.bytes.now ≡ bytes.now }
@@ -39,7 +39,7 @@ impl<'a> Fix<'a> {
         Fix { bytes }
     }
 
-    // The record.
+    /// The record.
     pub fn record(self) -> Record<'a>
         ensures { result.bytes.now ≡ B.record_in self.entry.bytes.now }
     {
@@ -47,14 +47,14 @@ impl<'a> Fix<'a> {
         Record::of(&bytes[0..RECORD_SIZE])
     }
 
-    // The engines that signed it.
+    /// The engines that signed it.
     pub fn signers(self) -> u32
         ensures { result ≡ B.signers_in self.entry.bytes.now }
     {
         octets::words::u32_at(self.bytes, layout::SIGNERS_AT)
     }
 
-    // The model inputs that it was checked under.
+    /// The model inputs that it was checked under.
     pub fn inputs(self) -> &'a [u8]
         ensures value { result.now ≡ B.inputs_in self.entry.bytes.now }
         ensures size { length result.now ≡ hash_size }
@@ -63,7 +63,7 @@ impl<'a> Fix<'a> {
         &bytes[layout::INPUTS_AT..layout::FIX_SIZE]
     }
 
-    // The identity.
+    /// The identity.
     pub fn identity(self) -> Identity
         ensures { result.0 ≡ B.identity_in self.entry.bytes.now }
     {
@@ -72,7 +72,7 @@ impl<'a> Fix<'a> {
         identities::identity(&identities::set_hash(self.record()), &Inputs(inputs))
     }
 
-    // Whether the other has the same message, tags and model inputs. Then the two have one identity, and nothing need be hashed.
+    /// Whether the other has the same message, tags and model inputs. Then the two have one identity, and nothing need be hashed.
     pub fn has_set_of(self, other: Fix<'a>) -> bool
         ensures { result ≡ P.same_set self.entry.bytes.now other.entry.bytes.now }
     {
@@ -91,7 +91,7 @@ impl<'a> Fix<'a> {
     }
 }
 
-// How many fixes stand.
+/// How many fixes stand.
 pub fn fix_count(b: &[u8]) -> u8
     requires { length b.now ≡ L.transmission_size }
     ensures { result ≡ B.fix_count b.now }
@@ -99,7 +99,7 @@ pub fn fix_count(b: &[u8]) -> u8
     b[layout::FIX_COUNT_AT]
 }
 
-// How many are refused.
+/// How many are refused.
 pub fn refused_count(b: &[u8]) -> u8
     requires { length b.now ≡ L.transmission_size }
     ensures { result ≡ B.refused_count b.now }
@@ -107,7 +107,7 @@ pub fn refused_count(b: &[u8]) -> u8
     b[layout::REFUSED_COUNT_AT]
 }
 
-// How many fixes are held: those that stand, and the refused.
+/// How many fixes are held: those that stand, and the refused.
 pub fn held_count(b: &[u8]) -> u8
     requires { P.Sound b.now }
     ensures { result ≡ P.held_count b.now }
@@ -115,7 +115,7 @@ pub fn held_count(b: &[u8]) -> u8
     fix_count(b) + refused_count(b)
 }
 
-// The fix k of those that stand.
+/// The fix k of those that stand.
 pub fn fix_at(b: &[u8], k: u8) -> &[u8]
     requires b_len { length b.now ≡ L.transmission_size }
     requires k_bound { k < L.max_standing }
@@ -126,7 +126,7 @@ pub fn fix_at(b: &[u8], k: u8) -> &[u8]
     &b[a..e]
 }
 
-// The refused fix k.
+/// The refused fix k.
 pub fn refused_at(b: &[u8], k: u8) -> &[u8]
     requires b_len { length b.now ≡ L.transmission_size }
     requires k_bound { k < L.max_refused }
@@ -137,7 +137,7 @@ pub fn refused_at(b: &[u8], k: u8) -> &[u8]
     &b[a..e]
 }
 
-// Where the held fix k lies: those that stand come first, then the refused.
+/// Where the held fix k lies: those that stand come first, then the refused.
 pub fn place_of(b: &[u8], k: u8) -> usize
     requires sound { P.Sound b.now }
     requires k_bound { k < P.held_count b.now }
@@ -150,7 +150,7 @@ pub fn place_of(b: &[u8], k: u8) -> usize
     layout::REFUSED_AT + (k - n) as usize * layout::REFUSED_SIZE
 }
 
-// The held fix k.
+/// The held fix k.
 pub fn held(b: &[u8], k: u8) -> Fix
     requires sound { P.Sound b.now }
     requires k_bound { k < P.held_count b.now }
@@ -161,7 +161,7 @@ pub fn held(b: &[u8], k: u8) -> Fix
     Fix::of(&b[a..e])
 }
 
-// Whether some fix that is held is tied to a record.
+/// Whether some fix that is held is tied to a record.
 pub fn ties(b: &[u8], r: Record) -> bool
     requires { P.Sound b.now }
     ensures { result ≡ any_of (P.ties_to r.entry.bytes.now) (P.held_places b.now) }
@@ -175,7 +175,7 @@ pub fn ties(b: &[u8], r: Record) -> bool
     false
 }
 
-// Adds signers to the held fix k.
+/// Adds signers to the held fix k.
 pub fn sign(b: &mut [u8], k: u8, engines: u32)
     requires sound { P.Sound b.old }
     requires k_bound { k < P.held_count b.old }

@@ -1,10 +1,10 @@
-// Replays lists of calls on a track and prints what each is answered, with the hash of the bytes that it leaves. The expected
-// output is that of the Rust (make_stdout.py).
-//
-// On standard input a list is the number of its calls, in two bytes, and the calls; numbers have their lowest byte first. A call is
-// a byte for its kind and its fields: 0, a report: engine, a record of 222 bytes; 1, a summary: engine, model, spec in two
-// bytes, inputs of 32; 2, a conviction: engine; 3, a listing. Each list begins with a fresh track. A list that is cut short, or a
-// call of another kind, ends the work.
+//! Replays lists of calls on a track and prints what each is answered, with the hash of the bytes that it leaves. The expected
+//! output is that of the Rust (make_stdout.py).
+//!
+//! On standard input a list is the number of its calls, in two bytes, and the calls; numbers have their lowest byte first. A call is
+//! a byte for its kind and its fields: 0, a report: engine, a record of 222 bytes; 1, a summary: engine, model, spec in two
+//! bytes, inputs of 32; 2, a conviction: engine; 3, a listing. Each list begins with a fresh track. A list that is cut short, or a
+//! call of another kind, ends the work.
 #![tactic(auto)]
 
 use models::layout::{ENGINE_AT, INPUTS_AT, MODEL_AT, SPEC_AT, SUMMARY_SIZE};

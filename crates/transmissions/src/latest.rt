@@ -1,4 +1,5 @@
-// The latest transmissions, the oldest of them first: by time, then by identity, of the first ranked of each.
+//! The latest transmissions, the oldest of them first: by time, then by identity, of the first ranked of each.
+
 ghost use Rattle.std.specs.Prelude.{◌≡◌, ◌*◌, ◌≤◌, ◌<◌, [], length, not, position};
 ghost use Rattle.items.specs.Layout.{item_size};
 ghost use Rattle.ranges.specs.Lists.{insert, sort, up_to};
@@ -14,7 +15,7 @@ use fixes::{Fix, MAX_FIXES};
 use links::{Transmission, Transmissions};
 use models::hashes::{HASH_SIZE, Identity, precedes};
 
-// A transmission by its number among all, with the time and the identity of its first ranked fix.
+/// A transmission by its number among all, with the time and the identity of its first ranked fix.
 #[derive(Clone, Copy)]
 pub struct Lead {
     pub number: u8,
@@ -79,7 +80,7 @@ fn enter(leads: &mut ArrayVec<Lead, MAX_FIXES>, lead: Lead)
     leads.insert(place, lead);
 }
 
-// Puts all transmissions into an empty list, the oldest first.
+/// Puts all transmissions into an empty list, the oldest first.
 pub fn arrange(
     items: &mut [u8],
     transmissions: &Transmissions<'_, '_>,

@@ -1,4 +1,4 @@
-// What a board shows of transmissions: what is decided of each, and which are the latest.
+//! What a board shows of transmissions: what is decided of each, and which are the latest.
 #![tactic(auto)]
 
 ghost use Rattle.std.specs.Prelude.{◌≡◌, ◌+◌, ◌*◌, ◌≤◌, length};
@@ -36,7 +36,7 @@ fn put_items(items: &mut [u8], transmission: &Transmission<'_, '_>) -> usize
     at
 }
 
-// What is decided of a transmission, whose fixes are in ascending identity, in a lent table of items.
+/// What is decided of a transmission, whose fixes are in ascending identity, in a lent table of items.
 pub fn outcome(items: &mut [u8], transmission: &Transmission<'_, '_>) -> Decision
     requires items_len { length items.old ≡ MAX_FIXES * item_size }
     requires few { length transmission.now ≤ MAX_FIXES }

@@ -1,4 +1,5 @@
-// What is shown of a transmission.
+//! What is shown of a transmission.
+
 ghost use Rattle.std.specs.Prelude.{◌≡◌, ◌<◌, length, get_or};
 ghost use Rattle.decision.specs.Answer.{decided};
 ghost use Rattle.shown.specs.Items.{items_for};
@@ -14,7 +15,7 @@ use fixes::Fix;
 use links::Transmission;
 use std::marker::Model;
 
-// The fixes of a transmission, and what is decided of them by their indices.
+/// The fixes of a transmission, and what is decided of them by their indices.
 #[derive(Drop)]
 pub struct Shown<'t, 's, 'a> {
     transmission: &'t Transmission<'s, 'a>,
@@ -34,7 +35,7 @@ impl<'t, 's, 'a> Model for Shown<'t, 's, 'a> {
 }
 
 impl<'t, 's, 'a> Shown<'t, 's, 'a> {
-    // What is shown of a transmission, of which this was decided.
+    /// What is shown of a transmission, of which this was decided.
     pub fn of(transmission: &'t Transmission<'s, 'a>, decision: &'t Decision) -> Shown<'t, 's, 'a>
         requires part { Part transmission.now }
         requires decision_value { decision.now ≡ decided (items_for transmission.now) }
@@ -46,28 +47,28 @@ impl<'t, 's, 'a> Shown<'t, 's, 'a> {
         }
     }
 
-    // How many of its fixes are ranked, dominated and refused.
+    /// How many of its fixes are ranked, dominated and refused.
     pub fn ranked_len(&self) -> usize
         ensures { result ≡ length self.now.ranked }
     {
         self.decision.ranked.count as usize
     }
 
-    // How many fixes are dominated.
+    /// How many fixes are dominated.
     pub fn dominated_len(&self) -> usize
         ensures { result ≡ length self.now.dominated }
     {
         self.decision.dominated.count as usize
     }
 
-    // How many fixes are refused.
+    /// How many fixes are refused.
     pub fn refused_len(&self) -> usize
         ensures { result ≡ length self.now.refused }
     {
         self.decision.refusals.count as usize
     }
 
-    // One of those that are ranked, in rank.
+    /// One of those that are ranked, in rank.
     pub fn ranked(&self, i: usize) -> &'s Fix<'a>
         requires { i < length self.now.ranked }
         ensures { (d : ShownFix) → get_or self.now.ranked i d ≡ result.now }
@@ -75,7 +76,7 @@ impl<'t, 's, 'a> Shown<'t, 's, 'a> {
         self.transmission.fix(self.decision.ranked.list[i] as usize)
     }
 
-    // One of those that are dominated, in ascending identity.
+    /// One of those that are dominated, in ascending identity.
     pub fn dominated(&self, i: usize) -> &'s Fix<'a>
         requires { i < length self.now.dominated }
         ensures { (d : ShownFix) → get_or self.now.dominated i d ≡ result.now }
@@ -84,7 +85,7 @@ impl<'t, 's, 'a> Shown<'t, 's, 'a> {
             .fix(self.decision.dominated.list[i] as usize)
     }
 
-    // One of those that are refused, in ascending identity; against whom; and the chi-square of the two.
+    /// One of those that are refused, in ascending identity; against whom; and the chi-square of the two.
     pub fn refused(&self, i: usize) -> &'s Fix<'a>
         requires { i < length self.now.refused }
         ensures { (d : Refused ShownFix Squared) → (get_or self.now.refused i d).item ≡ result.now }
@@ -93,7 +94,7 @@ impl<'t, 's, 'a> Shown<'t, 's, 'a> {
             .fix(self.decision.refusals.list[i].refused as usize)
     }
 
-    // The fix that a refused one is refused against.
+    /// The fix that a refused one is refused against.
     pub fn against(&self, i: usize) -> &'s Fix<'a>
         requires { i < length self.now.refused }
         ensures { (d : Refused ShownFix Squared) → (get_or self.now.refused i d).against ≡ result.now }
@@ -102,7 +103,7 @@ impl<'t, 's, 'a> Shown<'t, 's, 'a> {
             .fix(self.decision.refusals.list[i].kept as usize)
     }
 
-    // The chi-square of the two, where there is one.
+    /// The chi-square of the two, where there is one.
     pub fn chi_square(&self, i: usize) -> ChiSquare
         requires { i < length self.now.refused }
         ensures { (d : Refused ShownFix Squared) → (get_or self.now.refused i d).chi2 ≡ result }

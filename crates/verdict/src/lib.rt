@@ -1,4 +1,4 @@
-// What comparing a superset with the smaller fix that it would replace finds.
+//! What comparing a superset with the smaller fix that it would replace finds.
 #![tactic(auto)]
 
 ghost use Rattle.std.specs.Prelude.{◌≡◌};
@@ -11,7 +11,7 @@ ghost use Rattle.verdict.specs.Added.{has_tag};
 use arithmetic::standing::ChiSquare;
 use record::Record;
 
-// Whether the larger fix agrees with the smaller. A record that is malformed has no verdict.
+/// Whether the larger fix agrees with the smaller. A record that is malformed has no verdict.
 #[derive(Clone, Copy)]
 pub enum SupersetVerdict {
     Malformed,
@@ -19,14 +19,14 @@ pub enum SupersetVerdict {
     Contested(ChiSquare),
 }
 
-// Tags, in their order.
+/// Tags, in their order.
 #[derive(Clone, Copy)]
 pub struct Tags {
     pub list: [u64; 16],
     pub count: u8,
 }
 
-// The verdict, and beside it the tags that a contested superset added.
+/// The verdict, and beside it the tags that a contested superset added.
 #[derive(Clone, Copy)]
 pub struct Comparison {
     pub verdict: SupersetVerdict,
@@ -91,8 +91,8 @@ fn compared(smaller: Record, larger: Record) -> Comparison
     }
 }
 
+/// Whether the larger of two fixes, in the bytes of their records, agrees with the smaller.
 #[tactic(auto, unfolding(crate::specs::Supersets::verdict_of))]
-// Whether the larger of two fixes, in the bytes of their records, agrees with the smaller.
 pub fn superset_verdict(smaller: &[u8], larger: &[u8]) -> Comparison
     ensures { result ≡ verdict_of smaller.now larger.now }
 {
