@@ -13,7 +13,6 @@ use crate::layout;
 use models::layout::SUMMARY_SIZE;
 use models::summaries::{Summaries, Summary};
 use places::table::is_table;
-use record::Record;
 use record::layout::RECORD_SIZE;
 
 // Whether a summary is within the limits, of an engine that is not convicted.
@@ -45,7 +44,8 @@ fn place_formed(p: &[u8], convicted: Signers) -> bool
     requires { length p.now ≡ place_size }
     ensures { result ≡ place_formed convicted.0 p.now }
 {
-    if Record::parse(&p[..RECORD_SIZE]).is_none() {
+    let is_record = record::formed::well_formed(&p[..RECORD_SIZE]);
+    if !is_record {
         return false;
     }
     let signers = Signers(octets::words::u32_at(p, RECORD_SIZE));

@@ -8,7 +8,7 @@ ghost use Rattle.record.specs.Fields as F;
 ghost use Rattle.record.specs.Formed.{well_formed};
 
 pub mod claims;
-mod formed;
+pub mod formed;
 pub mod layout;
 pub mod relations;
 

@@ -5,15 +5,15 @@ use Rattle.record.specs.Layout.{record_size}
 use Rattle.held.proofs.Signatures.{signers-at}
 use Rattle.held.proofs.formed.place_formed.Goals as goal
 
-pub slice_bounds-parse-end : goal.slice_bounds-parse-end
-slice_bounds-parse-end c = sym (length-take-le record_size c.args.p.now (omega (arith, c.requires)))
+pub slice_bounds-well_formed-end : goal.slice_bounds-well_formed-end
+slice_bounds-well_formed-end c = sym (length-take-le record_size c.args.p.now (omega (arith, c.requires)))
 
 pub returns-then-not-is_empty : goal.returns-then-not-is_empty
 returns-then-not-is_empty c =
     let e = c.u32_at.ensures ∙ signers-at c.args.p.now c.requires in
-    rw (sym c.parse.ensures.formed ∙ c.if-is_none.ensures, ← e, ← c.is_empty.ensures, c.if-not-is_empty.true) c.is_disjoint.ensures
+    rw (sym c.well_formed-is_record.ensures ∙ c.if-not-is_record.false, ← e, ← c.is_empty.ensures, c.if-not-is_empty.true) c.is_disjoint.ensures
 
 pub returns-else-not-is_empty : goal.returns-else-not-is_empty
 returns-else-not-is_empty c =
     let e = c.u32_at.ensures ∙ signers-at c.args.p.now c.requires in
-    rw (sym c.parse.ensures.formed ∙ c.if-is_none.ensures, ← e, ← c.is_empty.ensures, c.if-not-is_empty.false) refl
+    rw (sym c.well_formed-is_record.ensures ∙ c.if-not-is_record.false, ← e, ← c.is_empty.ensures, c.if-not-is_empty.false) refl
