@@ -85,12 +85,9 @@ fn show_decision(rt: &impl Print, d: Decision) -> io::Result<()> {
     word(rt, b"\n")
 }
 
-fn show_tags(rt: &impl Print, list: [u64; 16], count: u8) -> io::Result<()> {
-    for i in 0..16 {
-        if count <= i {
-            return Ok(());
-        }
-        show(rt, list[i as usize])?;
+fn show_tags(rt: &impl Print, tags: &[u64]) -> io::Result<()> {
+    for tag in tags {
+        show(rt, *tag)?;
     }
     Ok(())
 }
@@ -108,13 +105,10 @@ fn show_contested(rt: &impl Print, chi2: ChiSquare) -> io::Result<()> {
     show_chi_square(rt, chi2)
 }
 
-fn show_comparison(rt: &impl Print, c: Comparison) -> io::Result<()> {
-    let v = c.verdict;
-    show_verdict(rt, v)?;
-    let added = c.added;
+fn show_comparison(rt: &impl Print, comparison: Comparison) -> io::Result<()> {
+    show_verdict(rt, comparison.verdict)?;
     word(rt, b" added")?;
-    let added_list = added.list;
-    show_tags(rt, added_list, added.count)?;
+    show_tags(rt, &comparison.added)?;
     word(rt, b"\n")
 }
 

@@ -1,3 +1,2 @@
--- What comparing two records finds (Supersets), and what its loops look for (Added).
+-- What comparing two records finds (Supersets).
 pub mod Supersets
-pub mod Added

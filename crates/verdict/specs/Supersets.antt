@@ -1,7 +1,6 @@
 -- What comparing a superset with the smaller fix that it would replace finds (the Rust's
 -- `contest::superset_verdict`): the enum keeps its chi-square, a number or none, in the disagreeing case; the added tags stand beside it.
-use Rattle.std.specs.Prelude.{cond, ◌&&◌, List, [], ◌∷◌, ◌++◌, ℕ, ◌-◌, length, replicate}
-use Rattle.record.specs.Layout.{max_tags}
+use Rattle.std.specs.Prelude.{cond, ◌&&◌, List, [], ◌∷◌, ℕ}
 use Rattle.record.specs.Formed.{well_formed}
 use Rattle.record.specs.Added.{added_tags}
 use Rattle.arithmetic.specs.Agree.{agreement_of, agrees_of, chi_square_in}
@@ -9,15 +8,15 @@ use Rattle.arithmetic.specs.declared.standing.ChiSquare.{ChiSquare}
 use Rattle.items.specs.Claimed.{claim_of}
 use Rattle.verdict.specs.declared.SupersetVerdict.{SupersetVerdict}
 use Rattle.verdict.specs.declared.SupersetVerdict.TheVariants.{Malformed, Agrees, Contested}
-use Rattle.verdict.specs.declared.Tags.{Tags}
-use Rattle.verdict.specs.declared.Comparison.{Comparison}
 
-unfoldable pub tags_of : List ℕ → Tags
-tags_of l = record { list = l ++ replicate (max_tags - length l) 0; count = length l }
+-- a verdict, and beside it the tags that a contested superset added
+pub record Compared : Type 0 where
+  pub verdict : SupersetVerdict
+  pub added : List ℕ
 
 -- a verdict that names no tags
-abbrev pub plainly : SupersetVerdict → Comparison
-plainly v = record { verdict = v; added = tags_of [] }
+abbrev pub plainly : SupersetVerdict → Compared
+plainly v = record { verdict = v; added = [] }
 
 -- The number and the values of each case: a malformed record is 3, as where one is reported; the other two cases are answers, and a
 -- contested one has what was measured.
@@ -32,11 +31,11 @@ contested_by Agrees = []
 contested_by (Contested chi2) = chi2 ∷ []
 
 -- of two records
-unfoldable pub comparison_of : List ℕ → List ℕ → Comparison
+unfoldable pub comparison_of : List ℕ → List ℕ → Compared
 comparison_of smaller larger =
     let a = agreement_of (claim_of smaller) (claim_of larger) in
-    cond (agrees_of a) (plainly Agrees) (record { verdict = Contested (chi_square_in a); added = tags_of (added_tags smaller larger) })
+    cond (agrees_of a) (plainly Agrees) (record { verdict = Contested (chi_square_in a); added = added_tags smaller larger })
 
 -- of any bytes
-unfoldable pub verdict_of : List ℕ → List ℕ → Comparison
+unfoldable pub verdict_of : List ℕ → List ℕ → Compared
 verdict_of smaller larger = cond (well_formed smaller && well_formed larger) (comparison_of smaller larger) (plainly Malformed)

@@ -2,14 +2,16 @@
 #![tactic(auto)]
 
 ghost use Rattle.std.specs.Prelude.{◌≡◌};
-ghost use Rattle.ranges.specs.Range.{any};
-ghost use Rattle.record.specs.Fields.{tag_count};
+ghost use Rattle.record.specs.Fields.{tags};
+ghost use Rattle.record.specs.Relations.{member};
 ghost use Rattle.record.specs.Added.{added_tags};
-ghost use Rattle.verdict.specs.Supersets.{tags_of, verdict_of, comparison_of, plainly};
-ghost use Rattle.verdict.specs.Added.{has_tag};
+ghost use Rattle.verdict.specs.Supersets.{verdict_of, comparison_of, plainly};
 
 use arithmetic::standing::ChiSquare;
+use arrayvec::ArrayVec;
 use record::Record;
+use record::layout::MAX_TAGS;
+use std::marker::Model;
 
 /// Whether the larger fix agrees with the smaller. A record that is malformed has no verdict.
 #[derive(Clone, Copy)]
@@ -19,23 +21,24 @@ pub enum SupersetVerdict {
     Contested(ChiSquare),
 }
 
-/// Tags, in their order.
-#[derive(Clone, Copy)]
-pub struct Tags {
-    pub list: [u64; 16],
-    pub count: u8,
-}
-
-/// The verdict, and beside it the tags that a contested superset added.
-#[derive(Clone, Copy)]
+/// The verdict, and beside it the tags that a contested superset added, in their order.
+#[derive(Drop)]
 pub struct Comparison {
     pub verdict: SupersetVerdict,
-    pub added: Tags,
+    pub added: ArrayVec<u64, MAX_TAGS>,
+}
+
+impl Model for Comparison {
+    ghost use Rattle.verdict.specs.Supersets.{Compared};
+
+    ghost Value = { Compared };
+
+    ghost view = { λ c. record { verdict = c.verdict; added = c.added.items } };
 }
 
 // Whether t is one of a's tags.
 fn has_tag(a: Record, t: u64) -> bool
-    ensures { result ≡ any (has_tag a.entry.bytes.now t) 0 (tag_count a.entry.bytes.now) }
+    ensures { result ≡ member t (tags a.entry.bytes.now) }
 {
     for i in 0..a.tag_count() {
         if t == a.tag(i) {
@@ -46,29 +49,28 @@ fn has_tag(a: Record, t: u64) -> bool
 }
 
 // The tags that b has and a has not.
-fn added(a: Record, b: Record) -> Tags
-    ensures { result ≡ tags_of (added_tags a.entry.bytes.now b.entry.bytes.now) }
+fn added(a: Record, b: Record) -> ArrayVec<u64, MAX_TAGS>
+    ensures { result.items ≡ added_tags a.entry.bytes.now b.entry.bytes.now }
 {
-    let mut list = [0u64; 16];
-    let mut count: u8 = 0;
+    let mut added = ArrayVec::new();
     for i in 0..b.tag_count() {
         let t = b.tag(i);
         if has_tag(a, t) {
             continue;
         }
-        list[count as usize] = t;
-        count += 1;
+        added.push(t);
     }
-    Tags { list, count }
+    added
 }
 
 // A verdict that names no tags.
 fn plain(verdict: SupersetVerdict) -> Comparison
     ensures { result ≡ plainly verdict }
 {
-    let list = [0u64; 16];
-    let added = Tags { list, count: 0 };
-    Comparison { verdict, added }
+    Comparison {
+        verdict,
+        added: ArrayVec::new(),
+    }
 }
 
 #[tactic(auto, unfolding(crate::specs::Supersets::comparison_of))]
@@ -83,11 +85,9 @@ fn compared(smaller: Record, larger: Record) -> Comparison
     if arithmetic::agrees(a) {
         return plain(SupersetVerdict::Agrees);
     }
-    let chi2 = arithmetic::chi_square(a);
-    let added = added(smaller, larger);
     Comparison {
-        verdict: SupersetVerdict::Contested(chi2),
-        added,
+        verdict: SupersetVerdict::Contested(arithmetic::chi_square(a)),
+        added: added(smaller, larger),
     }
 }
 

@@ -1,26 +1,39 @@
-use mathlib.Core.Path.{◌≡◌, refl}
+use mathlib.Core.Path.{sym, ap, ◌∙◌}
+use mathlib.Core.List.{List, ◌++◌}
+use Prim.Native.Nat.{ℕ}
 use native.Mathlib.Omega.{arith}
-use lib.ListN.{length-set}
-use Rattle.ranges.proofs.Range.{collected-none, collected-hit, collected-miss}
-use Rattle.record.specs.Fields.{tag_count}
-use Rattle.record.specs.Layout.{max_tags}
-use Rattle.verdict.proofs.Adding.{tags-of}
+use Rattle.std.proofs.lemmas.List.{append-nil}
+use Rattle.std.proofs.Math.Seq.{append_snoc}
+use Rattle.record.specs.Fields.{tags}
+use Rattle.record.specs.Added.{not_in}
+use Rattle.record.proofs.Merging.{tags-step, tags-end}
+use Rattle.verdict.proofs.Tags.{old, new}
 use Rattle.verdict.proofs.added.Goals as goal
 
-pub loop-i-init : goal.loop-i-init
-loop-i-init c = (refl, collected-none _ _ max_tags _)
-
 pub loop-i-preserved-then-has_tag : goal.loop-i-preserved-then-has_tag
-loop-i-preserved-then-has_tag c = let l = c.loop-i.invariant in (l.0, collected-miss _ _ _ _ _ _ _ (rw (← c.tag-t.ensures, ← c.has_tag.ensures, c.if-has_tag.true) refl) l.1)
+loop-i-preserved-then-has_tag c =
+    let n = c.tag_count-i-end.ensures.value in
+    let k = tags c.args.a.bytes.now in (
+      omega (arith, c.loop-i.invariant.0),
+      c.loop-i.invariant.1
+          ∙ ap (λ (l : List ℕ). c.loop-i.added.items ++ not_in k l) (tags-step _ _ _ (omega arith))
+          ∙ ap (λ (l : List ℕ). c.loop-i.added.items ++ l) (old k _ _ (rw (← c.tag-t.ensures, ← c.has_tag.ensures) c.if-has_tag.true)),
+    )
 
 pub loop-i-preserved : goal.loop-i-preserved
 loop-i-preserved c =
-    let l = c.loop-i.invariant in
-    let n = c.tag_count-i-end.ensures in
-    (simp length-set l.0, collected-hit _ _ _ _ _ _ _ _ (omega (arith, n.bounds.1)) (rw (← c.tag-t.ensures, ← c.has_tag.ensures, c.if-has_tag.false) refl) c.tag-t.ensures l.1)
+    let n = c.tag_count-i-end.ensures.value in
+    let k = tags c.args.a.bytes.now in (
+      omega (arith, c.loop-i.invariant.0, c.push.ensures.len),
+      c.loop-i.invariant.1
+          ∙ ap (λ (l : List ℕ). c.loop-i.added.items ++ not_in k l) (tags-step _ _ _ (omega arith))
+          ∙ ap (λ (l : List ℕ). c.loop-i.added.items ++ l) (new k _ _ (rw (← c.tag-t.ensures, ← c.has_tag.ensures) c.if-has_tag.false))
+          ∙ rw (c.push.ensures.items, c.tag-t.ensures) (sym (append_snoc _ _ _)),
+    )
 
 pub returns : goal.returns
+unfolding not_in
 returns c =
     let n = c.tag_count-i-end.ensures.value in
-    let all : c.loop-i.i ≡ tag_count c.args.b.bytes.now = omega arith in
-    tags-of _ _ (record { list = c.loop-i.list; count = c.loop-i.count }) (rw (← all) c.loop-i.invariant.1)
+    sym
+    (c.loop-i.invariant.1 ∙ ap (λ (l : List ℕ). c.loop-i.added.items ++ not_in (tags c.args.a.bytes.now) l) (tags-end _ _ _ (omega arith)) ∙ append-nil _)

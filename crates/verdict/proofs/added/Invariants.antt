@@ -1,10 +1,14 @@
+use Prim.Native.Nat.{◌-◌, ◌≤◌}
 use mathlib.Core.Path.{◌≡◌}
+use mathlib.Core.List.{◌++◌}
 use lib.ListN.{length}
-use Rattle.ranges.specs.Range.{Collected}
-use Rattle.record.specs.Fields.{tag_at}
-use Rattle.record.specs.Layout.{max_tags}
-use Rattle.verdict.specs.Added.{is_added}
+use Rattle.record.specs.Fields.{tags, tags_from, tag_count}
+use Rattle.record.specs.Added.{added_tags, not_in}
 use Rattle.verdict.proofs.added.Given as goal
 
+-- at most i were added, and those that the rest adds follow
 abbrev pub invariant-loop-i : goal.invariant-loop-i
-invariant-loop-i l = (length l.list ≡ max_tags) × Collected (is_added l.a.bytes.now l.b.bytes.now) (tag_at l.b.bytes.now) max_tags 0 l.list l.count l.i
+invariant-loop-i l =
+    let a = l.a.bytes.now in
+    let b = l.b.bytes.now in
+    (length l.added.items ≤ l.i) × (added_tags a b ≡ l.added.items ++ not_in (tags a) (tags_from b l.i (tag_count b - l.i)))
