@@ -76,10 +76,10 @@ fn start(h: &[u32; 8], t: u64, f: u32) -> [u32; 16]
 }
 
 // Both folded of the state, xored into h.
-fn fold(h: &[u32; 8], v: &[u32; 16]) -> [u32; 8]
-    ensures { result ≡ fold_state h.now v.now }
+fn fold(h: &mut [u32; 8], v: &[u32; 16])
+    ensures { h.new ≡ fold_state h.old v.now }
 {
-    [
+    *h = [
         h[0] ^ v[0] ^ v[8],
         h[1] ^ v[1] ^ v[9],
         h[2] ^ v[2] ^ v[10],
@@ -88,15 +88,15 @@ fn fold(h: &[u32; 8], v: &[u32; 16]) -> [u32; 8]
         h[5] ^ v[5] ^ v[13],
         h[6] ^ v[6] ^ v[14],
         h[7] ^ v[7] ^ v[15],
-    ]
+    ];
 }
 
 /// F on a block of 64 bytes: t bytes are hashed with it, and f is all ones if it is the last.
-pub fn compress(h: &[u32; 8], b: &[u8], t: u64, f: u32) -> [u32; 8]
+pub fn compress(h: &mut [u32; 8], b: &[u8], t: u64, f: u32)
     requires { length b.now ≡ block_bytes }
-    ensures { result ≡ compress_block h.now (words_of b.now) t f }
+    ensures { h.new ≡ compress_block h.old (words_of b.now) t f }
 {
     let m = message_words(b);
     let v = all_rounds(start(h, t, f), &m);
-    fold(h, &v)
+    fold(h, &v);
 }
