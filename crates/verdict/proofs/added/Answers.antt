@@ -5,6 +5,7 @@ use native.Mathlib.Omega.{arith}
 use Rattle.std.proofs.lemmas.List.{append-nil}
 use Rattle.std.proofs.Math.Seq.{append_snoc}
 use Rattle.record.specs.Fields.{tags}
+use Rattle.record.specs.Relations.{member}
 use Rattle.record.specs.Added.{not_in}
 use Rattle.record.proofs.Merging.{tags-step, tags-end}
 use Rattle.verdict.proofs.Tags.{old, new}
@@ -17,7 +18,7 @@ loop-i-preserved-then-has_tag c =
       omega (arith, c.loop-i.invariant.0),
       c.loop-i.invariant.1
           ∙ ap (λ (l : List ℕ). c.loop-i.added.items ++ not_in k l) (tags-step _ _ _ (omega arith))
-          ∙ ap (λ (l : List ℕ). c.loop-i.added.items ++ l) (old k _ _ (rw (← c.tag-t.ensures, ← c.has_tag.ensures) c.if-has_tag.true)),
+          ∙ ap (λ (l : List ℕ). c.loop-i.added.items ++ l) (old k _ _ (ap (λ (t : ℕ). member t k) (sym c.tag-t.ensures) ∙ sym c.has_tag.ensures ∙ c.if-has_tag.true)),
     )
 
 pub loop-i-preserved : goal.loop-i-preserved
@@ -27,7 +28,7 @@ loop-i-preserved c =
       omega (arith, c.loop-i.invariant.0, c.push.ensures.len),
       c.loop-i.invariant.1
           ∙ ap (λ (l : List ℕ). c.loop-i.added.items ++ not_in k l) (tags-step _ _ _ (omega arith))
-          ∙ ap (λ (l : List ℕ). c.loop-i.added.items ++ l) (new k _ _ (rw (← c.tag-t.ensures, ← c.has_tag.ensures) c.if-has_tag.false))
+          ∙ ap (λ (l : List ℕ). c.loop-i.added.items ++ l) (new k _ _ (ap (λ (t : ℕ). member t k) (sym c.tag-t.ensures) ∙ sym c.has_tag.ensures ∙ c.if-has_tag.false))
           ∙ rw (c.push.ensures.items, c.tag-t.ensures) (sym (append_snoc _ _ _)),
     )
 
