@@ -6,17 +6,16 @@ ghost use Rattle.fixes.specs.Fixes as F;
 ghost use Rattle.fixes.specs.Order.{order};
 ghost use Rattle.fixes.specs.Slots.{fix_of};
 
-use models::hashes::{HASH_SIZE, Identity, Inputs, precedes};
+use models::hashes::{Identity, Inputs, precedes};
 use models::summaries::Summaries;
 use models::{citations, identities};
 use record::Record;
-use record::layout::RECORD_SIZE;
 use record::relations::lesser;
 use std::cmp::Ordering;
 use std::marker::Model;
 
 /// A fix of a board: one for each identity.
-#[derive(Drop)]
+#[derive(Default, Drop)]
 pub struct Fix<'a> {
     pub identity: Identity,
     /// The record that represents it.
@@ -33,29 +32,6 @@ impl<'a> Model for Fix<'a> {
     ghost Value = { S.Fix };
 
     ghost view = { λ f. record { identity = f.identity.0; record_bytes = f.report.bytes.now; inputs = f.inputs.0; signers = f.signers } };
-}
-
-// A record with a message of 7 zero bytes, and the tag 0.
-static BLANK: [u8; RECORD_SIZE] = [
-    0, 0, 0, 0, 0, 0, 0, 0, 0, 0, 0, 0, 0, 0, 0, 0, 0, 0, 0, 0, 0, 7, 0, 0, 0, 0, 0, 0, 0, 0, 0, 0,
-    0, 0, 0, 0, 1, 0, 0, 0, 0, 0, 0, 0, 0, 0, 0, 0, 0, 0, 0, 0, 0, 0, 0, 0, 0, 0, 0, 0, 0, 0, 0, 0,
-    0, 0, 0, 0, 0, 0, 0, 0, 0, 0, 0, 0, 0, 0, 0, 0, 0, 0, 0, 0, 0, 0, 0, 0, 0, 0, 0, 0, 0, 0, 0, 0,
-    0, 0, 0, 0, 0, 0, 0, 0, 0, 0, 0, 0, 0, 0, 0, 0, 0, 0, 0, 0, 0, 0, 0, 0, 0, 0, 0, 0, 0, 0, 0, 0,
-    0, 0, 0, 0, 0, 0, 0, 0, 0, 0, 0, 0, 0, 0, 0, 0, 0, 0, 0, 0, 0, 0, 0, 0, 0, 0, 0, 0, 0, 0, 0, 0,
-    0, 0, 0, 0, 0, 0, 0, 0, 0, 0, 0, 0, 0, 0, 0, 0, 0, 0, 0, 0, 0, 0, 0, 0, 0, 0, 0, 0, 0, 0, 0, 0,
-    0, 0, 0, 0, 0, 0, 0, 0, 0, 0, 0, 0, 0, 0, 0, 0, 0, 0, 0, 0, 0, 0, 0, 0, 0, 0, 0, 0, 0, 0,
-];
-
-impl Default for Fix<'_> {
-    // What an unused place of a list holds.
-    fn default() -> Self {
-        Fix {
-            identity: Identity([0; HASH_SIZE]),
-            report: Record::of(&BLANK),
-            inputs: Inputs([0; HASH_SIZE]),
-            signers: 0,
-        }
-    }
 }
 
 impl<'a> Fix<'a> {

@@ -10,15 +10,15 @@ use arrayvec::ArrayVec;
 pub const HASH_SIZE: usize = 32;
 
 /// The inputs of the models that a record cites.
-#[derive(Clone, Copy, PartialEq, Eq)]
+#[derive(Clone, Copy, Default, PartialEq, Eq)]
 pub struct Inputs(pub [u8; HASH_SIZE]);
 
 /// What a record was worked out from.
-#[derive(Clone, Copy, PartialEq, Eq)]
+#[derive(Clone, Copy, Default, PartialEq, Eq)]
 pub struct SetHash(pub [u8; HASH_SIZE]);
 
 /// What a record is known by.
-#[derive(Clone, Copy, PartialEq, Eq)]
+#[derive(Clone, Copy, Default, PartialEq, Eq)]
 pub struct Identity(pub [u8; HASH_SIZE]);
 
 /// Whether an identity comes before another, in the order of their bytes.

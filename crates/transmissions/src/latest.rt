@@ -13,25 +13,14 @@ use crate::Shown;
 use arrayvec::ArrayVec;
 use fixes::{Fix, MAX_FIXES};
 use links::{Transmission, Transmissions};
-use models::hashes::{HASH_SIZE, Identity, precedes};
+use models::hashes::{Identity, precedes};
 
 /// A transmission by its number among all, with the time and the identity of its first ranked fix.
-#[derive(Clone, Copy)]
+#[derive(Clone, Copy, Default)]
 pub struct Lead {
     pub number: u8,
     pub time: u64,
     pub identity: Identity,
-}
-
-impl Default for Lead {
-    // What an unused place of a list holds.
-    fn default() -> Lead {
-        Lead {
-            number: 0,
-            time: 0,
-            identity: Identity([0; HASH_SIZE]),
-        }
-    }
 }
 
 impl Lead {
