@@ -1,20 +1,17 @@
 -- What std's clauses on slices of arrays say of the places of a table.
-use Rattle.std.proofs.Common.{◌≡◌, ℕ, zero, suc, ◌+◌, ◌-◌, ◌≤◌, ◌<◌, Bool, true, false, List, [], ◌∷◌, length, take, drop, get_or, refl, sym, ap, ◌∙◌, arith}
+use Rattle.std.proofs.Common.{◌≡◌, ℕ, zero, suc, ◌-◌, ◌≤◌, ◌<◌, Bool, true, false, List, [], ◌∷◌, length, take, drop, get_or, refl, sym, ap, ◌∙◌, arith}
 use Rattle.std.specs.Prelude.{Ok, Err, ltb}
-use mathlib.Core.Bool.{true≢false}
 use native.Mathlib.Nat.{le_antisymm}
-use native.Mathlib.Numerals.{add-one}
 use borrow.Author.Tests.{ltb-true, ltb-false, lt-ltb}
-use Rattle.std.specs.List.{IsAllAdjacentAnswer}
 use Rattle.std.specs.List.Sorted.{IsPartitionPoint, IsPartitionedBy}
 use Rattle.std.specs.Simd.{first_chunks}
 use Rattle.std.proofs.lemmas.List.{get_or_default}
 use Rattle.ranges.proofs.Bools.{by}
 use Rattle.octets.specs.Order.{is_before, same}
 use Rattle.octets.proofs.Comparison.{before-trans}
-use Rattle.places.specs.Places.{places, ascending, ascending_from}
+use Rattle.places.specs.Places.{places, ascending}
 use Rattle.places.specs.Positions.{rank}
-use Rattle.places.proofs.Keys.{rank-le, rank-above, rank_below, keys-ascend, holds-at-rank, ascending-from, from_cons}
+use Rattle.places.proofs.Keys.{rank-le, rank-above, rank_below, keys-ascend, holds-at-rank}
 use Rattle.places.specs.Tables.{sought}
 
 -- the first n of m chunks are n places
@@ -23,27 +20,6 @@ unfolding places
 first-places w zero m t h = refl
 first-places w (suc n) zero t h = absurd (omega arith)
 first-places w (suc n) (suc m) t h = ap (λ (ps : List (List ℕ)). take w t ∷ ps) (first-places w n m (drop w t) (omega arith))
-
--- ---- neighbours
-
-abbrev pub keys_ascend : ℕ → List ℕ → List ℕ → Bool
-keys_ascend k x y = is_before (take k x) (take k y)
-
-ascends_from : (k : ℕ) (p : List ℕ) (ps : List (List ℕ)) → ((i : ℕ) (d : List ℕ) → i + 1 < suc (length ps) → true ≡ keys_ascend k (get_or (p ∷ ps) i d) (get_or ps i d)) → ascending_from k (take k p) ps ≡ true
-ascends_from k p [] h = unfold ascending_from in refl
-ascends_from k p (q ∷ ps) h = from_cons k (take k p) q ps (sym (h 0 [] (omega arith))) (ascends_from k q ps (λ i d l. h (suc i) d (omega arith)))
-
--- places whose neighbours ascend ascend
-pub ascends : (k : ℕ) (ps : List (List ℕ)) (r : Bool) → IsAllAdjacentAnswer (λ x y b. b ≡ keys_ascend k x y) ps r → r ≡ ascending k ps
-ascends k [] true h = unfold ascending in refl
-ascends k (p ∷ ps) true h = sym (ascending-from k p ps ∙ ascends_from k p ps (λ i d l. neighbours i d l))
-  where
-    neighbours : (i : ℕ) (d : List ℕ) → i + 1 < suc (length ps) → true ≡ keys_ascend k (get_or (p ∷ ps) i d) (get_or ps i d)
-    neighbours i d l = let e = h i d l in rw (add-one i) at e
-ascends k ps false h =
-    by (ascending k ps)
-    (λ a. absurd (true≢false (sym (keys-ascend k ps h.0 (h.0 + 1) a (omega arith) h.1) ∙ sym (h.2 []))))
-    (λ a. sym a)
 
 -- ---- a key
 

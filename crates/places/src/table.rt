@@ -26,6 +26,24 @@ pub fn places_of<const WIDTH: usize>(t: &[u8], count: usize) -> &[[u8; WIDTH]]
     &all[..count]
 }
 
+// Whether the keys of these places ascend strictly.
+fn is_ascending<const WIDTH: usize, const KEY: usize>(places: &[[u8; WIDTH]]) -> bool
+    ensures { result ≡ ascending KEY places.now }
+{
+    let Some((first, rest)) = places.split_first() else {
+        return true;
+    };
+    let mut last = key_of::<WIDTH, KEY>(first);
+    for place in rest {
+        let key = key_of::<WIDTH, KEY>(place);
+        if !precedes(last, key) {
+            return false;
+        }
+        last = key;
+    }
+    true
+}
+
 /// Whether t holds a table of so many places: their keys ascend strictly, and the rest is zero.
 pub fn is_table<const WIDTH: usize, const KEY: usize>(t: &[u8], count: usize) -> bool
     requires width { 0 < WIDTH }
@@ -33,13 +51,7 @@ pub fn is_table<const WIDTH: usize, const KEY: usize>(t: &[u8], count: usize) ->
     requires fits { count * WIDTH ≤ length t.now }
     ensures { result ≡ is_table KEY WIDTH count t.now }
 {
-    let places = places_of::<WIDTH>(t, count);
-    let ascends = places.is_sorted_by(
-        |a: &[u8; WIDTH], b: &[u8; WIDTH]| -> bool
-            ensures { result ≡ is_before (take KEY a.now) (take KEY b.now) }
-        { precedes(key_of::<WIDTH, KEY>(a), key_of::<WIDTH, KEY>(b)) },
-    );
-    ascends && is_zero(&t[count * WIDTH..])
+    is_ascending::<WIDTH, KEY>(places_of::<WIDTH>(t, count)) && is_zero(&t[count * WIDTH..])
 }
 
 /// Where a key stands among places that ascend, or where it would go in.
