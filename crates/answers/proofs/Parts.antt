@@ -20,9 +20,7 @@ use Rattle.arithmetic.specs.declared.standing.ChiSquare.TheVariants.{Measured, U
 use Rattle.items.specs.Layout.{max_items}
 use Rattle.rule.specs.Outcome.{Outcome}
 use Rattle.decision.specs.declared.Refusal.{Refusal}
-use Rattle.decision.specs.declared.Refusals.{Refusals}
-use Rattle.decision.specs.declared.Indices.{Indices}
-use Rattle.decision.specs.declared.Decision.{Decision}
+use Rattle.decision.specs.Arrays.{Refusals, Indices, Decision}
 use Rattle.decision.specs.Answer.{indices, refusal, no_refusal, refusals, decision}
 use Rattle.decision.specs.Working.{plainly}
 use Rattle.answers.specs.Layout.{chi_square_size, refusal_size}
@@ -81,7 +79,7 @@ refusal-put l at x p =
     put_as (ap (λ (b : ℕ). x.refused ∷ x.kept ∷ b ∷ chi_square_bytes x.chi2) (flag x.superseded))
     (put-put (three-put l at x.refused x.kept (bool_byte x.superseded)) p)
 
-drop-zeros : (k n : ℕ) → drop k (replicate {A = ℕ} n 0) ≡ replicate (n - k) 0
+pub drop-zeros : (k n : ℕ) → drop k (replicate {A = ℕ} n 0) ≡ replicate (n - k) 0
 drop-zeros zero n = ap (λ (m : ℕ). replicate m 0) (sym (sub-zero n))
 drop-zeros (suc k) zero = let e : 0 ≡ 0 - suc k = omega arith in ap (λ (m : ℕ). replicate m 0) e
 drop-zeros (suc k) (suc n) = let e : suc n - suc k ≡ n - k = omega arith in drop-zeros k n ∙ ap (λ (m : ℕ). replicate m 0) (sym e)
@@ -203,3 +201,13 @@ refusals-stand d r =
     let p = r.ranked in
     let q = r.dominated in
     ap (drop refusals_at) (sym (append_assoc a b (refusals_bytes d.refusals))) ∙ drop_at (a ++ b) (refusals_bytes d.refusals) refusals_at (omega (arith, length-append a b))
+
+-- a list that is padded with zeros, after its count
+pub indices-put : (l k xs : List ℕ) (at : ℕ) {r : ℕ} {k' : List ℕ} → length l ≤ max_items → xs ≡ l ++ drop (length l) (replicate max_items 0)
+    → Put (set k at (length l)) (at + 1) xs r k' → (r ≡ at + indices_size) × Put k at (indices_bytes (indices l)) r k'
+unfolding indices
+indices-put l k xs at h e p =
+    let q = e ∙ ap (λ (z : List ℕ). l ++ z) (drop-zeros (length l) max_items) in
+    let n = p.next in
+    let m = ap (λ (z : List ℕ). length z) q ∙ length-append l (replicate (max_items - length l) 0) ∙ ap (λ (j : ℕ). length l + j) (length-replicate (max_items - length l) 0) in
+    (omega arith, put_as (ap (λ (z : List ℕ). length l ∷ z) q) (put-put (put_one k at (length l)) p))

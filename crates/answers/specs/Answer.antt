@@ -8,9 +8,7 @@ use Rattle.arithmetic.specs.declared.standing.ChiSquare.{ChiSquare}
 use Rattle.arithmetic.specs.declared.standing.ChiSquare.TheVariants.{Measured, Unmeasured}
 use Rattle.items.specs.Layout.{max_items}
 use Rattle.decision.specs.declared.Refusal.{Refusal}
-use Rattle.decision.specs.declared.Refusals.{Refusals}
-use Rattle.decision.specs.declared.Indices.{Indices}
-use Rattle.decision.specs.declared.Decision.{Decision}
+use Rattle.decision.specs.Arrays.{Refusals, Indices, Decision}
 use Rattle.held.specs.After.{After, after}
 use Rattle.answers.specs.Layout.{refusal_size}
 

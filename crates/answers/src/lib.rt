@@ -4,23 +4,27 @@
 //! one, so that no whole decision is made and copied.
 #![tactic(auto)]
 
-ghost use Rattle.std.specs.Prelude.{◌≡◌, false, ◌∷◌, map, ◌+◌, ◌*◌, ◌≤◌, length, replicate};
+ghost use Rattle.std.specs.Prelude.{◌≡◌, false, ◌∷◌, map, ◌+◌, ◌*◌, ◌≤◌, ◌<◌, length, replicate};
 ghost use Rattle.octets.specs.Words.{word_bytes};
 ghost use Rattle.octets.specs.Put.{Put};
 ghost use Rattle.items.specs.Layout.{item_size, max_items};
-ghost use Rattle.items.specs.Pairs.{stride, AllPrepared};
-ghost use Rattle.decision.specs.Working.{few, Settled};
-ghost use Rattle.decision.specs.Answer.{bad, outcome, refusal, decision, decided};
+ghost use Rattle.rule.specs.Standing as S;
+ghost use Rattle.rule.specs.Listed.{relations};
+ghost use Rattle.rule.specs.Rows.{all};
+ghost use Rattle.decision.specs.Working.{few, HoldsFirst};
+ghost use Rattle.decision.specs.Answer.{bad, outcome, indices, refusal, decision, decided};
 ghost use Rattle.held.specs.After.{after};
 ghost use Rattle.answers.specs.Layout.{chi_square_size, refusal_size};
 ghost use Rattle.answers.specs.Offsets.{indices_size, refusals_size, answer_size, least};
 ghost use Rattle.answers.specs.Answer.{indices_bytes, chi_square_bytes, refusal_bytes, answer_bytes, hand_out};
 ghost use Rattle.answers.specs.Offsets.{list_bytes};
 
-use arithmetic::standing::{ChiSquare, Prepared, UNPREPARED};
-use decision::{Indices, Refusal};
+use arithmetic::standing::ChiSquare;
+use decision::{Refusal, lists};
+use items::Item;
 use items::layout::{ITEM_SIZE, MAX_ITEMS};
-use rule::Marks;
+use rule::row::Row;
+use rule::settled::Settled;
 
 /// A count and room for an index of each item.
 pub const INDICES_SIZE: usize = 1 + MAX_ITEMS;
@@ -40,20 +44,21 @@ pub const ANSWER_SIZE: usize = INDICES_SIZE + INDICES_SIZE + REFUSALS_SIZE;
 // Up to this many items have tables that cost less to clear than those for `decision::FEW`.
 const LEAST: usize = 4;
 
-const LEAST_CODES: usize = LEAST * MAX_ITEMS;
-
 // The answers of items of which something is decided, and of bad ones.
 const DECIDED: u32 = 0;
 
 const BAD_ITEMS: u32 = 8;
 
-fn put_indices(out: &mut [u8], at: usize, x: Indices) -> usize
-    requires { at + indices_size ≤ length out.old }
-    ensures { (result ≡ at + indices_size) × Put out.old at (indices_bytes x) result out.new }
+// Their count, and then items by their places, zero where there are no more.
+fn put_indices(out: &mut [u8], at: usize, list: &[u8]) -> usize
+    requires room { at + indices_size ≤ length out.old }
+    requires few { length list.now ≤ max_items }
+    ensures { (result ≡ at + indices_size) × Put out.old at (indices_bytes (indices list.now)) result out.new }
 {
-    let list = x.list;
-    out[at] = x.count;
-    octets::runs::put_bytes(out, at + 1, &list)
+    let mut padded = [0u8; MAX_ITEMS];
+    padded[..list.len()].copy_from_slice(list);
+    out[at] = list.len() as u8;
+    octets::runs::put_bytes(out, at + 1, &padded)
 }
 
 // Whether there is a chi-square, and its bits.
@@ -89,27 +94,18 @@ fn put_refusal(out: &mut [u8], at: usize, x: Refusal) -> usize
 }
 
 // The refusals, with their count before them.
-fn put_refusals(
-    out: &mut [u8],
-    at: usize,
-    s: &[u8],
-    n: u8,
-    table: &[Prepared],
-    codes: &[u8],
-    m: Marks,
-) -> usize
-    requires refusals_size_in_bounds { at + refusals_size ≤ length out.old }
-    requires prepared { AllPrepared s.now table.now n × Settled s.now n codes.now m }
-    ensures { (result ≤ at + refusals_size) × Put out.old at (list_bytes (map refusal (outcome s.now).refused)) result out.new }
+fn put_refusals(out: &mut [u8], at: usize, settled: &Settled<'_>) -> usize
+    requires { at + refusals_size ≤ length out.old }
+    ensures { (result ≤ at + refusals_size) × Put out.old at (list_bytes (map refusal (S.decide (relations settled.now.compared.listed.items.now) (all settled.now.compared.listed.items.now)).refused)) result out.new }
 {
     let mut next = at + 1;
     let mut count: u8 = 0;
+    let n = settled.len();
     for i in 0..n {
-        let found = decision::settled::refusal(s, n, table, codes, m, i);
-        let Some(x) = found else {
+        let Some(found) = lists::refusal(settled, i) else {
             continue;
         };
-        next = put_refusal(out, next, x);
+        next = put_refusal(out, next, found);
         count += 1;
     }
     out[at] = count;
@@ -117,50 +113,61 @@ fn put_refusals(
 }
 
 // The three parts, one after another, into zeros, so that what is not used is zero.
-fn put_parts(out: &mut [u8], s: &[u8], n: u8, table: &[Prepared], codes: &[u8], m: Marks)
+fn put_parts(out: &mut [u8], settled: &Settled<'_>)
+    requires { out.old ≡ replicate answer_size 0 }
+    ensures { out.new ≡ answer_bytes (decision (S.decide (relations settled.now.compared.listed.items.now) (all settled.now.compared.listed.items.now))) }
+{
+    let second = put_indices(out, 0, lists::ranked(settled).as_slice());
+    let third = put_indices(out, second, lists::dominated(settled).as_slice());
+    put_refusals(out, third, settled);
+}
+
+// Decides in lent memory: a row for each item, and an item, of which the first is read.
+fn put_in<'b, 'a: 'b>(out: &mut [u8], s: &'a [u8], items: &'b mut [Item<'a>], rows: &'b mut [Row])
     requires out_value { out.old ≡ replicate answer_size 0 }
-    requires prepared { AllPrepared s.now table.now n × Settled s.now n codes.now m }
+    requires good { bad s.now ≡ false }
+    requires len { length s.now ≡ length items.old * item_size }
+    requires rows_len { length rows.old ≡ length items.old }
+    requires first { HoldsFirst s.now items.old 1 }
     ensures { out.new ≡ answer_bytes (decision (outcome s.now)) }
 {
-    let second = put_indices(out, 0, decision::settled::ranked(s, n, codes, m));
-    let third = put_indices(out, second, decision::settled::dominated(s, n, codes, m));
-    put_refusals(out, third, s, n, table, codes, m);
+    put_parts(out, &decision::settle(s, items, rows));
 }
 
-// Decides in the lent tables.
-fn put_in(out: &mut [u8], s: &[u8], n: u8, table: &mut [Prepared], codes: &mut [u8])
-    requires { (out.old ≡ replicate answer_size 0) × (bad s.now ≡ false) × (length s.now ≡ n * item_size) × (n ≤ length table.old) × (n * stride ≤ length codes.old) }
+fn put_least(out: &mut [u8], s: &[u8], n: usize)
+    requires out_value { out.old ≡ replicate answer_size 0 }
+    requires good { bad s.now ≡ false }
+    requires len { length s.now ≡ n * item_size }
+    requires n_bound { (0 < n) × (n ≤ least) }
     ensures { out.new ≡ answer_bytes (decision (outcome s.now)) }
 {
-    let m = decision::settled::settle(s, n, table, codes);
-    put_parts(out, s, n, table, codes, m);
+    let mut items = [decision::first(s); LEAST];
+    let mut rows = [Row::empty(); LEAST];
+    put_in(out, s, &mut items[..n], &mut rows[..n]);
 }
 
-fn put_least(out: &mut [u8], s: &[u8], n: u8)
-    requires { (out.old ≡ replicate answer_size 0) × (bad s.now ≡ false) × (length s.now ≡ n * item_size) × (n ≤ least) }
+fn put_few(out: &mut [u8], s: &[u8], n: usize)
+    requires out_value { out.old ≡ replicate answer_size 0 }
+    requires good { bad s.now ≡ false }
+    requires len { length s.now ≡ n * item_size }
+    requires n_bound { (0 < n) × (n ≤ few) }
     ensures { out.new ≡ answer_bytes (decision (outcome s.now)) }
 {
-    let mut table = [UNPREPARED; LEAST];
-    let mut codes = [0u8; LEAST_CODES];
-    put_in(out, s, n, &mut table, &mut codes);
+    let mut items = [decision::first(s); decision::FEW];
+    let mut rows = [Row::empty(); decision::FEW];
+    put_in(out, s, &mut items[..n], &mut rows[..n]);
 }
 
-fn put_few(out: &mut [u8], s: &[u8], n: u8)
-    requires { (out.old ≡ replicate answer_size 0) × (bad s.now ≡ false) × (length s.now ≡ n * item_size) × (n ≤ few) }
+fn put_many(out: &mut [u8], s: &[u8], n: usize)
+    requires out_value { out.old ≡ replicate answer_size 0 }
+    requires good { bad s.now ≡ false }
+    requires len { length s.now ≡ n * item_size }
+    requires n_bound { (0 < n) × (n ≤ max_items) }
     ensures { out.new ≡ answer_bytes (decision (outcome s.now)) }
 {
-    let mut table = [UNPREPARED; decision::FEW];
-    let mut codes = [0u8; decision::FEW_CODES];
-    put_in(out, s, n, &mut table, &mut codes);
-}
-
-fn put_many(out: &mut [u8], s: &[u8], n: u8)
-    requires { (out.old ≡ replicate answer_size 0) × (bad s.now ≡ false) × (length s.now ≡ n * item_size) × (n ≤ max_items) }
-    ensures { out.new ≡ answer_bytes (decision (outcome s.now)) }
-{
-    let mut table = [UNPREPARED; MAX_ITEMS];
-    let mut codes = [0u8; decision::MANY_CODES];
-    put_in(out, s, n, &mut table, &mut codes);
+    let mut items = [decision::first(s); MAX_ITEMS];
+    let mut rows = [Row::empty(); MAX_ITEMS];
+    put_in(out, s, &mut items[..n], &mut rows[..n]);
 }
 
 /// Decides items in bytes. The array is written where something is decided, and stays as it is on a refusal.
@@ -170,18 +177,18 @@ pub fn decide(s: &[u8], out: &mut [u8; ANSWER_SIZE]) -> u32
     if decision::is_bad(s) {
         return BAD_ITEMS;
     }
-    let n = (s.len() / ITEM_SIZE) as u8;
+    let n = s.len() / ITEM_SIZE;
     *out = [0u8; ANSWER_SIZE];
     // An item that is alone is ranked.
     if n <= 1 {
-        out[0] = n;
+        out[0] = n as u8;
         return DECIDED;
     }
-    if n as usize <= LEAST {
+    if n <= LEAST {
         put_least(out, s, n);
         return DECIDED;
     }
-    if n as usize <= decision::FEW {
+    if n <= decision::FEW {
         put_few(out, s, n);
         return DECIDED;
     }

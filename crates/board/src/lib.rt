@@ -14,7 +14,6 @@ ghost use Rattle.board.specs.Latest.{latest_over};
 
 use arrayvec::ArrayVec;
 use fixes::{Fix, Fixes, MAX_FIXES};
-use items::layout::ITEM_SIZE;
 use links::Transmissions;
 use models::summaries::Summaries;
 use register::layout;
@@ -38,11 +37,10 @@ fn draw_fixes(fixes: &[Fix<'_>], out: &mut [u8]) -> usize
     ensures { Put out.old 0 (board_text (latest_over fixes.now)) result out.new }
 {
     let transmissions = Transmissions::of(fixes);
-    let mut items = [0u8; MAX_FIXES * ITEM_SIZE];
     let mut leads = ArrayVec::new();
-    transmissions::latest::arrange(&mut items, &transmissions, &mut leads);
+    transmissions::latest::arrange(&transmissions, &mut leads);
     let start = leads.len().saturating_sub(MAX_SHOWN);
-    texts::write_latest(out, &mut items, &transmissions, &leads[start..])
+    texts::write_latest(out, &transmissions, &leads[start..])
 }
 
 // Writes the board of a register.

@@ -1,7 +1,6 @@
 //! The text of what is shown.
 
 ghost use Rattle.std.specs.Prelude.{◌≡◌, ℕ, ◌*◌, ◌<◌, ◌≤◌, length, get_or, map, flat_map};
-ghost use Rattle.items.specs.Layout.{item_size};
 ghost use Rattle.octets.specs.Put.{Put};
 ghost use Rattle.text.specs.Texts.{append};
 ghost use Rattle.drawing.specs.Text as D;
@@ -10,7 +9,6 @@ ghost use Rattle.transmissions.specs.Leads.{shown_at};
 ghost use Rattle.transmissions.specs.declared.latest.Lead.{Lead as Named};
 
 use drawing::Role;
-use fixes::MAX_FIXES;
 use links::Transmissions;
 use text::Text;
 use transmissions::Shown;
@@ -67,39 +65,27 @@ fn push_transmission(out: &mut Text, number: u64, shown: &Shown<'_, '_, '_>)
 }
 
 // Transmissions one after another, numbered from 1.
-fn push_latest(
-    out: &mut Text,
-    items: &mut [u8],
-    transmissions: &Transmissions<'_, '_>,
-    leads: &[Lead],
-)
-    requires items_len { length items.old ≡ MAX_FIXES * item_size }
+fn push_latest(out: &mut Text, transmissions: &Transmissions<'_, '_>, leads: &[Lead])
     requires parts { AllParts transmissions.now }
     requires named { (i : ℕ) (d : Named) → i < length leads.now → (get_or leads.now i d).number < length transmissions.now }
     ensures { out.new ≡ append out.old (D.board_text (map (shown_at transmissions.now) leads.now)) }
 {
     for (i, lead) in leads.iter().enumerate() {
         let transmission = transmissions.nth(lead.number as usize);
-        let decision = transmissions::outcome(items, &transmission);
+        let decision = transmissions::outcome(&transmission);
         let shown = Shown::of(&transmission, &decision);
         push_transmission(out, i as u64 + 1, &shown);
     }
 }
 
 /// Their text into a buffer, from its beginning; answers how long it is.
-pub fn write_latest(
-    out: &mut [u8],
-    items: &mut [u8],
-    transmissions: &Transmissions<'_, '_>,
-    leads: &[Lead],
-) -> usize
-    requires items_len { length items.old ≡ MAX_FIXES * item_size }
+pub fn write_latest(out: &mut [u8], transmissions: &Transmissions<'_, '_>, leads: &[Lead]) -> usize
     requires parts { AllParts transmissions.now }
     requires named { (i : ℕ) (d : Named) → i < length leads.now → (get_or leads.now i d).number < length transmissions.now }
     requires room { length (D.board_text (map (shown_at transmissions.now) leads.now)) ≤ length out.old }
     ensures { Put out.old 0 (D.board_text (map (shown_at transmissions.now) leads.now)) result out.new }
 {
     let mut text = Text::new(out);
-    push_latest(&mut text, items, transmissions, leads);
+    push_latest(&mut text, transmissions, leads);
     text.len()
 }

@@ -6,17 +6,16 @@ use mathlib.Core.List.Permᴰ
 use mathlib.Core.List.{List, [], ◌∷◌, ◌++◌, map, Permᴰ}
 use Prim.Native.Nat.{ℕ, zero, suc, ◌+◌, ◌*◌, ◌/◌, ◌≤◌}
 use native.Mathlib.Omega.{arith}
-use lib.ListN.{length, get_or, length-append, length-map}
+use lib.ListN.{length, length-append, length-map}
 use Rattle.ranges.specs.Lists.{count_from, up_to}
-use Rattle.ranges.proofs.Bools.{by}
 use Rattle.ranges.proofs.Lists.{count-length, up_in}
 use Rattle.ranges.proofs.Orders.{perm-length, perm-mem}
 use Rattle.items.specs.Layout.{item_size}
 use Rattle.rule.specs.Outcome.{Refused, Outcome}
-use Rattle.decision.specs.Answer.{bad, outcome, decided, decision, refused_decision, indices, refusals}
+use Rattle.decision.specs.Answer.{bad, outcome, decision, indices, refusals}
 use Rattle.decision.specs.Claims.{listed_in}
 use Rattle.decision.specs.Working.{plainly}
-use Rattle.decision.proofs.Decided.{decided-is, lawful}
+use Rattle.decision.proofs.Decided.{lawful}
 use Rattle.arithmetic.specs.declared.standing.ChiSquare.{ChiSquare}
 
 -- three lists that are at most one item, of which the first is empty only without items
@@ -53,16 +52,11 @@ ranks (suc zero) h o (a, b, c) = rw (a, b, c) refl
 ranks (suc (suc n)) h o w = absurd (omega arith)
 
 module _ (s : List ℕ) (n : ℕ) (long : length s ≡ n * item_size) (few : n ≤ 1) where
-  pub alone : bad s ≡ false → plainly 0 n ≡ decision (outcome s)
-  alone e =
+  pub ranked-alone : bad s ≡ false → ((outcome s).ranked ≡ up_to n) × ((outcome s).dominated ≡ []) × ((outcome s).refused ≡ [])
+  ranked-alone e =
       let l = lawful s e in
       let z : length s / item_size ≡ n = omega arith in
-      ranks n few (outcome s)
-      (only n few (outcome s).ranked (outcome s).dominated (outcome s).refused (subst (λ (k : ℕ). Permᴰ (listed_in (outcome s)) (up_to k)) z l.each_once) (λ q. sym z ∙ l.some_ranked q))
+      only n few (outcome s).ranked (outcome s).dominated (outcome s).refused (subst (λ (k : ℕ). Permᴰ (listed_in (outcome s)) (up_to k)) z l.each_once) (λ q. sym z ∙ l.some_ranked q)
 
-  -- the first ranked is the first, also where nothing is decided
-  pub first_alone : get_or (decided s).ranked.list 0 0 ≡ 0
-  unfolding decided refused_decision plainly indices
-  first_alone =
-      by (bad s) (λ e. rw e refl)
-      (λ e. ap (λ d. get_or d.ranked.list 0 0) (decided-is s e ∙ sym (alone e)))
+  pub alone : bad s ≡ false → plainly 0 n ≡ decision (outcome s)
+  alone e = ranks n few (outcome s) (ranked-alone e)

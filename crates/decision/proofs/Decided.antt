@@ -3,19 +3,15 @@ use mathlib.Core.Path.{◌≡◌, refl, sym, ap, ◌∙◌, subst}
 use mathlib.Core.Bool.{Bool, false}
 use mathlib.Core.List.Memᴰ
 use mathlib.Core.List.Permᴰ
-use mathlib.Core.List.{List, [], ◌∷◌, map, Memᴰ, Permᴰ}
-use Prim.Native.Nat.{ℕ, zero, suc, ◌+◌, ◌*◌, ◌≤◌, ◌<◌}
+use mathlib.Core.List.{List, [], map, Memᴰ, Permᴰ}
+use Prim.Native.Nat.{ℕ, zero, suc, ◌<◌}
 use native.Mathlib.Omega.{arith}
-use lib.ListN.{get_or, take, drop}
-use lib.Seq.{take-take, drop-drop, get_or-take, get_or-drop}
 use Rattle.ranges.specs.Lists.{up_to}
 use Rattle.ranges.proofs.Lists.{up_in, up_of}
 use Rattle.ranges.proofs.Orders.{perm-mem}
 use Rattle.ranges.proofs.Sorting.{Strict, strict-sub, sort-ascends}
-use Rattle.octets.specs.Words.{word}
-use Rattle.record.specs.Layout.{record_size}
-use Rattle.items.specs.Layout.{hash_size, item_inputs_at, item_identity_at, standing_at, consistent_at, preferred_at, verified_at, item_size}
-use Rattle.items.specs.Items.{item_record, item_inputs, item_identity, item_standing, item_consistent, item_preferred, item_verified, verified_case, subset_at, agreement_at, disagrees_at, within_at, lower_at, ahead_at, ahead_by_standing, ahead_by_weight}
+use Rattle.items.specs.Items.{subset_at, agreement_at, disagrees_at, within_at, lower_at, ahead_at, ahead_by_standing, ahead_by_weight}
+use Rattle.items.proofs.Reading.{same-record, same_inputs, same-identity, same-standing, same-consistent, same-preferred, same-verified}
 use Rattle.rule.specs.Standing.{decide}
 use Rattle.rule.specs.Outcome.{Refused, Outcome}
 use Rattle.rule.specs.Related.{item_relations}
@@ -75,51 +71,6 @@ lawful s e = record {
         absurd (Memᴰ.not-nil (subst (λ (l : List ℕ). Memᴰ r.0 l) q r.1))
 
 -- ---- the order of the items
-
--- what is read of an item is read of its bytes
-part_in : (k j w : ℕ) (l : List ℕ) → j + k ≤ w → take k (drop j (take w l)) ≡ take k (drop j l)
-part_in k zero w l h = take-take k w l (omega arith)
-part_in k (suc j) zero l h = absurd (omega arith)
-part_in k (suc j) (suc w) [] h = refl
-part_in k (suc j) (suc w) (x ∷ l) h = part_in k j w l (omega arith)
-
-module _ (s : List ℕ) (i : ℕ) where
-  part_at : (k j : ℕ) → j + k ≤ item_size → take k (drop (i * item_size + j) s) ≡ take k (drop j (item_at s i))
-  part_at k j h = sym (part_in k j item_size (drop (i * item_size) s) h ∙ ap (take k) (drop-drop j (i * item_size) s))
-
-  record-at : item_record s i ≡ take record_size (item_at s i)
-  record-at = sym (take-take record_size item_size (drop (i * item_size) s) (omega arith))
-
-  byte_at : (j : ℕ) → j < item_size → get_or s (i * item_size + j) 0 ≡ get_or (item_at s i) j 0
-  byte_at j h = sym (get_or-take item_size (drop (i * item_size) s) j 0 h ∙ get_or-drop (i * item_size) s j 0)
-
-module _ (s t : List ℕ) (i j : ℕ) (e : item_at t j ≡ item_at s i) where
-  same-record : item_record t j ≡ item_record s i
-  same-record = record-at t j ∙ ap (take record_size) e ∙ sym (record-at s i)
-
-  same-part : (k at : ℕ) → at + k ≤ item_size → take k (drop (j * item_size + at) t) ≡ take k (drop (i * item_size + at) s)
-  same-part k at h = part_at t j k at h ∙ ap (λ (x : List ℕ). take k (drop at x)) e ∙ sym (part_at s i k at h)
-
-  same_byte : (at : ℕ) → at < item_size → get_or t (j * item_size + at) 0 ≡ get_or s (i * item_size + at) 0
-  same_byte at h = byte_at t j at h ∙ ap (λ (x : List ℕ). get_or x at 0) e ∙ sym (byte_at s i at h)
-
-  same_inputs : item_inputs t j ≡ item_inputs s i
-  same_inputs = same-part hash_size item_inputs_at (omega arith)
-
-  same-identity : item_identity t j ≡ item_identity s i
-  same-identity = same-part hash_size item_identity_at (omega arith)
-
-  same-standing : item_standing t j ≡ item_standing s i
-  same-standing = ap word (same-part 8 standing_at (omega arith))
-
-  same-consistent : item_consistent t j ≡ item_consistent s i
-  same-consistent = rw (same_byte consistent_at (omega arith)) refl
-
-  same-preferred : item_preferred t j ≡ item_preferred s i
-  same-preferred = rw (same_byte preferred_at (omega arith)) refl
-
-  same-verified : item_verified t j ≡ item_verified s i
-  same-verified = ap verified_case (same_byte verified_at (omega arith))
 
 module _ (s t : List ℕ) (to : ℕ → ℕ) (w : Reordered s t to) where
   abbrev n : ℕ

@@ -2,47 +2,52 @@
 use mathlib.Core.Path.{◌≡◌, refl, sym, ap, ◌∙◌}
 use mathlib.Core.Bool.{true, false, true≢false}
 use mathlib.Core.List.{List, [], ◌∷◌, ◌++◌, map, flat_map, append-nil}
-use Prim.Native.Nat.{ℕ, ◌+◌, ◌*◌, ◌≤◌}
+use Prim.Native.Nat.{ℕ, ◌+◌, ◌≤◌}
 use native.Mathlib.Omega.{arith}
-use lib.ListN.{length}
 use Rattle.ranges.proofs.Bools.{by}
-use Rattle.ranges.specs.Lists.{filter, count_from, up_to}
+use Rattle.ranges.specs.Lists.{filter, foremost, count_from, up_to}
 use Rattle.ranges.proofs.Searches.{flat-more}
-use Rattle.items.specs.Layout.{item_size}
 use Rattle.std.specs.Prelude.{Option, None, Some, is_some, unwrap_or}
 use Rattle.rule.specs.Outcome as O
 use Rattle.rule.specs.Standing as S
 use Rattle.rule.specs.Standing.{Relations, replaces, is_superseded, opposes, is_contested, is_refused, replaced, opposed, refusal_of}
-use Rattle.rule.specs.Related.{item_relations}
-use Rattle.rule.specs.Choosing.{choose}
-use Rattle.rule.proofs.Choosing.{chose_none, chose-item}
+use Rattle.rule.specs.First.{first_of}
 use Rattle.decision.specs.declared.Refusal.{Refusal}
-use Rattle.decision.specs.Answer.{refusal, no_refusal, outcome}
+use Rattle.decision.specs.Answer.{refusal, no_refusal}
 use Rattle.decision.specs.Working.{finding}
 use Rattle.decision.proofs.Laws.{refused-one, refused_none}
-use Rattle.decision.proofs.Passed.{outcome-is}
 use Rattle.arithmetic.specs.declared.standing.ChiSquare.{ChiSquare}
 
 module _ (r : Relations ℕ ChiSquare) (all : List ℕ) (i : ℕ) where
   -- ---- a refusal by whom a search found
 
-  pub none-replaces : (l : List ℕ) → choose r.lower None l ≡ None → None ≡ finding (replaced r all i l)
-  unfolding finding
-  none-replaces l e = rw (chose_none r.lower l e) refl
+  some-none : {k : ℕ} → Some k ≡ None → ⊥
+  some-none {k} e = true≢false (ap is_some e)
 
-  pub none-opposes : (l : List ℕ) → choose r.lower None l ≡ None → None ≡ finding (opposed r all i l)
-  unfolding finding
-  none-opposes l e = rw (chose_none r.lower l e) refl
+  some-same : {j k : ℕ} → Some j ≡ Some k → j ≡ k
+  some-same {j} e = ap (λ o. unwrap_or o j) e
 
-  pub one-replaces : (l : List ℕ) (k : ℕ) (c : ChiSquare) → choose r.lower None l ≡ Some k → c ≡ r.chi_square k i
+  pub none-replaces : (l : List ℕ) → first_of r.lower l ≡ None → None ≡ finding (replaced r all i l)
+  unfolding finding
+  none-replaces [] e = refl
+  none-replaces (x ∷ l) e = absurd (some-none e)
+
+  pub none-opposes : (l : List ℕ) → first_of r.lower l ≡ None → None ≡ finding (opposed r all i l)
+  unfolding finding
+  none-opposes [] e = refl
+  none-opposes (x ∷ l) e = absurd (some-none e)
+
+  pub one-replaces : (l : List ℕ) (k : ℕ) (c : ChiSquare) → first_of r.lower l ≡ Some k → c ≡ r.chi_square k i
       → Some (record { refused = i; kept = k; chi2 = c; superseded = true }) ≡ finding (replaced r all i l)
   unfolding finding
-  one-replaces l k c e q = let w = chose-item r.lower l k e in rw (w.2, w.3, q) refl
+  one-replaces [] k c e q = absurd (some-none (sym e))
+  one-replaces (x ∷ l) k c e q = let z : foremost r.lower x l ≡ k = some-same e in rw (q, z) refl
 
-  pub one-opposes : (l : List ℕ) (k : ℕ) (c : ChiSquare) → choose r.lower None l ≡ Some k → c ≡ r.chi_square i k
+  pub one-opposes : (l : List ℕ) (k : ℕ) (c : ChiSquare) → first_of r.lower l ≡ Some k → c ≡ r.chi_square i k
       → Some (record { refused = i; kept = k; chi2 = c; superseded = false }) ≡ finding (opposed r all i l)
   unfolding finding
-  one-opposes l k c e q = let w = chose-item r.lower l k e in rw (w.2, w.3, q) refl
+  one-opposes [] k c e q = absurd (some-none (sym e))
+  one-opposes (x ∷ l) k c e q = let z : foremost r.lower x l ≡ k = some-same e in rw (q, z) refl
 
   -- which of the two it is
   pub refusal-replaced : is_superseded r all i ≡ true → refusal_of r all i ≡ replaced r all i (filter (replaces r all i) all)
@@ -95,8 +100,6 @@ module _ (r : Relations ℕ ChiSquare) (n i : ℕ) (f : Option Refusal) (e : f �
       map_snoc (x ∷ l) y = ap (λ k. refusal x ∷ k) (map_snoc l y)
 
 -- after the last item they are all
-pub all-refused : (s : List ℕ) (n i : ℕ) → length s ≡ n * item_size → i ≤ n → n ≤ i → refused_to (item_relations s) n i ≡ map refusal (outcome s).refused
+pub all-refused : (r : Relations ℕ ChiSquare) (n i : ℕ) → i ≤ n → n ≤ i → refused_to r n i ≡ map refusal (S.decide r (up_to n)).refused
 unfolding S.decide
-all-refused s n i long p q =
-    let e : i ≡ n = omega arith in
-    ap (refused_to (item_relations s) n) e ∙ ap (λ o. map refusal o.refused) (sym (outcome-is s n long))
+all-refused r n i p q = let e : i ≡ n = omega arith in ap (refused_to r n) e

@@ -1,12 +1,12 @@
 pub mod Carried
 pub mod Laws
 pub mod Ranking
-pub mod Arrays
 pub mod Passed
 pub mod Findings
 pub mod Sound
 pub mod Decided
 pub mod Positions
-pub mod Counted
 pub mod Alone
 pub mod Remeasured
+pub mod Holding
+pub mod Answering

@@ -13,7 +13,7 @@ use Rattle.ranges.proofs.Lists.{any-no, up_of}
 use Rattle.record.specs.Formed.{well_formed}
 use Rattle.items.specs.Layout.{max_items, item_size}
 use Rattle.items.specs.Items.{item_record, same_identity}
-use Rattle.items.specs.Pairs.{Whole}
+use Rattle.items.specs.Values.{Whole}
 use Rattle.rule.specs.Standing.{decide}
 use Rattle.rule.specs.Related.{item_relations}
 use Rattle.decision.specs.Answer.{bad_at, bad, outcome}

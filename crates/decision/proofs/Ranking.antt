@@ -1,105 +1,104 @@
--- What a loop leaves that takes the first by rank of those that are left, and lists it, until none is left: the list sorted by rank.
-use mathlib.Core.Path.{◌≡◌, refl, sym, ap, ◌∙◌, subst}
-use mathlib.Core.Bool.{Bool, true, false, not}
-use mathlib.Core.List.Permᴰ
-use mathlib.Core.List.{List, [], ◌∷◌, ◌++◌, append-nil, Permᴰ}
-use Prim.Native.Nat.{ℕ, ◌+◌, ◌≤◌, ◌<◌}
-use native.Mathlib.Omega.{arith}
-use lib.Dec.{eqb}
-use lib.ListN.{length, get_or, set, replicate, length-set, length-append}
-use lib.Seq.{get_or-set_same, get_or-set_other, append_snoc}
-use borrow.Author.Tests.{eqb-false, eqb-true}
-use Rattle.ranges.proofs.Bools.{by, or, and_left, and_right, not_t}
-use Rattle.ranges.specs.Lists.{filter, sort, up_to}
-use Rattle.ranges.specs.Range.{Holds}
-use Rattle.ranges.specs.Tables.{Cached, marked}
-use Rattle.ranges.proofs.Tables.{cached-at}
-use Rattle.ranges.proofs.Orders.{perm-length, without, filt-one}
-use Rattle.ranges.proofs.Lists.{filter-in, filter-of, filter_same, sort-perm, up_in}
-use Rattle.ranges.proofs.Sorting.{Strict, strict-sub, sort-first}
-use Rattle.ranges.proofs.Searches.{filter_range, filter-up, holds-none, holds_more}
-use Rattle.items.specs.Layout.{max_items}
-use Rattle.std.specs.Prelude.{None, Some}
-use Rattle.rule.specs.Choosing.{choose}
-use Rattle.rule.proofs.Choosing.{chose_none, chose-among, chose-first}
+-- A list that is sorted by putting one member after another in behind those that come before it, from the last to the first.
+use Rattle.std.proofs.Common.{◌≡◌, ℕ, zero, suc, ◌+◌, ◌-◌, ◌≤◌, ◌<◌, Bool, true, false, length, get_or, drop, zero-add, refl, sym, ap, ◌∙◌, arith}
+use mathlib.Core.List.{List, [], ◌∷◌, Memᴰ}
+use Rattle.std.specs.List as L
+use Rattle.std.specs.List.{prefix_len}
+use Rattle.ranges.specs.Lists.{insert, sort, filter, count_from}
+use Rattle.ranges.proofs.Bools.{by}
+use Rattle.ranges.proofs.Lists.{filter-in, filter-few, count-in, count-length, sort-in, sort-perm}
+use Rattle.ranges.proofs.Orders.{perm-length}
+use Rattle.ranges.proofs.Searches.{count_turn}
+use Rattle.decision.specs.Working.{AllBelow}
 
-unmarked : (m : List Bool) (b i : ℕ) → b < length m → marked (set m b false) i ≡ without (marked m) b i
-unmarked m b i h =
-    by (eqb i b)
-    (λ p. rw (p, eqb-true i b p) (get_or-set_same m b false false h ∙ by (get_or m b false) (λ q. rw q refl) (λ q. rw q refl)))
-    (λ p. rw p (get_or-set_other m b i false false (eqb-false i b p) ∙ by (get_or m i false) (λ q. rw q refl) (λ q. rw q refl)))
+module _ {A : Type 0} (before : A → A → Bool) (x : A) where
+  -- x put in behind those that come before it
+  pub put-in : (l : List A) → L.insert l (prefix_len (λ y. before y x) l) x ≡ insert before x l
+  unfolding insert
+  put-in [] = refl
+  put-in (y ∷ l) =
+      let e : 1 + prefix_len (λ z. before z x) l ≡ suc (prefix_len (λ z. before z x) l) = omega arith in
+      by (before y x) (λ t. rw (t, e) (ap (λ (k : List A). y ∷ k) (put-in l))) (λ t. rw t refl)
 
--- of those that pass `test` the first k by rank are in the list, and the others are marked as left
-pub record Ranking (before : ℕ → ℕ → Bool) (n : ℕ) (test : ℕ → Bool) (list : List ℕ) (k : ℕ) (left : List Bool) : Type 0 where
-  pub few : k ≤ n
-  pub wide : length left ≡ max_items
-  pub so_far : List ℕ
-  pub holds : Holds max_items 0 list k so_far
-  pub rest : sort before (filter test (up_to n)) ≡ so_far ++ sort before (filter (marked left) (up_to n))
+-- ---- how many at the front of a list pass a test: k of them are known to
 
-module _ (before : ℕ → ℕ → Bool) (n : ℕ) (test : ℕ → Bool) where
-  pub ranking-none : (left : List Bool) → length left ≡ max_items → Cached false left test n → Ranking before n test (replicate max_items 0) 0 left
-  ranking-none left h c = record {
-    few = omega arith;
-    wide = h;
-    so_far = [];
-    holds = holds-none max_items 0;
-    rest = ap (sort before) (filter_same test (marked left) (up_to n) (λ i m. sym (cached-at false left test n i c (up_in n i m))));
-  }
+drop-turn : {A : Type 0} (k : ℕ) (l : List A) (d : A) → k < length l → drop k l ≡ get_or l k d ∷ drop (k + 1) l
+drop-turn zero [] d h = absurd (omega arith)
+drop-turn zero (x ∷ l) d h = refl
+drop-turn (suc k) [] d h = absurd (omega arith)
+drop-turn (suc k) (x ∷ l) d h =
+    let e : suc k + 1 ≡ suc (k + 1) = omega arith in
+    drop-turn k l d (omega arith) ∙ ap (λ j. get_or l k d ∷ drop j (x ∷ l)) (sym e)
 
-  module _ (few : n ≤ max_items) (strict : Strict before (up_to n)) (list : List ℕ) (k : ℕ) (left : List Bool) (w : Ranking before n test list k left) where
-    -- the first of those left, and the others
-    taken : (b : ℕ) → b < n → marked left b ≡ true → Permᴰ (filter (marked left) (up_to n)) (b ∷ filter (marked (set left b false)) (up_to n))
-    taken b h e =
-        let wd = w.wide in
-        rw (
-          filter_same (marked (set left b false)) (without (marked left) b) (up_to n) (λ i m. unmarked left b i (omega arith)),
-          filter_range (marked left) 0 n,
-          filter_range (without (marked left) b) 0 n,
-        )
-        (Permᴰ.symm (filt-one (marked left) b 0 n (omega arith) (omega arith) e))
+drop-end : {A : Type 0} (k : ℕ) (l : List A) → length l ≤ k → drop k l ≡ []
+drop-end zero [] h = refl
+drop-end (suc k) [] h = refl
+drop-end zero (x ∷ l) h = absurd (omega arith)
+drop-end (suc k) (x ∷ l) h = drop-end k l (omega arith)
 
-    first : (b : ℕ) → choose before None (filter (marked left) (up_to n)) ≡ Some b
-        → sort before (filter (marked left) (up_to n)) ≡ b ∷ sort before (filter (marked (set left b false)) (up_to n))
-    first b e =
-        let l = filter (marked left) (up_to n) in
-        let o = chose-among before (marked left) n b e in
-        let wd = w.wide in
-        let s : Strict before l = strict-sub before (λ i m. (filter-in (marked left) (up_to n) i m).0) strict in
-        sort-first before (taken b o.0 o.1) s
-        (λ y m.
-        let u = filter-in (marked (set left b false)) (up_to n) y m in
-        let v = sym (unmarked left b y (omega arith)) ∙ u.1 in
-        let q = eqb-false y b (not_t (eqb y b) (and_right (marked left y) (not (eqb y b)) v)) in
-        let z = filter-of (marked left) (up_to n) y u.0 (and_left (marked left y) (not (eqb y b)) v) in
-        or (chose-first before l b s e y z) (λ p. absurd (q p)) (λ p. p))
+module _ {A : Type 0} (test : A → Bool) (l : List A) where
+  abbrev pub Passed : ℕ → Type 0
+  Passed k = k + prefix_len test (drop k l) ≡ prefix_len test l
 
-    pub ranking-more : (b : ℕ) → k < n → choose before None (filter (marked left) (up_to n)) ≡ Some b → Ranking before n test (set list k b) (k + 1) (set left b false)
-    ranking-more b h e = record {
-      few = omega arith;
-      wide = length-set left b false ∙ w.wide;
-      so_far = w.so_far ++ (b ∷ []);
-      holds = holds_more max_items 0 list k w.so_far b (omega arith) w.holds;
-      rest = w.rest ∙ ap (λ (l : List ℕ). w.so_far ++ l) (first b e) ∙ sym (append_snoc w.so_far b (sort before (filter (marked (set left b false)) (up_to n))));
-    }
+  pub passed-none : Passed 0
+  passed-none = zero-add (prefix_len test l)
 
-    -- none is left
-    done : sort before (filter (marked left) (up_to n)) ≡ [] → Holds max_items 0 list k (sort before (filter test (up_to n)))
-    done e = subst (λ (l : List ℕ). Holds max_items 0 list k l) (sym (w.rest ∙ ap (λ (l : List ℕ). w.so_far ++ l) e ∙ append-nil w.so_far)) w.holds
+  pub passed-more : (k : ℕ) (x : A) → k < length l → x ≡ get_or l k x → test x ≡ true → Passed k → Passed (k + 1)
+  passed-more k x h e t p =
+      let s : drop k l ≡ x ∷ drop (k + 1) l = drop-turn k l x h ∙ ap (λ (y : A). y ∷ drop (k + 1) l) (sym e) in
+      let q : prefix_len test (drop k l) ≡ 1 + prefix_len test (drop (k + 1) l) = ap (prefix_len test) s ∙ rw t refl in
+      omega (arith, p, q)
 
-    pub ranking-end : choose before None (filter (marked left) (up_to n)) ≡ None → Holds max_items 0 list k (sort before (filter test (up_to n)))
-    unfolding sort
-    ranking-end e = done (ap (sort before) (chose_none before (filter (marked left) (up_to n)) e))
+  pub passed-stop : (k : ℕ) (x : A) → k < length l → x ≡ get_or l k x → test x ≡ false → Passed k → k ≡ prefix_len test l
+  passed-stop k x h e t p =
+      let s : drop k l ≡ x ∷ drop (k + 1) l = drop-turn k l x h ∙ ap (λ (y : A). y ∷ drop (k + 1) l) (sym e) in
+      let q : prefix_len test (drop k l) ≡ 0 = ap (prefix_len test) s ∙ rw t refl in
+      omega (arith, p, q)
 
-    pub ranking-full : n ≤ k → Holds max_items 0 list k (sort before (filter test (up_to n)))
-    ranking-full h =
-        let l = sort before (filter (marked left) (up_to n)) in
-        let a = perm-length (sort-perm before (filter test (up_to n))) in
-        let b = filter-up test n in
-        let c = sym (ap length w.rest ∙ length-append w.so_far l) ∙ a in
-        let d = w.holds.count in
-        done (empty l (omega arith))
-      where
-        empty : (l : List ℕ) → length l ≤ 0 → l ≡ []
-        empty [] h = refl
-        empty (x ∷ l) h = absurd (omega arith)
+  pub passed-all : (k : ℕ) → length l ≤ k → Passed k → k ≡ prefix_len test l
+  passed-all k h p =
+      let q : prefix_len test (drop k l) ≡ 0 = ap (prefix_len test) (drop-end k l h) in
+      omega (arith, p, q)
+
+-- what stands at a place is a member
+pub at-in : (d : ℕ) (l : List ℕ) (i : ℕ) → i < length l → Memᴰ (get_or l i d) l
+at-in d [] i h = absurd (omega arith)
+at-in d (x ∷ l) zero h = Memᴰ.head refl
+at-in d (x ∷ l) (suc i) h = Memᴰ.tail (at-in d l i (omega arith))
+
+-- ---- the indices from i on that pass a test, sorted
+
+module _ (before : ℕ → ℕ → Bool) (test : ℕ → Bool) (n : ℕ) where
+  abbrev pub sorted_from : ℕ → List ℕ
+  sorted_from i = sort before (filter test (count_from i (n - i)))
+
+  pub sorted-none : [] ≡ sorted_from n
+  unfolding sort filter count_from
+  sorted-none = let z : n - n ≡ 0 = omega arith in rw z refl
+
+  pub sorted-hit : (i : ℕ) → 0 < i → i ≤ n → test (i - 1) ≡ true → insert before (i - 1) (sorted_from i) ≡ sorted_from (i - 1)
+  unfolding sort filter
+  sorted-hit i h k e =
+      let z : i - 1 + 1 ≡ i = omega arith in
+      let c : count_from (i - 1) (n - (i - 1)) ≡ (i - 1) ∷ count_from i (n - i) = count_turn (i - 1) n (omega arith) ∙ ap (λ (j : ℕ). (i - 1) ∷ count_from j (n - j)) z in
+      rw (c, e) refl
+
+  pub sorted-miss : (i : ℕ) → 0 < i → i ≤ n → test (i - 1) ≡ false → sorted_from i ≡ sorted_from (i - 1)
+  unfolding filter
+  sorted-miss i h k e =
+      let z : i - 1 + 1 ≡ i = omega arith in
+      let c : count_from (i - 1) (n - (i - 1)) ≡ (i - 1) ∷ count_from i (n - i) = count_turn (i - 1) n (omega arith) ∙ ap (λ (j : ℕ). (i - 1) ∷ count_from j (n - j)) z in
+      rw (c, e) refl
+
+  pub sorted-below : {l : List ℕ} (i : ℕ) → i ≤ n → l ≡ sorted_from i → AllBelow n l
+  sorted-below i h e j m =
+      let a = sort-in before (filter test (count_from i (n - i))) j (rw e at m) in
+      let b = count-in i (n - i) j (filter-in test (count_from i (n - i)) j a).0 in
+      omega (arith, b.1)
+
+  pub sorted-few : {l : List ℕ} (i : ℕ) → l ≡ sorted_from i → length l ≤ n - i
+  sorted-few i e =
+      let a = perm-length (sort-perm before (filter test (count_from i (n - i)))) in
+      let b = filter-few test (count_from i (n - i)) in
+      let c = count-length i (n - i) in
+      let d = ap (λ (k : List ℕ). length k) e in
+      omega (arith, a, b, c, d)

@@ -52,7 +52,7 @@ module _ (s : List ℕ) where
     ahead = λ i j m n. refl;
   }
 
-map_same : {A : Type 0} (l : List A) → map (λ x. x) l ≡ l
+pub map_same : {A : Type 0} (l : List A) → map (λ x. x) l ≡ l
 map_same [] = refl
 map_same (x ∷ l) = ap (λ k. x ∷ k) (map_same l)
 

@@ -9,9 +9,7 @@ use Rattle.rule.specs.Standing.{decide}
 use Rattle.rule.specs.Outcome.{Refused, Outcome}
 use Rattle.rule.specs.Related.{item_relations}
 use Rattle.decision.specs.declared.Refusal.{Refusal}
-use Rattle.decision.specs.declared.Refusals.{Refusals}
-use Rattle.decision.specs.declared.Indices.{Indices}
-use Rattle.decision.specs.declared.Decision.{Decision}
+use Rattle.decision.specs.Arrays.{Refusals, Indices, Decision}
 use Rattle.arithmetic.specs.declared.standing.ChiSquare.{ChiSquare}
 use Rattle.arithmetic.specs.declared.standing.ChiSquare.TheVariants.{Unmeasured}
 

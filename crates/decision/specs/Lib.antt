@@ -1,6 +1,8 @@
--- The decision: the whole answer (Answer) of what the crate `rule` says is decided, what is claimed of every decision (Claims, with the items of Positions), how it
+-- The decision: the whole answer (Answer) in arrays (Arrays), and as the code has it (Answered), of what the crate `rule` says is decided, what is claimed of every decision (Claims, with the items of Positions), how it
 -- stands to the decision that the Rust makes (Before), and what the code keeps while it decides (Working).
+pub mod Arrays
 pub mod Answer
+pub mod Answered
 pub mod Positions
 pub mod Claims
 pub mod Before

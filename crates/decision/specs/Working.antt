@@ -1,26 +1,30 @@
--- No claim rests on these definitions: they say what the lent tables hold once the items are settled, what is found of an item, and what is decided of at most one.
-use Rattle.std.specs.Prelude.{◌≡◌, false, List, [], ◌∷◌, ℕ, replicate, Option, None, Some}
-use Rattle.ranges.specs.Lists.{any_of, up_to}
+-- No claim rests on these definitions: they say which items of bytes a list of values holds, what is found of an item, and what is decided of at most one.
+use Rattle.std.specs.Prelude.{◌≡◌, ◌<◌, ℕ, slice_get, replicate, Option, None, Some}
+use mathlib.Core.List.{List, [], ◌∷◌, Memᴰ}
 use Rattle.items.specs.Layout.{max_items}
-use Rattle.items.specs.Pairs.{Whole, Coded}
-use Rattle.rule.specs.declared.Marks.{Marks}
+use Rattle.items.specs.Values.{IsItem}
+use Rattle.items.specs.declared.item.Item.{Item}
 use Rattle.rule.specs.Outcome as O
-use Rattle.rule.specs.Rule.{Marked}
-use Rattle.decision.specs.declared.Decision.{Decision}
+use Rattle.decision.specs.Arrays.{Decision}
 use Rattle.decision.specs.declared.Refusal.{Refusal}
-use Rattle.decision.specs.Answer.{bad_at, indices, refusal, refusals}
+use Rattle.decision.specs.Answer.{indices, refusal, refusals}
 use Rattle.arithmetic.specs.declared.standing.ChiSquare.{ChiSquare}
 
 -- up to this many items have small tables
 abbrev pub few : ℕ
 few = 10
 
--- s is n items, none of them bad, with the codes of their pairs and their marks
-pub record Settled (s : List ℕ) (n : ℕ) (codes : List ℕ) (m : Marks) : Type 0 where
-  pub whole : Whole s n
-  pub good : any_of (bad_at s) (up_to n) ≡ false
-  pub coded : Coded s codes n
-  pub marked : Marked s n m
+-- so it is of the first k of a list, each with its place
+abbrev pub Each : (ℕ → Item → Type 0) → List Item → ℕ → Type 0
+Each holds l k = (i : ℕ) (x : Item) → i < k → slice_get l i ≡ Some x → holds i x
+
+-- the first k of a list of values are items in s
+abbrev pub HoldsFirst : List ℕ → List Item → ℕ → Type 0
+HoldsFirst s l k = Each (IsItem s) l k
+
+-- the members of a list are below n
+abbrev pub AllBelow : ℕ → List ℕ → Type 0
+AllBelow n l = (i : ℕ) → Memᴰ i l → i < n
 
 -- a refusal, if there is one
 unfoldable pub finding : List (O.Refused ℕ ChiSquare) → Option Refusal

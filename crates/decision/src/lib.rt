@@ -1,31 +1,35 @@
 //! Which of one transmission's fixes stand, in rank, which are dominated, and which are refused, and against whom.
 //!
-//! The work is done by the crate `rule`, over tables that `items::pairs` fills, and by `parts`. `decide` takes any bytes; `settled`
-//! is for callers who lend the tables.
+//! `decide` takes the items in any bytes, and `decide_items` the items themselves; `settle` and `lists` are for callers who lend
+//! the memory, and ask for one part of the decision after another.
 #![tactic(auto)]
 
-ghost use Rattle.std.specs.Prelude.{◌≡◌, false, ◌+◌, ◌*◌, ◌≤◌, ◌<◌, length};
+ghost use Rattle.std.specs.Prelude.{◌≡◌, false, [], ◌+◌, ◌*◌, ◌≤◌, ◌<◌, length};
 ghost use Rattle.ranges.specs.Lists.{any_of, up_to};
 ghost use Rattle.items.specs.Layout.{item_size, max_items};
 ghost use Rattle.items.specs.Items.{same_identity};
-ghost use Rattle.items.specs.Pairs.{stride};
-ghost use Rattle.decision.specs.Answer.{bad_at, bad, outcome, decision, decided};
-ghost use Rattle.decision.specs.Working.{few, plainly};
+ghost use Rattle.items.specs.Values.{IsItem, Whole};
+ghost use Rattle.rule.specs.Standing as S;
+ghost use Rattle.rule.specs.Listed.{relations};
+ghost use Rattle.rule.specs.Rows.{all};
+ghost use Rattle.decision.specs.Answer.{bad_at, bad, outcome, decided};
+ghost use Rattle.decision.specs.Answered.{Says, answered};
+ghost use Rattle.decision.specs.Working.{few, HoldsFirst};
 
-use arithmetic::standing::{ChiSquare, Prepared, UNPREPARED};
+use arithmetic::standing::ChiSquare;
+use arrayvec::ArrayVec;
+use items::Item;
 use items::layout::{ITEM_SIZE, MAX_ITEMS};
+use places::table::places_of;
+use rule::listed::Listed;
+use rule::row::Row;
+use rule::settled::Settled;
 
 pub mod claims;
-mod parts;
-pub mod settled;
+pub mod lists;
 
 /// Up to this many items have small tables, which cost little to clear.
 pub const FEW: usize = 10;
-
-/// The sizes of the tables of codes.
-pub const FEW_CODES: usize = FEW * MAX_ITEMS;
-
-pub const MANY_CODES: usize = MAX_ITEMS * MAX_ITEMS;
 
 /// A refused item, the one that it is refused against, and the chi-square between them where there is one. `superseded`: it is the smaller,
 /// and a verified superset with more standing took its place; else it is the larger.
@@ -37,32 +41,24 @@ pub struct Refusal {
     pub superseded: bool,
 }
 
-/// Refusals, ascending by the refused item, and how many they are.
-#[derive(Clone, Copy)]
-pub struct Refusals {
-    pub list: [Refusal; MAX_ITEMS],
-    pub count: u8,
+impl Default for Refusal {
+    // What an unused place of a list holds.
+    fn default() -> Refusal {
+        Refusal {
+            chi2: ChiSquare::Unmeasured,
+            refused: 0,
+            kept: 0,
+            superseded: false,
+        }
+    }
 }
 
-/// Indices of items, and how many they are.
-#[derive(Clone, Copy)]
-pub struct Indices {
-    pub list: [u8; MAX_ITEMS],
-    pub count: u8,
-}
-
-// The answer of a decision, and of items of which nothing is decided.
-const DECIDED: u8 = 0;
-
-const BAD_ITEMS: u8 = 8;
-
-/// The answer is 0, or 8 with nothing decided. Ranked in rank, dominated and refusals ascending by index.
-#[derive(Clone, Copy)]
+/// What is decided of items, by their places: the ranked in rank, the dominated and the refusals ascending.
+#[derive(Drop)]
 pub struct Decision {
-    pub answer: u8,
-    pub ranked: Indices,
-    pub dominated: Indices,
-    pub refusals: Refusals,
+    pub ranked: ArrayVec<u8, MAX_ITEMS>,
+    pub dominated: ArrayVec<u8, MAX_ITEMS>,
+    pub refusals: ArrayVec<Refusal, MAX_ITEMS>,
 }
 
 // Whether item i has the identity of one before it.
@@ -111,84 +107,124 @@ pub fn is_bad(s: &[u8]) -> bool
     any_bad(s, (s.len() / ITEM_SIZE) as u8)
 }
 
-// The decision that ranks the first n of at most one item, and lists no other.
-fn plain(answer: u8, n: u8) -> Decision
-    ensures { result ≡ plainly answer n }
+// What is decided of settled items.
+fn decision_of(settled: &Settled<'_>) -> Decision
+    ensures { Says result (S.decide (relations settled.now.compared.listed.items.now) (all settled.now.compared.listed.items.now)) }
 {
-    let none = Refusal {
-        chi2: ChiSquare::Unmeasured,
-        refused: 0,
-        kept: 0,
-        superseded: false,
-    };
-    let list = [none; MAX_ITEMS];
-    let zeros = [0u8; MAX_ITEMS];
-    let ranked = Indices {
-        list: zeros,
-        count: n,
-    };
-    let dominated = Indices {
-        list: zeros,
-        count: 0,
-    };
-    let refusals = Refusals { list, count: 0 };
+    let refusals = lists::refusals(settled);
+    let dominated = lists::dominated(settled);
+    let ranked = lists::ranked(settled);
     Decision {
-        answer,
         ranked,
         dominated,
         refusals,
     }
 }
 
-// Decides in the lent tables.
-fn decide_in(s: &[u8], n: u8, table: &mut [Prepared], codes: &mut [u8]) -> Decision
-    requires { (bad s.now ≡ false) × (length s.now ≡ n * item_size) × (n ≤ length table.old) × (n * stride ≤ length codes.old) }
-    ensures { result ≡ decision (outcome s.now) }
+/// What is decided of items, in lent rows: one for each.
+pub fn decide_items(items: &[Item<'_>], rows: &mut [Row]) -> Decision
+    requires few { length items.now ≤ max_items }
+    requires rows_len { length rows.old ≡ length items.now }
+    ensures { Says result (S.decide (relations items.now) (all items.now)) }
 {
-    let m = settled::settle(s, n, table, codes);
-    let refusals = settled::refusals(s, n, table, codes, m);
-    let dominated = settled::dominated(s, n, codes, m);
-    let ranked = settled::ranked(s, n, codes, m);
-    Decision {
-        answer: DECIDED,
-        ranked,
-        dominated,
-        refusals,
+    decision_of(&Settled::of(Listed::of(items), rows))
+}
+
+// Reads the items in bytes, of which the first is read.
+fn read<'a>(s: &'a [u8], items: &mut [Item<'a>])
+    requires whole { Whole s.now (length items.old) }
+    requires first { HoldsFirst s.now items.old 1 }
+    ensures { (length items.new ≡ length items.old) × HoldsFirst s.now items.new (length items.old) }
+{
+    let places = places_of::<ITEM_SIZE>(s, items.len());
+    for i in 1..items.len() {
+        items[i] = Item::of(&places[i]);
     }
 }
 
-fn decide_few(s: &[u8], n: u8) -> Decision
-    requires { (bad s.now ≡ false) × (length s.now ≡ n * item_size) × (n ≤ few) }
-    ensures { result ≡ decision (outcome s.now) }
+/// The first of the items in bytes.
+pub fn first(s: &[u8]) -> Item<'_>
+    requires good { bad s.now ≡ false }
+    requires some { item_size ≤ length s.now }
+    ensures { IsItem s.now 0 result }
 {
-    let mut table = [UNPREPARED; FEW];
-    let mut codes = [0u8; FEW_CODES];
-    decide_in(s, n, &mut table, &mut codes)
+    let places = places_of::<ITEM_SIZE>(s, 1);
+    Item::of(&places[0])
 }
 
-fn decide_many(s: &[u8], n: u8) -> Decision
-    requires { (bad s.now ≡ false) × (length s.now ≡ n * item_size) × (n ≤ max_items) }
-    ensures { result ≡ decision (outcome s.now) }
+/// Settles the items in bytes, in lent memory: a row for each, and an item, of which the first is read.
+pub fn settle<'b, 'a: 'b>(
+    s: &'a [u8],
+    items: &'b mut [Item<'a>],
+    rows: &'b mut [Row],
+) -> Settled<'b>
+    requires good { bad s.now ≡ false }
+    requires len { length s.now ≡ length items.old * item_size }
+    requires rows_len { length rows.old ≡ length items.old }
+    requires first { HoldsFirst s.now items.old 1 }
+    ensures outcome { S.decide (relations result.compared.listed.items.now) (all result.compared.listed.items.now) ≡ outcome s.now }
+    ensures len { length result.compared.listed.items.now ≡ length items.old }
 {
-    let mut table = [UNPREPARED; MAX_ITEMS];
-    let mut codes = [0u8; MANY_CODES];
-    decide_in(s, n, &mut table, &mut codes)
+    read(s, items);
+    Settled::of(Listed::of(items), rows)
 }
 
-/// What is decided of items in bytes, of `items::layout::ITEM_SIZE` each: any bytes may be lent.
-pub fn decide(s: &[u8]) -> Decision
-    ensures { result ≡ decided s.now }
+/// What is decided of at most one item: nothing opposes it.
+pub fn decide_alone(n: usize) -> Decision
+    requires { n ≤ 1 }
+    ensures ranked { result.ranked.items ≡ up_to n }
+    ensures dominated { result.dominated.items ≡ [] }
+    ensures refusals { result.refusals.items ≡ [] }
+{
+    let mut ranked = ArrayVec::new();
+    for i in 0..n {
+        ranked.push(i as u8);
+    }
+    Decision {
+        ranked,
+        dominated: ArrayVec::new(),
+        refusals: ArrayVec::new(),
+    }
+}
+
+fn decide_few(s: &[u8], n: usize) -> Decision
+    requires good { bad s.now ≡ false }
+    requires len { length s.now ≡ n * item_size }
+    requires n_bound { (0 < n) × (n ≤ few) }
+    ensures { Says result (outcome s.now) }
+{
+    let mut items = [first(s); FEW];
+    let mut rows = [Row::empty(); FEW];
+    let settled = settle(s, &mut items[..n], &mut rows[..n]);
+    decision_of(&settled)
+}
+
+fn decide_many(s: &[u8], n: usize) -> Decision
+    requires good { bad s.now ≡ false }
+    requires len { length s.now ≡ n * item_size }
+    requires n_bound { (0 < n) × (n ≤ max_items) }
+    ensures { Says result (outcome s.now) }
+{
+    let mut items = [first(s); MAX_ITEMS];
+    let mut rows = [Row::empty(); MAX_ITEMS];
+    let settled = settle(s, &mut items[..n], &mut rows[..n]);
+    decision_of(&settled)
+}
+
+/// What is decided of items in bytes, of `items::layout::ITEM_SIZE` each: any bytes may be lent. Nothing is decided of bad items
+/// (`is_bad`).
+pub fn decide(s: &[u8]) -> Option<Decision>
+    ensures { answered result ≡ decided s.now }
 {
     if is_bad(s) {
-        return plain(BAD_ITEMS, 0);
+        return None;
     }
-    let n = (s.len() / ITEM_SIZE) as u8;
-    // Nothing opposes an item that is alone.
+    let n = s.len() / ITEM_SIZE;
     if n <= 1 {
-        return plain(DECIDED, n);
+        return Some(decide_alone(n));
     }
-    if n as usize <= FEW {
-        return decide_few(s, n);
+    if n <= FEW {
+        return Some(decide_few(s, n));
     }
-    decide_many(s, n)
+    Some(decide_many(s, n))
 }

@@ -35,12 +35,9 @@ fn wide(x: u8) -> u64 {
     x as u64
 }
 
-fn show_indices(rt: &impl Print, list: [u8; 96], count: u8) -> io::Result<()> {
-    for i in 0..96 {
-        if count <= i {
-            return Ok(());
-        }
-        show(rt, wide(list[i as usize]))?;
+fn show_places(rt: &impl Print, list: &[u8]) -> io::Result<()> {
+    for place in list {
+        show(rt, wide(*place))?;
     }
     Ok(())
 }
@@ -57,32 +54,35 @@ fn show_refusal(rt: &impl Print, r: Refusal) -> io::Result<()> {
     show_chi_square(rt, chi2)
 }
 
-fn show_refusals(rt: &impl Print, list: [Refusal; 96], count: u8) -> io::Result<()> {
-    for i in 0..96 {
-        if count <= i {
-            return Ok(());
-        }
-        show_refusal(rt, list[i as usize])?;
+fn show_refusals(rt: &impl Print, list: &[Refusal]) -> io::Result<()> {
+    for refusal in list {
+        show_refusal(rt, *refusal)?;
     }
     Ok(())
 }
 
-fn show_decision(rt: &impl Print, d: Decision) -> io::Result<()> {
-    word(rt, b"answer")?;
-    show(rt, wide(d.answer))?;
-    let ranked = d.ranked;
+fn show_lists(
+    rt: &impl Print,
+    answer: &[u8],
+    ranked: &[u8],
+    dominated: &[u8],
+    refusals: &[Refusal],
+) -> io::Result<()> {
+    word(rt, answer)?;
     word(rt, b" ranked")?;
-    let ranked_list = ranked.list;
-    show_indices(rt, ranked_list, ranked.count)?;
-    let dominated = d.dominated;
+    show_places(rt, ranked)?;
     word(rt, b" dominated")?;
-    let dominated_list = dominated.list;
-    show_indices(rt, dominated_list, dominated.count)?;
-    let refusals = d.refusals;
+    show_places(rt, dominated)?;
     word(rt, b" refused")?;
-    let refusals_list = refusals.list;
-    show_refusals(rt, refusals_list, refusals.count)?;
+    show_refusals(rt, refusals)?;
     word(rt, b"\n")
+}
+
+fn show_decision(rt: &impl Print, decided: Option<Decision>) -> io::Result<()> {
+    match decided {
+        Some(d) => show_lists(rt, b"answer 0", &d.ranked, &d.dominated, &d.refusals),
+        None => show_lists(rt, b"answer 8", &[], &[], &[]),
+    }
 }
 
 fn show_tags(rt: &impl Print, tags: &[u64]) -> io::Result<()> {

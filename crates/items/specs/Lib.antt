@@ -1,5 +1,5 @@
--- The items of a decision: their layout (Layout), what a record claims (Claimed), what their bytes say (Items), and the tables made of them (Pairs).
+-- The items of a decision: their layout (Layout), what a record claims (Claimed), what their bytes say (Items), and items as values (Values).
 pub mod Layout
 pub mod Claimed
 pub mod Items
-pub mod Pairs
+pub mod Values

@@ -1,31 +1,29 @@
 -- What is decided of items that are not bad, as arrays: it lists at most as many as there are, each of them an item.
 use Prim.Native.Nat.{ℕ, zero, suc, ◌-◌, ◌≤◌, ◌<◌}
 use mathlib.Core.Path.{◌≡◌, refl, sym, ap, ◌∙◌, subst}
-use mathlib.Core.Bool.{false}
 use mathlib.Core.List.Memᴰ
 use mathlib.Core.List.Permᴰ
 use mathlib.Core.List.{List, [], ◌∷◌, ◌++◌, map, Memᴰ}
 use native.Mathlib.Omega.{arith}
-use lib.ListN.{length, get_or, take, replicate, length-append, length-map}
+use lib.ListN.{length, get_or, take, drop, replicate, length-append, length-drop, length-map}
 use lib.Seq.{take_at}
 use Rattle.ranges.specs.Lists.{up_to, sort}
 use Rattle.ranges.proofs.Lists.{up_in, count-length, sort-in, sort-map}
 use Rattle.ranges.proofs.Orders.{perm-length, perm-mem}
-use Rattle.ranges.proofs.Range.{padded-length}
 use Rattle.items.specs.Layout.{max_items}
 use Rattle.rule.specs.Outcome.{Refused, Outcome}
 use Rattle.rule.specs.Related.{item_relations}
 use Rattle.decision.specs.declared.Refusal.{Refusal}
 use Rattle.decision.specs.declared.Decision.{Decision}
+use Rattle.decision.specs.Answered.{Says}
+use Rattle.shown.proofs.Indexed.{at_in}
 use Rattle.decision.specs.Claims.{listed_in, item_count}
-use Rattle.decision.specs.Answer.{refusal, no_refusal, bad, outcome, indices, refusals, decision, decided}
+use Rattle.decision.specs.Answer.{refusal, outcome}
 use Rattle.decision.proofs.Laws as W
 use Rattle.decision.proofs.Laws.{listed-once, refused-names}
-use Rattle.decision.proofs.Passed.{few-items}
-use Rattle.decision.proofs.Decided.{decided-is}
 use Rattle.tracked.specs.Layout.{max_standing, max_refused}
 use Rattle.keeping.specs.declared.Lowest.{Lowest}
-use Rattle.keeping.specs.Working.{lesser, unread, lower_refusal, lower_item, Lies, lowest_in, Sized, refused_in, Named, AllLie, Keeps}
+use Rattle.keeping.specs.Working.{lesser, unread, lower_refusal, lower_item, Lies, lowest_in, Sized, Named, AllLie, Keeps}
 use Rattle.keeping.proofs.Lowering.{lesser-right, take-lesser, take_in, front_at}
 use Rattle.arithmetic.specs.declared.standing.ChiSquare.{ChiSquare}
 
@@ -75,72 +73,54 @@ module _ (s : List ℕ) where
       let f = count-length 0 n in
       (omega arith, omega arith)
 
-module _ (s : List ℕ) (good : bad s ≡ false) (d : Decision) (e : d ≡ decided s) where
-  is : d ≡ decision (outcome s)
-  is = e ∙ decided-is s good
-
-  few : (length (outcome s).ranked ≤ max_items) × (length (outcome s).refused ≤ max_items)
-  few = let c = counts s in let f = few-items s good in (omega (arith, c.0), omega (arith, c.1))
-
-  -- the arrays of what is decided
-  pub ranked-long : length d.ranked.list ≡ max_items
-  unfolding decision indices
-  ranked-long = ap (λ (x : Decision). length x.ranked.list) is ∙ padded-length max_items 0 (outcome s).ranked few.0
-
-  refused-few : length (map refusal (outcome s).refused) ≤ max_items
-  refused-few = let f = few.1 in let c = length-map (outcome s).refused refusal in omega arith
-
-  pub refused-long : length d.refusals.list ≡ max_items
-  unfolding decision refusals
-  refused-long = ap (λ (x : Decision). length x.refusals.list) is ∙ padded-length max_items no_refusal (map refusal (outcome s).refused) refused-few
-
-  pub refused-count : d.refusals.count ≤ max_items
-  unfolding decision refusals
-  refused-count = rw is refused-few
-
-  refused-are : refused_in d.refusals ≡ map refusal (outcome s).refused
-  unfolding decision refusals
-  refused-are =
-      let l = map refusal (outcome s).refused in
-      ap (λ (x : Decision). refused_in x.refusals) is ∙ take_at l (replicate (max_items - length l) no_refusal) (length l) refl
-
-  pub refused-lie : AllLie s d.refusals.list d.refusals.count
-  refused-lie i h =
-      let m = front_at unread d.refusals.count d.refusals.list i h (omega (arith, refused-long, refused-count)) in
-      (all_lie s (get_or d.refusals.list i unread) (subst (λ (l : List Refusal). Memᴰ (get_or d.refusals.list i unread) l) refused-are m)).0
+module _ (s : List ℕ) (d : Decision) (says : Says d (outcome s)) where
+  -- the refused are items
+  pub refused-lie : (m : List Refusal) → m ≡ d.refusals.items → AllLie s m (length m)
+  refused-lie m e i h = (all_lie s (get_or m i unread) (subst (λ (l : List Refusal). Memᴰ (get_or m i unread) l) (e ∙ says.refusals) (at_in unread m i h))).0
 
   -- ---- what is kept of it
 
-  ranked-are : take (lesser d.ranked.count max_standing) d.ranked.list ≡ take max_standing (outcome s).ranked
-  unfolding decision indices
-  ranked-are =
-      let l = (outcome s).ranked in
-      ap (λ (x : Decision). take (lesser x.ranked.count max_standing) x.ranked.list) is ∙ take-lesser (length l) max_standing (l ++ replicate (max_items - length l) 0) ∙ ap (take max_standing) (take_at l (replicate (max_items - length l) 0) (length l) refl)
+  module _ (m xs : List ℕ) (e : m ≡ d.ranked.items) (few : length m ≤ max_items) (f : xs ≡ m ++ drop (length m) (replicate max_items 0)) where
+    long : length xs ≡ max_items
+    long =
+        let z : List ℕ = replicate max_items 0 in
+        let a = length-append m (drop (length m) z) in
+        let b : length (drop (length m) z) ≡ length z - length m = rw length-drop refl in
+        ap (λ (x : List ℕ). length x) f ∙ omega (arith, a, b)
 
-  module _ (l : Lowest) (z : Sized l) (w : lowest_in l ≡ take max_refused (sort (lower_refusal s) (refused_in d.refusals))) where
-    abbrev lows : List (Refused ℕ ChiSquare)
-    lows = take max_refused (sort (lower_item s) (outcome s).refused)
+    ranked-are : take (lesser (length m) max_standing) xs ≡ take max_standing (outcome s).ranked
+    ranked-are =
+        take-lesser (length m) max_standing xs
+        ∙ ap (λ (x : List ℕ). take max_standing (take (length m) x)) f
+        ∙ ap (take max_standing) (take_at m (drop (length m) (replicate max_items 0)) (length m) refl ∙ e ∙ says.ranked)
 
-    lowest-are : lowest_in l ≡ map refusal lows
-    lowest-are =
-        w ∙ ap (λ (x : List Refusal). take max_refused (sort (lower_refusal s) x)) refused-are
-        ∙ ap (take max_refused) (sort-map refusal (lower_item s) (lower_refusal s) (outcome s).refused (λ x y m k. refl))
-        ∙ sym (take-map refusal max_refused (sort (lower_item s) (outcome s).refused))
+    module _ (l : Lowest) (z : Sized l) (k : List Refusal) (g : k ≡ d.refusals.items) (w : lowest_in l ≡ take max_refused (sort (lower_refusal s) k)) where
+      abbrev lows : List (Refused ℕ ChiSquare)
+      lows = take max_refused (sort (lower_item s) (outcome s).refused)
 
-    pub keeps : Keeps s (record { ranked = d.ranked.list; standing = lesser d.ranked.count max_standing; refused = l })
-    keeps = record {
-      long = ranked-long;
-      few = lesser-right d.ranked.count max_standing;
-      sized = z;
-      standing = ranked-are;
-      lowest = lowest-are;
-      lies = λ i h.
-          let m = front_at 0 (lesser d.ranked.count max_standing) d.ranked.list i h (let r = lesser-right d.ranked.count max_standing in omega (arith, ranked-long)) in
-          ranked-lies s (get_or d.ranked.list i 0)
-          (take_in max_standing (outcome s).ranked (subst (λ (x : List ℕ). Memᴰ (get_or d.ranked.list i 0) x) ranked-are m));
-      lies_refused = λ i h.
-          let m = front_at unread l.count l.list i h (omega (arith, z.size, z.few)) in
-          let r = Memᴰ.of_map refusal lows (subst (λ (x : List Refusal). Memᴰ (get_or l.list i unread) x) lowest-are m) in
-          subst (λ (x : Refusal). Named s x) r.2
-          (refused-lies s r.0 (sort-in (lower_item s) (outcome s).refused r.0 (take_in max_refused (sort (lower_item s) (outcome s).refused) r.1)));
-    }
+      lowest-are : lowest_in l ≡ map refusal lows
+      lowest-are =
+          w ∙ ap (λ (x : List Refusal). take max_refused (sort (lower_refusal s) x)) (g ∙ says.refusals)
+          ∙ ap (take max_refused) (sort-map refusal (lower_item s) (lower_refusal s) (outcome s).refused (λ x y m k. refl))
+          ∙ sym (take-map refusal max_refused (sort (lower_item s) (outcome s).refused))
+
+      kept : Keeps s (record { ranked = xs; standing = lesser (length m) max_standing; refused = l })
+      kept = record {
+        long = long;
+        few = lesser-right (length m) max_standing;
+        sized = z;
+        standing = ranked-are;
+        lowest = lowest-are;
+        lies = λ i h.
+            let n = front_at 0 (lesser (length m) max_standing) xs i h (let r = lesser-right (length m) max_standing in omega (arith, long)) in
+            ranked-lies s (get_or xs i 0)
+            (take_in max_standing (outcome s).ranked (subst (λ (x : List ℕ). Memᴰ (get_or xs i 0) x) ranked-are n));
+        lies_refused = λ i h.
+            let n = front_at unread l.count l.list i h (omega (arith, z.size, z.few)) in
+            let r = Memᴰ.of_map refusal lows (subst (λ (x : List Refusal). Memᴰ (get_or l.list i unread) x) lowest-are n) in
+            subst (λ (x : Refusal). Named s x) r.2
+            (refused-lies s r.0 (sort-in (lower_item s) (outcome s).refused r.0 (take_in max_refused (sort (lower_item s) (outcome s).refused) r.1)));
+      }
+
+      pub keeps : (n : ℕ) → n ≡ lesser (length m) max_standing → Keeps s (record { ranked = xs; standing = n; refused = l })
+      keeps n q = subst (λ (j : ℕ). Keeps s (record { ranked = xs; standing = j; refused = l })) (sym q) kept

@@ -8,7 +8,6 @@ use Rattle.arithmetic.specs.Bits.{stored_bits}
 use Rattle.arithmetic.specs.declared.standing.ChiSquare.TheVariants.{Measured}
 use Rattle.rule.specs.Outcome.{Refused}
 use Rattle.decision.specs.declared.Refusal.{Refusal}
-use Rattle.decision.specs.declared.Refusals.{Refusals}
 use Rattle.decision.specs.Answer.{refusal, outcome}
 use Rattle.shown.specs.Fix.{Fix}
 use Rattle.tracked.specs.Layout as L
@@ -50,9 +49,6 @@ lowest_in l = take l.count l.list
 pub record Sized (l : Lowest) : Type 0 where
   pub size : length l.list ≡ L.max_refused
   pub few : l.count ≤ L.max_refused
-
-abbrev pub refused_in : Refusals → List Refusal
-refused_in r = take r.count r.list
 
 -- the items that a refusal names lie in s
 abbrev pub Named : List ℕ → Refusal → Type 0

@@ -16,7 +16,7 @@ ghost use Rattle.tracked.specs.Known.{known_size};
 ghost use Rattle.keeping.specs.Working as K;
 
 use arithmetic::standing::ChiSquare;
-use decision::{Refusal, Refusals};
+use decision::Refusal;
 use items::layout::MAX_ITEMS;
 use tracked::layout::{
     FIX_COUNT_AT, FIXES_AT, IDENTITIES_AT, MAX_REFUSED, MAX_STANDING, REFUSED_AT, REFUSED_COUNT_AT,
@@ -90,12 +90,11 @@ fn insert(s: &[u8], l: Lowest, x: Refusal) -> Lowest
 }
 
 // The refused of lowest identity, the lowest first.
-fn lowest_of(s: &[u8], refusals: Refusals) -> Lowest
-    requires list_len { (length refusals.list ≡ max_items) × (refusals.count ≤ max_items) }
-    requires all_lie { K.AllLie s.now refusals.list refusals.count }
-    ensures { K.Sized result × (K.lowest_in result ≡ take L.max_refused (Lists.sort (K.lower_refusal s.now) (K.refused_in refusals))) }
+fn lowest_of(s: &[u8], refusals: &[Refusal]) -> Lowest
+    requires few { length refusals.now ≤ max_items }
+    requires all_lie { K.AllLie s.now refusals.now (length refusals.now) }
+    ensures { K.Sized result × (K.lowest_in result ≡ take L.max_refused (Lists.sort (K.lower_refusal s.now) refusals.now)) }
 {
-    let refused = refusals.list;
     let none = Refusal {
         refused: 0,
         kept: 0,
@@ -106,9 +105,8 @@ fn lowest_of(s: &[u8], refusals: Refusals) -> Lowest
         list: [none; MAX_REFUSED],
         count: 0,
     };
-    let count = refusals.count;
-    for j in (0..count).rev() {
-        l = insert(s, l, refused[j as usize]);
+    for j in (0..refusals.len()).rev() {
+        l = insert(s, l, refusals[j]);
     }
     l
 }
@@ -118,12 +116,12 @@ pub fn keep(s: &[u8]) -> Kept
     requires { bad s.now ≡ false }
     ensures { K.Keeps s.now result }
 {
-    let d = decision::decide(s);
-    let refusals = d.refusals;
-    let refused = lowest_of(s, refusals);
-    let best = d.ranked;
-    let ranked = best.list;
-    let standing = at_most(best.count, MAX_STANDING as u8);
+    let decided = decision::decide(s).unwrap();
+    let refused = lowest_of(s, decided.refusals.as_slice());
+    let best = decided.ranked.as_slice();
+    let mut ranked = [0u8; MAX_ITEMS];
+    ranked[..best.len()].copy_from_slice(best);
+    let standing = at_most(best.len() as u8, MAX_STANDING as u8);
     Kept {
         ranked,
         standing,

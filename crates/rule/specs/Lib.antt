@@ -1,7 +1,9 @@
--- The rule of a decision: what is decided of a list of items (Standing, Outcome), how items in bytes relate (Related), what a search for the first has chosen
--- (Choosing), and what the tables of the rule hold (Rule).
+-- The rule of a decision: what is decided of a list of items (Standing, Outcome), how items in bytes relate (Related), and how the code comes to it: how items of a
+-- list relate by their places (Listed), sets of places (Places), what is known of each item (Rows), and what a search for the foremost has chosen (First).
 pub mod Outcome
 pub mod Standing
 pub mod Related
-pub mod Choosing
-pub mod Rule
+pub mod Listed
+pub mod Places
+pub mod First
+pub mod Rows

@@ -1,23 +1,42 @@
--- No claim rests on these definitions: they say what a decision shows, that names fixes by their indices.
-use Rattle.std.specs.Prelude.{ℕ, ◌≤◌, ◌<◌, List, length, get_or, take, map}
+-- No claim rests on these definitions: they say which items fixes are, and what a decision shows, that names fixes by their indices.
+use Rattle.std.specs.Prelude.{ℕ, ◌<◌, ◌≡◌, true, false, List, length, get_or, map}
+use Rattle.record.specs.Fields.{weight}
+use Rattle.items.specs.declared.item.Item.{Item}
+use Rattle.items.specs.declared.Candidate.{Candidate}
+use Rattle.items.specs.declared.Verified.TheVariants.{Unjudged}
 use Rattle.rule.specs.Outcome.{Refused, Outcome}
 use Rattle.shown.specs.Fix.{Fix}
 use Rattle.shown.specs.Items.{at}
-use Rattle.shown.specs.Shown.{Transmission}
+use Rattle.shown.specs.Shown.{Transmission, shown}
 use Rattle.arithmetic.specs.declared.standing.ChiSquare.{ChiSquare}
 use Rattle.decision.specs.declared.Refusal.{Refusal}
-use Rattle.decision.specs.declared.Indices.{Indices}
 use Rattle.decision.specs.declared.Decision.{Decision}
-use Rattle.items.specs.Layout.{max_items}
+use Rattle.decision.specs.Working.{Each}
 
-abbrev pub listed : Indices → List ℕ
-listed l = take l.count l.list
+-- ---- fixes as items
+
+-- standing 0, consistent, unjudged, not preferred
+abbrev pub candidate_for : Fix → Candidate
+candidate_for f = record { standing = 0; weight = weight f.record_bytes; consistent = true; preferred = false; verified = Unjudged }
+
+-- x is the item of f
+pub record IsFix (f : Fix) (x : Item) : Type 0 where
+  pub report : x.report.bytes.now ≡ f.record_bytes
+  pub inputs : x.inputs.now ≡ f.inputs
+  pub identity : x.identity.now ≡ f.identity
+  pub candidate : x.candidate ≡ candidate_for f
+
+-- the first k of a list of items are those of fixes
+abbrev pub HoldsFixes : List Fix → List Item → ℕ → Type 0
+HoldsFixes gs l k = Each (λ i x. IsFix (at gs i) x) l k
+
+-- ---- what is decided of them
 
 abbrev pub refused_by : Refusal → Refused ℕ ChiSquare
 refused_by r = record { item = r.refused; against = r.kept; chi2 = r.chi2; superseded = r.superseded }
 
 abbrev pub outcome_in : Decision → Outcome ℕ ChiSquare
-outcome_in d = record { ranked = listed d.ranked; dominated = listed d.dominated; refused = map refused_by (take d.refusals.count d.refusals.list) }
+outcome_in d = record { ranked = d.ranked.items; dominated = d.dominated.items; refused = map refused_by d.refusals.items }
 
 abbrev pub refused_of : List Fix → Refused ℕ ChiSquare → Refused Fix ChiSquare
 refused_of gs r = record { item = at gs r.item; against = at gs r.against; chi2 = r.chi2; superseded = r.superseded }
@@ -26,13 +45,17 @@ refused_of gs r = record { item = at gs r.item; against = at gs r.against; chi2 
 abbrev pub shown_by : List Fix → Decision → Transmission
 shown_by gs d = let o = outcome_in d in record { ranked = map (at gs) o.ranked; dominated = map (at gs) o.dominated; refused = map (refused_of gs) o.refused }
 
-abbrev pub AllBelow : ℕ → Indices → Type 0
-AllBelow n l = (l.count ≤ length l.list) × (l.count ≤ max_items) × ((i : ℕ) → i < l.count → get_or l.list i 0 < n)
+abbrev pub AllBelow : ℕ → List ℕ → Type 0
+AllBelow n l = (i : ℕ) → i < length l → get_or l i 0 < n
 
 -- it names n fixes
 pub record Within (n : ℕ) (d : Decision) : Type 0 where
-  pub ranked : AllBelow n d.ranked
-  pub dominated : AllBelow n d.dominated
-  pub listing : (d.refusals.count ≤ length d.refusals.list) × (d.refusals.count ≤ max_items)
-  pub refused : (i : ℕ) (r : Refusal) → i < d.refusals.count → (get_or d.refusals.list i r).refused < n
-  pub against : (i : ℕ) (r : Refusal) → i < d.refusals.count → (get_or d.refusals.list i r).kept < n
+  pub ranked : AllBelow n d.ranked.items
+  pub dominated : AllBelow n d.dominated.items
+  pub refused : (i : ℕ) (r : Refusal) → i < length d.refusals.items → (get_or d.refusals.items i r).refused < n
+  pub against : (i : ℕ) (r : Refusal) → i < length d.refusals.items → (get_or d.refusals.items i r).kept < n
+
+-- it is what is shown of these fixes
+pub record Shows (gs : List Fix) (d : Decision) : Type 0 where
+  pub shown : shown_by gs d ≡ shown gs
+  pub within : Within (length gs) d

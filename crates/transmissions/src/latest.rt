@@ -1,7 +1,6 @@
 //! The latest transmissions, the oldest of them first: by time, then by identity, of the first ranked of each.
 
-ghost use Rattle.std.specs.Prelude.{◌≡◌, ◌*◌, ◌≤◌, ◌<◌, [], length, not, position};
-ghost use Rattle.items.specs.Layout.{item_size};
+ghost use Rattle.std.specs.Prelude.{◌≡◌, ◌≤◌, ◌<◌, [], length, not, position};
 ghost use Rattle.ranges.specs.Lists.{insert, sort, up_to};
 ghost use Rattle.shown.specs.Shown.{shown};
 ghost use Rattle.shown.specs.Items.{no_fix};
@@ -41,15 +40,14 @@ impl Lead {
 }
 
 // The first ranked fix of a transmission; whoever is alone is that.
-fn first_ranked<'s, 'a>(items: &mut [u8], transmission: Transmission<'s, 'a>) -> &'s Fix<'a>
-    requires items_len { length items.old ≡ MAX_FIXES * item_size }
-    requires part { Part transmission }
+fn first_ranked<'s, 'a>(transmission: Transmission<'s, 'a>) -> &'s Fix<'a>
+    requires { Part transmission }
     ensures { result.now ≡ first_of transmission.entry }
 {
     if transmission.len() == 1 {
         return transmission.fix(0);
     }
-    let decision = crate::outcome(items, &transmission);
+    let decision = crate::outcome(&transmission);
     Shown::of(&transmission, &decision).ranked(0)
 }
 
@@ -70,22 +68,16 @@ fn enter(leads: &mut ArrayVec<Lead, MAX_FIXES>, lead: Lead)
 }
 
 /// Puts all transmissions into an empty list, the oldest first.
-pub fn arrange(
-    items: &mut [u8],
-    transmissions: &Transmissions<'_, '_>,
-    leads: &mut ArrayVec<Lead, MAX_FIXES>,
-)
-    requires items_len { length items.old ≡ MAX_FIXES * item_size }
+pub fn arrange(transmissions: &Transmissions<'_, '_>, leads: &mut ArrayVec<Lead, MAX_FIXES>)
     requires parts { AllParts transmissions.now }
     requires few { length transmissions.now ≤ MAX_FIXES }
     requires none { leads.old.items ≡ [] }
-    ensures arranged { leads.new.items ≡ sort before (leads_of transmissions.now) }
-    ensures items_len { length items.new ≡ MAX_FIXES * item_size }
+    ensures { leads.new.items ≡ sort before (leads_of transmissions.now) }
 {
     let mut k = transmissions.len();
     while 0 < k {
         k -= 1;
-        let first = first_ranked(items, transmissions.nth(k));
+        let first = first_ranked(transmissions.nth(k));
         let lead = Lead {
             number: k as u8,
             time: first.report.time(),

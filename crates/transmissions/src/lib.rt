@@ -1,15 +1,15 @@
 //! What a board shows of transmissions: what is decided of each, and which are the latest.
 #![tactic(auto)]
 
-ghost use Rattle.std.specs.Prelude.{◌≡◌, ◌+◌, ◌*◌, ◌≤◌, length};
-ghost use Rattle.octets.specs.Put.{Put};
-ghost use Rattle.items.specs.Layout.{item_size};
-ghost use Rattle.decision.specs.Answer.{decided};
-ghost use Rattle.shown.specs.Items.{item_bytes, items_for};
+ghost use Rattle.std.specs.Prelude.{◌≡◌, ◌≤◌, ◌<◌, length};
+ghost use Rattle.decision.specs.Working.{few};
+ghost use Rattle.transmissions.specs.Decided.{IsFix, HoldsFixes, Shows};
 
 use decision::Decision;
 use fixes::{Fix, MAX_FIXES};
+use items::{Candidate, Item, Verified};
 use links::Transmission;
+use rule::row::Row;
 
 pub mod latest;
 mod part;
@@ -17,31 +17,80 @@ mod part;
 pub use part::Shown;
 
 // A fix as an item of a decision: standing 0, consistent, unjudged, not preferred.
-fn put_item(items: &mut [u8], at: usize, fix: &Fix<'_>) -> usize
-    requires { at + item_size ≤ length items.old }
-    ensures { (result ≡ at + item_size) × Put items.old at (item_bytes fix.now) result items.new }
+fn item_of<'s>(fix: &'s Fix<'_>) -> Item<'s>
+    ensures { IsFix fix.now result }
 {
-    shown::put_item(items, at, fix.report, &fix.inputs.0, &fix.identity.0)
+    let report = fix.report;
+    let candidate = Candidate {
+        standing: 0,
+        weight: report.weight(),
+        consistent: true,
+        preferred: false,
+        verified: Verified::Unjudged,
+    };
+    Item::new(report, &fix.inputs.0, &fix.identity.0, candidate)
 }
 
-// The fixes of a transmission as items.
-fn put_items(items: &mut [u8], transmission: &Transmission<'_, '_>) -> usize
-    requires { length transmission.now * item_size ≤ length items.old }
-    ensures { (result ≡ length transmission.now * item_size) × Put items.old 0 (items_for transmission.now) result items.new }
+// The fixes of a transmission as items, of which the first is one.
+fn read<'s>(items: &mut [Item<'s>], transmission: &Transmission<'s, '_>)
+    requires len { length items.old ≡ length transmission.now }
+    requires first { HoldsFixes transmission.now items.old 1 }
+    ensures { (length items.new ≡ length items.old) × HoldsFixes transmission.now items.new (length items.old) }
 {
-    let mut at = 0;
-    for i in 0..transmission.len() {
-        at = put_item(items, at, transmission.fix(i));
+    for i in 1..items.len() {
+        items[i] = item_of(transmission.fix(i));
     }
-    at
 }
 
-/// What is decided of a transmission, whose fixes are in ascending identity, in a lent table of items.
-pub fn outcome(items: &mut [u8], transmission: &Transmission<'_, '_>) -> Decision
-    requires items_len { length items.old ≡ MAX_FIXES * item_size }
+// Decides in lent memory: a row for each fix, and an item, of which the first is one.
+fn outcome_in<'s>(
+    items: &mut [Item<'s>],
+    rows: &mut [Row],
+    transmission: &Transmission<'s, '_>,
+) -> Decision
     requires few { length transmission.now ≤ MAX_FIXES }
-    ensures { result ≡ decided (items_for transmission.now) }
+    requires len { length items.old ≡ length transmission.now }
+    requires rows_len { length rows.old ≡ length transmission.now }
+    requires first { HoldsFixes transmission.now items.old 1 }
+    ensures { Shows transmission.now result }
 {
-    let end = put_items(items, transmission);
-    decision::decide(&items[..end])
+    read(items, transmission);
+    decision::decide_items(items, rows)
+}
+
+fn outcome_few(transmission: &Transmission<'_, '_>) -> Decision
+    requires some { 0 < length transmission.now }
+    requires few { length transmission.now ≤ few }
+    ensures { Shows transmission.now result }
+{
+    let n = transmission.len();
+    let mut items = [item_of(transmission.fix(0)); decision::FEW];
+    let mut rows = [Row::empty(); decision::FEW];
+    outcome_in(&mut items[..n], &mut rows[..n], transmission)
+}
+
+fn outcome_many(transmission: &Transmission<'_, '_>) -> Decision
+    requires some { 0 < length transmission.now }
+    requires few { length transmission.now ≤ MAX_FIXES }
+    ensures { Shows transmission.now result }
+{
+    let n = transmission.len();
+    let mut items = [item_of(transmission.fix(0)); MAX_FIXES];
+    let mut rows = [Row::empty(); MAX_FIXES];
+    outcome_in(&mut items[..n], &mut rows[..n], transmission)
+}
+
+/// What is decided of a transmission.
+pub fn outcome(transmission: &Transmission<'_, '_>) -> Decision
+    requires some { 0 < length transmission.now }
+    requires few { length transmission.now ≤ MAX_FIXES }
+    ensures { Shows transmission.now result }
+{
+    if transmission.len() <= 1 {
+        return decision::decide_alone(1);
+    }
+    if transmission.len() <= decision::FEW {
+        return outcome_few(transmission);
+    }
+    outcome_many(transmission)
 }

@@ -1,13 +1,11 @@
 //! What is shown of a transmission.
 
 ghost use Rattle.std.specs.Prelude.{◌≡◌, ◌<◌, length, get_or};
-ghost use Rattle.decision.specs.Answer.{decided};
-ghost use Rattle.shown.specs.Items.{items_for};
 ghost use Rattle.rule.specs.Outcome.{Refused};
 ghost use Rattle.arithmetic.specs.declared.standing.ChiSquare.{ChiSquare as Squared};
 ghost use Rattle.shown.specs.Fix.{Fix as ShownFix};
 ghost use Rattle.shown.specs.Shown.{shown};
-ghost use Rattle.transmissions.specs.Parts.{Part};
+ghost use Rattle.transmissions.specs.Decided.{Shows};
 
 use arithmetic::standing::ChiSquare;
 use decision::Decision;
@@ -37,8 +35,7 @@ impl<'t, 's, 'a> Model for Shown<'t, 's, 'a> {
 impl<'t, 's, 'a> Shown<'t, 's, 'a> {
     /// What is shown of a transmission, of which this was decided.
     pub fn of(transmission: &'t Transmission<'s, 'a>, decision: &'t Decision) -> Shown<'t, 's, 'a>
-        requires part { Part transmission.now }
-        requires decision_value { decision.now ≡ decided (items_for transmission.now) }
+        requires { Shows transmission.now decision.now }
         ensures { result ≡ shown transmission.now }
     {
         Shown {
@@ -51,21 +48,21 @@ impl<'t, 's, 'a> Shown<'t, 's, 'a> {
     pub fn ranked_len(&self) -> usize
         ensures { result ≡ length self.now.ranked }
     {
-        self.decision.ranked.count as usize
+        self.decision.ranked.len()
     }
 
     /// How many fixes are dominated.
     pub fn dominated_len(&self) -> usize
         ensures { result ≡ length self.now.dominated }
     {
-        self.decision.dominated.count as usize
+        self.decision.dominated.len()
     }
 
     /// How many fixes are refused.
     pub fn refused_len(&self) -> usize
         ensures { result ≡ length self.now.refused }
     {
-        self.decision.refusals.count as usize
+        self.decision.refusals.len()
     }
 
     /// One of those that are ranked, in rank.
@@ -73,7 +70,7 @@ impl<'t, 's, 'a> Shown<'t, 's, 'a> {
         requires { i < length self.now.ranked }
         ensures { (d : ShownFix) → get_or self.now.ranked i d ≡ result.now }
     {
-        self.transmission.fix(self.decision.ranked.list[i] as usize)
+        self.transmission.fix(self.decision.ranked[i] as usize)
     }
 
     /// One of those that are dominated, in ascending identity.
@@ -81,8 +78,7 @@ impl<'t, 's, 'a> Shown<'t, 's, 'a> {
         requires { i < length self.now.dominated }
         ensures { (d : ShownFix) → get_or self.now.dominated i d ≡ result.now }
     {
-        self.transmission
-            .fix(self.decision.dominated.list[i] as usize)
+        self.transmission.fix(self.decision.dominated[i] as usize)
     }
 
     /// One of those that are refused, in ascending identity; against whom; and the chi-square of the two.
@@ -91,7 +87,7 @@ impl<'t, 's, 'a> Shown<'t, 's, 'a> {
         ensures { (d : Refused ShownFix Squared) → (get_or self.now.refused i d).item ≡ result.now }
     {
         self.transmission
-            .fix(self.decision.refusals.list[i].refused as usize)
+            .fix(self.decision.refusals[i].refused as usize)
     }
 
     /// The fix that a refused one is refused against.
@@ -100,7 +96,7 @@ impl<'t, 's, 'a> Shown<'t, 's, 'a> {
         ensures { (d : Refused ShownFix Squared) → (get_or self.now.refused i d).against ≡ result.now }
     {
         self.transmission
-            .fix(self.decision.refusals.list[i].kept as usize)
+            .fix(self.decision.refusals[i].kept as usize)
     }
 
     /// The chi-square of the two, where there is one.
@@ -109,6 +105,6 @@ impl<'t, 's, 'a> Shown<'t, 's, 'a> {
         ensures { (d : Refused ShownFix Squared) → (get_or self.now.refused i d).chi2 ≡ result }
     {
         let decision = self.decision;
-        decision.refusals.list[i].chi2
+        decision.refusals[i].chi2
     }
 }

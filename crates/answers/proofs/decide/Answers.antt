@@ -23,12 +23,6 @@ decided-out s found l e q = rw (e, q) refl
 pub returns-then-is_bad : goal.returns-then-is_bad
 returns-then-is_bad c = refused-out _ _ (sym c.is_bad.ensures ∙ c.if-is_bad.true)
 
-pub overflow_cast-n : goal.overflow_cast-n
-overflow_cast-n c =
-    let items : List ℕ = c.args.s.now in
-    let good : bad items ≡ false = sym c.is_bad.ensures ∙ c.if-is_bad.false in
-    let f = few-items items good in omega arith
-
 pub returns-then-n-le1 : goal.returns-then-n-le1
 returns-then-n-le1 c =
     let items : List ℕ = c.args.s.now in
@@ -40,7 +34,7 @@ pub put_least-requires : goal.put_least-requires
 put_least-requires c =
     let items : List ℕ = c.args.s.now in
     let good : bad items ≡ false = sym c.is_bad.ensures ∙ c.if-is_bad.false in
-    let g = good in (refl, g, long-items _ g, c.if-n-le-LEAST.true)
+    record { out_value = refl; good = good; len = long-items _ good; n_bound = (omega (arith, c.if-n-le1.false), c.if-n-le-LEAST.true) }
 
 pub returns-then-n-le-LEAST : goal.returns-then-n-le-LEAST
 returns-then-n-le-LEAST c =
@@ -52,7 +46,7 @@ pub put_few-requires : goal.put_few-requires
 put_few-requires c =
     let items : List ℕ = c.args.s.now in
     let good : bad items ≡ false = sym c.is_bad.ensures ∙ c.if-is_bad.false in
-    let g = good in (refl, g, long-items _ g, c.if-n-le-FEW.true)
+    record { out_value = refl; good = good; len = long-items _ good; n_bound = (omega (arith, c.if-n-le1.false), c.if-n-le-FEW.true) }
 
 pub returns-then-n-le-FEW : goal.returns-then-n-le-FEW
 returns-then-n-le-FEW c =
@@ -64,7 +58,7 @@ pub put_many-requires : goal.put_many-requires
 put_many-requires c =
     let items : List ℕ = c.args.s.now in
     let good : bad items ≡ false = sym c.is_bad.ensures ∙ c.if-is_bad.false in
-    let g = good in (refl, g, long-items _ g, few-items _ g)
+    record { out_value = refl; good = good; len = long-items _ good; n_bound = (omega (arith, c.if-n-le1.false), few-items _ good) }
 
 pub returns : goal.returns
 returns c =

@@ -21,17 +21,17 @@ write_latest-requires-clause-parts c =
 pub write_latest-requires-clause-named : goal.write_latest-requires-clause-named
 write_latest-requires-clause-named c =
     let q = c.requires in
-    some-named c.args.fixes.now q.formed q.in_order q.few c.of-transmissions.result c.of-transmissions.ensures c.arrange.new.leads.items c.arrange.ensures.arranged
+    some-named c.args.fixes.now q.formed q.in_order q.few c.of-transmissions.result c.of-transmissions.ensures c.arrange.new.leads.items c.arrange.ensures
     c.deref.result.now c.deref.ensures.0 c.saturating_sub-start.result
 
 pub write_latest-requires-clause-room : goal.write_latest-requires-clause-room
 write_latest-requires-clause-room c =
     let q = c.requires in
-    rw (latest-drawn c.args.fixes.now q.formed q.in_order q.few c.of-transmissions.result c.of-transmissions.ensures c.arrange.new.leads.items c.arrange.ensures.arranged
+    rw (latest-drawn c.args.fixes.now q.formed q.in_order q.few c.of-transmissions.result c.of-transmissions.ensures c.arrange.new.leads.items c.arrange.ensures
     c.deref.result.now c.deref.ensures.0 c.saturating_sub-start.result (rw c.len.ensures.value at c.saturating_sub-start.ensures)) q.room
 
 pub returns : goal.returns
 returns c =
     let q = c.requires in
-    put_as (latest-drawn c.args.fixes.now q.formed q.in_order q.few c.of-transmissions.result c.of-transmissions.ensures c.arrange.new.leads.items c.arrange.ensures.arranged
+    put_as (latest-drawn c.args.fixes.now q.formed q.in_order q.few c.of-transmissions.result c.of-transmissions.ensures c.arrange.new.leads.items c.arrange.ensures
     c.deref.result.now c.deref.ensures.0 c.saturating_sub-start.result (rw c.len.ensures.value at c.saturating_sub-start.ensures)) c.write_latest.ensures

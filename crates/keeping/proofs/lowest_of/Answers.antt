@@ -1,4 +1,4 @@
-use Prim.Native.Nat.{◌-◌, ◌≤◌}
+use Prim.Native.Nat.{◌-◌}
 use mathlib.Core.Path.{refl, sym, ap, ◌∙◌}
 use native.Mathlib.Omega.{arith}
 use lib.ListN.{length, take, get_or}
@@ -11,27 +11,27 @@ use Rattle.keeping.proofs.lowest_of.Goals as goal
 pub loop-j-init : goal.loop-j-init
 loop-j-init c = (
   record { size = refl; few = omega arith },
-  sym (lowest-none c.args.s.now c.args.refusals.list c.args.refusals.count c.args.refusals.count (omega arith) (omega (arith, c.requires.list_len.0, c.requires.list_len.1))),
+  sym (lowest-none c.args.s.now c.args.refusals.now (length c.args.refusals.now) (length c.args.refusals.now) (omega arith) (omega arith)),
 )
 
 pub insert-l-requires : goal.insert-l-requires
 insert-l-requires c =
-    let long : c.args.refusals.count ≤ length c.args.refusals.list = omega (arith, c.requires.list_len.0, c.requires.list_len.1) in
+    let n = length c.args.refusals.now in
     let i = c.loop-j.invariant in record {
       sized = i.0;
       all_lie = (
-        lowest-lies c.args.s.now c.args.refusals.list c.args.refusals.count c.loop-j.l c.loop-j.j i.0 long i.1 c.requires.all_lie,
+        lowest-lies c.args.s.now c.args.refusals.now n c.loop-j.l c.loop-j.j i.0 (omega arith) i.1 c.requires.all_lie,
         c.requires.all_lie (c.loop-j.j - 1) (omega arith),
       );
     }
 
 pub loop-j-preserved : goal.loop-j-preserved
 loop-j-preserved c =
-    let long : c.args.refusals.count ≤ length c.args.refusals.list = omega (arith, c.requires.list_len.0, c.requires.list_len.1) in
+    let n = length c.args.refusals.now in
     let i = c.loop-j.invariant in
     let e = c.insert-l.ensures in (
       e.0,
       e.1
-          ∙ ap (λ m. take max_refused (insert (lower_refusal c.args.s.now) (get_or c.args.refusals.list (c.loop-j.j - 1) unread) m)) i.1
-          ∙ lowest-turn c.args.s.now c.args.refusals.list c.args.refusals.count c.loop-j.j (omega arith) (omega arith) long,
+          ∙ ap (λ m. take max_refused (insert (lower_refusal c.args.s.now) (get_or c.args.refusals.now (c.loop-j.j - 1) unread) m)) i.1
+          ∙ lowest-turn c.args.s.now c.args.refusals.now n c.loop-j.j (omega arith) (omega arith) (omega arith),
     )

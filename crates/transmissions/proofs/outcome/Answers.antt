@@ -1,10 +1,7 @@
-use mathlib.Core.Path.{ap, ◌∙◌}
-use native.Mathlib.Omega.{arith}
-use Rattle.decision.specs.Answer.{decided}
-use Rattle.transmissions.proofs.Gathering.{written}
+use Rattle.std.proofs.Common.{arith}
+use Rattle.transmissions.proofs.Showing.{shows-alone}
 use Rattle.transmissions.proofs.outcome.Goals as goal
 
-pub returns : goal.returns
-returns c =
-    let p = c.put_items-end.ensures in
-    c.decide.ensures ∙ ap decided (written p.1 (omega (arith, p.0, c.requires)))
+pub returns-then-len-le1 : goal.returns-then-len-le1
+returns-then-len-le1 c =
+    shows-alone c.args.transmission.now _ c.requires.some (omega (arith, c.len.ensures, c.if-len-le1.true)) c.decide_alone.ensures.ranked c.decide_alone.ensures.dominated c.decide_alone.ensures.refusals

@@ -1,15 +1,13 @@
-use Rattle.std.proofs.Common.{ap, ◌∙◌, arith}
+use Rattle.std.proofs.Common.{ap, ◌∙◌}
 use Rattle.shown.specs.Shown.{shown}
 use Rattle.board.proofs.Drawing.{turn, end}
 use Rattle.board.proofs.texts.push_latest.Goals as goal
 
 pub loop-i-preserved : goal.loop-i-preserved
-loop-i-preserved c = record {
-  text = turn c.loop-i.out c.push_transmission.new.out c.args.transmissions.now c.args.leads.now c.loop-i.i _ c.of-shown.result c.loop-i-test.true
-      (c.of-shown.ensures ∙ ap shown c.nth-transmission.ensures) c.push_transmission.ensures
-      ∙ c.loop-i.invariant.text;
-  size = omega (arith, c.loop-i.invariant.size);
-}
+loop-i-preserved c =
+    turn c.loop-i.out c.push_transmission.new.out c.args.transmissions.now c.args.leads.now c.loop-i.i _ c.of-shown.result c.loop-i-test.true
+    (c.of-shown.ensures ∙ ap shown c.nth-transmission.ensures) c.push_transmission.ensures
+    ∙ c.loop-i.invariant
 
 pub returns : goal.returns
-returns c = end _ c.loop-i.out c.args.transmissions.now c.args.leads.now c.loop-i.i c.loop-i-test.false c.loop-i.invariant.text
+returns c = end _ c.loop-i.out c.args.transmissions.now c.args.leads.now c.loop-i.i c.loop-i-test.false c.loop-i.invariant

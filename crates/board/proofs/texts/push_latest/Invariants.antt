@@ -1,7 +1,5 @@
-use Prim.Native.Nat.{◌*◌}
 use mathlib.Core.List.{map}
-use Rattle.std.proofs.Common.{◌≡◌, ◌+◌, drop, length}
-use Rattle.items.specs.Layout.{item_size}
+use Rattle.std.proofs.Common.{◌≡◌, ◌+◌, drop}
 use Rattle.text.specs.Texts.{append}
 use Rattle.drawing.specs.Text.{text_from}
 use Rattle.transmissions.specs.Leads.{shown_at}
@@ -9,7 +7,4 @@ use Rattle.board.proofs.texts.push_latest.Given as goal
 
 -- what is written and what is left are the whole
 abbrev pub invariant-loop-i : goal.invariant-loop-i
-invariant-loop-i l = record {
-  text : append l.out (text_from (l.i + 1) (drop l.i (map (shown_at l.transmissions) l.leads))) ≡ append l.initial.out (text_from 1 (map (shown_at l.transmissions) l.leads));
-  size : length l.items ≡ 96 * item_size;
-}
+invariant-loop-i l = append l.out (text_from (l.i + 1) (drop l.i (map (shown_at l.transmissions) l.leads))) ≡ append l.initial.out (text_from 1 (map (shown_at l.transmissions) l.leads))

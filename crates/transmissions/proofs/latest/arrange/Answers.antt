@@ -6,7 +6,7 @@ use Rattle.transmissions.proofs.Arranging.{arranged-none, arranged-more, arrange
 use Rattle.transmissions.proofs.latest.arrange.Goals as goal
 
 pub loop-k-init : goal.loop-k-init
-loop-k-init c = record { most = omega arith; sorted = rw (c.requires.none, c.len-k.ensures) (arranged-none _ _); size = c.requires.items_len }
+loop-k-init c = record { most = omega arith; sorted = rw (c.requires.none, c.len-k.ensures) (arranged-none _ _) }
 
 pub enter-requires : goal.enter-requires
 enter-requires c =
@@ -23,5 +23,4 @@ loop-k-preserved c =
       sorted = arranged-more c.args.transmissions.now c.loop-k.k c.nth.result c.first_ranked-first.result.now c.time.result c.first.inside.identity c.loop-k.leads.items _
           c.loop-k-test.true r.most c.nth.ensures c.first_ranked-first.ensures (c.time.ensures ∙ ap time_of c.first.view_is) (ap (λ (f : Fix). f.identity) c.first.view_is)
           r.sorted c.enter.ensures;
-      size = omega (arith, r.size);
     }

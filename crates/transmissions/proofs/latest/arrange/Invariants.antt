@@ -1,8 +1,7 @@
-use Prim.Native.Nat.{◌*◌, ◌-◌, ◌≤◌}
+use Prim.Native.Nat.{◌-◌, ◌≤◌}
 use mathlib.Core.Path.{◌≡◌}
 use lib.ListN.{length}
 use mathlib.Core.List.{map}
-use Rattle.items.specs.Layout.{item_size}
 use Rattle.ranges.specs.Lists.{sort, count_from}
 use Rattle.transmissions.specs.Leads.{before, lead_of}
 use Rattle.transmissions.proofs.latest.arrange.Given as goal
@@ -14,5 +13,4 @@ abbrev pub invariant-loop-k : goal.invariant-loop-k
 invariant-loop-k l = record {
   most : l.k ≤ length l.transmissions;
   sorted : l.leads.items ≡ sort before (map (lead_of l.transmissions) (count_from l.k (length l.transmissions - l.k)));
-  size : length l.items ≡ 96 * item_size;
 }

@@ -8,7 +8,7 @@ pub returns-then-len-eq1 : goal.returns-then-len-eq1
 returns-then-len-eq1 c = alone-first c.args.transmission _ (sym c.len.ensures ∙ c.if-len-eq1.true) c.fix.ensures
 
 pub ranked-requires : goal.ranked-requires
-ranked-requires c = rw c.of.ensures (ranked-some c.args.transmission c.requires.part.some)
+ranked-requires c = rw c.of.ensures (ranked-some c.args.transmission c.requires.some)
 
 pub returns : goal.returns
 unfolding first_of

@@ -1,17 +1,15 @@
 use native.Mathlib.Omega.{arith}
-use Rattle.transmissions.proofs.Showing.{refusal-here, against-is}
+use Rattle.transmissions.proofs.Showing.{refusal-here, kept-below, against-is}
 use Rattle.transmissions.proofs.part.Shown.against.Goals as goal
 
-pub offset_bounds-self-inside-i : goal.offset_bounds-self-inside-i
-offset_bounds-self-inside-i c = let k = (refusal-here c.self.inside.transmission.now c.self.inside.decision.now c.self.invariant c.args.i (rw (← c.self.view_is) at c.requires)).1 in record { fits = omega arith }
+pub offset_bounds-deref-i : goal.offset_bounds-deref-i
+offset_bounds-deref-i c = let k = refusal-here c.self.inside.transmission.now c.self.inside.decision.now c.self.invariant _ c.deref.ensures.0 c.args.i (rw (← c.self.view_is) at c.requires) in record { fits = omega (arith, k, c.deref.ensures.1) }
 
-pub bounds-self-inside-i : goal.bounds-self-inside-i
-bounds-self-inside-i c = (refusal-here c.self.inside.transmission.now c.self.inside.decision.now c.self.invariant c.args.i (rw (← c.self.view_is) at c.requires)).1
+pub bounds-deref-i : goal.bounds-deref-i
+bounds-deref-i c = refusal-here c.self.inside.transmission.now c.self.inside.decision.now c.self.invariant _ c.deref.ensures.0 c.args.i (rw (← c.self.view_is) at c.requires)
 
 pub fix-requires : goal.fix-requires
-fix-requires c = c.self.invariant.against c.args.i _ (refusal-here c.self.inside.transmission.now c.self.inside.decision.now c.self.invariant c.args.i (rw (← c.self.view_is) at c.requires)).0
+fix-requires c = kept-below c.self.inside.transmission.now c.self.inside.decision.now c.self.invariant _ c.deref.ensures.0 c.args.i (rw (← c.self.view_is) at c.requires) _
 
 pub returns : goal.returns
-returns c =
-    rw (← c.self.view_is)
-    (against-is c.self.inside.transmission.now c.self.inside.decision.now c.self.invariant c.args.i (rw (← c.self.view_is) at c.requires) _ _ c.fix.ensures)
+returns c = rw (← c.self.view_is) (against-is c.self.inside.transmission.now c.self.inside.decision.now c.self.invariant _ c.deref.ensures.0 c.args.i (rw (← c.self.view_is) at c.requires) _ _ c.fix.ensures)

@@ -1,0 +1,127 @@
+//! The lists of a decision: the refused and against whom, the dominated, and the ranked in rank.
+
+ghost use Rattle.std.specs.Prelude.{◌≡◌, map, ◌+◌, ◌<◌, length};
+ghost use Rattle.std.specs.List.{prefix_len};
+ghost use Rattle.ranges.specs.Lists.{filter, insert};
+ghost use Rattle.arrayvec.specs.ArrayVec.{array_vec_len};
+ghost use Rattle.items.specs.Layout.{max_items};
+ghost use Rattle.rule.specs.Standing as S;
+ghost use Rattle.rule.specs.Listed.{relations};
+ghost use Rattle.rule.specs.Rows.{all, replaces, opposes};
+ghost use Rattle.decision.specs.Answer.{refusal};
+ghost use Rattle.decision.specs.Working.{finding, AllBelow};
+
+use crate::Refusal;
+use arrayvec::ArrayVec;
+use items::layout::MAX_ITEMS;
+use rule::settled::Settled;
+
+// The refusal of item i that another takes the place of.
+fn replaced(settled: &Settled<'_>, i: usize) -> Option<Refusal>
+    requires { i < length settled.now.compared.listed.items.now }
+    ensures { result ≡ finding (S.replaced (relations settled.now.compared.listed.items.now) (all settled.now.compared.listed.items.now) i (filter (replaces settled.now.compared.listed.items.now i) (all settled.now.compared.listed.items.now))) }
+{
+    let kept = settled.replacing(i)?;
+    Some(Refusal {
+        chi2: settled.chi_square(kept, i),
+        refused: i as u8,
+        kept: kept as u8,
+        superseded: true,
+    })
+}
+
+// The refusal of item i that another opposes.
+fn opposed(settled: &Settled<'_>, i: usize) -> Option<Refusal>
+    requires { i < length settled.now.compared.listed.items.now }
+    ensures { result ≡ finding (S.opposed (relations settled.now.compared.listed.items.now) (all settled.now.compared.listed.items.now) i (filter (opposes settled.now.compared.listed.items.now i) (all settled.now.compared.listed.items.now))) }
+{
+    let kept = settled.opposing(i)?;
+    Some(Refusal {
+        chi2: settled.chi_square(i, kept),
+        refused: i as u8,
+        kept: kept as u8,
+        superseded: false,
+    })
+}
+
+/// The refusal of item i, if it is refused.
+pub fn refusal(settled: &Settled<'_>, i: usize) -> Option<Refusal>
+    requires { i < length settled.now.compared.listed.items.now }
+    ensures { result ≡ finding (S.refusal_of (relations settled.now.compared.listed.items.now) (all settled.now.compared.listed.items.now) i) }
+{
+    if !settled.is_refused(i) {
+        return None;
+    }
+    if settled.is_superseded(i) {
+        return replaced(settled, i);
+    }
+    opposed(settled, i)
+}
+
+/// The refusals, ascending by the refused item.
+pub fn refusals(settled: &Settled<'_>) -> ArrayVec<Refusal, MAX_ITEMS>
+    ensures { result.items ≡ map refusal (S.decide (relations settled.now.compared.listed.items.now) (all settled.now.compared.listed.items.now)).refused }
+{
+    let mut list = ArrayVec::new();
+    for i in 0..settled.len() {
+        let Some(found) = refusal(settled, i) else {
+            continue;
+        };
+        list.push(found);
+    }
+    list
+}
+
+/// The dominated, ascending.
+pub fn dominated(settled: &Settled<'_>) -> ArrayVec<u8, MAX_ITEMS>
+    ensures { result.items ≡ (S.decide (relations settled.now.compared.listed.items.now) (all settled.now.compared.listed.items.now)).dominated }
+{
+    let mut list = ArrayVec::new();
+    for i in 0..settled.len() {
+        if !settled.is_dominated(i) {
+            continue;
+        }
+        list.push(i as u8);
+    }
+    list
+}
+
+// How many items at the front of a list rank before item i.
+fn place_of(settled: &Settled<'_>, list: &[u8], i: usize) -> usize
+    requires below { AllBelow (length settled.now.compared.listed.items.now) list.now }
+    requires i_below { i < length settled.now.compared.listed.items.now }
+    ensures { result ≡ prefix_len (λ j. (relations settled.now.compared.listed.items.now).ahead j i) list.now }
+{
+    for k in 0..list.len() {
+        if !settled.ranks_before(list[k] as usize, i) {
+            return k;
+        }
+    }
+    list.len()
+}
+
+// Puts item i in behind those that rank before it.
+fn enter(settled: &Settled<'_>, list: &mut ArrayVec<u8, MAX_ITEMS>, i: usize)
+    requires below { AllBelow (length settled.now.compared.listed.items.now) list.old.items }
+    requires i_below { i < length settled.now.compared.listed.items.now }
+    requires room { array_vec_len list.old < max_items }
+    ensures items { list.new.items ≡ insert (relations settled.now.compared.listed.items.now).ahead i list.old.items }
+    ensures len { array_vec_len list.new ≡ array_vec_len list.old + 1 }
+{
+    let place = place_of(settled, list.as_slice(), i);
+    list.insert(place, i as u8);
+}
+
+/// The ranked, in rank.
+pub fn ranked(settled: &Settled<'_>) -> ArrayVec<u8, MAX_ITEMS>
+    ensures { result.items ≡ (S.decide (relations settled.now.compared.listed.items.now) (all settled.now.compared.listed.items.now)).ranked }
+{
+    let mut list = ArrayVec::new();
+    for i in (0..settled.len()).rev() {
+        if !settled.is_ranked(i) {
+            continue;
+        }
+        enter(settled, &mut list, i);
+    }
+    list
+}

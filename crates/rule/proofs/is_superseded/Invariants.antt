@@ -1,9 +1,0 @@
-use Prim.Native.Nat.{◌-◌}
-use mathlib.Core.Path.{◌≡◌}
-use Rattle.ranges.specs.Lists.{any_of, count_from, up_to}
-use Rattle.rule.specs.Standing.{replaces}
-use Rattle.rule.specs.Related.{item_relations}
-use Rattle.rule.proofs.is_superseded.Given as goal
-
-abbrev pub invariant-loop-j : goal.invariant-loop-j
-invariant-loop-j l = any_of (replaces (item_relations l.s) (up_to l.n) l.i) (up_to l.n) ≡ any_of (replaces (item_relations l.s) (up_to l.n) l.i) (count_from l.j (l.n - l.j))
