@@ -34,7 +34,7 @@ pub put_least-requires : goal.put_least-requires
 put_least-requires c =
     let items : List ℕ = c.args.s.now in
     let good : bad items ≡ false = sym c.is_bad.ensures ∙ c.if-is_bad.false in
-    record { out_value = refl; good = good; len = long-items _ good; n_bound = (omega (arith, c.if-n-le1.false), c.if-n-le-LEAST.true) }
+    record { out_value = refl; good = good; len = long-items _ good; n_bound = (omega arith, c.if-n-le-LEAST.true) }
 
 pub returns-then-n-le-LEAST : goal.returns-then-n-le-LEAST
 returns-then-n-le-LEAST c =
@@ -46,7 +46,7 @@ pub put_few-requires : goal.put_few-requires
 put_few-requires c =
     let items : List ℕ = c.args.s.now in
     let good : bad items ≡ false = sym c.is_bad.ensures ∙ c.if-is_bad.false in
-    record { out_value = refl; good = good; len = long-items _ good; n_bound = (omega (arith, c.if-n-le1.false), c.if-n-le-FEW.true) }
+    record { out_value = refl; good = good; len = long-items _ good; n_bound = (omega arith, c.if-n-le-FEW.true) }
 
 pub returns-then-n-le-FEW : goal.returns-then-n-le-FEW
 returns-then-n-le-FEW c =
@@ -58,7 +58,7 @@ pub put_many-requires : goal.put_many-requires
 put_many-requires c =
     let items : List ℕ = c.args.s.now in
     let good : bad items ≡ false = sym c.is_bad.ensures ∙ c.if-is_bad.false in
-    record { out_value = refl; good = good; len = long-items _ good; n_bound = (omega (arith, c.if-n-le1.false), few-items _ good) }
+    record { out_value = refl; good = good; len = long-items _ good; n_bound = (omega arith, few-items _ good) }
 
 pub returns : goal.returns
 returns c =

@@ -26,7 +26,7 @@ decide_many-requires-clause-len c = long-items c.args.s.now (sym c.is_bad.ensure
 
 pub decide_many-requires-clause-n_bound : goal.decide_many-requires-clause-n_bound
 decide_many-requires-clause-n_bound c =
-    let f = few-items c.args.s.now (sym c.is_bad.ensures ∙ c.if-is_bad.false) in (omega (arith, c.if-n-le1.false), omega (arith, f))
+    let f = few-items c.args.s.now (sym c.is_bad.ensures ∙ c.if-is_bad.false) in (omega arith, omega (arith, f))
 
 pub returns : goal.returns
 returns c = answers c.args.s.now _ (sym c.is_bad.ensures ∙ c.if-is_bad.false) c.decide_many.ensures
