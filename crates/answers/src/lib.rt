@@ -8,10 +8,7 @@ ghost use Rattle.std.specs.Prelude.{◌≡◌, false, ◌∷◌, map, ◌+◌, �
 ghost use Rattle.octets.specs.Words.{word_bytes};
 ghost use Rattle.octets.specs.Put.{Put};
 ghost use Rattle.items.specs.Layout.{item_size, max_items};
-ghost use Rattle.rule.specs.Standing as S;
-ghost use Rattle.rule.specs.Listed.{relations};
-ghost use Rattle.rule.specs.Rows.{all};
-ghost use Rattle.decision.specs.Working.{few, HoldsFirst};
+ghost use Rattle.decision.specs.Working.{few, items_of, among, HoldsFirst};
 ghost use Rattle.decision.specs.Answer.{bad, outcome, indices, refusal, decision, decided};
 ghost use Rattle.held.specs.After.{after};
 ghost use Rattle.answers.specs.Layout.{chi_square_size, refusal_size};
@@ -96,7 +93,7 @@ fn put_refusal(out: &mut [u8], at: usize, x: Refusal) -> usize
 // The refusals, with their count before them.
 fn put_refusals(out: &mut [u8], at: usize, settled: &Settled<'_>) -> usize
     requires { at + refusals_size ≤ length out.old }
-    ensures { (result ≤ at + refusals_size) × Put out.old at (list_bytes (map refusal (S.decide (relations settled.now.compared.listed.items.now) (all settled.now.compared.listed.items.now)).refused)) result out.new }
+    ensures { (result ≤ at + refusals_size) × Put out.old at (list_bytes (map refusal (among (items_of settled.now)).refused)) result out.new }
 {
     let mut next = at + 1;
     let mut count: u8 = 0;
@@ -115,7 +112,7 @@ fn put_refusals(out: &mut [u8], at: usize, settled: &Settled<'_>) -> usize
 // The three parts, one after another, into zeros, so that what is not used is zero.
 fn put_parts(out: &mut [u8], settled: &Settled<'_>)
     requires { out.old ≡ replicate answer_size 0 }
-    ensures { out.new ≡ answer_bytes (decision (S.decide (relations settled.now.compared.listed.items.now) (all settled.now.compared.listed.items.now))) }
+    ensures { out.new ≡ answer_bytes (decision (among (items_of settled.now))) }
 {
     let second = put_indices(out, 0, lists::ranked(settled).as_slice());
     let third = put_indices(out, second, lists::dominated(settled).as_slice());

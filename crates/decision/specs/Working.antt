@@ -5,6 +5,10 @@ use Rattle.items.specs.Layout.{max_items}
 use Rattle.items.specs.Values.{IsItem}
 use Rattle.items.specs.declared.item.Item.{Item}
 use Rattle.rule.specs.Outcome as O
+use Rattle.rule.specs.Standing.{decide}
+use Rattle.rule.specs.Listed.{relations}
+use Rattle.rule.specs.Rows.{all}
+use Rattle.rule.specs.declared.settled.Settled.{Settled}
 use Rattle.decision.specs.Arrays.{Decision}
 use Rattle.decision.specs.declared.Refusal.{Refusal}
 use Rattle.decision.specs.Answer.{indices, refusal, refusals}
@@ -21,6 +25,14 @@ Each holds l k = (i : ℕ) (x : Item) → i < k → slice_get l i ≡ Some x →
 -- the first k of a list of values are items in s
 abbrev pub HoldsFirst : List ℕ → List Item → ℕ → Type 0
 HoldsFirst s l k = Each (IsItem s) l k
+
+-- the items that are settled
+abbrev pub items_of : Settled → List Item
+items_of settled = settled.compared.listed.items.now
+
+-- what is decided of items, by their places
+abbrev pub among : List Item → O.Outcome ℕ ChiSquare
+among l = decide (relations l) (all l)
 
 -- the members of a list are below n
 abbrev pub AllBelow : ℕ → List ℕ → Type 0

@@ -9,12 +9,9 @@ ghost use Rattle.ranges.specs.Lists.{any_of, up_to};
 ghost use Rattle.items.specs.Layout.{item_size, max_items};
 ghost use Rattle.items.specs.Items.{same_identity};
 ghost use Rattle.items.specs.Values.{IsItem, Whole};
-ghost use Rattle.rule.specs.Standing as S;
-ghost use Rattle.rule.specs.Listed.{relations};
-ghost use Rattle.rule.specs.Rows.{all};
 ghost use Rattle.decision.specs.Answer.{bad_at, bad, outcome, decided};
 ghost use Rattle.decision.specs.Answered.{Says, answered};
-ghost use Rattle.decision.specs.Working.{few, HoldsFirst};
+ghost use Rattle.decision.specs.Working.{few, items_of, among, HoldsFirst};
 
 use arithmetic::standing::ChiSquare;
 use arrayvec::ArrayVec;
@@ -109,7 +106,7 @@ pub fn is_bad(s: &[u8]) -> bool
 
 // What is decided of settled items.
 fn decision_of(settled: &Settled<'_>) -> Decision
-    ensures { Says result (S.decide (relations settled.now.compared.listed.items.now) (all settled.now.compared.listed.items.now)) }
+    ensures { Says result (among (items_of settled.now)) }
 {
     let refusals = lists::refusals(settled);
     let dominated = lists::dominated(settled);
@@ -125,7 +122,7 @@ fn decision_of(settled: &Settled<'_>) -> Decision
 pub fn decide_items(items: &[Item<'_>], rows: &mut [Row]) -> Decision
     requires few { length items.now ≤ max_items }
     requires rows_len { length rows.old ≡ length items.now }
-    ensures { Says result (S.decide (relations items.now) (all items.now)) }
+    ensures { Says result (among items.now) }
 {
     decision_of(&Settled::of(Listed::of(items), rows))
 }
@@ -162,8 +159,8 @@ pub fn settle<'b, 'a: 'b>(
     requires len { length s.now ≡ length items.old * item_size }
     requires rows_len { length rows.old ≡ length items.old }
     requires first { HoldsFirst s.now items.old 1 }
-    ensures outcome { S.decide (relations result.compared.listed.items.now) (all result.compared.listed.items.now) ≡ outcome s.now }
-    ensures len { length result.compared.listed.items.now ≡ length items.old }
+    ensures outcome { among (items_of result) ≡ outcome s.now }
+    ensures len { length (items_of result) ≡ length items.old }
 {
     read(s, items);
     Settled::of(Listed::of(items), rows)

@@ -9,7 +9,7 @@ ghost use Rattle.rule.specs.Standing as S;
 ghost use Rattle.rule.specs.Listed.{relations};
 ghost use Rattle.rule.specs.Rows.{all, replaces, opposes};
 ghost use Rattle.decision.specs.Answer.{refusal};
-ghost use Rattle.decision.specs.Working.{finding, AllBelow};
+ghost use Rattle.decision.specs.Working.{items_of, among, finding, AllBelow};
 
 use crate::Refusal;
 use arrayvec::ArrayVec;
@@ -18,8 +18,8 @@ use rule::settled::Settled;
 
 // The refusal of item i that another takes the place of.
 fn replaced(settled: &Settled<'_>, i: usize) -> Option<Refusal>
-    requires { i < length settled.now.compared.listed.items.now }
-    ensures { result ≡ finding (S.replaced (relations settled.now.compared.listed.items.now) (all settled.now.compared.listed.items.now) i (filter (replaces settled.now.compared.listed.items.now i) (all settled.now.compared.listed.items.now))) }
+    requires { i < length (items_of settled.now) }
+    ensures { result ≡ finding (S.replaced (relations (items_of settled.now)) (all (items_of settled.now)) i (filter (replaces (items_of settled.now) i) (all (items_of settled.now)))) }
 {
     let kept = settled.replacing(i)?;
     Some(Refusal {
@@ -32,8 +32,8 @@ fn replaced(settled: &Settled<'_>, i: usize) -> Option<Refusal>
 
 // The refusal of item i that another opposes.
 fn opposed(settled: &Settled<'_>, i: usize) -> Option<Refusal>
-    requires { i < length settled.now.compared.listed.items.now }
-    ensures { result ≡ finding (S.opposed (relations settled.now.compared.listed.items.now) (all settled.now.compared.listed.items.now) i (filter (opposes settled.now.compared.listed.items.now i) (all settled.now.compared.listed.items.now))) }
+    requires { i < length (items_of settled.now) }
+    ensures { result ≡ finding (S.opposed (relations (items_of settled.now)) (all (items_of settled.now)) i (filter (opposes (items_of settled.now) i) (all (items_of settled.now)))) }
 {
     let kept = settled.opposing(i)?;
     Some(Refusal {
@@ -46,8 +46,8 @@ fn opposed(settled: &Settled<'_>, i: usize) -> Option<Refusal>
 
 /// The refusal of item i, if it is refused.
 pub fn refusal(settled: &Settled<'_>, i: usize) -> Option<Refusal>
-    requires { i < length settled.now.compared.listed.items.now }
-    ensures { result ≡ finding (S.refusal_of (relations settled.now.compared.listed.items.now) (all settled.now.compared.listed.items.now) i) }
+    requires { i < length (items_of settled.now) }
+    ensures { result ≡ finding (S.refusal_of (relations (items_of settled.now)) (all (items_of settled.now)) i) }
 {
     if !settled.is_refused(i) {
         return None;
@@ -60,7 +60,7 @@ pub fn refusal(settled: &Settled<'_>, i: usize) -> Option<Refusal>
 
 /// The refusals, ascending by the refused item.
 pub fn refusals(settled: &Settled<'_>) -> ArrayVec<Refusal, MAX_ITEMS>
-    ensures { result.items ≡ map refusal (S.decide (relations settled.now.compared.listed.items.now) (all settled.now.compared.listed.items.now)).refused }
+    ensures { result.items ≡ map refusal (among (items_of settled.now)).refused }
 {
     let mut list = ArrayVec::new();
     for i in 0..settled.len() {
@@ -74,7 +74,7 @@ pub fn refusals(settled: &Settled<'_>) -> ArrayVec<Refusal, MAX_ITEMS>
 
 /// The dominated, ascending.
 pub fn dominated(settled: &Settled<'_>) -> ArrayVec<u8, MAX_ITEMS>
-    ensures { result.items ≡ (S.decide (relations settled.now.compared.listed.items.now) (all settled.now.compared.listed.items.now)).dominated }
+    ensures { result.items ≡ (among (items_of settled.now)).dominated }
 {
     let mut list = ArrayVec::new();
     for i in 0..settled.len() {
@@ -88,9 +88,9 @@ pub fn dominated(settled: &Settled<'_>) -> ArrayVec<u8, MAX_ITEMS>
 
 // How many items at the front of a list rank before item i.
 fn place_of(settled: &Settled<'_>, list: &[u8], i: usize) -> usize
-    requires below { AllBelow (length settled.now.compared.listed.items.now) list.now }
-    requires i_below { i < length settled.now.compared.listed.items.now }
-    ensures { result ≡ prefix_len (λ j. (relations settled.now.compared.listed.items.now).ahead j i) list.now }
+    requires below { AllBelow (length (items_of settled.now)) list.now }
+    requires i_below { i < length (items_of settled.now) }
+    ensures { result ≡ prefix_len (λ j. (relations (items_of settled.now)).ahead j i) list.now }
 {
     for k in 0..list.len() {
         if !settled.ranks_before(list[k] as usize, i) {
@@ -102,10 +102,10 @@ fn place_of(settled: &Settled<'_>, list: &[u8], i: usize) -> usize
 
 // Puts item i in behind those that rank before it.
 fn enter(settled: &Settled<'_>, list: &mut ArrayVec<u8, MAX_ITEMS>, i: usize)
-    requires below { AllBelow (length settled.now.compared.listed.items.now) list.old.items }
-    requires i_below { i < length settled.now.compared.listed.items.now }
+    requires below { AllBelow (length (items_of settled.now)) list.old.items }
+    requires i_below { i < length (items_of settled.now) }
     requires room { array_vec_len list.old < max_items }
-    ensures items { list.new.items ≡ insert (relations settled.now.compared.listed.items.now).ahead i list.old.items }
+    ensures items { list.new.items ≡ insert (relations (items_of settled.now)).ahead i list.old.items }
     ensures len { array_vec_len list.new ≡ array_vec_len list.old + 1 }
 {
     let place = place_of(settled, list.as_slice(), i);
@@ -114,7 +114,7 @@ fn enter(settled: &Settled<'_>, list: &mut ArrayVec<u8, MAX_ITEMS>, i: usize)
 
 /// The ranked, in rank.
 pub fn ranked(settled: &Settled<'_>) -> ArrayVec<u8, MAX_ITEMS>
-    ensures { result.items ≡ (S.decide (relations settled.now.compared.listed.items.now) (all settled.now.compared.listed.items.now)).ranked }
+    ensures { result.items ≡ (among (items_of settled.now)).ranked }
 {
     let mut list = ArrayVec::new();
     for i in (0..settled.len()).rev() {

@@ -243,3 +243,7 @@ asked p n i e h few = rw (e, lt-ltb i 96 (omega arith)) (has-set p n i h)
 
 pub none-left : {w : ℕ} (p : ℕ → Bool) (n : ℕ) → w ≡ set p n → nat_eq w 0 ≡ not (any_of p (up_to n))
 none-left p n e = ap (λ k. nat_eq k 0) e ∙ empty-set p n
+
+-- what the front of a set answers that was shifted
+pub asked-first : {w v : ℕ} (p : ℕ → Bool) (n j : ℕ) → v ≡ set p n → j < n → w ≡ v / 2 ^ j → has w 0 ≡ p j
+asked-first {w} {v} p n j e h q = first-of v j q ∙ ap (λ (k : ℕ). has k j) e ∙ has-set p n j h

@@ -150,8 +150,9 @@ impl<'a> Compared<'a> {
         ensures { result.word ≡ set (R.replaces self.now.listed.items.now i) (length self.now.listed.items.now) }
     {
         let mut some = Places::none();
+        let mut left = superseding;
         for j in 0..self.rows.len() {
-            if !superseding.contains(j) {
+            if !left.shift() {
                 continue;
             }
             let row = self.row(j);
