@@ -15,7 +15,7 @@ use Rattle.items.proofs.Reading.{same-record, same_inputs, same-identity, same-s
 use Rattle.rule.specs.Standing.{decide}
 use Rattle.rule.specs.Outcome.{Refused, Outcome}
 use Rattle.rule.specs.Related.{item_relations}
-use Rattle.decision.specs.Answer.{bad, outcome, decided, decision}
+use Rattle.decision.specs.Answer.{bad, outcome}
 use Rattle.decision.specs.Claims.{EachOnce, Names, contest, succession, DecisionsLawful, item_count, item_at, Reordered, SameDecision, OrderFree}
 use Rattle.decision.proofs.Carried.{Alike, carried, carried_outcome}
 use Rattle.decision.proofs.Laws.{Named, opponent, successor, listed-once, refused-names, some_ranked, same-ranked, same-dominated, same-refused}
@@ -25,11 +25,6 @@ use Rattle.arithmetic.specs.declared.standing.ChiSquare.{ChiSquare}
 
 pub each_once : EachOnce
 each_once A C r all = listed-once r all
-
--- what is answered where nothing is bad
-pub decided-is : (s : List ℕ) → bad s ≡ false → decided s ≡ decision (outcome s)
-unfolding decided
-decided-is s e = rw e refl
 
 named : (s : List ℕ) (x : Refused ℕ ChiSquare) → Named (item_relations s) (up_to (item_count s)) x → Names s x
 named s x (opponent p c m d u) =

@@ -1,5 +1,5 @@
 -- A list that is sorted by putting one member after another in behind those that come before it, from the last to the first.
-use Rattle.std.proofs.Common.{◌≡◌, ℕ, zero, suc, ◌+◌, ◌-◌, ◌≤◌, ◌<◌, Bool, true, false, length, get_or, drop, zero-add, refl, sym, ap, ◌∙◌, arith}
+use Rattle.std.proofs.Common.{◌≡◌, ℕ, zero, suc, ◌+◌, ◌-◌, ◌≤◌, ◌<◌, Bool, true, false, length, get_or, refl, ap, ◌∙◌, arith}
 use mathlib.Core.List.{List, [], ◌∷◌, Memᴰ}
 use Rattle.std.specs.List as L
 use Rattle.std.specs.List.{prefix_len}
@@ -18,46 +18,6 @@ module _ {A : Type 0} (before : A → A → Bool) (x : A) where
   put-in (y ∷ l) =
       let e : 1 + prefix_len (λ z. before z x) l ≡ suc (prefix_len (λ z. before z x) l) = omega arith in
       by (before y x) (λ t. rw (t, e) (ap (λ (k : List A). y ∷ k) (put-in l))) (λ t. rw t refl)
-
--- ---- how many at the front of a list pass a test: k of them are known to
-
-drop-turn : {A : Type 0} (k : ℕ) (l : List A) (d : A) → k < length l → drop k l ≡ get_or l k d ∷ drop (k + 1) l
-drop-turn zero [] d h = absurd (omega arith)
-drop-turn zero (x ∷ l) d h = refl
-drop-turn (suc k) [] d h = absurd (omega arith)
-drop-turn (suc k) (x ∷ l) d h =
-    let e : suc k + 1 ≡ suc (k + 1) = omega arith in
-    drop-turn k l d (omega arith) ∙ ap (λ j. get_or l k d ∷ drop j (x ∷ l)) (sym e)
-
-drop-end : {A : Type 0} (k : ℕ) (l : List A) → length l ≤ k → drop k l ≡ []
-drop-end zero [] h = refl
-drop-end (suc k) [] h = refl
-drop-end zero (x ∷ l) h = absurd (omega arith)
-drop-end (suc k) (x ∷ l) h = drop-end k l (omega arith)
-
-module _ {A : Type 0} (test : A → Bool) (l : List A) where
-  abbrev pub Passed : ℕ → Type 0
-  Passed k = k + prefix_len test (drop k l) ≡ prefix_len test l
-
-  pub passed-none : Passed 0
-  passed-none = zero-add (prefix_len test l)
-
-  pub passed-more : (k : ℕ) (x : A) → k < length l → x ≡ get_or l k x → test x ≡ true → Passed k → Passed (k + 1)
-  passed-more k x h e t p =
-      let s : drop k l ≡ x ∷ drop (k + 1) l = drop-turn k l x h ∙ ap (λ (y : A). y ∷ drop (k + 1) l) (sym e) in
-      let q : prefix_len test (drop k l) ≡ 1 + prefix_len test (drop (k + 1) l) = ap (prefix_len test) s ∙ rw t refl in
-      omega (arith, p, q)
-
-  pub passed-stop : (k : ℕ) (x : A) → k < length l → x ≡ get_or l k x → test x ≡ false → Passed k → k ≡ prefix_len test l
-  passed-stop k x h e t p =
-      let s : drop k l ≡ x ∷ drop (k + 1) l = drop-turn k l x h ∙ ap (λ (y : A). y ∷ drop (k + 1) l) (sym e) in
-      let q : prefix_len test (drop k l) ≡ 0 = ap (prefix_len test) s ∙ rw t refl in
-      omega (arith, p, q)
-
-  pub passed-all : (k : ℕ) → length l ≤ k → Passed k → k ≡ prefix_len test l
-  passed-all k h p =
-      let q : prefix_len test (drop k l) ≡ 0 = ap (prefix_len test) (drop-end k l h) in
-      omega (arith, p, q)
 
 -- what stands at a place is a member
 pub at-in : (d : ℕ) (l : List ℕ) (i : ℕ) → i < length l → Memᴰ (get_or l i d) l

@@ -34,8 +34,8 @@ pub struct Candidate {
     pub verified: Verified,
 }
 
-/// The case of a number.
-pub fn verified_case(b: u8) -> Verified
+// The case of a number.
+fn verified_case(b: u8) -> Verified
     ensures { result ≡ I.verified_case b }
 {
     if b == layout::PASSED {
@@ -47,8 +47,8 @@ pub fn verified_case(b: u8) -> Verified
     Verified::Unjudged
 }
 
-/// Whether an item was verified and passed.
-pub fn is_passed(v: Verified) -> bool
+// Whether an item was verified and passed.
+fn is_passed(v: Verified) -> bool
     ensures { result ≡ I.is_passed v }
 {
     match v {
@@ -58,8 +58,8 @@ pub fn is_passed(v: Verified) -> bool
     }
 }
 
-/// The bytes of item i's record, which are a record where the items are whole.
-pub fn record_bytes(s: &[u8], i: u8) -> &[u8]
+// The bytes of item i's record, which are a record where the items are whole.
+fn record_bytes(s: &[u8], i: u8) -> &[u8]
     requires { i * item_size + item_size ≤ length s.now }
     ensures { (result.now ≡ I.item_record s.now i) × (length result.now ≡ record_size) }
 {
@@ -76,25 +76,14 @@ pub fn parsed_record(s: &[u8], i: u8) -> Option<Record>
     Record::parse(record_bytes(s, i))
 }
 
-/// The 32 bytes of item i from `at` on: its model inputs or its identity.
-pub fn hash_of(s: &[u8], i: u8, at: usize) -> &[u8]
+// The 32 bytes of item i from `at` on: its model inputs or its identity.
+fn hash_of(s: &[u8], i: u8, at: usize) -> &[u8]
     requires { (i * item_size + item_size ≤ length s.now) × (at + hash_size ≤ item_size) }
     ensures { (result.now ≡ I.hash_of at s.now i) × (length result.now ≡ hash_size) }
 {
     let a = i as usize * layout::ITEM_SIZE + at;
     let e = a + layout::HASH_SIZE;
     &s[a..e]
-}
-
-/// Whether item i has the lower identity.
-pub fn lower(s: &[u8], i: u8, j: u8) -> bool
-    requires { (i * item_size + item_size ≤ length s.now) × (j * item_size + item_size ≤ length s.now) }
-    ensures { result ≡ I.lower_at s.now i j }
-{
-    octets::order::precedes(
-        hash_of(s, i, layout::IDENTITY_AT),
-        hash_of(s, j, layout::IDENTITY_AT),
-    )
 }
 
 /// Whether two items have one identity.

@@ -12,10 +12,7 @@ use Rattle.ranges.specs.Lists.{up_to}
 use Rattle.ranges.proofs.Lists.{any_none, up_in}
 use Rattle.items.specs.Layout.{max_items, item_size}
 use Rattle.items.specs.Items as I
-use Rattle.rule.specs.Standing.{decide}
-use Rattle.rule.specs.Related.{item_relations}
-use Rattle.decision.specs.Answer.{bad_at, bad, decision, decided}
-use Rattle.decision.proofs.Decided.{decided-is}
+use Rattle.decision.specs.Answer.{bad_at, bad}
 use Rattle.shown.specs.Fix.{Fix}
 use Rattle.shown.specs.Items.{item_bytes, items_for, no_fix, at, Apart, AllFormed}
 use Rattle.shown.proofs.Indexed.{at_in}
@@ -50,7 +47,3 @@ module _ (gs : List Fix) (w : AllFormed gs) where
         let m : length s % item_size ≡ 0 = omega (arith, items-length) in
         rw (le-ltb (max_items * item_size) (length s) (omega (arith, items-length)), m, items-count)
         (any_none (bad_at s) (up_to n) (λ i m. good-at i (up_in n i m)))
-
-    -- what is decided of them
-    pub items-decided : decided (items_for gs) ≡ decision (decide (item_relations (items_for gs)) (up_to (length gs)))
-    items-decided = decided-is s items-good ∙ ap (λ (k : ℕ). decision (decide (item_relations s) (up_to k))) items-count

@@ -1,6 +1,6 @@
 -- What is shown of a transmission (docs/REFERENCE.md, 'Agreement and decision' and 'Register and board'): its fixes are decided in ascending identity, each with
 -- standing 0, consistent, unverified and not preferred. None is verified, so none supersedes another, and a decision comes to this (`shown-is-decided`, specs/Claims).
-use Rattle.std.specs.Prelude.{ℕ, Bool, false, not, ◌&&◌}
+use Rattle.std.specs.Prelude.{Bool, false, not, ◌&&◌}
 use mathlib.Core.List.{List, [], ◌∷◌, flat_map}
 use Rattle.octets.specs.Order.{is_before, same}
 use Rattle.record.specs.Fields.{weight}
