@@ -17,7 +17,7 @@ use Rattle.shown.specs.Items.{at}
 use Rattle.tracked.specs.Held.{HeldTransmission}
 use Rattle.arrange.specs.Arranged.{max_transmissions, is_some, has_fix, older_than, arranged}
 use Rattle.arrange.specs.Claims.{InOrder, none, next, ArrangedInOrder, alike, Forgotten, LatestLeft, FewAllLeft, OrderStays}
-use Rattle.arrange.proofs.Settling.{drop-in}
+use Rattle.arrange.proofs.Tables.{drop-in}
 use Rattle.arrange.proofs.Stable as S
 use Rattle.arrange.proofs.Stable.{Weak, Ordered, sort-agree, sort-ordered, sort-same, equal, sort-stable}
 

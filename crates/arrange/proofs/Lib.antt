@@ -1,9 +1,6 @@
-pub mod Tables
-pub mod Moving
-pub mod Kept
-pub mod Sheets
-pub mod Settling
 pub mod Stable
-pub mod Admitting
+pub mod Tables
+pub mod Entering
+pub mod Placing
 pub mod Values
 pub mod Claimed

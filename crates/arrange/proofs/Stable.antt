@@ -1,23 +1,23 @@
 -- Laws of a sort by an order in which two members may be equal: what is sorted may be sorted again, and what goes beyond a limit.
-use mathlib.Core.Path.{◌≡◌, refl, sym, ap, ◌∙◌}
+use mathlib.Core.Path.{◌≡◌, refl, ap, ◌∙◌}
 use mathlib.Core.Bool.{Bool, true, false, not, ◌&&◌}
 use mathlib.Core.List.Memᴰ
-use mathlib.Core.List.{List, [], ◌∷◌, ◌++◌, Memᴰ}
+use mathlib.Core.List.{List, [], ◌∷◌, Memᴰ}
 use Rattle.ranges.specs.Lists.{filter, insert, sort}
 use Rattle.ranges.proofs.Bools.{by, or, clash, no_true, and_left, not_t}
 use Rattle.ranges.proofs.Lists.{sort-in}
 use Rattle.ranges.proofs.Sorting.{insert-first}
 
 module _ {A : Type 0} (before : A → A → Bool) where
-  insert-none : (x : A) → insert before x [] ≡ x ∷ []
+  pub insert-none : (x : A) → insert before x [] ≡ x ∷ []
   unfolding insert
   insert-none x = refl
 
-  insert-yes : (x y : A) (l : List A) → before y x ≡ true → insert before x (y ∷ l) ≡ y ∷ insert before x l
+  pub insert-yes : (x y : A) (l : List A) → before y x ≡ true → insert before x (y ∷ l) ≡ y ∷ insert before x l
   unfolding insert
   insert-yes x y l t = rw t refl
 
-  insert-no : (x y : A) (l : List A) → before y x ≡ false → insert before x (y ∷ l) ≡ x ∷ (y ∷ l)
+  pub insert-no : (x y : A) (l : List A) → before y x ≡ false → insert before x (y ∷ l) ≡ x ∷ (y ∷ l)
   unfolding insert
   insert-no x y l t = rw t refl
 
@@ -57,36 +57,6 @@ module _ {A : Type 0} (before : A → A → Bool) (o : Weak before) where
   asym : (x y : A) → before x y ≡ true → before y x ≡ false
   asym x y e = no_true (before y x) (λ t. clash (o.trans x y x e t) (o.irrefl x))
 
-  -- two that differ may be put in either way
-  commute : (x y : A) (l : List A) → before y x ≡ true → insert before y (insert before x l) ≡ insert before x (insert before y l)
-  unfolding insert
-  commute x y [] e = insert-no before y x [] (asym y x e) ∙ sym (insert-yes before x y [] e)
-  commute x y (z ∷ l) e =
-      by (before z y)
-      (λ p. let q = o.trans z y x p e in
-      ap (insert before y) (insert-yes before x z l q) ∙ insert-yes before y z (insert before x l) p
-      ∙ ap (λ (k : List A). z ∷ k) (commute x y l e)
-      ∙ sym (ap (insert before x) (insert-yes before y z l p) ∙ insert-yes before x z (insert before y l) q))
-      (λ p. by (before z x)
-      (λ q. ap (insert before y) (insert-yes before x z l q) ∙ insert-no before y z (insert before x l) p
-      ∙ sym (ap (insert before x) (insert-no before y z l p) ∙ insert-yes before x y (z ∷ l) e ∙ ap (λ (k : List A). y ∷ k) (insert-yes before x z l q)))
-      (λ q. ap (insert before y) (insert-no before x z l q) ∙ insert-no before y x (z ∷ l) (asym y x e)
-      ∙ sym (ap (insert before x) (insert-no before y z l p) ∙ insert-yes before x y (z ∷ l) e ∙ ap (λ (k : List A). y ∷ k) (insert-no before x z l q))))
-
-  insert-through : (x : A) (l r : List A) → sort before (insert before x l ++ r) ≡ insert before x (sort before (l ++ r))
-  unfolding sort
-  insert-through x [] r = ap (λ (k : List A). sort before (k ++ r)) (insert-none before x)
-  insert-through x (y ∷ l) r =
-      by (before y x)
-      (λ t. ap (λ (k : List A). sort before (k ++ r)) (insert-yes before x y l t) ∙ ap (insert before y) (insert-through x l r) ∙ commute x y (sort before (l ++ r)) t)
-      (λ t. ap (λ (k : List A). sort before (k ++ r)) (insert-no before x y l t))
-
-  -- what stands in front may be sorted first
-  pub sort-front : (l r : List A) → sort before (sort before l ++ r) ≡ sort before (l ++ r)
-  unfolding sort
-  sort-front [] r = refl
-  sort-front (x ∷ l) r = insert-through x (sort before l) r ∙ ap (insert before x) (sort-front l r)
-
   -- ---- in order
 
   -- no later member comes before an earlier one
@@ -111,20 +81,6 @@ module _ {A : Type 0} (before : A → A → Bool) (o : Weak before) where
   unfolding sort
   sort-same [] none = refl
   sort-same (x ∷ l) (next f w) = ap (insert before x) (sort-same l w) ∙ insert-first before x l f
-
-  -- a last one that comes before all goes first
-  pub last-first : (x : A) (l : List A) → Ordered l → ((y : A) → Memᴰ y l → before x y ≡ true) → sort before (l ++ (x ∷ [])) ≡ x ∷ l
-  unfolding sort
-  last-first x [] none g = insert-none before x
-  last-first x (y ∷ l) (next f w) g =
-      ap (insert before y) (last-first x l w (λ z m. g z (Memᴰ.tail m)))
-      ∙ insert-yes before y x l (g y (Memᴰ.head refl))
-      ∙ ap (λ (k : List A). x ∷ k) (insert-first before y l f)
-
-  -- a first one that nothing comes before stays the first
-  pub first-stays : (x : A) (l r : List A) → ((y : A) → Memᴰ y (l ++ r) → before y x ≡ false) → sort before ((x ∷ l) ++ r) ≡ x ∷ sort before (l ++ r)
-  unfolding sort
-  first-stays x l r g = insert-first before x (sort before (l ++ r)) (λ y m. g y (sort-in before (l ++ r) y m))
 
   -- ---- those that are equal keep their order
 

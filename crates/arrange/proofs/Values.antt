@@ -2,18 +2,16 @@
 use Prim.Native.Nat.{ℕ, zero, suc, ◌-◌, ◌≤◌}
 use mathlib.Core.Path.{◌≡◌, refl, sym, ap, ap₂, ◌∙◌}
 use mathlib.Core.List.{List, [], ◌∷◌, map}
-use native.Mathlib.Omega.{arith}
 use lib.ListN.{length, drop, length-map}
-use Rattle.ranges.specs.Lists.{filter, sort, last_of}
+use Rattle.ranges.specs.Lists.{filter, sort}
 use Rattle.ranges.proofs.Lists.{filter_map, sort-map}
 use Rattle.tracked.specs.Held.{HeldTransmission}
 use Rattle.tracked.specs.Bytes.{transmission_in}
 use Rattle.arrange.specs.Arranged.{max_transmissions, has_fix, older_than, arranged}
-use Rattle.arrange.specs.Blocks.{has_fix_in, older_block, arranged_blocks}
-use Rattle.arrange.proofs.Admitting.{few-stay}
-use Rattle.arrange.proofs.Settling.{arranged-few}
+use Rattle.arrange.specs.Blocks.{has_fix_in, older_block, arranged_blocks, latest_blocks}
+use Rattle.arrange.proofs.Tables.{few-stay}
 
-map-drop : {A B : Type 0} (f : A → B) (n : ℕ) (l : List A) → map f (drop n l) ≡ drop n (map f l)
+pub map-drop : {A B : Type 0} (f : A → B) (n : ℕ) (l : List A) → map f (drop n l) ≡ drop n (map f l)
 map-drop f zero l = refl
 map-drop f (suc n) [] = refl
 map-drop f (suc n) (x ∷ l) = map-drop f n l
@@ -24,7 +22,7 @@ sorted-values bs =
     sym (sort-map transmission_in older_block older_than (filter has_fix_in bs) (λ x y m n. refl))
     ∙ ap (sort older_than) (sym (filter_map transmission_in has_fix_in has_fix bs (λ x m. refl)))
 
-latest-values : (bs : List (List ℕ)) → map transmission_in (last_of max_transmissions (arranged_blocks bs)) ≡ arranged (map transmission_in bs)
+pub latest-values : (bs : List (List ℕ)) → map transmission_in (latest_blocks bs) ≡ arranged (map transmission_in bs)
 unfolding arranged
 latest-values bs =
     map-drop transmission_in (length (arranged_blocks bs) - max_transmissions) (arranged_blocks bs)
@@ -32,4 +30,4 @@ latest-values bs =
 
 -- of at most eight none goes
 pub arranged-values : (bs : List (List ℕ)) → length bs ≤ max_transmissions → map transmission_in (arranged_blocks bs) ≡ arranged (map transmission_in bs)
-arranged-values bs h = ap (map transmission_in) (sym (few-stay (arranged_blocks bs) (let f = arranged-few bs in omega (arith, f, h)))) ∙ latest-values bs
+arranged-values bs h = ap (map transmission_in) (sym (few-stay bs h)) ∙ latest-values bs

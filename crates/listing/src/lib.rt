@@ -1,22 +1,24 @@
 //! The listing of a track: its transmissions in their order, as the lines of a board.
 #![tactic(auto)]
 
-ghost use Rattle.std.specs.Prelude.{◌≡◌, true, ◌<◌, ◌≤◌, length, get_or};
-ghost use mathlib.Core.List.{[], map, flat_map};
+ghost use Rattle.std.specs.Prelude.{◌≡◌, true, ◌≤◌, length, map, flat_map};
 ghost use Rattle.octets.specs.Put.{Put};
 ghost use Rattle.text.specs.Texts.{append};
 ghost use Rattle.held.specs.After.{after};
-ghost use Rattle.tracked.specs.Bytes.{fix_in, refused_in, refused_count, fix_places, refused_places, transmission_in};
-ghost use Rattle.tracked.specs.Parts.{Sound};
-ghost use Rattle.arrange.specs.Blocks.{blocks, Filled};
+ghost use Rattle.tracked.specs.Bytes.{transmission_in};
+ghost use Rattle.arrange.specs.Blocks.{AllSound};
 ghost use Rattle.drawing.specs.Text.{ranked_text, board_size};
 ghost use Rattle.stored.specs.Memory.{well_formed, decode};
 ghost use Rattle.listing.specs.Listing as T;
 
 use drawing::Role;
-use stored::layout::{CONTESTED_AT, TRANSMISSION_COUNT_AT, TRANSMISSIONS_AT};
+use stored::layout::CONTESTED_AT;
+use stored::parts::transmissions;
 use text::Text;
-use tracked::layout::CHI2_AT;
+use tracked::fixes::Fix;
+use tracked::layout::TRANSMISSION_SIZE;
+use tracked::refused::RefusedFix;
+use tracked::transmission::Transmission;
 
 pub mod claims;
 
@@ -24,63 +26,48 @@ pub mod claims;
 const LISTING_SIZE: usize = 16384;
 
 // The lines of the fixes that stand.
-fn push_standing(out: &mut Text, b: &[u8])
-    requires { Sound b.now }
-    ensures { out.new ≡ append out.old (flat_map ranked_text (map fix_in (fix_places b.now))) }
+fn push_standing(out: &mut Text, fixes: &[Fix<'_>])
+    ensures { out.new ≡ append out.old (flat_map ranked_text fixes.now) }
 {
-    let n = tracked::fix_count(b);
-    for k in 0..n {
-        let fix = tracked::held(b, k);
-        drawing::push_line(out, Role::Ranked, fix.record(), fix.signers());
+    for fix in fixes {
+        drawing::push_line(out, Role::Ranked, fix.report, fix.signers);
     }
 }
 
-// The line of the refused fix k, which is held behind those that stand.
-fn push_refusal(out: &mut Text, b: &[u8], k: u8)
-    requires sound { Sound b.now }
-    requires k_bound { k < refused_count b.now }
-    ensures { out.new ≡ append out.old (T.refused_text (refused_in (get_or (refused_places b.now) k []))) }
+// The line of a refused fix.
+fn push_refusal(out: &mut Text, refusal: &RefusedFix<'_>)
+    ensures { out.new ≡ append out.old (T.refused_text refusal.now) }
 {
-    let fix = tracked::held(b, tracked::fix_count(b) + k);
-    let bits = octets::words::u64_at(tracked::refused_at(b, k), CHI2_AT);
-    drawing::push_refused(
-        out,
-        fix.record(),
-        fix.signers(),
-        arithmetic::stored_chi_square(bits),
-    );
+    let fix = &refusal.fix;
+    let chi2 = arithmetic::stored_chi_square(refusal.chi2);
+    drawing::push_refused(out, fix.report, fix.signers, chi2);
 }
 
 // The lines of the refused fixes.
-fn push_refusals(out: &mut Text, b: &[u8])
-    requires { Sound b.now }
-    ensures { out.new ≡ append out.old (flat_map T.refused_text (map refused_in (refused_places b.now))) }
+fn push_refusals(out: &mut Text, refused: &[RefusedFix<'_>])
+    ensures { out.new ≡ append out.old (flat_map T.refused_text refused.now) }
 {
-    let n = tracked::refused_count(b);
-    for k in 0..n {
-        push_refusal(out, b, k);
+    for refusal in refused {
+        push_refusal(out, refusal);
     }
 }
 
 // The header and the lines of a transmission.
-fn push_held(out: &mut Text, number: u64, b: &[u8])
-    requires { Sound b.now }
-    ensures { out.new ≡ append out.old (T.held_text number (transmission_in b.now)) }
+fn push_held(out: &mut Text, number: u64, held: &Transmission<'_>)
+    ensures { out.new ≡ append out.old (T.held_text number held.now) }
 {
-    let fixes = tracked::fix_count(b) as usize;
-    let refused = tracked::refused_count(b) as usize;
-    drawing::push_header(out, number, fixes, 0, refused);
-    push_standing(out, b);
-    push_refusals(out, b);
+    drawing::push_header(out, number, held.fixes.len(), 0, held.refused.len());
+    push_standing(out, &held.fixes);
+    push_refusals(out, &held.refused);
 }
 
 // Transmissions one after another, numbered from 1.
-fn push_all(out: &mut Text, t: &[u8], n: u8)
-    requires { Filled t.now n }
-    ensures { out.new ≡ append out.old (T.held_from 1 (map transmission_in (blocks n t.now))) }
+fn push_all(out: &mut Text, blocks: &[[u8; TRANSMISSION_SIZE]])
+    requires { AllSound blocks.now }
+    ensures { out.new ≡ append out.old (T.held_from 1 (map transmission_in blocks.now)) }
 {
-    for i in 0..n {
-        push_held(out, i as u64 + 1, arrange::block(t, i as usize));
+    for (i, block) in blocks.iter().enumerate() {
+        push_held(out, i as u64 + 1, &Transmission::read(block));
     }
 }
 
@@ -97,8 +84,7 @@ fn push_listing(out: &mut Text, memory: &[u8])
     ensures { out.new ≡ append out.old (T.listing_of (decode memory.now)) }
 {
     push_contested(out, octets::words::u64_at(memory, CONTESTED_AT));
-    let n = memory[TRANSMISSION_COUNT_AT];
-    push_all(out, &memory[TRANSMISSIONS_AT..], n);
+    push_all(out, transmissions(memory));
 }
 
 // Writes the listing of a track.

@@ -1,14 +1,22 @@
--- Which members of a list pass a test: none, one, or several.
-use Prim.Native.Nat.{ℕ, zero, suc, ◌+◌, ◌<◌}
-use mathlib.Core.Path.{◌≡◌, refl, ap}
+-- Which members of a list pass a test: none, one, or several; and where the first is.
+use Prim.Native.Nat.{ℕ, zero, suc, ◌+◌, ◌≤◌, ◌<◌}
+use mathlib.Core.Path.{◌≡◌, refl, sym, ap, ◌∙◌}
 use mathlib.Core.Bool.{Bool, true, false, cond}
 use mathlib.Core.List.{List, [], ◌∷◌, map}
 use native.Mathlib.Omega.{arith}
 use native.Mathlib.Numerals.{add-one}
-use lib.ListN.{length, get_or, take, drop, set}
+use mathlib.Core.Logic.{◌⊎◌, inl, inr}
+use borrow.Author.Tests.{lt-ltb, le-ltb}
+use lib.ListN.{length, get_or, take, drop, set, length-drop}
+use lib.Seq.{get_or-drop}
+use Rattle.std.specs.Prelude.{Option, Some, None, position}
+use Rattle.std.proofs.lemmas.List.Sums.{position_or_len_is}
+use Rattle.std.proofs.lemmas.List.Quantifiers.{position-Some}
 use Rattle.ranges.specs.Lists.{any_of, filter}
 use Rattle.ranges.proofs.Bools.{by, clash}
 use Rattle.ranges.proofs.Lists.{filter_none}
+use Rattle.normalize.proofs.Gathered.{none-of}
+use Rattle.merge.specs.Searching.{only}
 
 module _ {A : Type 0} (test : A → Bool) where
   more-suc : (l : List A) (k : ℕ) (d : A) → k < length l → any_of test (take k l) ≡ false → test (get_or l k d) ≡ false → any_of test (take (suc k) l) ≡ false
@@ -23,16 +31,6 @@ module _ {A : Type 0} (test : A → Bool) where
   -- one more at the front
   pub any-more : (l : List A) (k : ℕ) (d : A) → k < length l → any_of test (take k l) ≡ false → test (get_or l k d) ≡ false → any_of test (take (k + 1) l) ≡ false
   any-more l k d h a e = rw (add-one k) (more-suc l k d h a e)
-
-  -- none in front of a place and none from it on
-  pub any-halves : (l : List A) (k : ℕ) → any_of test (take k l) ≡ false → any_of test (drop k l) ≡ false → any_of test l ≡ false
-  unfolding any_of
-  any-halves l zero a b = b
-  any-halves [] (suc k) a b = refl
-  any-halves (x ∷ l) (suc k) a b =
-      by (test x)
-      (λ t. clash refl (rw t at a))
-      (λ t. rw t (any-halves l k (rw t at a) b))
 
   -- that at one place alone
   pub filter-one : (l : List A) (i : ℕ) (d : A) → i < length l → any_of test (take i l) ≡ false → test (get_or l i d) ≡ true → any_of test (drop (suc i) l) ≡ false
@@ -84,3 +82,70 @@ module _ {A : Type 0} (test : A → Bool) where
       by (test x)
       (λ t. let r = filter-some-at l j d (omega arith) f in (x, r.0, r.1, rw t (ap (λ (k : List A). x ∷ k) r.2)))
       (λ t. let r = filter-several l i j d (omega arith) (omega arith) e f in (r.0, r.1, r.2, rw t r.3))
+
+  -- ---- where the first is
+
+  pub place-is : (l : List A) (i : ℕ) (d : A) → i < length l → test (get_or l i d) ≡ true → ((k : ℕ) → k < i → test (get_or l k d) ≡ false) → position test l ≡ Some i
+  place-is l i d h e p = let q = position_or_len_is test l i d (omega arith) p (λ k. e) in rw (q, lt-ltb i (length l) h) refl
+
+  pub place-none : (l : List A) (n : ℕ) (d : A) → length l ≤ n → ((k : ℕ) → k < n → test (get_or l k d) ≡ false) → position test l ≡ None
+  place-none l n d h p =
+      let q = position_or_len_is test l (length l) d (omega arith) (λ k m. p k (omega arith)) (λ m. absurd (omega arith)) in
+      rw (q, le-ltb (length l) (length l) (omega arith)) refl
+
+  none-front : (l : List A) (i : ℕ) (d : A) → i ≤ length l → ((k : ℕ) → k < i → test (get_or l k d) ≡ false) → any_of test (take i l) ≡ false
+  unfolding any_of
+  none-front l zero d h p = refl
+  none-front [] (suc i) d h p = absurd (omega arith)
+  none-front (x ∷ l) (suc i) d h p = rw (p 0 (omega arith)) (none-front l i d (omega arith) (λ k m. p (suc k) (omega arith)))
+
+  -- at this place is the first that passes
+  pub record First (l : List A) (i : ℕ) (d : A) : Type 0 where
+    pub there : i < length l
+    pub before : any_of test (take i l) ≡ false
+    pub here : test (get_or l i d) ≡ true
+
+  pub first-at : (l : List A) (i : ℕ) (d : A) → position test l ≡ Some i → First l i d
+  first-at l i d e = let s = position-Some test l i d e in record { there = s.0; before = none-front l i d (omega (arith, s.0)) s.2; here = s.1 }
+
+  -- and none behind it does
+  pub record Alone (l : List A) (i : ℕ) (d : A) : Type 0 where
+    pub first : First l i d
+    pub behind : any_of test (drop (suc i) l) ≡ false
+
+  pub alone-at : (l : List A) (i : ℕ) (d : A) → only test l ≡ Some i → Alone l i d
+  alone-at l i d e = go (position test l) refl
+    where
+      last : (j : ℕ) → position test l ≡ Some j → (o : Option ℕ) → position test (drop (j + 1) l) ≡ o → Alone l i d
+      last j p None q =
+          let z : j ≡ i = let r = rw (p, q) at e in cc in
+          record { first = first-at l i d (p ∙ ap Some z); behind = ap (λ (k : ℕ). any_of test (drop k l)) (sym (add-one i)) ∙ none-of test (drop (i + 1) l) (ap (λ (k : ℕ). position test (drop (k + 1) l)) (sym z) ∙ q) }
+      last j p (Some k) q = absurd (let r = rw (p, q) at e in cc)
+
+      go : (o : Option ℕ) → position test l ≡ o → Alone l i d
+      go None p = absurd (let r = rw p at e in cc)
+      go (Some j) p = last j p (position test (drop (j + 1) l)) refl
+
+  -- several pass
+  pub record Several (l : List A) : Type 0 where
+    pub one : A
+    pub other : A
+    pub rest : List A
+    pub are : filter test l ≡ one ∷ (other ∷ rest)
+
+  -- none or several do
+  pub none-alone : (l : List A) (d : A) → only test l ≡ None → (filter test l ≡ []) ⊎ Several l
+  none-alone l d e = go (position test l) refl
+    where
+      last : (j : ℕ) → position test l ≡ Some j → (o : Option ℕ) → position test (drop (j + 1) l) ≡ o → (filter test l ≡ []) ⊎ Several l
+      last j p None q = absurd (let r = rw (p, q) at e in cc)
+      last j p (Some k) q =
+          let a = first-at l j d p in
+          let b = first-at (drop (j + 1) l) k d q in
+          let h : j + 1 + k < length l = let t = b.there in let n = length-drop (j + 1) l in omega (arith, t, n) in
+          let r = filter-several l j (j + 1 + k) d (omega arith) h a.here (sym (ap test (get_or-drop (j + 1) l k d)) ∙ b.here) in
+          inr (record { one = r.0; other = r.1; rest = r.2; are = r.3 })
+
+      go : (o : Option ℕ) → position test l ≡ o → (filter test l ≡ []) ⊎ Several l
+      go None p = inl (filter_none test l (none-of test l p))
+      go (Some j) p = last j p (position test (drop (j + 1) l)) refl

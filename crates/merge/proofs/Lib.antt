@@ -2,9 +2,8 @@ pub mod Counting
 pub mod Single
 pub mod Putting
 pub mod Signing
-pub mod Arranging
-pub mod Opening
-pub mod Sheets
 pub mod Identified
+pub mod Written
+pub mod Opening
 pub mod Joining
 pub mod Claimed

@@ -2,9 +2,11 @@
 use Rattle.std.specs.Prelude.{ℕ, Bool, cond, ◌||◌, List, [], ◌∷◌, ◌++◌, map}
 use Rattle.ranges.specs.Lists.{any_of, filter}
 use Rattle.shown.specs.Fix.{Fix}
-use Rattle.tracked.specs.Held.{RefusedFix, HeldTransmission, held_in, is_of, tied_to}
-use Rattle.normalize.specs.Normal.{signed_by, sign_first, normalized}
+use Rattle.tracked.specs.Held.{HeldTransmission, held_in, is_of, tied_to}
+use Rattle.normalize.specs.Normal.{normalized}
 use Rattle.normalize.specs.Joining.{with_fix, refuses, upholds, entered, leads, moved}
+pub use Rattle.normalize.specs.Joining.{sign_in}
+unfoldable pub use Rattle.normalize.specs.Joining.{sign_refused}
 use Rattle.arrange.specs.Arranged.{arranged}
 use Rattle.merge.specs.declared.Merged.{Merged}
 use Rattle.merge.specs.declared.Merged.TheVariants.{Changed, Contested, Duplicate, Dropped}
@@ -39,20 +41,6 @@ opened f ts =
 -- u in the place of the transmission that f is tied to
 abbrev pub in_place : Fix → HeldTransmission → List HeldTransmission → List HeldTransmission
 in_place f u ts = map (λ t. cond (tied_to f t) u t) ts
-
--- the first refused that has the identity of f gains its signers
-unfoldable pub sign_refused : Fix → List RefusedFix → List RefusedFix
-sign_refused f [] = []
-sign_refused f (x ∷ xs) =
-    let rest = sign_refused f xs in
-    cond (is_of f x.fix) (record { fix = signed_by f x.fix; against = x.against; chi2 = x.chi2 } ∷ xs) (x ∷ rest)
-
--- its identity is held: the first that has it gains the signer, those that stand before the refused
-abbrev pub sign_in : Fix → HeldTransmission → HeldTransmission
-sign_in f t =
-    cond (upholds t f)
-    (record { fixes = sign_first f t.fixes; refused = t.refused })
-    (record { fixes = t.fixes; refused = sign_refused f t.refused })
 
 -- Contested goes before Changed
 abbrev pub answer_of : Fix → HeldTransmission → HeldTransmission → Merged

@@ -25,8 +25,8 @@ use Rattle.shown.specs.Claims.{fix_relations}
 use Rattle.shown.proofs.Plainly.{shown-is-decided}
 use Rattle.tracked.specs.Layout.{max_standing, max_refused}
 use Rattle.tracked.specs.Held.{fix_of, held_in, is_of}
-use Rattle.keeping.proofs.Lowering.{take_in}
-use Rattle.keeping.proofs.Outcomes.{take-map}
+use Rattle.normalize.proofs.Lowest.{front-in}
+use Rattle.std.proofs.lemmas.List.{take-map}
 use Rattle.normalize.specs.Normal.{gather_all, distinct, refused_fix, lower_refused, normalized}
 use Rattle.normalize.specs.Claims.{SomeStand, FewKept, Differ, identity_of, IdentitiesDiffer, SignersUnited, AloneStands}
 use Rattle.normalize.proofs.Differing.{perm-differ, take-differ, both-differ, front-differ, back-differ, cross-differ}
@@ -56,7 +56,7 @@ module _ (fs : List Fix) where
   kept-are = ap (λ (l : List Fix). take max_standing o.ranked ++ l) (map-map fix_of refused_fix lows)
 
   pub low-in : (x : Refused Fix ChiSquare) → Memᴰ x lows → Memᴰ x o.refused
-  low-in x m = sort-in lower_refused o.refused x (take_in max_refused (sort lower_refused o.refused) m)
+  low-in x m = sort-in lower_refused o.refused x (front-in max_refused (sort lower_refused o.refused) m)
 
   -- what is kept is among those that were gathered
   pub ranked-in : (g : Fix) → Memᴰ g o.ranked → Memᴰ g (distinct fs)
@@ -68,7 +68,7 @@ module _ (fs : List Fix) where
   pub kept_in : (g : Fix) → Memᴰ g (held_in (normalized fs)) → Memᴰ g (distinct fs)
   kept_in g m =
       or (Memᴰ.append_cases (take max_standing o.ranked) (subst (λ (l : List Fix). Memᴰ g l) kept-are m))
-      (λ k. ranked-in g (take_in max_standing o.ranked k))
+      (λ k. ranked-in g (front-in max_standing o.ranked k))
       (λ k. let r = Memᴰ.of_map item_of lows k in subst (λ (x : Fix). Memᴰ x (distinct fs)) r.2 (refused-in r.0 (low-in r.0 r.1)))
 
   -- ---- their identities differ
@@ -100,14 +100,14 @@ module _ (fs : List Fix) where
       (take-differ max_standing ranks (front-differ ranks (d ++ falls) all-differ))
       (take-differ max_refused sorted (perm-differ same-falls (back-differ d falls (back-differ ranks (d ++ falls) all-differ))))
       (λ x y p q e.
-      cross-differ ranks (d ++ falls) all-differ x y (take_in max_standing ranks p) (Memᴰ.append_right d (perm-mem same-falls (take_in max_refused sorted q))) e)
+      cross-differ ranks (d ++ falls) all-differ x y (front-in max_standing ranks p) (Memᴰ.append_right d (perm-mem same-falls (front-in max_refused sorted q))) e)
 
   pub kept-identities : map identity_of (held_in (normalized fs)) ≡ take max_standing ranks ++ take max_refused sorted
   kept-identities =
       ap (map identity_of) kept-are
       ∙ map-append identity_of (take max_standing o.ranked) (map item_of lows)
-      ∙ ap₂ ◌++◌ (take-map identity_of max_standing o.ranked)
-      (ap (map identity_of) (take-map item_of max_refused (sort lower_refused o.refused)) ∙ take-map identity_of max_refused (map item_of (sort lower_refused o.refused)))
+      ∙ ap₂ ◌++◌ (sym (take-map identity_of max_standing o.ranked))
+      (ap (map identity_of) (sym (take-map item_of max_refused (sort lower_refused o.refused))) ∙ sym (take-map identity_of max_refused (map item_of (sort lower_refused o.refused))))
 
 pub identities-differ : IdentitiesDiffer
 identities-differ fs = subst Differ (sym (kept-identities fs)) (differ fs)

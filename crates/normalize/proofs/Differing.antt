@@ -6,7 +6,7 @@ use mathlib.Core.List.{List, [], ◌∷◌, ◌++◌, Memᴰ, Permᴰ}
 use lib.ListN.{take}
 use Rattle.ranges.proofs.Bools.{or}
 use Rattle.ranges.proofs.Orders.{perm-mem}
-use Rattle.keeping.proofs.Lowering.{take_in}
+use Rattle.normalize.proofs.Lowest.{front-in}
 use Rattle.normalize.specs.Claims.{Differ, none, next}
 
 module _ {A : Type 0} where
@@ -37,7 +37,7 @@ module _ {A : Type 0} where
   pub take-differ : (k : ℕ) (l : List A) → Differ l → Differ (take k l)
   take-differ zero l d = none
   take-differ (suc k) [] d = none
-  take-differ (suc k) (x ∷ l) d = next (λ y m q. first-differs d y (take_in k l m) q) (take-differ k l (rest-differ d))
+  take-differ (suc k) (x ∷ l) d = next (λ y m q. first-differs d y (front-in k l m) q) (take-differ k l (rest-differ d))
 
   -- ---- two lists, one after the other
 

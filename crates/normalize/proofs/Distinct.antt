@@ -1,13 +1,12 @@
--- Laws of fixes that are gathered, of one identity one: they are well-formed, have different identities, and are no more than were given.
-use Prim.Native.Nat.{ℕ, zero, suc, ◌+◌, ◌≤◌, ◌<◌}
+-- Laws of fixes that are gathered, of one identity one: they have different identities, and are no more than were given.
+use Prim.Native.Nat.{ℕ, suc, ◌+◌, ◌≤◌, ◌<◌}
 use mathlib.Core.Path.{◌≡◌, refl, sym, ap, ◌∙◌, subst}
 use mathlib.Core.Bool.{true, false}
 use mathlib.Core.List.Memᴰ
 use mathlib.Core.List.{List, [], ◌∷◌, ◌++◌, map}
 use native.Mathlib.Omega.{arith}
-use lib.Bits.{bit_or}
 use lib.Dec.{ltb}
-use lib.ListN.{length, get_or, set, length-append, get_or-append, get_or-map}
+use lib.ListN.{length, get_or, length-append, get_or-append, get_or-map}
 use lib.Seq.{get_or-append_seam}
 use borrow.Author.Tests.{ltb-true, ltb-false}
 use Rattle.octets.specs.Order.{same}
@@ -20,7 +19,6 @@ use Rattle.shown.specs.Items.{no_fix, at, Apart, Formed, AllFormed}
 use Rattle.shown.proofs.Indexed.{at_in}
 use Rattle.tracked.specs.Held.{is_of}
 use Rattle.normalize.specs.Normal.{signed_by, sign_first, gather, gather_all}
-use Rattle.normalize.specs.Working.{signers_of}
 
 abbrev identity_of : Fix → List ℕ
 identity_of f = f.identity
@@ -41,28 +39,6 @@ module _ (f : Fix) where
   unfolding sign_first
   sign-length [] = refl
   sign-length (g ∷ ks) = by (is_of f g) (λ t. rw t refl) (λ t. rw t (ap suc (sign-length ks)))
-
-  -- where it stands
-  pub sign_at : (ks : List Fix) (i : ℕ) → i < length ks → is_of f (at ks i) ≡ true → ((j : ℕ) → j < i → is_of f (at ks j) ≡ false)
-      → map signers_of (sign_first f ks) ≡ set (map signers_of ks) i (bit_or (at ks i).signers f.signers)
-  unfolding sign_first
-  sign_at [] i h e p = absurd (omega arith)
-  sign_at (g ∷ ks) zero h e p = rw e refl
-  sign_at (g ∷ ks) (suc i) h e p =
-      rw (p 0 (omega arith)) (ap (λ (m : List ℕ). g.signers ∷ m) (sign_at ks i (omega arith) e (λ j k. p (suc j) (omega arith))))
-
-  sign-formed : (ks : List Fix) → AllFormed ks → AllFormed (sign_first f ks)
-  unfolding sign_first
-  sign-formed [] w = w
-  sign-formed (g ∷ ks) w =
-      let a = w g (Memᴰ.head refl) in
-      by (is_of f g)
-      (λ t. rw t (λ x m. or (Memᴰ.cases_cons m)
-      (λ e. subst Formed (sym e) (record { key = a.key; form = a.form; cited = a.cited }))
-      (λ k. w x (Memᴰ.tail k))))
-      (λ t. rw t (λ x m. or (Memᴰ.cases_cons m)
-      (λ e. subst Formed (sym e) a)
-      (λ k. sign-formed ks (λ y n. w y (Memᴰ.tail n)) x k)))
 
   same-identity : (ks : List Fix) (i : ℕ) → (at (sign_first f ks) i).identity ≡ (at ks i).identity
   same-identity ks i =
@@ -101,7 +77,7 @@ module _ (f : Fix) where
         (λ u. let q = ltb-true j (length ks) u in absurd (differs j q (ap identity_of (sym (before j q)) ∙ sym e ∙ ap identity_of (last i (omega arith)))))
         (λ u. let q = ltb-false j (length ks) u in omega arith))
 
-  new-formed : (ks : List Fix) → Formed f → AllFormed ks → AllFormed (ks ++ (f ∷ []))
+  pub new-formed : (ks : List Fix) → Formed f → AllFormed ks → AllFormed (ks ++ (f ∷ []))
   new-formed ks w v x m = or (Memᴰ.append_cases ks m) (λ k. v x k) (λ k. subst Formed (sym (Memᴰ.eq_of_singleton k)) w)
 
   -- ---- one or the other
@@ -111,12 +87,6 @@ module _ (f : Fix) where
 
   pub gather-new : (ks : List Fix) → any_of (is_of f) ks ≡ false → gather ks f ≡ ks ++ (f ∷ [])
   gather-new ks e = rw e refl
-
-  pub gather-formed : (ks : List Fix) → Formed f → AllFormed ks → AllFormed (gather ks f)
-  gather-formed ks w v =
-      by (any_of (is_of f) ks)
-      (λ t. rw t (sign-formed ks v))
-      (λ t. rw t (new-formed ks w v))
 
   pub gather-apart : (ks : List Fix) → Apart ks → Apart (gather ks f)
   gather-apart ks a =
@@ -136,11 +106,6 @@ pub all-few : (ks fs : List Fix) → length (gather_all ks fs) ≤ length ks + l
 unfolding gather_all
 all-few ks [] = omega arith
 all-few ks (f ∷ fs) = let r = all-few (gather ks f) fs in let g = gather-few f ks in omega arith
-
-pub all-formed : (ks fs : List Fix) → AllFormed ks → AllFormed fs → AllFormed (gather_all ks fs)
-unfolding gather_all
-all-formed ks [] v w = v
-all-formed ks (f ∷ fs) v w = all-formed (gather ks f) fs (gather-formed f ks (w f (Memᴰ.head refl)) v) (λ x m. w x (Memᴰ.tail m))
 
 pub all_apart : (ks fs : List Fix) → Apart ks → Apart (gather_all ks fs)
 unfolding gather_all

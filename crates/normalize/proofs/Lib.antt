@@ -1,10 +1,13 @@
--- Fixes gathered (Distinct, Laying, Listing), what is kept of them (Settling, Telling), claims (Differing, United, Claimed, Validity, Given), and loops (Walking).
+-- Fixes gathered (Distinct, Gathered), made items (Items), what is kept of them (Lowest, Kept), a further one (Taken, Told), those that are signed (Signed), and the claims
+-- (Differing, United, Claimed, Validity, Given).
 pub mod Distinct
-pub mod Laying
-pub mod Walking
-pub mod Listing
-pub mod Settling
-pub mod Telling
+pub mod Gathered
+pub mod Items
+pub mod Lowest
+pub mod Kept
+pub mod Told
+pub mod Taken
+pub mod Signed
 pub mod Differing
 pub mod United
 pub mod Claimed

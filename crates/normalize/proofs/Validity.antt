@@ -6,15 +6,14 @@ use mathlib.Core.List.Memᴰ
 use mathlib.Core.List.{List, [], ◌∷◌, ◌++◌, map, map-append, map-map, append-nil, Memᴰ}
 use native.Mathlib.Omega.{arith}
 use lib.Bits.{or_lt}
-use lib.ListN.{length, get_or, take, drop, length-map}
+use lib.ListN.{length, get_or, take, drop}
 use lib.Seq.{take_at, length-take-le}
 use Rattle.octets.specs.Bytes.{Bytes}
 use Rattle.octets.specs.Words.{word}
 use Rattle.octets.proofs.Numbers.{word_lt, bytes_take, bytes_drop}
 use Rattle.places.specs.Places.{all_places}
-use Rattle.ranges.specs.Lists.{any_of, filter}
+use Rattle.ranges.specs.Lists.{any_of}
 use Rattle.ranges.proofs.Bools.{by, or, and_both}
-use Rattle.ranges.proofs.Lists.{filter-in}
 use Rattle.arithmetic.specs.Bits.{stored_bits}
 use Rattle.arithmetic.proofs.Outcomes.{stored-bounded}
 use Rattle.record.specs.Layout.{record_size}
@@ -33,21 +32,19 @@ use Rattle.shown.proofs.Indexed.{in-at}
 use Rattle.shown.proofs.Plainly.{shown-is-decided}
 use Rattle.tracked.specs.Layout.{max_standing, fix_size, signers_at, inputs_at}
 use Rattle.tracked.specs.Held.{RefusedFix, HeldTransmission, fix_of, held_in, is_of}
-use Rattle.tracked.specs.Bytes.{record_in, identity_in, fix_in, fix_bytes, refused_bytes, transmission_in, transmission_bytes}
+use Rattle.tracked.specs.Bytes.{record_in, fix_in, fix_bytes, refused_bytes, transmission_in, transmission_bytes}
 use Rattle.tracked.specs.Parts.{held_places, held_count, Sound, held_place}
-use Rattle.tracked.specs.Known.{Knows, known_count}
 use Rattle.tracked.proofs.Encoding.{ValidFix, ValidRefused, Valid, Bounded, fix-length, fix-back, bytes-length, fix-places-back, refused-places-back}
 use Rattle.tracked.proofs.Holding.{held-length, held_at, held-size, held-formed, held-are}
-use Rattle.keeping.specs.Working.{Names}
-use Rattle.keeping.proofs.Lowering.{take_in}
+use Rattle.normalize.proofs.Lowest.{front-in}
 use Rattle.normalize.specs.Normal.{signed_by, sign_first, gather, gather_all, distinct, refused_fix, normalized}
-use Rattle.normalize.specs.Signed.{is_signed}
-use Rattle.normalize.specs.Claims.{identity_of}
 use Rattle.normalize.proofs.Distinct.{gather-held, gather-new}
-use Rattle.normalize.proofs.Laying.{map_same}
-use Rattle.normalize.proofs.Listing.{map_at}
 use Rattle.normalize.proofs.Claimed.{low-in, ranked-in, refused-in, kept_in, few-kept}
 use Rattle.arithmetic.specs.declared.standing.ChiSquare.{ChiSquare}
+
+pub map_same : {A B : Type 0} (f g : A → B) (l : List A) → ((x : A) → Memᴰ x l → f x ≡ g x) → map f l ≡ map g l
+map_same f g [] e = refl
+map_same f g (x ∷ l) e = ap₂ ◌∷◌ (e x (Memᴰ.head refl)) (map_same f g l (λ y m. e y (Memᴰ.tail m)))
 
 -- ---- what holds of all that are given holds of those that are gathered
 
@@ -147,7 +144,7 @@ module _ (fs : List Fix) where
     normalized-valid = record {
       few = (few-kept fs).0;
       few_refused = (few-kept fs).1;
-      fixes = λ g m. (each g (ranked-in fs g (take_in max_standing o.ranked m))).valid;
+      fixes = λ g m. (each g (ranked-in fs g (front-in max_standing o.ranked m))).valid;
       refused = λ x m.
           let r = Memᴰ.of_map refused_fix _ m in
           let y = r.0 in
@@ -201,37 +198,6 @@ module _ (fs : List Fix) (w : (f : Fix) → Memᴰ f fs → Holdable f) where
     formed = held-pass (normalized fs) (normalized-valid fs w) (λ f. well_formed f.record_bytes) (λ f m. (kept-holdable fs w f m).form);
   }
 
--- ---- the identities of all that is kept are known
-
-module _ (u : HeldTransmission) (v : Valid u) (s : List ℕ) (z : Names s (map identity_of (held_in u))) where
-  abbrev b : List ℕ
-  b = transmission_bytes u
-
-  identities-are : map identity_of (held_in u) ≡ map identity_in (held_places b)
-  identities-are =
-      sym (ap (map identity_in) (held_back u v) ∙ map-map identity_in fix_bytes (held_in u)
-      ∙ map_same (λ f. identity_in (fix_bytes f)) identity_of (held_in u)
-      (λ f m. ap identity_of (ap fix_in (sym (append-nil (fix_bytes f))) ∙ fix-back f (held-valid u v f m) [])))
-
-  counted : known_count s ≡ held_count b
-  counted = z.count ∙ ap length identities-are ∙ length-map (held_places b) identity_in ∙ held-length b
-
-  names-known : Knows b s
-  names-known = record {
-    size = z.size;
-    few = let e = counted in omega arith;
-    right = λ k h.
-        z.right k (let e = z.count in omega arith) ∙ ap (λ (x : List (List ℕ)). get_or x k []) identities-are
-        ∙ map_at identity_in (held_places b) k (let e = counted in let l = held-length b in omega arith);
-  }
-
-pub all_known : (fs : List Fix) → ((f : Fix) → Memᴰ f fs → Holdable f) → (b s : List ℕ) → b ≡ transmission_bytes (normalized fs)
-    → Names s (map identity_of (held_in (normalized fs))) → Knows b s × (known_count s ≡ held_count b)
-all_known fs w b s e z =
-    let u = normalized fs in
-    let v = normalized-valid fs w in
-    (subst (λ (x : List ℕ). Knows x s) (sym e) (names-known u v s z), counted u v s z ∙ ap held_count (sym e))
-
 -- ---- the fixes that sound bytes hold
 
 module _ (b : List ℕ) (bytes : Bytes b) (s : Sound b) where
@@ -245,10 +211,7 @@ module _ (b : List ℕ) (bytes : Bytes b) (s : Sound b) where
       let c : Bytes p = subst Bytes (held_at b s k h) (bytes_take fix_size (drop (held_place b k) b) (bytes_drop (held_place b k) b bytes)) in
       subst Holdable (ap fix_in i.2 ∙ r.2) (holdable-in p c (held-size b s k h) (held-formed b s k h))
 
-  -- those that are signed, and all with a further one
-  pub signed-holdable : (f : Fix) → Memᴰ f (filter is_signed (held_in (transmission_in b))) → Holdable f
-  signed-holdable f m = held-holdable f (filter-in is_signed (held_in (transmission_in b)) f m).0
-
+  -- and all with a further one
   pub with-holdable : (f : Fix) → Holdable f → (g : Fix) → Memᴰ g ((transmission_in b).fixes ++ (f ∷ map fix_of (transmission_in b).refused)) → Holdable g
   with-holdable f h g m =
       or (Memᴰ.append_cases (transmission_in b).fixes m)

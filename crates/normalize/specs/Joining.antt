@@ -1,9 +1,9 @@
 -- A further fix among those of a transmission (docs/REFERENCE.md, 'Track and listing'; the Rust's `merge`, where a fix is tied to one transmission).
-use Rattle.std.specs.Prelude.{ℕ, Bool, true, false, not, List, [], ◌∷◌, ◌++◌, map, length}
+use Rattle.std.specs.Prelude.{ℕ, Bool, true, false, not, cond, List, [], ◌∷◌, ◌++◌, map, length}
 use Rattle.ranges.specs.Lists.{any_of, filter}
 use Rattle.shown.specs.Fix.{Fix}
-use Rattle.tracked.specs.Held.{HeldTransmission, fix_of, is_of}
-use Rattle.normalize.specs.Normal.{normalized}
+use Rattle.tracked.specs.Held.{RefusedFix, HeldTransmission, fix_of, is_of}
+use Rattle.normalize.specs.Normal.{signed_by, sign_first, normalized}
 
 -- t with f among its fixes, all decided again
 abbrev pub with_fix : Fix → HeldTransmission → HeldTransmission
@@ -30,3 +30,19 @@ leads f (g ∷ gs) = is_of f g
 abbrev pub moved : List Fix → List Fix → Bool
 moved [] gs = true
 moved (f ∷ fs) gs = not (leads f gs)
+
+-- ---- a fix whose identity is held
+
+-- the first refused that has the identity of f gains its signers
+unfoldable pub sign_refused : Fix → List RefusedFix → List RefusedFix
+sign_refused f [] = []
+sign_refused f (x ∷ xs) =
+    let rest = sign_refused f xs in
+    cond (is_of f x.fix) (record { fix = signed_by f x.fix; against = x.against; chi2 = x.chi2 } ∷ xs) (x ∷ rest)
+
+-- its identity is held: the first that has it gains the signer, those that stand before the refused
+abbrev pub sign_in : Fix → HeldTransmission → HeldTransmission
+sign_in f t =
+    cond (upholds t f)
+    (record { fixes = sign_first f t.fixes; refused = t.refused })
+    (record { fixes = t.fixes; refused = sign_refused f t.refused })

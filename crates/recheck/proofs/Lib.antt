@@ -1,6 +1,8 @@
 pub mod Standing
-pub mod Identities
 pub mod Renewing
-pub mod Rearranging
+pub mod Changing
+pub mod Rewriting
+pub mod Heads
+pub mod Arranging
 pub mod Rechecked
 pub mod Stricken

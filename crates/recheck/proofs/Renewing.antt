@@ -1,5 +1,5 @@
 -- What is decided again of the transmissions of a track, a track may hold: the tracks that a recheck and a conviction leave are valid.
-use Prim.Native.Nat.{ℕ, zero, suc, ◌-◌, ◌≤◌}
+use Prim.Native.Nat.{ℕ, ◌-◌, ◌≤◌}
 use mathlib.Core.Path.{◌≡◌, refl, sym, ap, ap₂, ◌∙◌, subst}
 use mathlib.Core.Bool.{Bool, true, false, ◌&&◌, false≢true}
 use mathlib.Core.List.Memᴰ
@@ -29,6 +29,7 @@ use Rattle.normalize.specs.Normal.{signed_by, normalized}
 use Rattle.normalize.specs.Signed.{is_signed}
 use Rattle.normalize.proofs.Claimed.{kept_in, signers-united}
 use Rattle.normalize.proofs.Validity.{Holdable, all-distinct, kept-holdable, normalized-valid, normalized-bounded}
+use Rattle.arrange.proofs.Tables.{drop-in}
 use Rattle.arrange.specs.Arranged.{max_transmissions, is_some, has_fix, older_than, arranged}
 use Rattle.stored.specs.Layout.{pair_size}
 use Rattle.stored.specs.Track.{Track}
@@ -106,11 +107,6 @@ without-kept c e t k =
     }
 
 -- ---- transmissions arranged
-
-drop-in : {A : Type 0} (l : List A) (k : ℕ) (x : A) → Memᴰ x (drop k l) → Memᴰ x l
-drop-in l zero x m = m
-drop-in [] (suc k) x m = m
-drop-in (y ∷ l) (suc k) x m = Memᴰ.tail (drop-in l k x m)
 
 pub arranged-from : (ts : List HeldTransmission) (t : HeldTransmission) → Memᴰ t (arranged ts) → Memᴰ t ts × (has_fix t ≡ true)
 unfolding arranged

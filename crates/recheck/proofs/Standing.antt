@@ -1,41 +1,58 @@
--- Which fixes stand, and which of a transmission are left where those that do not have no signers.
-use Prim.Native.Nat.{ℕ, ◌+◌, ◌-◌}
-use mathlib.Core.Path.{◌≡◌, refl, sym, ap, ap₂, ◌∙◌}
-use mathlib.Core.Bool.{Bool, true, false}
-use mathlib.Core.List.{List, [], ◌∷◌, map, Memᴰ}
-use native.Mathlib.Omega.{arith}
-use lib.ListN.{take, drop}
-use Rattle.ranges.specs.Lists.{filter}
+-- What becomes of the fixes that a transmission holds, by where they are held.
+use Rattle.std.proofs.Common.{◌≡◌, Bool, true, false, List, [], ◌∷◌, ◌++◌, refl, ap}
+use Rattle.std.specs.Prelude.{map, ◌||◌}
+use mathlib.Core.Bool.{true≢false, false≢true}
+use Rattle.std.specs.List.{list_any, filter as filter_of}
+use Rattle.ranges.specs.Lists.{any_of, filter}
 use Rattle.ranges.proofs.Bools.{by}
-use Rattle.octets.specs.Order.{same}
-use Rattle.models.specs.Models.{counts}
-use Rattle.models.specs.Identity.{cited_inputs}
 use Rattle.shown.specs.Fix.{Fix}
-use Rattle.tracked.specs.Layout.{transmission_size}
-use Rattle.tracked.specs.Bytes.{record_in, inputs_in, fix_in}
-use Rattle.normalize.specs.Signed.{is_signed}
-use Rattle.stored.specs.Steps.{block_at}
-use Rattle.recheck.specs.Recheck.{stands}
-use Rattle.recheck.specs.Steps.{silenced}
+use Rattle.tracked.specs.Held.{RefusedFix, HeldTransmission, fix_of, held_in}
+use Rattle.recheck.specs.Steps.{passing, refused_changing, changing}
 
-module _ (ss : List (List ℕ)) (f r : List ℕ) (r-is : r ≡ record_in f) where
-  pub stands-no : counts ss r ≡ false → false ≡ stands ss (fix_in f)
-  stands-no h = sym (rw (ap (counts ss) (sym r-is) ∙ h) refl)
+module _ (test : Fix → Bool) where
+  -- ---- some pass
 
-  pub stands_by : counts ss r ≡ true → (x i : List ℕ) → x ≡ cited_inputs ss r → i ≡ inputs_in f → (y : Bool) → y ≡ same x i → y ≡ stands ss (fix_in f)
-  stands_by h x i e g y z = z ∙ ap₂ same (e ∙ ap (cited_inputs ss) r-is) g ∙ sym (rw (ap (counts ss) (sym r-is) ∙ h) refl)
+  any-refused : (xs : List RefusedFix) → list_any (λ x. test (fix_of x)) xs ≡ any_of test (map fix_of xs)
+  unfolding any_of
+  any-refused [] = refl
+  any-refused (x ∷ xs) = ap (λ (b : Bool). test (fix_of x) || b) (any-refused xs)
 
--- a transmission as it is lent
-pub lent-block : (at : ℕ) (m : List ℕ) → take (at + transmission_size - at) (drop at m) ≡ block_at at m
-lent-block at m = let e : at + transmission_size - at ≡ transmission_size = omega arith in ap (λ (n : ℕ). take n (drop at m)) e
+  -- none of those that stand
+  pub any-none : (fs : List Fix) (xs : List RefusedFix) → list_any test fs ≡ false → list_any (λ x. test (fix_of x)) xs ≡ any_of test (fs ++ map fix_of xs)
+  unfolding any_of
+  any-none [] xs e = any-refused xs
+  any-none (f ∷ fs) xs e = by (test f) (λ t. absurd (true≢false (rw t at e))) (λ t. rw t (any-none fs xs (rw t at e)))
 
--- of fixes that are signed those are left that stand
-pub standing-left : (ss : List (List ℕ)) (fs : List Fix) → ((f : Fix) → Memᴰ f fs → is_signed f ≡ true) → filter is_signed (map (silenced ss) fs) ≡ filter (stands ss) fs
-unfolding filter
-standing-left ss [] h = refl
-standing-left ss (f ∷ fs) h =
-    let s = h f (Memᴰ.head refl) in
-    let r = standing-left ss fs (λ g m. h g (Memᴰ.tail m)) in
-    by (stands ss f)
-    (λ t. rw (t, s) (ap (λ (l : List Fix). f ∷ l) r))
-    (λ t. rw t r)
+  pub any-some : (fs : List Fix) (xs : List RefusedFix) → list_any test fs ≡ true → true ≡ any_of test (fs ++ map fix_of xs)
+  unfolding any_of
+  any-some [] xs e = absurd (false≢true e)
+  any-some (f ∷ fs) xs e = by (test f) (λ t. rw t refl) (λ t. rw t (any-some fs xs (rw t at e)))
+
+  -- ---- those that pass
+
+  refused-pass : (xs : List RefusedFix) → map fix_of (filter_of (λ x. test (fix_of x)) xs) ≡ filter test (map fix_of xs)
+  unfolding filter
+  refused-pass [] = refl
+  refused-pass (x ∷ xs) = by (test (fix_of x)) (λ t. rw t (ap (λ (l : List Fix). fix_of x ∷ l) (refused-pass xs))) (λ t. rw t (refused-pass xs))
+
+  all-pass : (fs : List Fix) (xs : List RefusedFix) → filter_of test fs ++ map fix_of (filter_of (λ x. test (fix_of x)) xs) ≡ filter test (fs ++ map fix_of xs)
+  unfolding filter
+  all-pass [] xs = refused-pass xs
+  all-pass (f ∷ fs) xs = by (test f) (λ t. rw t (ap (λ (l : List Fix). f ∷ l) (all-pass fs xs))) (λ t. rw t (all-pass fs xs))
+
+  pub passing-held : (t : HeldTransmission) → held_in (passing test t) ≡ filter test (held_in t)
+  passing-held t = all-pass t.fixes t.refused
+
+-- ---- all of them changed
+
+module _ (f : Fix → Fix) where
+  changed-refused : (xs : List RefusedFix) → map fix_of (map (refused_changing f) xs) ≡ map f (map fix_of xs)
+  changed-refused [] = refl
+  changed-refused (x ∷ xs) = ap (λ (l : List Fix). f x.fix ∷ l) (changed-refused xs)
+
+  all_changed : (fs : List Fix) (xs : List RefusedFix) → map f fs ++ map fix_of (map (refused_changing f) xs) ≡ map f (fs ++ map fix_of xs)
+  all_changed [] xs = changed-refused xs
+  all_changed (g ∷ fs) xs = ap (λ (l : List Fix). f g ∷ l) (all_changed fs xs)
+
+  pub changing-held : (t : HeldTransmission) → held_in (changing f t) ≡ map f (held_in t)
+  changing-held t = all_changed t.fixes t.refused

@@ -1,19 +1,21 @@
--- No claim rests on these definitions: they say what the code's loops do to the bytes of a transmission.
-use Rattle.std.specs.Prelude.{ℕ, ◌≡◌, true, cond}
-use mathlib.Core.List.{List, Memᴰ}
-use Rattle.shown.specs.Fix.{Fix, with_signers}
-use Rattle.tracked.specs.Held.{held_in}
+-- No claim rests on these definitions: they say what the code does to a transmission, and to its bytes.
+use Rattle.std.specs.Prelude.{ℕ, Bool, List, map}
+use Rattle.std.specs.List.{filter}
+use Rattle.shown.specs.Fix.{Fix}
+use Rattle.tracked.specs.Held.{RefusedFix, HeldTransmission}
 use Rattle.tracked.specs.Bytes.{transmission_in, transmission_bytes}
-use Rattle.normalize.specs.Signed.{is_signed}
-use Rattle.recheck.specs.Recheck.{stands, standing, without_engine}
+use Rattle.recheck.specs.Recheck.{standing, without_engine}
 
--- a fix that does not stand is left without signers
-abbrev pub silenced : List (List ℕ) → Fix → Fix
-silenced ss f = cond (stands ss f) f (with_signers 0 f)
+-- the fixes that pass a test, where they are held
+abbrev pub passing : (Fix → Bool) → HeldTransmission → HeldTransmission
+passing test t = record { fixes = filter test t.fixes; refused = filter (λ x. test x.fix) t.refused }
 
--- every fix that b holds is signed
-abbrev pub AllSigned : List ℕ → Type 0
-AllSigned b = (f : Fix) → Memᴰ f (held_in (transmission_in b)) → is_signed f ≡ true
+-- every fix that is held changed
+abbrev pub refused_changing : (Fix → Fix) → RefusedFix → RefusedFix
+refused_changing f x = record { fix = f x.fix; against = x.against; chi2 = x.chi2 }
+
+abbrev pub changing : (Fix → Fix) → HeldTransmission → HeldTransmission
+changing f t = record { fixes = map f t.fixes; refused = map (refused_changing f) t.refused }
 
 -- the bytes of a transmission that is decided again, without the fixes that do not stand, or without an engine
 abbrev pub standing_bytes : List (List ℕ) → List ℕ → List ℕ

@@ -1,101 +1,90 @@
-//! An engine struck from a track. A conviction decides every transmission, and again where a fix no longer stands: a table of sheets goes
-//! with it, so that no identity is worked out twice.
+//! An engine struck from a track: its signatures and its summaries.
 
-ghost use Rattle.std.specs.Prelude.{◌≡◌, true, map, ◌++◌, ◌<◌, ◌≤◌, length, take, set};
+ghost use Rattle.std.specs.Prelude.{◌≡◌, true, map, ◌≤◌, length, set};
 ghost use Rattle.octets.specs.Writes.{put_word};
-ghost use Rattle.tracked.specs.Held.{held_in};
-ghost use Rattle.tracked.specs.Bytes.{transmission_in, transmission_bytes};
-ghost use Rattle.tracked.specs.Parts.{held_count, Sound};
-ghost use Rattle.tracked.specs.Known.{Knows};
-ghost use Rattle.arrange.specs.Arranged.{arranged};
-ghost use Rattle.arrange.specs.Blocks.{block_table, Known};
+ghost use Rattle.tracked.specs.Parts.{Sound};
+ghost use Rattle.arrange.specs.Blocks.{blocks, block_table, Filled};
 ghost use Rattle.stored.specs.Layout as L;
-ghost use Rattle.stored.specs.Memory.{transmission_count, transmission_table, transmission_places, well_formed, decode, encode};
-ghost use Rattle.stored.specs.Steps.{Carries};
-ghost use Rattle.recheck.specs.Recheck.{recheck, unsigned, without_engine, strike_engine};
-ghost use Rattle.recheck.specs.Steps.{without_bytes};
+ghost use Rattle.stored.specs.Memory.{well_formed, decode, encode};
+ghost use Rattle.recheck.specs.Recheck.{recheck, unsigned, strike_engine};
+ghost use Rattle.recheck.specs.Steps as S;
 
-use crate::rechecks;
-use arrange::KNOWN_TABLE_SIZE;
+use crate::rechecks::recheck;
 use held::engines::{Engine, Signers};
-use stored::{layout, signatures};
-use tracked::layout::{KNOWN_SIZE, TRANSMISSION_SIZE};
+use held::strikes::strike_summaries;
+use normalize::blocks::renew;
+use octets::words::{put_u16, put_u32, u16_at, u32_at};
+use stored::layout;
+use tracked::fixes::Fix;
+use tracked::layout::TRANSMISSION_SIZE;
+use tracked::transmission::Transmission;
 
-// Takes an engine's signature off every held fix.
-fn unsign(b: &mut [u8], engine: Engine)
+// Takes an engine's signature off a fix.
+fn unsign(fix: &mut Fix<'_>, engine: Engine)
+    ensures { fix.new ≡ unsigned engine.number fix.old }
+{
+    fix.signers = Signers(fix.signers).without(engine).0;
+}
+
+// Takes an engine's signature off every fix that a transmission holds.
+fn unsign_all(held: &mut Transmission<'_>, engine: Engine)
+    ensures { held.new ≡ S.changing (unsigned engine.number) held.old }
+{
+    for fix in held.fixes.iter_mut() {
+        unsign(fix, engine);
+    }
+    for refusal in held.refused.iter_mut() {
+        unsign(&mut refusal.fix, engine);
+    }
+}
+
+// Decides a transmission again, in its bytes, without an engine.
+fn strike_fixes(b: &mut [u8], engine: Engine)
     requires { Sound b.old }
-    ensures { Carries b.new (held_count b.old) (map (unsigned engine.number) (held_in (transmission_in b.old))) }
+    ensures { b.new ≡ S.without_bytes engine.number b.old }
 {
-    let n = tracked::held_count(b);
-    for k in 0..n {
-        let signers = Signers(tracked::held(b, k).signers());
-        signatures::put_signers(b, k, signers.without(engine).0);
+    let mut block = [0; TRANSMISSION_SIZE];
+    block.copy_from_slice(b);
+    let mut held = Transmission::read(&block);
+    unsign_all(&mut held, engine);
+    renew(&mut held);
+    held.write(b);
+}
+
+// Decides the first n transmissions of a table again, without an engine.
+fn strike_all(t: &mut [u8], n: usize, engine: Engine)
+    requires { Filled t.old n }
+    ensures { t.new ≡ block_table (map (S.without_bytes engine.number) (blocks n t.old)) }
+{
+    for i in 0..n {
+        let at = i * TRANSMISSION_SIZE;
+        strike_fixes(&mut t[at..at + TRANSMISSION_SIZE], engine);
     }
-}
-
-// Decides a transmission again, without an engine. What is known of its identities holds whoever signed.
-fn strike_fixes(b: &mut [u8], s: &mut [u8], engine: Engine)
-    requires { Sound b.old × Knows b.old s.old }
-    ensures b_after { b.new ≡ without_bytes engine.number b.old }
-    ensures knows { Knows b.new s.new }
-{
-    unsign(b, engine);
-    normalize::normalize(b, s);
-}
-
-// Decides every transmission of a track again, without an engine.
-fn strike_all(memory: &mut [u8], known: &mut [u8], engine: Engine)
-    requires { (well_formed memory.old ≡ true) × Known (transmission_table memory.old) known.old (transmission_count memory.old) }
-    ensures memory_after { memory.new ≡ take L.transmissions_at memory.old ++ block_table (map (without_bytes engine.number) (transmission_places memory.old)) }
-    ensures known { Known (transmission_table memory.new) known.new (transmission_count memory.old) }
-{
-    let count = memory[layout::TRANSMISSION_COUNT_AT] as usize;
-    for i in 0..count {
-        let at = layout::TRANSMISSIONS_AT + i * TRANSMISSION_SIZE;
-        let e = at + TRANSMISSION_SIZE;
-        let k = i * KNOWN_SIZE;
-        let k_end = k + KNOWN_SIZE;
-        strike_fixes(&mut memory[at..e], &mut known[k..k_end], engine);
-    }
-}
-
-// Brings them into their order, and returns how many are left.
-fn strike_transmissions(memory: &mut [u8], known: &mut [u8], engine: Engine) -> usize
-    requires { (well_formed memory.old ≡ true) × Known (transmission_table memory.old) known.old (transmission_count memory.old) }
-    ensures value { result ≡ length (arranged (map (without_engine engine.number) (map transmission_in (transmission_places memory.old)))) }
-    ensures memory_after { memory.new ≡ take L.transmissions_at memory.old ++ block_table (map transmission_bytes (arranged (map (without_engine engine.number) (map transmission_in (transmission_places memory.old))))) }
-    ensures known { Known (transmission_table memory.new) known.new result }
-{
-    let count = memory[layout::TRANSMISSION_COUNT_AT] as usize;
-    strike_all(memory, known, engine);
-    arrange::arrange(&mut memory[layout::TRANSMISSIONS_AT..], known, count)
 }
 
 // Writes the convicted engines and both counts.
-fn put_header(memory: &mut [u8], convicted: Signers, summaries: u16, transmissions: u8)
-    requires { L.summaries_at ≤ length memory.old }
-    ensures { memory.new ≡ set (put_word 2 L.summary_count_at summaries (put_word 4 L.convicted_at convicted.0 memory.old)) L.transmission_count_at transmissions }
+fn put_header(head: &mut [u8], convicted: Signers, summaries: u16, transmissions: u8)
+    requires { L.summaries_at ≤ length head.old }
+    ensures { head.new ≡ set (put_word 2 L.summary_count_at summaries (put_word 4 L.convicted_at convicted.0 head.old)) L.transmission_count_at transmissions }
 {
-    octets::words::put_u32(memory, layout::CONVICTED_AT, convicted.0);
-    octets::words::put_u16(memory, layout::SUMMARY_COUNT_AT, summaries);
-    memory[layout::TRANSMISSION_COUNT_AT] = transmissions;
+    put_u32(head, layout::CONVICTED_AT, convicted.0);
+    put_u16(head, layout::SUMMARY_COUNT_AT, summaries);
+    head[layout::TRANSMISSION_COUNT_AT] = transmissions;
 }
 
 // Strikes an engine from a track.
-fn strike(memory: &mut [u8], known: &mut [u8], engine: Engine)
-    requires { (well_formed memory.old ≡ true) × Known (transmission_table memory.old) known.old (transmission_count memory.old) }
-    ensures memory_after { memory.new ≡ encode (strike_engine engine.number (decode memory.old)) }
-    ensures known { Known (transmission_table memory.new) known.new (transmission_count memory.new) }
+fn strike(memory: &mut [u8], engine: Engine)
+    requires { well_formed memory.old ≡ true }
+    ensures { memory.new ≡ encode (strike_engine engine.number (decode memory.old)) }
 {
-    let convicted = Signers(octets::words::u32_at(memory, layout::CONVICTED_AT));
-    let n = octets::words::u16_at(memory, layout::SUMMARY_COUNT_AT) as usize;
-    let left = strike_transmissions(memory, known, engine);
-    let summaries = held::strikes::strike_summaries(
-        &mut memory[layout::SUMMARIES_AT..layout::TRANSMISSIONS_AT],
-        n,
-        engine,
-    );
-    put_header(memory, convicted.with(engine), summaries as u16, left as u8);
+    let (head, transmissions) = memory.split_at_mut(layout::TRANSMISSIONS_AT);
+    let convicted = Signers(u32_at(head, layout::CONVICTED_AT));
+    let n = u16_at(head, layout::SUMMARY_COUNT_AT) as usize;
+    let count = head[layout::TRANSMISSION_COUNT_AT] as usize;
+    strike_all(transmissions, count, engine);
+    let left = arrange::arrange(transmissions, count);
+    let summaries = strike_summaries(&mut head[layout::SUMMARIES_AT..], n, engine);
+    put_header(head, convicted.with(engine), summaries as u16, left as u8);
 }
 
 /// Strikes an engine from a track, and checks the fixes again.
@@ -103,7 +92,6 @@ pub fn convict(memory: &mut [u8], engine: Engine)
     requires { well_formed memory.old ≡ true }
     ensures { memory.new ≡ encode (recheck (strike_engine engine.number (decode memory.old))) }
 {
-    let mut known = [0u8; KNOWN_TABLE_SIZE];
-    strike(memory, &mut known, engine);
-    rechecks::recheck_known(memory, &mut known);
+    strike(memory, engine);
+    recheck(memory);
 }

@@ -32,14 +32,6 @@ module _ (c n k x : ℕ) (s t : List ℕ) where
 
   -- ---- the header
 
-  pub put-convicted : (y : ℕ) → put_word 4 convicted_at y (frame c n k x s t) ≡ frame y n k x s t
-  unfolding word_bytes
-  put-convicted y = refl
-
-  pub put-summary-count : (y : ℕ) → put_word 2 summary_count_at y (frame c n k x s t) ≡ frame c y k x s t
-  unfolding word_bytes
-  put-summary-count y = refl
-
   pub set-transmission-count : (y : ℕ) → set (frame c n k x s t) transmission_count_at y ≡ frame c n y x s t
   unfolding word_bytes
   set-transmission-count y = refl
@@ -110,10 +102,3 @@ module _ (c n k x : ℕ) (s t : List ℕ) (w : length s ≡ summaries_size) wher
     where
       same : (t' : List ℕ) → before c n k x s t' w ++ t' ≡ before c n k x s t w ++ t'
       same t' = unfold before in refl
-
-  pub frame-summaries-back : (s' : List ℕ) → take summaries_at (frame c n k x s t) ++ (s' ++ drop summaries_size (drop summaries_at (frame c n k x s t))) ≡ frame c n k x s' t
-  frame-summaries-back s' =
-      let h = header c n k x in
-      ap (λ (l : List ℕ). take summaries_at l ++ (s' ++ drop summaries_size (drop summaries_at l))) (behind-header c n k x s t)
-      ∙ rw (take_at h (s ++ t) summaries_at (header-length c n k x s t), drop_at h (s ++ t) summaries_at (header-length c n k x s t), drop_at s t summaries_size w) refl
-      ∙ sym (behind-header c n k x s' t)

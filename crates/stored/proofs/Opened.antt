@@ -5,16 +5,15 @@ use mathlib.Core.Bool.{true, ◌&&◌}
 use mathlib.Core.List.{List, [], ◌∷◌, ◌++◌, map, Memᴰ}
 use native.Mathlib.Omega.{arith}
 use lib.Dec.{leb, eqb}
-use lib.ListN.{length, get_or, take, drop, length-take, length-drop, length-map}
-use lib.Seq.{drop-cons, drop-drop}
+use lib.ListN.{length, get_or, drop, length-take, length-drop, length-map}
+use lib.Seq.{drop-cons}
 use borrow.Author.Tests.{eqb-true, leb-true}
 use Rattle.ranges.proofs.Bools.{and_left, and_right}
 use Rattle.octets.specs.Bytes.{Bytes}
 use Rattle.octets.specs.Runs.{all_zero}
 use Rattle.octets.specs.Words.{word_bytes, word_at}
 use Rattle.octets.proofs.Numbers.{bytes_drop}
-use Rattle.places.specs.Places.{places, table_of, is_table, ascending, all_places}
-use Rattle.places.proofs.Walks.{room, place_of}
+use Rattle.places.specs.Places.{table_of, is_table, ascending, all_places}
 use Rattle.places.proofs.Tables.{wide, places-wide, length-places, table_is, filled-table}
 use Rattle.models.specs.Summary.{summary_size}
 use Rattle.held.specs.Limits.{max_summaries, summaries_size}
@@ -31,7 +30,6 @@ use Rattle.arrange.specs.Arranged.{max_transmissions}
 use Rattle.arrange.specs.Blocks.{Filled}
 use Rattle.stored.specs.Layout.{pair_size, summary_count_at, transmission_count_at, zero_at, contested_at, summaries_at, transmissions_at, transmissions_size, track_size}
 use Rattle.stored.specs.Memory.{convicted_in, summary_count, transmission_count, contested_in, summary_table, transmission_table, summaries_in, transmission_places, well_formed, decode, encode}
-use Rattle.stored.specs.Steps.{block_at}
 use Rattle.stored.proofs.Frames.{frame, frame_same}
 use Rattle.stored.proofs.Blocks.{passes, of_map, Held, Parts, parts, sound, canonical, block_held}
 
@@ -163,21 +161,8 @@ module _ (m : List ℕ) (o : Opened m) where
         let t : table_of transmission_size max_transmissions (map transmission_bytes (map transmission_in (transmission_places m))) ≡ transmission_table m = ap (table_of transmission_size max_transmissions) blocks-back ∙ sym transmissions-are in
         frame_same (convicted_in m) (contested_in m) summaries-length k (sym summaries-are) t ∙ sym framed
 
--- the transmission i, by the byte that it begins at
+-- a member by its place
 pub mem-at : {A : Type 0} (l : List A) (i : ℕ) (d : A) → i < length l → Memᴰ (get_or l i d) l
 mem-at [] i d h = absurd (omega arith)
 mem-at (x ∷ l) zero d h = Memᴰ.head refl
 mem-at (x ∷ l) (suc i) d h = Memᴰ.tail (mem-at l i d (omega arith))
-
-abbrev pub place_at : ℕ → ℕ
-place_at i = transmissions_at + i * transmission_size
-
-pub at_place : (n i : ℕ) (m : List ℕ) → i < n → block_at (place_at i) m ≡ get_or (places transmission_size n (transmission_table m)) i []
-at_place n i m h = ap (take transmission_size) (sym (drop-drop (i * transmission_size) transmissions_at m)) ∙ sym (place_of transmission_size n i (transmission_table m) h)
-
-module _ (m : List ℕ) (o : Opened m) (i : ℕ) (h : i < transmission_count m) where
-  pub place-room : place_at i + transmission_size ≤ length m
-  place-room = omega (arith, room i (transmission_count m) transmission_size h, o.size, o.few)
-
-  pub sound-at : Sound (block_at (place_at i) m)
-  sound-at = rw (at_place (transmission_count m) i m h) (block-sound m o _ (mem-at (transmission_places m) i [] (rw (transmissions-length m o) h)))

@@ -1,8 +1,7 @@
-//! A track in its 29,104 lent bytes: the layout, which bytes are a track, the signers of the fixes that it holds, and a summary
-//! put in by its engine and model.
+//! A track in its 29,104 lent bytes: the layout, which bytes are a track, what it holds, and a summary put in by its engine and model.
 #![tactic(auto)]
 
 pub mod formed;
 pub mod layout;
-pub mod signatures;
+pub mod parts;
 pub mod summaries;

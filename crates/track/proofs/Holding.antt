@@ -31,12 +31,6 @@ module _ (m : List ℕ) (model : ℕ) (p : List ℕ) where
     answer-is : (n : ℕ) (l : List ℕ) → commit m (put_pair p s) ≡ after n l → a ≡ n
     answer-is n l e = ap (λ (y : After (List ℕ)). y.answer) (q ∙ e)
 
-    pub pair-refused : (a ≡ 0 → ⊥) → after a x ≡ commit m (hold_pair model p s)
-    pair-refused z =
-        by full
-        (λ t. q ∙ put_full t ∙ sym (hold-full t))
-        (λ t. absurd (z (answer-is 0 (encode (with_pair p s)) (put-room t))))
-
     module _ (z : a ≡ 0) where
       pub pair-room : full ≡ false
       pair-room = no_true full (λ t. let e : a ≡ 5 = answer-is 5 m (put_full t) in omega (arith, e, z))

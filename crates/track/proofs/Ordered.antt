@@ -17,7 +17,7 @@ use Rattle.shown.proofs.Ages.{older-irrefl}
 use Rattle.tracked.specs.Held.{HeldTransmission}
 use Rattle.arrange.specs.Arranged.{is_some, has_fix, older_than}
 use Rattle.arrange.specs.Claims.{InOrder, none, next}
-use Rattle.arrange.proofs.Settling.{drop-in}
+use Rattle.arrange.proofs.Tables.{drop-in}
 use Rattle.arrange.proofs.Claimed.{arranged-in-order}
 use Rattle.merge.proofs.Claimed.{order-kept}
 use Rattle.stored.specs.Layout.{summaries_at, transmissions_size}

@@ -3,25 +3,20 @@
 ghost use Rattle.std.specs.Prelude.{◌≡◌, ◌+◌, ◌%◌, ◌^◌, ◌≤◌, true, length, slice_set};
 ghost use Rattle.octets.specs.Words.{word_at};
 ghost use Rattle.octets.specs.Writes.{put_word};
-ghost use Rattle.models.specs.Answers.{listed};
 ghost use Rattle.models.specs.Models.{counts};
 ghost use Rattle.models.specs.Missing.{cites_missing};
 ghost use Rattle.held.specs.After.{after};
 ghost use Rattle.merge.specs.Merged.{number_of};
-ghost use Rattle.tracked.specs.Bytes.{fix_bytes};
 ghost use Rattle.stored.specs.Layout as L;
 ghost use Rattle.stored.specs.Memory.{well_formed, decode, commit, on_memory};
-ghost use Rattle.track.specs.Track.{take_cited, track_report};
-ghost use Rattle.track.specs.Steps.{reported_fix};
+ghost use Rattle.track.specs.Track.{fix_from, take_cited, track_report};
 
-use crate::{held_summaries, is_convicted};
 use held::engines::{Engine, Signers};
 use merge::Merged;
-use models::summaries::Summaries;
+use models::citations::{cited_inputs, cites_missing, counts};
 use record::Record;
-use stored::{formed, layout};
-use tracked::Fix;
-use tracked::layout::{FIX_SIZE, INPUTS_AT, SIGNERS_AT};
+use stored::{formed, layout, parts};
+use tracked::fixes::Fix;
 
 // The number of an answer.
 fn number_of(answer: Merged) -> u32
@@ -35,16 +30,17 @@ fn number_of(answer: Merged) -> u32
     }
 }
 
-// The bytes of the fix of a record that an engine reports, where these summaries are held.
-fn new_fix(summaries: Summaries, engine: Engine, r: Record) -> [u8; FIX_SIZE]
-    ensures { result ≡ fix_bytes (reported_fix engine.number r.entry.bytes.now (listed summaries.entry)) }
+// The fix of a record that an engine reports.
+fn reported<'a>(memory: &[u8], engine: Engine, r: Record<'a>) -> Fix<'a>
+    requires { well_formed memory.now ≡ true }
+    ensures { result ≡ fix_from engine.number r.entry.bytes.now (decode memory.now) }
 {
-    let inputs = models::citations::cited_inputs(summaries, r);
-    let mut f = [0u8; FIX_SIZE];
-    octets::runs::copy(r.bytes, &mut f);
-    octets::words::put_u32(&mut f, SIGNERS_AT, Signers(0).with(engine).0);
-    octets::runs::copy(&inputs.0, &mut f[INPUTS_AT..]);
-    f
+    Fix {
+        report: r,
+        inputs: cited_inputs(parts::summaries(memory), r),
+        signers: Signers(0).with(engine).0,
+        known: None,
+    }
 }
 
 // Writes how many transmissions there are, and counts the fixes that entered a list of refused.
@@ -67,9 +63,9 @@ fn merge_record(memory: &mut [u8], engine: Engine, r: Record) -> u32
     requires counts { counts (decode memory.old).summaries r.bytes.now ≡ true }
     ensures { after result memory.new ≡ commit memory.old (take_cited engine.number r.entry.bytes.now (decode memory.old)) }
 {
+    let fix = reported(memory, engine, r);
     let count = memory[layout::TRANSMISSION_COUNT_AT] as usize;
-    let f = new_fix(held_summaries(memory), engine, r);
-    let x = merge::merge(&mut memory[layout::TRANSMISSIONS_AT..], count, Fix::of(&f));
+    let x = merge::merge(&mut memory[layout::TRANSMISSIONS_AT..], count, fix);
     let left = x.count;
     let answer = x.answer;
     put_step(memory, left as u8, x.entered);
@@ -81,7 +77,7 @@ fn take_cited(memory: &mut [u8], engine: Engine, r: Record) -> u32
     requires { well_formed memory.old ≡ true }
     ensures { after result memory.new ≡ commit memory.old (take_cited engine.number r.entry.bytes.now (decode memory.old)) }
 {
-    if !models::citations::counts(held_summaries(memory), r) {
+    if !counts(parts::summaries(memory), r) {
         return 7;
     }
     merge_record(memory, engine, r)
@@ -92,7 +88,7 @@ fn misses_model(memory: &[u8], r: Record) -> bool
     requires { well_formed memory.now ≡ true }
     ensures { result ≡ cites_missing (decode memory.now).summaries r.entry.bytes.now }
 {
-    models::citations::cites_missing(held_summaries(memory), r)
+    cites_missing(parts::summaries(memory), r)
 }
 
 /// Reports a record for an engine.
@@ -109,7 +105,7 @@ pub fn report(memory: &mut [u8], engine: u32, r: &[u8]) -> u32
     let Some(r) = Record::parse(r) else {
         return 3;
     };
-    if is_convicted(memory, engine) {
+    if parts::convicted(memory).contains(engine) {
         return 4;
     }
     if misses_model(memory, r) {

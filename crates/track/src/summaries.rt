@@ -8,13 +8,12 @@ ghost use Rattle.held.specs.Summaries.{summary_formed};
 ghost use Rattle.stored.specs.Memory.{well_formed, decode, commit, on_memory};
 ghost use Rattle.track.specs.Track.{is_disputed, hold_pair, track_summary};
 
-use crate::{held_summaries, is_convicted};
 use held::engines::Engine;
 use models::layout::{INPUTS_SIZE, SUMMARY_SIZE};
 use models::states::{ModelState, state};
 use models::summaries::Summaries;
 use recheck::rechecks;
-use stored::formed;
+use stored::{formed, parts};
 
 // Whether a model's summaries are disputed.
 fn is_disputed(all: Summaries, model: u8) -> bool
@@ -31,7 +30,7 @@ fn disputed_in(memory: &[u8], model: u8) -> bool
     requires { well_formed memory.now ≡ true }
     ensures { result ≡ is_disputed (state_of model (decode memory.now).summaries) }
 {
-    is_disputed(held_summaries(memory), model)
+    is_disputed(parts::summaries(memory), model)
 }
 
 // Whether summaries that were disputed or not have become so.
@@ -79,7 +78,7 @@ pub fn summary(memory: &mut [u8], engine: u32, model: u32, spec: u16, inputs: &[
     let Ok(inputs) = <&[u8; INPUTS_SIZE]>::try_from(inputs) else {
         return 9;
     };
-    if is_convicted(memory, engine) {
+    if parts::convicted(memory).contains(engine) {
         return 4;
     }
     hold(

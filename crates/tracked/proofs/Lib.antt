@@ -1,5 +1,8 @@
+-- A transmission and its bytes (Encoding), where its fixes lie (Holding, Reading), a search through them (Searching), how they are written (Writing), and fixes of one
+-- identity (Alike).
 pub mod Holding
 pub mod Encoding
 pub mod Searching
-pub mod Sets
-pub mod Knowing
+pub mod Alike
+pub mod Reading
+pub mod Writing

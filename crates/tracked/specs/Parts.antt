@@ -1,12 +1,10 @@
 -- No claim rests on these definitions: they say what the code asks of the bytes of a transmission, and where a held fix lies in them.
-use Rattle.std.specs.Prelude.{ℕ, ◌+◌, ◌*◌, ◌-◌, ◌≤◌, ◌≡◌, Bool, true, cond, ◌&&◌, List, ◌++◌, map, ltb, length, take, drop}
+use Rattle.std.specs.Prelude.{ℕ, ◌+◌, ◌*◌, ◌-◌, ◌≤◌, ◌≡◌, Bool, true, cond, List, ◌++◌, map, ltb, length, take}
 use Rattle.places.specs.Places.{all_places}
-use Rattle.octets.specs.Order.{same}
-use Rattle.record.specs.Layout.{message_length_at, used_at, tags_at, model_count_at}
 use Rattle.record.specs.Formed.{well_formed}
 use Rattle.record.specs.Relations.{tied}
 use Rattle.tracked.specs.Layout as L
-use Rattle.tracked.specs.Bytes.{record_in, inputs_in, fix_count, refused_count, fix_places, refused_places}
+use Rattle.tracked.specs.Bytes.{record_in, fix_count, refused_count, fix_places, refused_places}
 
 -- the bytes of all fixes that are held: those that stand, then the refused
 abbrev pub held_places : List ℕ → List (List ℕ)
@@ -38,13 +36,3 @@ held_place b k = cond (ltb k (fix_count b)) (fix_place k) (refused_place (k - fi
 -- the record of the fix p is tied to r
 abbrev pub ties_to : List ℕ → List ℕ → Bool
 ties_to r p = tied (record_in p) r
-
--- the bytes from one place to another
-abbrev pub part : ℕ → ℕ → List ℕ → List ℕ
-part from to b = take (to - from) (drop from b)
-
--- the same message, tags and model inputs, byte for byte
-unfoldable pub same_set : List ℕ → List ℕ → Bool
-same_set a b =
-    same (part message_length_at used_at a) (part message_length_at used_at b)
-    && (same (part tags_at model_count_at a) (part tags_at model_count_at b) && same (inputs_in a) (inputs_in b))

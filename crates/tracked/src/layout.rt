@@ -31,10 +31,3 @@ pub const FIXES_AT: usize = REFUSED_COUNT_AT + 1;
 pub const REFUSED_AT: usize = FIXES_AT + MAX_STANDING * FIX_SIZE;
 
 pub const TRANSMISSION_SIZE: usize = REFUSED_AT + MAX_REFUSED * REFUSED_SIZE;
-
-/// The identities that a call has worked out of a transmission's held fixes: how many, and each.
-pub const MAX_HELD: usize = MAX_STANDING + MAX_REFUSED;
-
-pub const IDENTITIES_AT: usize = 1;
-
-pub const KNOWN_SIZE: usize = IDENTITIES_AT + MAX_HELD * HASH_SIZE;

@@ -1,92 +1,84 @@
-use Prim.Native.Nat.{ℕ, ◌-◌, ◌≤◌, ◌<◌}
-use mathlib.Core.Path.{◌≡◌, sym, ap, ◌∙◌}
-use mathlib.Core.List.{List, []}
+use Prim.Native.Nat.{ℕ, ◌+◌, ◌*◌, ◌-◌, ◌≤◌, ◌<◌}
+use mathlib.Core.Path.{◌≡◌, sym, ap, ap₂, ◌∙◌}
+use mathlib.Core.List.Memᴰ
+use mathlib.Core.List.{List, ◌++◌, map}
 use native.Mathlib.Omega.{arith}
-use lib.ListN.{length, get_or}
-use Rattle.tracked.specs.Bytes.{fix_count}
-use Rattle.arrange.specs.Blocks.{blocks, block_table, turned}
-use Rattle.arrange.proofs.Kept.{no-fix, some-fix}
-use Rattle.arrange.proofs.Settling.{positive, fixes-more, lead-few, count-is, block_at, turned-table, taken_out, turned-is, settled-length, settled-length-out, stays}
-use Rattle.arrange.proofs.Sheets.{known-turned}
+use borrow.Rule.Slice.PartMut.{put_mid}
+use lib.ListN.{length, get_or, take, drop, replicate, length-append}
+use Rattle.ranges.proofs.Bools.{or}
+use Rattle.places.specs.Places.{flat}
+use Rattle.places.proofs.Tables.{wide}
+use Rattle.tracked.specs.Layout.{transmission_size}
+use Rattle.arrange.specs.Blocks.{blocks, block_of, block_table, latest_blocks, AllSound, Filled}
+use Rattle.arrange.specs.Leads.{order_of}
+use Rattle.arrange.proofs.Tables.{count-is, all-wide, latest-in, latest-few}
+use Rattle.arrange.proofs.Entering.{order-are, order-count, order-within}
+use Rattle.arrange.proofs.Placing.{left-more, left-fewer}
 use Rattle.arrange.proofs.settle.Goals as goal
 
-pub returns-then-fix_count-eq0 : goal.returns-then-fix_count-eq0
-returns-then-fix_count-eq0 c =
-    let blocks-of : List (List ℕ) = blocks c.args.n c.args.t.now in
-    let block_of : List ℕ = get_or blocks-of c.args.i [] in
-    let count_of : length blocks-of ≡ c.args.n = count-is c.args.t.now c.args.n c.requires.filled.0 in
-    let among : c.args.i < length blocks-of = rw count_of c.requires.filled.1 in
-    let counted : c.fix_count.result ≡ fix_count block_of = c.fix_count.ensures ∙ ap fix_count (c.block.ensures.0 ∙ block_at c.args.t.now c.args.n c.requires.filled.0 c.args.i c.requires.filled.1) in
-    let e = no-fix block_of (sym counted ∙ c.if-fix_count-eq0.true) in record { value = sym (settled-length-out blocks-of c.args.i among e ∙ ap (λ (k : ℕ). k - 1) count_of); t_after = c.take_out.ensures.t_after ∙ ap block_table (taken_out blocks-of c.args.i among e); known = c.take_out.ensures.known }
+module _ (t₀ : List ℕ) (n : ℕ) (further : List (List ℕ)) (f : Filled t₀ n) (sound : AllSound further) (order : List ℕ) (order-is : order ≡ order_of (blocks n t₀ ++ further)) where
+  abbrev latest : List (List ℕ)
+  latest = latest_blocks (blocks n t₀ ++ further)
 
-pub place_below-j-requires : goal.place_below-j-requires
-place_below-j-requires c =
-    let blocks-of : List (List ℕ) = blocks c.args.n c.args.t.now in
-    let block_of : List ℕ = get_or blocks-of c.args.i [] in
-    let count_of : length blocks-of ≡ c.args.n = count-is c.args.t.now c.args.n c.requires.filled.0 in
-    let among : c.args.i < length blocks-of = rw count_of c.requires.filled.1 in
-    let counted : c.fix_count.result ≡ fix_count block_of = c.fix_count.ensures ∙ ap fix_count (c.block.ensures.0 ∙ block_at c.args.t.now c.args.n c.requires.filled.0 c.args.i c.requires.filled.1) in
-    let has_some : 1 ≤ fix_count block_of = positive (fix_count block_of) (λ z. c.if-fix_count-eq0.false (counted ∙ z)) in
-    record { filled = c.requires.filled; fixes_from = fixes-more blocks-of c.args.i among has_some c.requires.fixes_from }
+  within : (i : ℕ) → i < length order → get_or order i 0 < n + length further
+  within i h =
+      let e = length-append (blocks n t₀) further in
+      let c = count-is t₀ n f in
+      let l = rw order-is at h in
+      let k : get_or order i 0 < length (blocks n t₀ ++ further) = rw order-is (order-within (blocks n t₀ ++ further) i l) in
+      omega (arith, e, c, k)
 
-pub overflow_mul-j : goal.overflow_mul-j
-overflow_mul-j c =
-    let blocks-of : List (List ℕ) = blocks c.args.n c.args.t.now in
-    let count_of : length blocks-of ≡ c.args.n = count-is c.args.t.now c.args.n c.requires.filled.0 in
-    let among : c.args.i < length blocks-of = rw count_of c.requires.filled.1 in
-    let few : c.place_below-j.result ≤ c.args.n = omega (arith, c.place_below-j.ensures.value, lead-few blocks-of c.args.i among, count_of) in
-    let f = c.requires.filled.0.few in omega (arith, few, f)
+  counted : length order ≡ length latest
+  counted = ap length order-is ∙ order-count (blocks n t₀ ++ further)
 
-pub turn-requires : goal.turn-requires
-turn-requires c =
-    let blocks-of : List (List ℕ) = blocks c.args.n c.args.t.now in
-    let count_of : length blocks-of ≡ c.args.n = count-is c.args.t.now c.args.n c.requires.filled.0 in
-    let among : c.args.i < length blocks-of = rw count_of c.requires.filled.1 in
-    let few : c.place_below-j.result ≤ c.args.n = omega (arith, c.place_below-j.ensures.value, lead-few blocks-of c.args.i among, count_of) in
-    let f = c.requires.filled.0 in
-    (omega arith, omega (arith, c.if-i-j.true), omega (arith, few, f.few, f.size))
+  all-of-them : wide transmission_size latest
+  all-of-them = all-wide latest (λ b m. or (Memᴰ.append_cases (blocks n t₀) (latest-in (blocks n t₀ ++ further) b m).0) (λ k. f.sound b k) (λ k. sound b k))
 
-pub overflow_mul-j-then-i-j : goal.overflow_mul-j-then-i-j
-overflow_mul-j-then-i-j c =
-    let blocks-of : List (List ℕ) = blocks c.args.n c.args.t.now in
-    let count_of : length blocks-of ≡ c.args.n = count-is c.args.t.now c.args.n c.requires.filled.0 in
-    let among : c.args.i < length blocks-of = rw count_of c.requires.filled.1 in
-    let few : c.place_below-j.result ≤ c.args.n = omega (arith, c.place_below-j.ensures.value, lead-few blocks-of c.args.i among, count_of) in
-    let f = c.requires.filled.0.few in omega (arith, few, f)
+  module _ (t : List ℕ) (written : t ≡ flat (map (block_of n t₀ further) order) ++ drop (length order * transmission_size) t₀) where
+    written-latest : t ≡ flat latest ++ drop (length latest * transmission_size) t₀
+    written-latest =
+        written ∙ ap₂ (λ (bs : List (List ℕ)) (k : ℕ). flat bs ++ drop (k * transmission_size) t₀)
+        (ap (map (block_of n t₀ further)) order-is ∙ order-are (blocks n t₀ ++ further)) counted
 
-pub turn-requires-then-i-j : goal.turn-requires-then-i-j
-turn-requires-then-i-j c =
-    let blocks-of : List (List ℕ) = blocks c.args.n c.args.t.now in
-    let count_of : length blocks-of ≡ c.args.n = count-is c.args.t.now c.args.n c.requires.filled.0 in
-    let among : c.args.i < length blocks-of = rw count_of c.requires.filled.1 in
-    let few : c.place_below-j.result ≤ c.args.n = omega (arith, c.place_below-j.ensures.value, lead-few blocks-of c.args.i among, count_of) in
-    let f = c.requires.filled.0.few in
-    let z = c.place_below-j.ensures.known.size in
-    (omega arith, omega (arith, c.if-i-j.true), omega (arith, few, f, z))
+    as-many : n ≤ length order → t ≡ block_table latest
+    as-many h = left-more t₀ n f latest all-of-them (latest-few (blocks n t₀ ++ further)) t written-latest (rw counted at h)
 
-pub returns-then-i-j : goal.returns-then-i-j
-returns-then-i-j c =
-    let blocks-of : List (List ℕ) = blocks c.args.n c.args.t.now in
-    let block_of : List ℕ = get_or blocks-of c.args.i [] in
-    let count_of : length blocks-of ≡ c.args.n = count-is c.args.t.now c.args.n c.requires.filled.0 in
-    let among : c.args.i < length blocks-of = rw count_of c.requires.filled.1 in
-    let counted : c.fix_count.result ≡ fix_count block_of = c.fix_count.ensures ∙ ap fix_count (c.block.ensures.0 ∙ block_at c.args.t.now c.args.n c.requires.filled.0 c.args.i c.requires.filled.1) in
-    let has_some : 1 ≤ fix_count block_of = positive (fix_count block_of) (λ z. c.if-fix_count-eq0.false (counted ∙ z)) in
-    let few : c.place_below-j.result ≤ c.args.n = omega (arith, c.place_below-j.ensures.value, lead-few blocks-of c.args.i among, count_of) in
-    let f = c.requires.filled.0 in
-    let i = c.args.i in
-    let j = c.place_below-j.result in
-    let e = some-fix block_of has_some in
-    let more : i < j = omega (arith, c.if-i-j.true) in
-    let t = turned-table blocks-of c.args.t.now c.args.n i f.sound f.few f.is count_of c.requires.filled.1 j more few c.turn.new.t c.turn.ensures in record { value = sym (settled-length blocks-of i among e ∙ count_of); t_after = t.0 ∙ ap block_table (ap (λ (l : ℕ). turned i l blocks-of) c.place_below-j.ensures.value ∙ turned-is blocks-of i among e); known = known-turned c.place_below-j.ensures.known f.few c.turn.new.t c.turn-then-i-j.new.t i j more few t.1 c.turn-then-i-j.ensures c.turn-then-i-j.auto.t }
+    fewer : (m : ℕ) → m ≡ length order → m < n → (y : List ℕ) → y ≡ replicate (length (take (n * transmission_size - m * transmission_size) (drop (m * transmission_size) t))) 0
+        → put_mid (m * transmission_size) (n * transmission_size - m * transmission_size) t y ≡ block_table latest
+    fewer m q h y e =
+        let c : m ≡ length latest = q ∙ counted in
+        rw c (left-fewer t₀ n f latest all-of-them (latest-few (blocks n t₀ ++ further)) t written-latest (rw c at h) y (rw c at e))
 
-pub returns-else-i-j : goal.returns-else-i-j
-returns-else-i-j c =
-    let blocks-of : List (List ℕ) = blocks c.args.n c.args.t.now in
-    let block_of : List ℕ = get_or blocks-of c.args.i [] in
-    let count_of : length blocks-of ≡ c.args.n = count-is c.args.t.now c.args.n c.requires.filled.0 in
-    let among : c.args.i < length blocks-of = rw count_of c.requires.filled.1 in
-    let counted : c.fix_count.result ≡ fix_count block_of = c.fix_count.ensures ∙ ap fix_count (c.block.ensures.0 ∙ block_at c.args.t.now c.args.n c.requires.filled.0 c.args.i c.requires.filled.1) in
-    let has_some : 1 ≤ fix_count block_of = positive (fix_count block_of) (λ z. c.if-fix_count-eq0.false (counted ∙ z)) in
-    let e = some-fix block_of has_some in
-    let z = c.place_below-j.ensures.value in record { value = sym (settled-length blocks-of c.args.i among e ∙ count_of); t_after = c.requires.filled.0.is ∙ ap block_table (stays blocks-of c.args.i among e (omega (arith, z, c.if-i-j.false))); known = c.place_below-j.ensures.known }
+pub order-order-requires-clause-few : goal.order-order-requires-clause-few
+order-order-requires-clause-few c =
+    let e = ap (λ bs. length bs) c.blocks-2.ensures ∙ count-is c.args.t.now c.args.n c.requires.filled in
+    omega (arith, e, c.requires.few, c.requires.filled.few)
+
+pub put_in_order-requires-clause-within : goal.put_in_order-requires-clause-within
+put_in_order-requires-clause-within c =
+    within c.args.t.now c.args.n c.args.further.now c.requires.filled c.requires.sound c.deref.result.now
+    (c.deref.ensures.0 ∙ c.order-order.ensures ∙ ap (λ bs. order_of (bs ++ c.args.further.now)) c.blocks-2.ensures)
+
+pub returns-then-left-n-clause-value : goal.returns-then-left-n-clause-value
+returns-then-left-n-clause-value c =
+    c.len-left.ensures.value
+    ∙ counted c.args.t.now c.args.n c.args.further.now c.requires.filled c.requires.sound c.order-order.result.items
+    (c.order-order.ensures ∙ ap (λ bs. order_of (bs ++ c.args.further.now)) c.blocks-2.ensures)
+
+pub returns-then-left-n-clause-t_after : goal.returns-then-left-n-clause-t_after
+returns-then-left-n-clause-t_after c =
+    fewer c.args.t.now c.args.n c.args.further.now c.requires.filled c.requires.sound c.deref.result.now
+    (c.deref.ensures.0 ∙ c.order-order.ensures ∙ ap (λ bs. order_of (bs ++ c.args.further.now)) c.blocks-2.ensures)
+    c.put_in_order.new.t c.put_in_order.ensures c.len-left.result (c.len-left.ensures.value ∙ ap length (sym c.deref.ensures.0)) c.if-left-n.true c.clear.new.s c.clear.ensures
+
+pub returns-else-left-n-clause-value : goal.returns-else-left-n-clause-value
+returns-else-left-n-clause-value c =
+    c.len-left.ensures.value
+    ∙ counted c.args.t.now c.args.n c.args.further.now c.requires.filled c.requires.sound c.order-order.result.items
+    (c.order-order.ensures ∙ ap (λ bs. order_of (bs ++ c.args.further.now)) c.blocks-2.ensures)
+
+pub returns-else-left-n-clause-t_after : goal.returns-else-left-n-clause-t_after
+returns-else-left-n-clause-t_after c =
+    as-many c.args.t.now c.args.n c.args.further.now c.requires.filled c.requires.sound c.deref.result.now
+    (c.deref.ensures.0 ∙ c.order-order.ensures ∙ ap (λ bs. order_of (bs ++ c.args.further.now)) c.blocks-2.ensures)
+    c.put_in_order.new.t c.put_in_order.ensures (omega (arith, c.if-left-n.false, c.len-left.ensures.value, ap length c.deref.ensures.0))

@@ -1,9 +1,8 @@
 use Rattle.std.proofs.Common.{◌≡◌, take}
-use mathlib.Core.List.{map, flat_map}
+use Rattle.std.specs.Prelude.{flat_map}
 use Rattle.text.specs.Texts.{append}
-use Rattle.tracked.specs.Bytes.{refused_in, refused_places}
 use Rattle.listing.specs.Listing.{refused_text}
 use Rattle.listing.proofs.push_refusals.Given as goal
 
-abbrev pub invariant-loop-k : goal.invariant-loop-k
-invariant-loop-k l = l.out ≡ append l.initial.out (flat_map refused_text (take l.k (map refused_in (refused_places l.b))))
+abbrev pub invariant-loop-refusal : goal.invariant-loop-refusal
+invariant-loop-refusal l = l.out ≡ append l.initial.out (flat_map refused_text (take l.refusal-index l.refused))

@@ -1,12 +1,28 @@
-use mathlib.Core.Path.{refl}
+use mathlib.Core.Path.{◌≡◌, refl, sym, ap, subst, ◌∙◌}
 use native.Mathlib.Omega.{arith}
-use Rattle.octets.proofs.Numbers.{all-bytes}
 use Rattle.octets.proofs.Puts.{put_whole}
+use Rattle.shown.specs.Fix.{Fix}
+use Rattle.tracked.specs.Bytes.{transmission_in, transmission_bytes}
+use Rattle.tracked.proofs.Encoding.{fix-length}
+use Rattle.normalize.proofs.Validity.{Holdable}
+use Rattle.merge.specs.Searching.{single, Steady}
+use Rattle.merge.proofs.Written.{holdable-of}
+use Rattle.merge.proofs.Opening.{single-steady, single-read}
 use Rattle.merge.proofs.Single.{single-put}
 use Rattle.merge.proofs.alone.Goals as goal
 
-pub returns : goal.returns
-returns c =
-    let f = c.args.f.bytes.now in
-    let b = all-bytes f c.args.f.octets in
-    single-put _ f _ b c.args.f.size refl (put_whole c.put_bytes.ensures (omega (arith, c.args.f.size)))
+pub returns-clause-held : goal.returns-clause-held
+returns-clause-held c =
+    let f : Fix = c.args.fix in
+    let h : Holdable f = holdable-of _ _ _ f c.fix.inside.report.formed c.fix.inside.report.size (omega arith) (omega arith) c.fix.view_is in
+    let n = fix-length f h.valid in
+    let e : c.put.new.out ≡ transmission_bytes (single f) = single-put f _ _ n refl (put_whole c.put.ensures.1 (omega (arith, n))) in
+    ap transmission_in e ∙ single-read f h
+
+pub returns-clause-steady : goal.returns-clause-steady
+returns-clause-steady c =
+    let f : Fix = c.args.fix in
+    let h : Holdable f = holdable-of _ _ _ f c.fix.inside.report.formed c.fix.inside.report.size (omega arith) (omega arith) c.fix.view_is in
+    let n = fix-length f h.valid in
+    let e : c.put.new.out ≡ transmission_bytes (single f) = single-put f _ _ n refl (put_whole c.put.ensures.1 (omega (arith, n))) in
+    subst Steady (sym e) (single-steady f h)

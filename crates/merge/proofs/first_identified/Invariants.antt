@@ -1,12 +1,8 @@
-use mathlib.Core.Path.{◌≡◌}
-use mathlib.Core.Bool.{false}
-use mathlib.Core.List.{map}
-use lib.ListN.{take}
-use Rattle.ranges.specs.Lists.{any_of}
-use Rattle.tracked.specs.Bytes.{identity_in}
-use Rattle.tracked.specs.Parts.{held_places}
-use Rattle.merge.specs.Searching.{is_identity}
+use Rattle.std.proofs.Common.{◌≡◌, ℕ, ◌<◌, get_or, false}
+use Rattle.shown.specs.Items.{no_fix}
+use Rattle.tracked.specs.Held.{held_in, is_of}
+use Rattle.tracked.specs.Bytes.{transmission_in}
 use Rattle.merge.proofs.first_identified.Given as goal
 
 abbrev pub invariant-loop-i : goal.invariant-loop-i
-invariant-loop-i l = any_of (is_identity (identity_in l.f.bytes.now)) (take l.i (map identity_in (held_places l.b))) ≡ false
+invariant-loop-i l = (k : ℕ) → k < l.i → is_of l.fix (get_or (held_in (transmission_in l.b)) k no_fix) ≡ false

@@ -1,41 +1,41 @@
-use Prim.Native.Nat.{ℕ, ◌<◌}
-use mathlib.Core.Path.{◌≡◌, sym, ap, ◌∙◌}
-use mathlib.Core.List.{List, []}
+use mathlib.Core.Path.{refl, sym, ap, ◌∙◌}
 use native.Mathlib.Omega.{arith}
-use lib.ListN.{length, get_or}
+use mathlib.Core.List.{[]}
+use lib.ListN.{get_or}
+use Rattle.tracked.specs.Bytes.{transmission_in}
+use lib.Seq.{take_all}
+use Rattle.ranges.specs.Lists.{any_of}
 use Rattle.shown.proofs.Indexed.{at_in}
-use Rattle.tracked.proofs.Searching.{any_here, any-on, any-over}
-use Rattle.arrange.specs.Blocks.{blocks, Known}
-use Rattle.arrange.proofs.Settling.{count-is, block_at}
-use Rattle.arrange.proofs.Sheets.{known_on, ready_at}
-use Rattle.merge.specs.Searching.{keeps_identity}
+use Rattle.merge.proofs.Counting.{any-more}
+use Rattle.merge.proofs.Written.{kept-is, none-kept, kept_in, kept-values, one-keeps}
 use Rattle.merge.proofs.keeps_identity.Goals as goal
+use Rattle.merge.proofs.keeps_identity.Goals.{in-Some+else-is_of, in_default}
 
-pub keeps_at-requires : goal.keeps_at-requires
-keeps_at-requires c =
-    let bs : List (List ℕ) = blocks c.args.n c.args.t.now in
-    let b : List ℕ = get_or bs c.loop-i.i [] in
-    let among : c.loop-i.i < length bs = rw (count-is c.args.t.now c.args.n c.requires.0) c.loop-i-test.true in
-    ready_at c.args.t.now c.loop-i.known c.args.n c.requires.0 c.loop-i.invariant.1 c.loop-i.i c.loop-i-test.true (c.requires.1 b (at_in [] bs c.loop-i.i among))
+pub loop-block-init : goal.loop-block-init
+unfolding any_of
+loop-block-init c = refl
 
-pub returns-then-keeps_at : goal.returns-then-keeps_at
-returns-then-keeps_at c =
-    let bs : List (List ℕ) = blocks c.args.n c.args.t.now in
-    let b : List ℕ = get_or bs c.loop-i.i [] in
-    let among : c.loop-i.i < length bs = rw (count-is c.args.t.now c.args.n c.requires.0) c.loop-i-test.true in
-    let asked : c.keeps_at.result ≡ keeps_identity c.args.id.now.0 b = c.keeps_at.ensures.value ∙ ap (keeps_identity c.args.id.now.0) (block_at c.args.t.now c.args.n c.requires.0 c.loop-i.i c.loop-i-test.true) in
-    sym (c.loop-i.invariant.0 ∙ any_here (keeps_identity c.args.id.now.0) bs c.loop-i.i [] among (sym asked ∙ c.if-keeps_at.true))
+pub kept-requires : goal.kept-requires
+kept-requires c = c.requires _ (at_in _ c.args.blocks.now c.loop-block.block-index c.loop-block-test.true)
 
-pub loop-i-preserved : goal.loop-i-preserved
-loop-i-preserved c =
-    let bs : List (List ℕ) = blocks c.args.n c.args.t.now in
-    let b : List ℕ = get_or bs c.loop-i.i [] in
-    let among : c.loop-i.i < length bs = rw (count-is c.args.t.now c.args.n c.requires.0) c.loop-i-test.true in
-    let asked : c.keeps_at.result ≡ keeps_identity c.args.id.now.0 b = c.keeps_at.ensures.value ∙ ap (keeps_identity c.args.id.now.0) (block_at c.args.t.now c.args.n c.requires.0 c.loop-i.i c.loop-i-test.true) in
-    let still-known : Known c.args.t.now c.keeps_at.new.known c.args.n = known_on c.loop-i.invariant.1 c.requires.0.few c.keeps_at.ensures.still c.keeps_at.auto.known in
-    (c.loop-i.invariant.0 ∙ any-on (keeps_identity c.args.id.now.0) bs c.loop-i.i [] among (sym asked ∙ c.if-keeps_at.false), still-known)
+pub returns-then-is_of : goal.returns-then-is_of
+returns-then-is_of c =
+    sym (one-keeps c.args.fix.now c.args.blocks.now c.in-Some.kept c.loop-block.block-index c.loop-block-test.true (sym c.kept.ensures ∙ c.in-Some.is) (sym c.is_of.ensures ∙ c.if-is_of.true))
+
+pub loop-block-preserved : goal.loop-block-preserved
+loop-block-preserved c =
+    let f = c.args.fix.now in
+    let bs = c.args.blocks.now in
+    let i = c.loop-block.block-index in
+    let t = transmission_in (get_or bs i []) in
+    elim c.match-kept.branch [
+      | in-Some+else-is_of w ↦
+          any-more (kept_in f bs) bs i _ c.loop-block-test.true c.loop-block.invariant (kept-is f w.in-Some.kept t (sym c.kept.ensures ∙ w.in-Some.is) ∙ sym w.is_of.ensures ∙ w.if-is_of.false)
+      | in_default w ↦ any-more (kept_in f bs) bs i _ c.loop-block-test.true c.loop-block.invariant (none-kept f t (sym c.kept.ensures ∙ w.in_default.is))
+    ]
 
 pub returns : goal.returns
 returns c =
-    let bs = blocks c.args.n c.args.t.now in
-    sym (c.loop-i.invariant.0 ∙ any-over (keeps_identity c.args.id.now.0) bs c.loop-i.i (rw (count-is c.args.t.now c.args.n c.requires.0) (omega (arith, c.loop-i-test.false))))
+    let f = c.args.fix.now in
+    let bs = c.args.blocks.now in
+    sym (kept-values f bs ∙ ap (any_of (kept_in f bs)) (sym (take_all c.loop-block.block-index bs (omega (arith, c.loop-block-test.false)))) ∙ c.loop-block.invariant)

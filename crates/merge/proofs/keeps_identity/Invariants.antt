@@ -1,9 +1,8 @@
-use mathlib.Core.Path.{◌≡◌}
-use lib.ListN.{drop}
+use Rattle.std.proofs.Common.{◌≡◌, take, false}
 use Rattle.ranges.specs.Lists.{any_of}
-use Rattle.arrange.specs.Blocks.{blocks, Known}
-use Rattle.merge.specs.Searching.{keeps_identity}
+use Rattle.tracked.specs.Bytes.{transmission_in}
+use Rattle.merge.specs.Merged.{keeps}
 use Rattle.merge.proofs.keeps_identity.Given as goal
 
-abbrev pub invariant-loop-i : goal.invariant-loop-i
-invariant-loop-i l = (any_of (keeps_identity l.id.0) (blocks l.n l.t) ≡ any_of (keeps_identity l.id.0) (drop l.i (blocks l.n l.t))) × Known l.t l.known l.n
+abbrev pub invariant-loop-block : goal.invariant-loop-block
+invariant-loop-block l = any_of (λ b. keeps l.fix (transmission_in b)) (take l.block-index l.blocks) ≡ false

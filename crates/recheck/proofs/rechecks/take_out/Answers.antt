@@ -1,91 +1,79 @@
-use Prim.Native.Nat.{ℕ, ◌-◌, ◌≤◌}
-use mathlib.Core.Path.{◌≡◌, refl, ap, ◌∙◌}
-use mathlib.Core.List.{List, ◌++◌, map}
-use native.Mathlib.Omega.{arith}
-use lib.ListN.{length, take, drop}
-use borrow.Rule.Slice.PartMut.{same_len_mid}
+use Rattle.std.proofs.Common.{◌≡◌, ℕ, List, ◌++◌, arith, ap, ap₂, ◌∙◌}
+use mathlib.Core.List.{map}
+use borrow.Author.Rules.{rules}
 use Rattle.octets.specs.Bytes.{Bytes}
 use Rattle.octets.proofs.Numbers.{all-bytes}
+use Rattle.places.specs.Places.{places}
+use Rattle.models.specs.Summary.{summary_size}
 use Rattle.tracked.specs.Bytes.{transmission_bytes}
-use Rattle.arrange.specs.Arranged.{max_transmissions, arranged}
-use Rattle.arrange.specs.Blocks.{block_table}
-use Rattle.stored.specs.Layout.{transmissions_at, track_size}
-use Rattle.stored.specs.Memory.{convicted_in, transmission_count}
-use Rattle.stored.proofs.Opened.{Opened, opened}
+use Rattle.arrange.specs.Blocks.{blocks, block_table}
+use Rattle.stored.specs.Memory.{convicted_in, summary_count, contested_in, summary_table, transmission_places, decode}
+use Rattle.stored.proofs.Opened.{Opened, opened, summary-bytes-length, filled}
+use Rattle.recheck.specs.Steps.{standing_bytes}
 use Rattle.recheck.proofs.Renewing.{arranged-at-most}
-use Rattle.recheck.proofs.Rearranging.{front-size, arranging-size, lent-filled, left_is, arranged_is}
-use Rattle.recheck.proofs.Rechecked.{us, us-kept, us-count, us-few, us-bytes, taken_out}
-use Rattle.recheck.proofs.Identities.{tail-known}
-use borrow.Author.Rules.{rules}
+use Rattle.recheck.proofs.Heads.{summaries-read, count-read, table-read, head-counted, with-table}
+use Rattle.recheck.proofs.Arranging.{bytes-filled, count-left, table-left}
+use Rattle.recheck.proofs.Rechecked.{us, us-kept, us-count, us-few, us-bytes, encoded}
 use Rattle.recheck.proofs.rechecks.take_out.Goals as goal
 
-pub bounds-memory-6 : goal.bounds-memory-6
-bounds-memory-6 c = omega (arith, (opened c.args.memory.now c.requires.0).size)
+-- the bytes of the transmissions that are decided again
+renewed : (m : List ℕ) (o : Opened m) (y : Bytes m) (n k : ℕ) (s t r : List ℕ) → n ≡ summary_count m → s ≡ summary_table m → blocks k t ≡ transmission_places m
+    → r ≡ block_table (map (standing_bytes (places summary_size n s)) (blocks k t)) → r ≡ block_table (map transmission_bytes (us m o y))
+renewed m o y n k s t r n-is s-is bs-are e =
+    e ∙ ap₂ (λ (ss bs : List (List ℕ)). block_table (map (standing_bytes ss) bs)) (ap₂ (places summary_size) n-is s-is) bs-are ∙ ap block_table (us-bytes m o y)
 
-pub slice_bounds-arrange-count : goal.slice_bounds-arrange-count
-slice_bounds-arrange-count c =
-    let x : List ℕ = c.args.memory.now in
-    let o : Opened x = opened x c.requires.0 in
-    let bytes : Bytes x = all-bytes x (search rules) in
-    let y : List ℕ = c.renew_all.new.memory in
-    let y-is : y ≡ take transmissions_at x ++ block_table (map transmission_bytes (us x o bytes)) = c.renew_all.ensures.memory_after ∙ ap (λ (l : List (List ℕ)). take transmissions_at x ++ block_table l) (us-bytes x o bytes) in
-    let y-size : length y ≡ track_size = arranging-size (convicted_in x) (us x o bytes) (us-kept x o bytes) (us-few x o bytes) (take transmissions_at x) y (front-size x o) y-is in
-    omega (arith, y-size)
+pub split_at_mut-head-requires : goal.split_at_mut-head-requires
+split_at_mut-head-requires c = omega (arith, (opened c.args.memory.now c.requires).size)
 
-pub slice_bounds-arrange-start : goal.slice_bounds-arrange-start
-slice_bounds-arrange-start c =
-    let x : List ℕ = c.args.memory.now in
-    let o : Opened x = opened x c.requires.0 in
-    let bytes : Bytes x = all-bytes x (search rules) in
-    let y : List ℕ = c.renew_all.new.memory in
-    let y-is : y ≡ take transmissions_at x ++ block_table (map transmission_bytes (us x o bytes)) = c.renew_all.ensures.memory_after ∙ ap (λ (l : List (List ℕ)). take transmissions_at x ++ block_table l) (us-bytes x o bytes) in
-    let y-size : length y ≡ track_size = arranging-size (convicted_in x) (us x o bytes) (us-kept x o bytes) (us-few x o bytes) (take transmissions_at x) y (front-size x o) y-is in
-    omega (arith, y-size)
+pub invariant_of-summaries : goal.invariant_of-summaries
+invariant_of-summaries c =
+    let m = c.args.memory.now in
+    let o = opened m c.requires in
+    let h = c.split_at_mut-head.result.0.now in
+    let e = c.split_at_mut-head.ensures.front in
+    let n = c.u16_at-n.ensures ∙ summaries-read m h e in
+    record { within = rw (table-read m h e, summary-bytes-length m o) (omega (arith, o.few_summaries, n)) }
+
+pub renew_all-requires : goal.renew_all-requires
+renew_all-requires c =
+    let m = c.args.memory.now in
+    rw (c.split_at_mut-head.ensures.back, count-read m c.split_at_mut-head.result.0.now c.split_at_mut-head.ensures.front) (filled m (opened m c.requires))
 
 pub arrange-left-requires : goal.arrange-left-requires
 arrange-left-requires c =
-    let x : List ℕ = c.args.memory.now in
-    let o : Opened x = opened x c.requires.0 in
-    let bytes : Bytes x = all-bytes x (search rules) in
-    let y : List ℕ = c.renew_all.new.memory in
-    let y-is : y ≡ take transmissions_at x ++ block_table (map transmission_bytes (us x o bytes)) = c.renew_all.ensures.memory_after ∙ ap (λ (l : List (List ℕ)). take transmissions_at x ++ block_table l) (us-bytes x o bytes) in (
-      lent-filled (convicted_in x) (us x o bytes) (us-kept x o bytes) (us-few x o bytes) (take transmissions_at x) y (front-size x o) y-is (transmission_count x) (us-count x o bytes),
-      tail-known y c.renew_all.new.known (transmission_count x) c.renew_all.ensures.known,
-    )
+    let m = c.args.memory.now in
+    let o = opened m c.requires in
+    let y : Bytes m = all-bytes m (search rules) in
+    let h = c.split_at_mut-head.result.0.now in
+    let e = c.split_at_mut-head.ensures.front in
+    let k = count-read m h e in
+    let t = renewed m o y _ _ _ _ _ (c.u16_at-n.ensures ∙ summaries-read m h e) (table-read m h e) (ap₂ blocks k c.split_at_mut-head.ensures.back) c.renew_all.ensures in
+    bytes-filled (convicted_in m) (us m o y) (us-kept m o y) (us-few m o y) _ (k ∙ us-count m o y) _ t
 
-pub overflow_cast-memory : goal.overflow_cast-memory
-overflow_cast-memory c =
-    let x : List ℕ = c.args.memory.now in
-    let o : Opened x = opened x c.requires.0 in
-    let bytes : Bytes x = all-bytes x (search rules) in
-    let y : List ℕ = c.renew_all.new.memory in
-    let y-is : y ≡ take transmissions_at x ++ block_table (map transmission_bytes (us x o bytes)) = c.renew_all.ensures.memory_after ∙ ap (λ (l : List (List ℕ)). take transmissions_at x ++ block_table l) (us-bytes x o bytes) in
-    let left : c.arrange-left.result ≡ length (arranged (us x o bytes)) = left_is (convicted_in x) (us x o bytes) (us-kept x o bytes) (us-few x o bytes) (take transmissions_at x) y (front-size x o) y-is
-    (transmission_count x) (us-count x o bytes) c.arrange-left.result c.arrange-left.new.t (c.arrange-left.ensures.value, c.arrange-left.ensures.t_after) in
-    let few : c.arrange-left.result ≤ max_transmissions = rw left (arranged-at-most (us x o bytes)) in
-    omega (arith, few)
-
-pub bounds-memory-6-2 : goal.bounds-memory-6-2
-bounds-memory-6-2 c =
-    let x : List ℕ = c.args.memory.now in
-    let o : Opened x = opened x c.requires.0 in
-    let bytes : Bytes x = all-bytes x (search rules) in
-    let y : List ℕ = c.renew_all.new.memory in
-    let y-is : y ≡ take transmissions_at x ++ block_table (map transmission_bytes (us x o bytes)) = c.renew_all.ensures.memory_after ∙ ap (λ (l : List (List ℕ)). take transmissions_at x ++ block_table l) (us-bytes x o bytes) in
-    let y-size : length y ≡ track_size = arranging-size (convicted_in x) (us x o bytes) (us-kept x o bytes) (us-few x o bytes) (take transmissions_at x) y (front-size x o) y-is in
-    let z : List ℕ = take transmissions_at y ++ (c.arrange-left.new.t ++ drop (length y - transmissions_at) (drop transmissions_at y)) in
-    let z-size : length z ≡ track_size = same_len_mid transmissions_at (length y - transmissions_at) y c.arrange-left.new.t c.arrange-left.auto.t ∙ y-size in
-    omega (arith, z-size)
+pub overflow_cast-head : goal.overflow_cast-head
+overflow_cast-head c =
+    let m = c.args.memory.now in
+    let o = opened m c.requires in
+    let y : Bytes m = all-bytes m (search rules) in
+    let h = c.split_at_mut-head.result.0.now in
+    let e = c.split_at_mut-head.ensures.front in
+    let k = count-read m h e in
+    let t = renewed m o y _ _ _ _ _ (c.u16_at-n.ensures ∙ summaries-read m h e) (table-read m h e) (ap₂ blocks k c.split_at_mut-head.ensures.back) c.renew_all.ensures in
+    let r = count-left (convicted_in m) (us m o y) (us-kept m o y) (us-few m o y) _ (k ∙ us-count m o y) _ t c.arrange-left.result c.arrange-left.ensures.value in
+    omega (arith, r, arranged-at-most (us m o y))
 
 pub returns : goal.returns
+unfolding decode
 returns c =
-    let x : List ℕ = c.args.memory.now in
-    let o : Opened x = opened x c.requires.0 in
-    let bytes : Bytes x = all-bytes x (search rules) in
-    let y : List ℕ = c.renew_all.new.memory in
-    let y-is : y ≡ take transmissions_at x ++ block_table (map transmission_bytes (us x o bytes)) = c.renew_all.ensures.memory_after ∙ ap (λ (l : List (List ℕ)). take transmissions_at x ++ block_table l) (us-bytes x o bytes) in
-    let left : c.arrange-left.result ≡ length (arranged (us x o bytes)) = left_is (convicted_in x) (us x o bytes) (us-kept x o bytes) (us-few x o bytes) (take transmissions_at x) y (front-size x o) y-is
-    (transmission_count x) (us-count x o bytes) c.arrange-left.result c.arrange-left.new.t (c.arrange-left.ensures.value, c.arrange-left.ensures.t_after) in
-    taken_out x o bytes c.arrange-left.result left _
-    (arranged_is (convicted_in x) (us x o bytes) (us-kept x o bytes) (us-few x o bytes) (take transmissions_at x) y (front-size x o) y-is
-    (transmission_count x) (us-count x o bytes) c.arrange-left.result c.arrange-left.new.t (c.arrange-left.ensures.value, c.arrange-left.ensures.t_after) _ refl)
+    let m = c.args.memory.now in
+    let o = opened m c.requires in
+    let y : Bytes m = all-bytes m (search rules) in
+    let h = c.split_at_mut-head.result.0.now in
+    let e = c.split_at_mut-head.ensures.front in
+    let k = count-read m h e in
+    let t = renewed m o y _ _ _ _ _ (c.u16_at-n.ensures ∙ summaries-read m h e) (table-read m h e) (ap₂ blocks k c.split_at_mut-head.ensures.back) c.renew_all.ensures in
+    let r = count-left (convicted_in m) (us m o y) (us-kept m o y) (us-few m o y) _ (k ∙ us-count m o y) _ t c.arrange-left.result c.arrange-left.ensures.value in
+    let l = table-left (convicted_in m) (us m o y) (us-kept m o y) (us-few m o y) _ (k ∙ us-count m o y) _ t c.arrange-left.new.t c.arrange-left.ensures.t_after in
+    ap₂ (λ (a b : List ℕ). a ++ b) (head-counted m h e o y c.arrange-left.result) l
+    ∙ with-table (convicted_in m) (summary_count m) c.arrange-left.result (contested_in m) (summary_table m) _
+    ∙ encoded m o y _ c.arrange-left.result r

@@ -2,30 +2,24 @@ use Prim.Native.Nat.{ℕ}
 use mathlib.Core.Path.{ap, ◌∙◌}
 use mathlib.Core.List.{List}
 use native.Mathlib.Omega.{arith}
+use borrow.Author.Rules.{rules}
 use Rattle.octets.specs.Bytes.{Bytes}
 use Rattle.octets.proofs.Numbers.{all-bytes}
 use Rattle.stored.specs.Track.{Track}
-use Rattle.arrange.proofs.Sheets.{none-known}
-use Rattle.stored.specs.Memory.{transmission_count, transmission_table, decode, encode}
+use Rattle.stored.specs.Memory.{decode, encode}
 use Rattle.stored.proofs.Opened.{opened}
 use Rattle.stored.proofs.Valid.{Valid, decode-valid, formed-encode, decode-encode}
 use Rattle.recheck.specs.Recheck.{recheck, strike_engine}
 use Rattle.recheck.proofs.Renewing.{strike-valid}
-use borrow.Author.Rules.{rules}
 use Rattle.recheck.proofs.strikes.convict.Goals as goal
 
-pub strike-requires : goal.strike-requires
-strike-requires c =
-    let m : List ℕ = c.args.memory.now in
-    (c.requires, none-known (transmission_table m) (transmission_count m) (opened m c.requires).few)
-
-pub recheck_known-requires : goal.recheck_known-requires
-recheck_known-requires c =
+pub recheck-requires : goal.recheck-requires
+recheck-requires c =
     let m : List ℕ = c.args.memory.now in
     let bytes : Bytes m = all-bytes m (search rules) in
     let struck : Track = strike_engine c.args.engine.number (decode m) in
     let valid : Valid struck = strike-valid (decode m) (decode-valid m (opened m c.requires) bytes) c.args.engine.number (omega (arith, c.args.engine.small)) in
-    (rw c.strike.ensures.memory_after (formed-encode struck valid), c.strike.ensures.known)
+    rw c.strike.ensures (formed-encode struck valid)
 
 pub returns : goal.returns
 returns c =
@@ -33,4 +27,4 @@ returns c =
     let bytes : Bytes m = all-bytes m (search rules) in
     let struck : Track = strike_engine c.args.engine.number (decode m) in
     let valid : Valid struck = strike-valid (decode m) (decode-valid m (opened m c.requires) bytes) c.args.engine.number (omega (arith, c.args.engine.small)) in
-    c.recheck_known.ensures ∙ ap (λ (l : List ℕ). encode (recheck (decode l))) c.strike.ensures.memory_after ∙ ap (λ (x : Track). encode (recheck x)) (decode-encode struck valid)
+    c.recheck.ensures ∙ ap (λ (l : List ℕ). encode (recheck (decode l))) c.strike.ensures ∙ ap (λ (x : Track). encode (recheck x)) (decode-encode struck valid)

@@ -1,80 +1,87 @@
-use Prim.Native.Nat.{ℕ, ◌≤◌}
-use mathlib.Core.Path.{◌≡◌, refl, ap, ◌∙◌}
-use mathlib.Core.List.{List, ◌++◌}
-use native.Mathlib.Omega.{arith}
-use lib.ListN.{length, take, drop}
+use Rattle.std.proofs.Common.{◌≡◌, ℕ, List, ◌++◌, refl, arith, ap, ap₂, ◌∙◌}
+use mathlib.Core.List.{map}
+use borrow.Author.Rules.{rules}
 use Rattle.octets.specs.Bytes.{Bytes}
 use Rattle.octets.specs.Masks.{with_bit}
 use Rattle.octets.proofs.Numbers.{all-bytes}
-use Rattle.held.specs.Limits.{max_summaries, summaries_size}
-use Rattle.arrange.specs.Arranged.{max_transmissions}
-use Rattle.stored.specs.Layout.{summaries_at, track_size}
-use Rattle.stored.specs.Memory.{summary_count}
-use Rattle.stored.proofs.Opened.{Opened, opened}
+use Rattle.tracked.specs.Bytes.{transmission_bytes}
+use Rattle.arrange.specs.Blocks.{blocks, block_table}
+use Rattle.stored.specs.Memory.{convicted_in, contested_in, transmission_places}
+use Rattle.stored.proofs.Opened.{Opened, opened, summary-bytes-length, filled}
+use Rattle.recheck.specs.Steps.{without_bytes}
 use Rattle.recheck.proofs.Renewing.{arranged-at-most}
-use Rattle.recheck.proofs.Stricken.{us, lent_length, summaries-left, struck, struck-known}
-use borrow.Author.Rules.{rules}
+use Rattle.recheck.proofs.Heads.{convicted-read, summaries-read, count-read, table-read, head-rewritten, with-table}
+use Rattle.recheck.proofs.Arranging.{bytes-filled, count-left, table-left}
+use Rattle.recheck.proofs.Stricken.{us, us-kept, us-count, us-few, us-bytes, summaries-left, struck}
 use Rattle.recheck.proofs.strikes.strike.Goals as goal
 
-pub u32_at-requires : goal.u32_at-requires
-u32_at-requires c = omega (arith, (opened c.args.memory.now c.requires.0).size)
+-- the bytes of the transmissions that are decided again
+renewed : (m : List ℕ) (o : Opened m) (y : Bytes m) (e k : ℕ) (t r : List ℕ) → blocks k t ≡ transmission_places m
+    → r ≡ block_table (map (without_bytes e) (blocks k t)) → r ≡ block_table (map transmission_bytes (us m o y e))
+renewed m o y e k t r bs-are q = q ∙ ap (λ (bs : List (List ℕ)). block_table (map (without_bytes e) bs)) bs-are ∙ ap block_table (us-bytes m o y e)
 
-pub u16_at-n-requires : goal.u16_at-n-requires
-u16_at-n-requires c = omega (arith, (opened c.args.memory.now c.requires.0).size)
+pub split_at_mut-head-requires : goal.split_at_mut-head-requires
+split_at_mut-head-requires c = omega (arith, (opened c.args.memory.now c.requires).size)
 
-pub slice_bounds-strike_summaries-end : goal.slice_bounds-strike_summaries-end
-slice_bounds-strike_summaries-end c =
-    let m : List ℕ = c.args.memory.now in
-    let o : Opened m = opened m c.requires.0 in
-    let m₁ : List ℕ = c.strike_transmissions-left.new.memory in
-    let size₁ : length m₁ ≡ track_size = c.strike_transmissions-left.auto.memory ∙ o.size in
-    omega (arith, size₁)
+pub strike_all-requires : goal.strike_all-requires
+strike_all-requires c =
+    let m = c.args.memory.now in
+    rw (c.split_at_mut-head.ensures.back, count-read m c.split_at_mut-head.result.0.now c.split_at_mut-head.ensures.front) (filled m (opened m c.requires))
+
+pub arrange-left-requires : goal.arrange-left-requires
+arrange-left-requires c =
+    let m = c.args.memory.now in
+    let o = opened m c.requires in
+    let y : Bytes m = all-bytes m (search rules) in
+    let i = c.args.engine.number in
+    let k = count-read m c.split_at_mut-head.result.0.now c.split_at_mut-head.ensures.front in
+    let t = renewed m o y i _ _ _ (ap₂ blocks k c.split_at_mut-head.ensures.back) c.strike_all.ensures in
+    bytes-filled (with_bit (convicted_in m) i) (us m o y i) (us-kept m o y i) (us-few m o y i) _ (k ∙ us-count m o y i) _ t
 
 pub strike_summaries-summaries-requires : goal.strike_summaries-summaries-requires
 strike_summaries-summaries-requires c =
-    let m : List ℕ = c.args.memory.now in
-    let e : ℕ = c.args.engine.number in
-    let o : Opened m = opened m c.requires.0 in
-    let b : Bytes m = all-bytes m (search rules) in
-    let n : ℕ = c.u16_at-n.result in
-    let n-is : n ≡ summary_count m = c.u16_at-n.ensures in
-    let m₁ : List ℕ = c.strike_transmissions-left.new.memory in
-    rw (lent_length m o b e m₁ c.strike_transmissions-left.ensures.memory_after) (omega (arith, o.few_summaries, n-is))
+    let m = c.args.memory.now in
+    let o = opened m c.requires in
+    let h = c.split_at_mut-head.result.0.now in
+    let e = c.split_at_mut-head.ensures.front in
+    let n = c.u16_at-n.ensures ∙ summaries-read m h e in
+    rw (table-read m h e, summary-bytes-length m o) (omega (arith, o.few_summaries, n))
 
 pub overflow_cast-summaries : goal.overflow_cast-summaries
 overflow_cast-summaries c =
-    let m : List ℕ = c.args.memory.now in
-    let e : ℕ = c.args.engine.number in
-    let o : Opened m = opened m c.requires.0 in
-    let b : Bytes m = all-bytes m (search rules) in
-    let n : ℕ = c.u16_at-n.result in
-    let n-is : n ≡ summary_count m = c.u16_at-n.ensures in
-    let m₁ : List ℕ = c.strike_transmissions-left.new.memory in
-    let few_summaries : c.strike_summaries-summaries.result ≤ max_summaries = summaries-left m o b e m₁ c.strike_transmissions-left.ensures.memory_after n n-is c.strike_summaries-summaries.result c.strike_summaries-summaries.new.t c.strike_summaries-summaries.ensures in
-    omega (arith, few_summaries)
+    let m = c.args.memory.now in
+    let y : Bytes m = all-bytes m (search rules) in
+    let h = c.split_at_mut-head.result.0.now in
+    let e = c.split_at_mut-head.ensures.front in
+    let l = summaries-left m (opened m c.requires) y c.args.engine.number c.u16_at-n.result (c.u16_at-n.ensures ∙ summaries-read m h e) _ (table-read m h e) c.strike_summaries-summaries.result c.strike_summaries-summaries.new.t c.strike_summaries-summaries.ensures in
+    omega (arith, l)
 
 pub overflow_cast-left : goal.overflow_cast-left
 overflow_cast-left c =
-    let m : List ℕ = c.args.memory.now in
-    let e : ℕ = c.args.engine.number in
-    let o : Opened m = opened m c.requires.0 in
-    let b : Bytes m = all-bytes m (search rules) in
-    let left-few : c.strike_transmissions-left.result ≤ max_transmissions = rw c.strike_transmissions-left.ensures.value (arranged-at-most (us m o b e)) in
-    omega (arith, left-few)
+    let m = c.args.memory.now in
+    let o = opened m c.requires in
+    let y : Bytes m = all-bytes m (search rules) in
+    let i = c.args.engine.number in
+    let k = count-read m c.split_at_mut-head.result.0.now c.split_at_mut-head.ensures.front in
+    let t = renewed m o y i _ _ _ (ap₂ blocks k c.split_at_mut-head.ensures.back) c.strike_all.ensures in
+    let r = count-left (with_bit (convicted_in m) i) (us m o y i) (us-kept m o y i) (us-few m o y i) _ (k ∙ us-count m o y i) _ t c.arrange-left.result c.arrange-left.ensures.value in
+    omega (arith, r, arranged-at-most (us m o y i))
 
 pub returns : goal.returns
 returns c =
-    let m : List ℕ = c.args.memory.now in
-    let e : ℕ = c.args.engine.number in
-    let o : Opened m = opened m c.requires.0 in
-    let b : Bytes m = all-bytes m (search rules) in
-    let n : ℕ = c.u16_at-n.result in
-    let n-is : n ≡ summary_count m = c.u16_at-n.ensures in
-    let m₁ : List ℕ = c.strike_transmissions-left.new.memory in
-    let m₂ : List ℕ = take summaries_at m₁ ++ (c.strike_summaries-summaries.new.t ++ drop summaries_size (drop summaries_at m₁)) in
-    let p = c.put_header.ensures in record {
-      memory_after = struck m o b e m₁ c.strike_transmissions-left.ensures.memory_after n n-is c.strike_summaries-summaries.result c.strike_summaries-summaries.new.t c.strike_summaries-summaries.ensures m₂ refl
-          c.with.result.0 c.strike_transmissions-left.result (c.with.ensures ∙ ap (λ (x : ℕ). with_bit x e) c.u32_at.ensures) c.strike_transmissions-left.ensures.value _ p;
-      known = struck-known m o b e m₁ c.strike_transmissions-left.ensures.memory_after n n-is c.strike_summaries-summaries.result c.strike_summaries-summaries.new.t c.strike_summaries-summaries.ensures m₂ refl
-          c.with.result.0 c.strike_transmissions-left.result _ p c.strike_transmissions-left.new.known c.strike_transmissions-left.ensures.known;
-    }
+    let m = c.args.memory.now in
+    let o = opened m c.requires in
+    let y : Bytes m = all-bytes m (search rules) in
+    let i = c.args.engine.number in
+    let h = c.split_at_mut-head.result.0.now in
+    let e = c.split_at_mut-head.ensures.front in
+    let k = count-read m h e in
+    let t = renewed m o y i _ _ _ (ap₂ blocks k c.split_at_mut-head.ensures.back) c.strike_all.ensures in
+    let r = count-left (with_bit (convicted_in m) i) (us m o y i) (us-kept m o y i) (us-few m o y i) _ (k ∙ us-count m o y i) _ t c.arrange-left.result c.arrange-left.ensures.value in
+    let l = table-left (with_bit (convicted_in m) i) (us m o y i) (us-kept m o y i) (us-few m o y i) _ (k ∙ us-count m o y i) _ t c.arrange-left.new.t c.arrange-left.ensures.t_after in
+    let n = c.u16_at-n.ensures ∙ summaries-read m h e in
+    let a = c.with.ensures ∙ ap (λ (j : ℕ). with_bit j i) (c.u32_at.ensures ∙ convicted-read m h e) in
+    let z = c.strike_summaries-summaries in
+    ap₂ (λ (p q : List ℕ). p ++ q) (c.put_header.ensures ∙ head-rewritten m h e o y c.with.result.0 z.result c.arrange-left.result z.new.t _ refl) l
+    ∙ with-table c.with.result.0 z.result c.arrange-left.result (contested_in m) z.new.t _
+    ∙ struck m o y i c.u16_at-n.result n _ (table-read m h e) z.result z.new.t z.ensures c.with.result.0 c.arrange-left.result a r

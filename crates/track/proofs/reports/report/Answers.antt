@@ -1,6 +1,6 @@
 -- A record that cites a model without a summary is refused with 6.
 use Prim.Native.Nat.{ℕ, ◌<◌}
-use mathlib.Core.Path.{◌≡◌, refl, sym, ap, ap₂, ◌∙◌}
+use mathlib.Core.Path.{◌≡◌, refl, sym, ap, ◌∙◌}
 use mathlib.Core.Bool.{true, false}
 use mathlib.Core.List.{List}
 use native.Mathlib.Omega.{arith}
@@ -23,5 +23,5 @@ pub returns-then-misses_model : goal.returns-then-misses_model
 returns-then-misses_model c =
     let m : List ℕ = c.args.memory.now in
     missing-6 m c.args.r.now c.args.engine (sym c.well_formed-2.ensures ∙ c.if-not-well_formed.false) (ltb-true c.args.engine 32 (sym c.in-Some.ensures.small)) (sym c.in-Some-parse.ensures.formed)
-    (ap (bit (decode m).convicted) (sym c.in-Some.ensures.same) ∙ sym c.if-is_convicted.ensures)
+    (ap (bit (decode m).convicted) (sym c.in-Some.ensures.same) ∙ ap (λ (x : ℕ). bit x c.in-Some.engine.number) (sym c.convicted.ensures) ∙ sym c.if-contains.ensures)
     (ap (cites_missing (decode m).summaries) (sym c.in-Some-parse.ensures.same) ∙ sym c.if-misses_model.ensures)

@@ -1,0 +1,45 @@
+-- No claim rests on these definitions: they say how the code orders transmissions, by their places and the fixes that are kept of them.
+use Rattle.std.specs.Prelude.{ℕ, suc, Bool, cond, Option, Some, None, slice_get}
+use mathlib.Core.List.{List, [], ◌∷◌, ◌++◌, map}
+use Rattle.ranges.specs.Lists.{sort, last_of}
+use Rattle.shown.specs.Fix.{Fix}
+use Rattle.shown.specs.Ages.{older}
+use Rattle.tracked.specs.Held.{HeldTransmission}
+use Rattle.tracked.specs.Bytes.{transmission_in}
+use Rattle.arrange.specs.Arranged.{max_transmissions}
+use Rattle.arrange.specs.declared.leads.Lead.{Lead}
+
+module _ {A : Type 0} (before : A → A → Bool) where
+  -- x put in behind those that it does not come before
+  unfoldable pub put_behind : A → List A → List A
+  put_behind x [] = x ∷ []
+  put_behind x (y ∷ l) = let rest = put_behind x l in cond (before x y) (x ∷ (y ∷ l)) (y ∷ rest)
+
+  -- members put in, one after another
+  unfoldable pub entered : List A → List A → List A
+  entered l [] = l
+  entered l (x ∷ xs) = entered (put_behind x l) xs
+
+-- the fix that is kept of a transmission, where it has one
+abbrev pub kept_of : HeldTransmission → Option Fix
+kept_of t = slice_get t.fixes 0
+
+abbrev pub before : Lead → Lead → Bool
+before a b = older a.kept b.kept
+
+abbrev pub place_of : Lead → ℕ
+place_of l = l.place
+
+-- the lead of a transmission that stands at a place, where it has a fix
+abbrev pub lead_of : ℕ → Option Fix → List Lead
+lead_of k None = []
+lead_of k (Some f) = record { place = k; kept = f } ∷ []
+
+-- those of transmissions of which the first stands at place k
+unfoldable pub leads_from : ℕ → List (List ℕ) → List Lead
+leads_from k [] = []
+leads_from k (b ∷ bs) = lead_of k (kept_of (transmission_in b)) ++ leads_from (suc k) bs
+
+-- the places of the latest eight of transmissions, in their order
+abbrev pub order_of : List (List ℕ) → List ℕ
+order_of bs = map place_of (last_of max_transmissions (sort before (leads_from 0 bs)))

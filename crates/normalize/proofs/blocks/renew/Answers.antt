@@ -1,0 +1,8 @@
+use mathlib.Core.Path.{ap, ◌∙◌}
+use Rattle.tracked.specs.Held.{held_in}
+use Rattle.normalize.specs.Normal.{normalized}
+use Rattle.normalize.proofs.Signed.{signed-held}
+use Rattle.normalize.proofs.blocks.renew.Goals as goal
+
+pub returns : goal.returns
+returns c = c.decide_again.ensures ∙ ap (λ t. normalized (held_in t)) (c.learn.ensures ∙ c.drop_unsigned.ensures) ∙ ap normalized (signed-held c.args.held.now)

@@ -1,0 +1,147 @@
+//! What is kept of the fixes of one transmission, once they are decided: the best five of those that stand, and of the refused the four of
+//! lowest identity.
+
+ghost use Rattle.std.specs.Prelude.{◌≡◌, [], not, map, position, All, ◌+◌, ◌*◌, ◌<◌, ◌≤◌, length, take};
+ghost use Rattle.octets.specs.Put.{Put};
+ghost use Rattle.ranges.specs.Lists.{insert, sort};
+ghost use Rattle.items.specs.Layout.{item_size};
+ghost use Rattle.shown.specs.Items.{item_bytes, items_for, at, Formed, AllFormed, Apart};
+ghost use Rattle.tracked.specs.Layout.{max_standing, max_refused};
+ghost use Rattle.tracked.specs.Held.{held_in};
+ghost use Rattle.tracked.specs.Values.{nothing_held};
+ghost use Rattle.normalize.specs.Normal.{normalized};
+ghost use Rattle.normalize.specs.Joining.{with_fix};
+ghost use Rattle.normalize.specs.Deciding.{max_gathered, kept, refused_at, lower_held};
+
+use crate::gathering::{Gathered, MAX_GATHERED, gather, gather_all, gather_refused};
+use arrayvec::ArrayVec;
+use decision::Refusal;
+use items::layout::ITEM_SIZE;
+use tracked::fixes::Fix;
+use tracked::layout::{MAX_REFUSED, MAX_STANDING};
+use tracked::refused::RefusedFix;
+use tracked::transmission::Transmission;
+
+// Writes a fix as an item of a decision, and answers where it ends.
+fn put_item(items: &mut [u8], at: usize, fix: &Fix<'_>) -> usize
+    requires { at + item_size ≤ length items.old }
+    ensures end { result ≡ at + item_size }
+    ensures item { Put items.old at (item_bytes fix.now) result items.new }
+    ensures formed { Formed fix.now }
+{
+    shown::put_item(items, at, fix.report, &fix.inputs.0, &fix.identity().0)
+}
+
+// Writes fixes as items, one after another.
+fn put_items(items: &mut [u8], fixes: &[Fix<'_>]) -> usize
+    requires { length fixes.now * item_size ≤ length items.old }
+    ensures end { result ≡ length fixes.now * item_size }
+    ensures items { Put items.old 0 (items_for fixes.now) result items.new }
+    ensures formed { AllFormed fixes.now }
+{
+    let mut at = 0;
+    for fix in fixes {
+        at = put_item(items, at, fix);
+    }
+    at
+}
+
+// Lists the best of the fixes that stand, of which these are the indices.
+fn list_standing<'a>(
+    fixes: &[Fix<'a>],
+    ranked: &[u8],
+    standing: &mut ArrayVec<Fix<'a>, MAX_STANDING>,
+)
+    requires in_bounds { All (λ i. i < length fixes.now) ranked.now }
+    requires none { standing.old.items ≡ [] }
+    ensures { standing.new.items ≡ take max_standing (map (at fixes.now) ranked.now) }
+{
+    for i in ranked {
+        if standing.is_full() {
+            return;
+        }
+        standing.push(fixes[*i as usize].copied());
+    }
+}
+
+// Where the first refused fix stands that is not of lower identity, if there is one.
+fn place_of(refused: &[RefusedFix<'_>], x: &RefusedFix<'_>) -> Option<usize>
+    ensures { result ≡ position (λ y. not (lower_held y x.now)) refused.now }
+{
+    refused.iter().position(|y| !y.fix.precedes(&x.fix))
+}
+
+// Puts a refused fix in behind those of lower identity; of too many the last is let go.
+fn enter<'a>(refused: &mut ArrayVec<RefusedFix<'a>, MAX_REFUSED>, x: RefusedFix<'a>)
+    ensures { refused.new.items ≡ take max_refused (insert lower_held x.entry refused.old.items) }
+{
+    let place = place_of(refused, &x).unwrap_or(refused.len());
+    if place < MAX_REFUSED {
+        refused.truncate(MAX_REFUSED - 1);
+        refused.insert(place, x);
+    }
+}
+
+// Lists the refused of lowest identity, from the indices of each and of the one that it is refused against.
+fn list_refused<'a>(
+    fixes: &[Fix<'a>],
+    refusals: &[Refusal],
+    refused: &mut ArrayVec<RefusedFix<'a>, MAX_REFUSED>,
+)
+    requires in_bounds { All (λ x. (x.refused < length fixes.now) × (x.kept < length fixes.now)) refusals.now }
+    requires none { refused.old.items ≡ [] }
+    ensures { refused.new.items ≡ take max_refused (sort lower_held (map (refused_at fixes.now) refusals.now)) }
+{
+    for k in (0..refusals.len()).rev() {
+        let x = refusals[k];
+        enter(
+            refused,
+            RefusedFix {
+                fix: fixes[x.refused as usize].copied(),
+                against: fixes[x.kept as usize].identity(),
+                chi2: arithmetic::stored_bits(x.chi2),
+            },
+        );
+    }
+}
+
+// Puts what is kept of fixes with different identities into a transmission that holds nothing.
+fn decide<'a>(fixes: &[Fix<'a>], into: &mut Transmission<'a>)
+    requires few { length fixes.now ≤ max_gathered }
+    requires apart { Apart fixes.now }
+    requires none { into.old ≡ nothing_held }
+    ensures { into.new ≡ kept fixes.now }
+{
+    let mut items = [0; MAX_GATHERED * ITEM_SIZE];
+    let end = put_items(&mut items, fixes);
+    // Fixes with different identities are decided, so nothing is left out here.
+    let answer = decision::decide(&items[..end]);
+    let Some(decided) = &answer else {
+        return;
+    };
+    list_standing(fixes, &decided.ranked, &mut into.fixes);
+    list_refused(fixes, &decided.refusals, &mut into.refused);
+}
+
+/// Decides the fixes that a transmission holds again.
+pub fn decide_again(held: &mut Transmission<'_>)
+    ensures { held.new ≡ normalized (held_in held.old) }
+{
+    let mut gathered = Gathered::new();
+    gather_all(&mut gathered, &held.fixes);
+    gather_refused(&mut gathered, &held.refused);
+    held.clear();
+    decide(&gathered, held);
+}
+
+/// Puts what is kept of the fixes that a transmission holds and of a further one into one that holds nothing.
+pub fn decide_with<'a>(held: &Transmission<'a>, fix: Fix<'a>, into: &mut Transmission<'a>)
+    requires { into.old ≡ nothing_held }
+    ensures { into.new ≡ with_fix fix.entry held.now }
+{
+    let mut gathered = Gathered::new();
+    gather_all(&mut gathered, &held.fixes);
+    gather(&mut gathered, fix);
+    gather_refused(&mut gathered, &held.refused);
+    decide(&gathered, into);
+}

@@ -1,0 +1,77 @@
+-- Laws of places that are written one after another into a cleared table.
+use Prim.Native.Nat.{ℕ, ◌+◌, ◌-◌, ◌*◌, ◌≤◌, ◌<◌}
+use mathlib.Core.Path.{◌≡◌, refl, sym, ap, ◌∙◌}
+use mathlib.Core.List.{List, [], ◌∷◌, ◌++◌, map, map-append, append-nil, append_assoc}
+use native.Mathlib.Omega.{arith}
+use native.Mathlib.Nat.{add-mul, zero-add}
+use native.Mathlib.Numerals.{add-one}
+use lib.ListN.{length, get_or, take, drop, set, replicate, length-replicate, length-map, replicate-append-replicate}
+use lib.Seq.{sets-eq, take-suc, drop_at, take_all}
+use Rattle.octets.specs.Words.{word_bytes}
+use Rattle.octets.specs.Writes.{put_word}
+use Rattle.octets.proofs.Numbers.{length-word-bytes}
+use Rattle.octets.specs.Put.{Put}
+use Rattle.octets.proofs.Puts.{put_whole, put_as}
+use Rattle.places.specs.Places.{flat, table_of}
+use Rattle.places.proofs.Tables.{flat_append}
+
+-- a number that is written is its bytes
+pub word-put : (n at x : ℕ) (l : List ℕ) {m : List ℕ} → m ≡ put_word n at x l → at + n ≤ length l → Put l at (word_bytes n x) (at + n) m
+word-put n at x l q h =
+    let e = length-word-bytes n x in
+    record {
+      next = ap (λ (k : ℕ). at + k) (sym e);
+      bytes =
+          q ∙ sym (sets-eq (word_bytes n x) l at (omega arith) ∙ append_assoc (take at l) (word_bytes n x) (drop (at + length (word_bytes n x)) l)
+          ∙ ap (λ (k : ℕ). take at l ++ (word_bytes n x ++ drop (at + k) l)) e);
+    }
+
+-- one place more
+pub flat-next : {A : Type 0} (f : A → List ℕ) (l : List A) (i : ℕ) (d : A) → i < length l → flat (map f (take i l)) ++ f (get_or l i d) ≡ flat (map f (take (i + 1) l))
+unfolding flat
+flat-next {A} f l i d k =
+    let z = take i l in
+    let x = get_or l i d in
+    ap (λ (y : List ℕ). flat (map f z) ++ y) (sym (append-nil (f x)))
+    ∙ sym (flat_append (map f z) (f x ∷ []))
+    ∙ ap flat (sym (map-append f z (x ∷ [])))
+    ∙ ap (λ (y : List A). flat (map f y)) (sym (take-suc l i d k) ∙ ap (λ (m : ℕ). take m l) (sym (add-one i)))
+
+-- a text at the front of a buffer
+pub put_front : {r : ℕ} {l t m : List ℕ} → Put l 0 t r m → r ≤ length l → m ≡ t ++ drop r l
+put_front {r} {l} {t} {m} p h =
+    put_whole p (omega (arith, p.next)) ∙ ap (λ (k : ℕ). t ++ drop k l) (sym p.next)
+
+-- all of them are the table
+pub put-table : (w cap : ℕ) (ps : List (List ℕ)) {r : ℕ} {l t : List ℕ}
+    → Put l 0 (flat ps) r t → l ≡ replicate (cap * w) 0 → length (flat ps) ≡ length ps * w → length ps ≤ cap → t ≡ table_of w cap ps
+put-table w cap ps {r} {l} {t} p z e h =
+    let n = length ps in
+    let a : cap * w ≡ n * w + (cap - n) * w = ap (λ (i : ℕ). i * w) (all cap n h) ∙ add-mul n (cap - n) w in
+    let m : length l ≡ cap * w = ap length z ∙ length-replicate (cap * w) 0 in
+    let y : l ≡ replicate (n * w) 0 ++ replicate ((cap - n) * w) 0 = z ∙ ap (λ (k : ℕ). replicate k 0) a ∙ sym (replicate-append-replicate (n * w) ((cap - n) * w) 0) in
+    put_front p (omega (arith, p.next))
+    ∙ ap (λ (x : List ℕ). flat ps ++ x)
+    (ap (λ (k : ℕ). drop k l) (p.next ∙ zero-add (length (flat ps)) ∙ e) ∙ ap (drop (n * w)) y ∙ drop_at (replicate (n * w) 0) (replicate ((cap - n) * w) 0) (n * w) (length-replicate (n * w) 0))
+  where
+    all : (c n : ℕ) → n ≤ c → c ≡ n + (c - n)
+    all c n h = omega arith
+
+-- a walk that wrote all members of a list
+pub written-table : {A : Type 0} (w c : ℕ) (f : A → List ℕ) (l : List A) (i : ℕ) (b : List ℕ) {at : ℕ} {z out : List ℕ}
+    → z ≡ replicate (length b) 0 → length b ≡ c * w → length l ≤ c → i ≤ length l → length l ≤ i
+    → at ≡ i * w → Put z 0 (flat (map f (take i l))) at out → out ≡ table_of w c (map f l)
+written-table {A} w c f l i b {at} {z} {out} cleared size few here end e p =
+    let all : take i l ≡ l = take_all i l end in
+    let n : i ≡ length l = omega arith in
+    let q : Put z 0 (flat (map f l)) at out = put_as (ap (λ (x : List A). flat (map f x)) all) p in
+    let m = length-map l f in
+    put-table w c (map f l) q (cleared ∙ ap (λ (k : ℕ). replicate k 0) size)
+    (sym (zero-add (length (flat (map f l)))) ∙ sym q.next ∙ e ∙ ap (λ (k : ℕ). k * w) (n ∙ sym m)) (omega arith)
+
+-- two counts at the head
+pub counted : (h : List ℕ) (n m : ℕ) → length h ≡ 2 → set (set h 0 n) 1 m ≡ n ∷ (m ∷ [])
+counted [] n m e = absurd (omega arith)
+counted (x ∷ []) n m e = absurd (omega arith)
+counted (x ∷ (y ∷ [])) n m e = refl
+counted (x ∷ (y ∷ (z ∷ h))) n m e = absurd (omega arith)
