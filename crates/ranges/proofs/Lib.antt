@@ -1,7 +1,6 @@
 -- Laws of lists, and of a range of indices.
 pub mod Bools
 pub mod Range
-pub mod Tables
 pub mod Orders
 pub mod Lists
 pub mod Sorting

@@ -1,16 +1,15 @@
--- Laws of a loop over the indices of n items: what a test of the indices that are left says, and what a loop that lists indices has put into an array.
+-- Laws of a loop over the indices of n items: what a test of the indices that are left says, and what the indices at which it holds are.
 use Prim.Native.Nat.{ℕ, zero, suc, ◌+◌, ◌-◌, ◌≤◌, ◌<◌}
-use mathlib.Core.Path.{◌≡◌, refl, sym, ap, ◌∙◌, subst}
+use mathlib.Core.Path.{◌≡◌, refl, sym, ap, ◌∙◌}
 use mathlib.Core.Bool.{Bool, true, false}
 use mathlib.Core.List.{List, [], ◌∷◌, ◌++◌, flat_map, append-nil, append_assoc}
 use native.Mathlib.Omega.{arith}
 use native.Mathlib.Nat.{sub-zero, add-zero, zero-add}
 use native.Mathlib.Numerals.{add-one}
-use lib.ListN.{length, replicate, set, length-append}
+use lib.ListN.{length}
 use Rattle.ranges.specs.Lists.{any_of, filter, count_from, up_to}
-use Rattle.ranges.specs.Range.{Holds, filt}
+use Rattle.ranges.specs.Range.{filt}
 use Rattle.ranges.proofs.Bools.{by}
-use Rattle.ranges.proofs.Range.{filled_none, filled_more}
 use Rattle.ranges.proofs.Lists.{filter-few, count-length}
 
 -- ---- a turn of a loop: the index is i, the end n
@@ -81,29 +80,6 @@ flat-more f i = ap (flat_map f) (up_more i) ∙ flat_append f (up_to i) (i ∷ [
 -- no more than there are indices
 pub filter-up : (g : ℕ → Bool) (i : ℕ) → length (filter g (up_to i)) ≤ i
 filter-up g i = let r = filter-few g (up_to i) in let e = count-length 0 i in omega arith
-
--- ---- an array with a count
-
-module _ {A : Type 0} where
-  pub holds-none : (N : ℕ) (d : A) → Holds N d (replicate N d) 0 []
-  holds-none N d = record { count = refl; filled = filled_none N d }
-
-  pub holds_more : (N : ℕ) (d : A) (a : List A) (k : ℕ) (l : List A) (v : A) → k < N → Holds N d a k l → Holds N d (set a k v) (k + 1) (l ++ (v ∷ []))
-  holds_more N d a k l v h w = record {
-    count = ap (λ (m : ℕ). m + 1) w.count ∙ sym (length-append l (v ∷ []));
-    filled = filled_more N d a l k v w.count h w.filled;
-  }
-
--- a turn of a loop that lists the indices at which a test holds
-module _ (N : ℕ) (g : ℕ → Bool) (a : List ℕ) (k i : ℕ) (w : Holds N 0 a k (filter g (up_to i))) where
-  pub listed-hit : k < N → g i ≡ true → Holds N 0 (set a k i) (k + 1) (filter g (up_to (i + 1)))
-  listed-hit h e = rw (filter-hit g i e) (holds_more N 0 a k (filter g (up_to i)) i h w)
-
-  pub listed-miss : g i ≡ false → Holds N 0 a k (filter g (up_to (i + 1)))
-  listed-miss e = rw (filter-miss g i e) w
-
-  pub listed-done : (n : ℕ) → i ≤ n → n ≤ i → Holds N 0 a k (filter g (up_to n))
-  listed-done n p q = let e : i ≡ n = omega arith in subst (λ (j : ℕ). Holds N 0 a k (filter g (up_to j))) e w
 
 -- ---- the same by a range of indices
 

@@ -1,6 +1,6 @@
 -- No claim rests on these definitions: they say what loops over the indices k, k + 1, .., k + f - 1 find: whether a test holds at some, the first
--- at which it holds, the list of them, and an array that holds such a list.
-use Rattle.std.specs.Prelude.{◌≡◌, Bool, false, cond, ◌||◌, List, [], ◌∷◌, ◌++◌, ℕ, zero, suc, ◌-◌, ◌≤◌, length, replicate}
+-- at which it holds, and the list of them.
+use Rattle.std.specs.Prelude.{Bool, false, cond, ◌||◌, List, [], ◌∷◌, ℕ, zero, suc}
 
 unfoldable pub any : (ℕ → Bool) → ℕ → ℕ → Bool
 any g k zero = false
@@ -15,23 +15,8 @@ unfoldable pub filt : (ℕ → Bool) → ℕ → ℕ → List ℕ
 filt g k zero = []
 filt g k (suc f) = cond (g k) (k ∷ filt g (suc k) f) (filt g (suc k) f)
 
--- ---- h of each index at which g holds, and a counted array that holds them
+-- ---- h of each index at which g holds
 module _ {A : Type 0} where
   unfoldable pub collect : (ℕ → Bool) → (ℕ → A) → ℕ → ℕ → List A
   collect g h k zero = []
   collect g h k (suc f) = cond (g k) (h k ∷ collect g h (suc k) f) (collect g h (suc k) f)
-
-  -- the array a holds l, and d past it; there are N places
-  unfoldable pub Filled : ℕ → A → List A → List A → Type 0
-  Filled N d a l = a ≡ l ++ replicate (N - length l) d
-
-  -- the array a holds l, of k members, and d past it
-  pub record Holds (N : ℕ) (d : A) (a : List A) (k : ℕ) (l : List A) : Type 0 where
-    pub count : k ≡ length l
-    pub filled : Filled N d a l
-
-  -- a loop over i that collects has put k of them into the array a
-  pub record Collected (g : ℕ → Bool) (h : ℕ → A) (N : ℕ) (d : A) (a : List A) (k i : ℕ) : Type 0 where
-    pub count : k ≡ length (collect g h 0 i)
-    pub few : k ≤ i
-    pub filled : Filled N d a (collect g h 0 i)
