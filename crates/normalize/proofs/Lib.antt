@@ -2,7 +2,6 @@
 -- (Differing, United, Claimed, Validity, Given).
 pub mod Distinct
 pub mod Gathered
-pub mod Items
 pub mod Lowest
 pub mod Kept
 pub mod Told
@@ -13,3 +12,4 @@ pub mod United
 pub mod Claimed
 pub mod Validity
 pub mod Given
+pub mod Identities

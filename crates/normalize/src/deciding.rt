@@ -1,11 +1,9 @@
 //! What is kept of the fixes of one transmission, once they are decided: the best five of those that stand, and of the refused the four of
 //! lowest identity.
 
-ghost use Rattle.std.specs.Prelude.{◌≡◌, [], not, map, position, All, ◌+◌, ◌*◌, ◌<◌, ◌≤◌, length, take};
-ghost use Rattle.octets.specs.Put.{Put};
+ghost use Rattle.std.specs.Prelude.{◌≡◌, [], not, map, position, All, ◌<◌, ◌≤◌, length, take};
 ghost use Rattle.ranges.specs.Lists.{insert, sort};
-ghost use Rattle.items.specs.Layout.{item_size};
-ghost use Rattle.shown.specs.Items.{item_bytes, items_for, at, Formed, AllFormed, Apart};
+ghost use Rattle.shown.specs.Items.{at};
 ghost use Rattle.tracked.specs.Layout.{max_standing, max_refused};
 ghost use Rattle.tracked.specs.Held.{held_in};
 ghost use Rattle.tracked.specs.Values.{nothing_held};
@@ -13,38 +11,14 @@ ghost use Rattle.normalize.specs.Normal.{normalized};
 ghost use Rattle.normalize.specs.Joining.{with_fix};
 ghost use Rattle.normalize.specs.Deciding.{max_gathered, kept, refused_at, lower_held};
 
-use crate::gathering::{Gathered, MAX_GATHERED, gather, gather_all, gather_refused};
+use crate::gathering::{Gathered, gather, gather_all, gather_refused};
+use crate::outcome::outcome;
 use arrayvec::ArrayVec;
 use decision::Refusal;
-use items::layout::ITEM_SIZE;
 use tracked::fixes::Fix;
 use tracked::layout::{MAX_REFUSED, MAX_STANDING};
 use tracked::refused::RefusedFix;
 use tracked::transmission::Transmission;
-
-// Writes a fix as an item of a decision, and answers where it ends.
-fn put_item(items: &mut [u8], at: usize, fix: &Fix<'_>) -> usize
-    requires { at + item_size ≤ length items.old }
-    ensures end { result ≡ at + item_size }
-    ensures item { Put items.old at (item_bytes fix.now) result items.new }
-    ensures formed { Formed fix.now }
-{
-    shown::put_item(items, at, fix.report, &fix.inputs.0, &fix.identity().0)
-}
-
-// Writes fixes as items, one after another.
-fn put_items(items: &mut [u8], fixes: &[Fix<'_>]) -> usize
-    requires { length fixes.now * item_size ≤ length items.old }
-    ensures end { result ≡ length fixes.now * item_size }
-    ensures items { Put items.old 0 (items_for fixes.now) result items.new }
-    ensures formed { AllFormed fixes.now }
-{
-    let mut at = 0;
-    for fix in fixes {
-        at = put_item(items, at, fix);
-    }
-    at
-}
 
 // Lists the best of the fixes that stand, of which these are the indices.
 fn list_standing<'a>(
@@ -108,17 +82,10 @@ fn list_refused<'a>(
 // Puts what is kept of fixes with different identities into a transmission that holds nothing.
 fn decide<'a>(fixes: &[Fix<'a>], into: &mut Transmission<'a>)
     requires few { length fixes.now ≤ max_gathered }
-    requires apart { Apart fixes.now }
     requires none { into.old ≡ nothing_held }
     ensures { into.new ≡ kept fixes.now }
 {
-    let mut items = [0; MAX_GATHERED * ITEM_SIZE];
-    let end = put_items(&mut items, fixes);
-    // Fixes with different identities are decided, so nothing is left out here.
-    let answer = decision::decide(&items[..end]);
-    let Some(decided) = &answer else {
-        return;
-    };
+    let decided = outcome(fixes);
     list_standing(fixes, &decided.ranked, &mut into.fixes);
     list_refused(fixes, &decided.refusals, &mut into.refused);
 }

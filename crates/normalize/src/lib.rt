@@ -7,6 +7,7 @@ pub mod claims;
 pub mod deciding;
 mod gathering;
 mod joining;
+mod outcome;
 
 /// What a further fix did: it is among the refused, the fix kept is another one, it stands, and how many entered the refused.
 #[derive(Clone, Copy)]

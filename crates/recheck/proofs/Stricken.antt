@@ -7,14 +7,12 @@ use lib.ListN.{length, length-map}
 use Rattle.octets.specs.Bytes.{Bytes}
 use Rattle.octets.specs.Masks.{with_bit}
 use Rattle.places.specs.Places.{places, table_of, keep_places}
-use Rattle.places.proofs.Keeping.{kept-length, kept-wide}
-use Rattle.places.proofs.Tables.{wide}
+use Rattle.places.proofs.Keeping.{kept-length}
 use Rattle.models.specs.Summary.{summary_size}
 use Rattle.held.specs.Limits.{max_summaries}
 use Rattle.held.specs.Summaries.{no_value, is_of_another}
 use Rattle.held.specs.Strikes.{Struck}
 use Rattle.held.proofs.Striking.{struck-table}
-use Rattle.held.proofs.Summarized.{all_of, none_more}
 use Rattle.tracked.specs.Held.{HeldTransmission}
 use Rattle.tracked.specs.Bytes.{transmission_in, transmission_bytes}
 use Rattle.arrange.specs.Arranged.{max_transmissions, arranged}
@@ -22,7 +20,7 @@ use Rattle.arrange.specs.Blocks.{block_table}
 use Rattle.stored.specs.Memory.{convicted_in, summary_count, transmission_count, contested_in, summary_table, summaries_in, transmission_places, decode, encode}
 use Rattle.stored.proofs.Blocks.{of_map, Kept}
 use Rattle.stored.proofs.Frames.{frame}
-use Rattle.stored.proofs.Opened.{Opened, summaries-length, summaries-wide, summary-bytes-length, transmissions-length, all_held}
+use Rattle.stored.proofs.Opened.{Opened, summaries-length, summary-bytes-length, transmissions-length, all_held}
 use Rattle.recheck.specs.Recheck.{without_engine, strike_engine}
 use Rattle.recheck.specs.Steps.{without_bytes}
 use Rattle.recheck.proofs.Renewing.{without-kept}

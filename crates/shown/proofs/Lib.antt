@@ -1,5 +1,4 @@
 pub mod Indexed
 pub mod Plainly
-pub mod Itemized
 pub mod Ages
-pub mod Accepted
+pub mod Showing

@@ -1,23 +1,32 @@
 //! Fixes as the items of a decision.
 #![tactic(auto)]
 
-ghost use Rattle.std.specs.Prelude.{◌≡◌, ◌+◌, ◌≤◌, length};
-ghost use Rattle.octets.specs.Put.{Put};
-ghost use Rattle.items.specs.Layout.{item_size, hash_size};
-ghost use Rattle.shown.specs.Items.{item_from};
+ghost use Rattle.std.specs.Prelude.{◌≡◌};
+ghost use Rattle.shown.specs.Decided.{candidate_for};
 
+use items::layout::HASH_SIZE;
+use items::{Candidate, Item, Verified};
 use record::Record;
 
 pub mod claims;
 
-/// Puts a fix in as an item: standing 0, consistent, unjudged, not preferred.
-pub fn put_item(items: &mut [u8], at: usize, r: Record, inputs: &[u8], identity: &[u8]) -> usize
-    requires item_size_in_bounds { at + item_size ≤ length items.old }
-    requires inputs_len { (length inputs.now ≡ hash_size) × (length identity.now ≡ hash_size) }
-    ensures { (result ≡ at + item_size) × Put items.old at (item_from r.entry.bytes.now inputs.now identity.now) result items.new }
+/// A record with its model inputs and its identity as an item: standing 0, consistent, unjudged, not preferred.
+pub fn item_of<'a>(
+    report: Record<'a>,
+    inputs: &'a [u8; HASH_SIZE],
+    identity: &'a [u8; HASH_SIZE],
+) -> Item<'a>
+    ensures report { result.report.bytes.now ≡ report.entry.bytes.now }
+    ensures inputs { result.inputs.now ≡ inputs.now }
+    ensures identity { result.identity.now ≡ identity.now }
+    ensures candidate { result.candidate ≡ candidate_for report.entry.bytes.now }
 {
-    let a = octets::runs::put_bytes(items, at, r.bytes);
-    let b = octets::runs::put_bytes(items, a, inputs);
-    let c = octets::runs::put_bytes(items, b, identity);
-    octets::runs::put_bytes(items, c, b"\0\0\0\0\0\0\0\0\x01\0\0")
+    let candidate = Candidate {
+        standing: 0,
+        weight: report.weight(),
+        consistent: true,
+        preferred: false,
+        verified: Verified::Unjudged,
+    };
+    Item::new(report, inputs, identity, candidate)
 }

@@ -1,6 +1,6 @@
 -- The whole of a summary that is held: what is answered and left where it is put in, with a recheck and without.
 use Rattle.std.proofs.Common.{◌≡◌, ℕ, Bool, true, false, not, ◌&&◌, leb, List, length, take, sym, refl, ap, ◌∙◌, arith}
-use Rattle.ranges.proofs.Bools.{by, no_true}
+use Rattle.ranges.proofs.Bools.{no_true}
 use Rattle.places.specs.Places.{holds}
 use Rattle.held.specs.After.{After, after}
 use Rattle.held.specs.Limits.{max_summaries}

@@ -43,8 +43,8 @@ pub fn held_count(b: &[u8]) -> u8
     fix_count(b) + refused_count(b)
 }
 
-/// Where the held fix k lies: those that stand come first, then the refused.
-pub fn place_of(b: &[u8], k: u8) -> usize
+// Where the held fix k lies: those that stand come first, then the refused.
+fn place_of(b: &[u8], k: u8) -> usize
     requires sound { P.Sound b.now }
     requires k_bound { k < P.held_count b.now }
     ensures { result ≡ P.held_place b.now k }

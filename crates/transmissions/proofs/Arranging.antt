@@ -28,7 +28,7 @@ use Rattle.transmissions.specs.Picture.{older_than, latest_of, max_shown}
 use Rattle.transmissions.specs.declared.latest.Lead.{Lead}
 use Rattle.transmissions.specs.Parts.{AllParts}
 use Rattle.transmissions.specs.Leads.{first_of, lead_of, leads_of, before, shown_at}
-use Rattle.transmissions.proofs.Showing.{some-first}
+use Rattle.shown.proofs.Showing.{some-first}
 
 drop-map : {A B : Type 0} (f : A → B) (k : ℕ) (l : List A) → map f (drop k l) ≡ drop k (map f l)
 drop-map f zero l = refl

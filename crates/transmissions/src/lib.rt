@@ -3,11 +3,11 @@
 
 ghost use Rattle.std.specs.Prelude.{◌≡◌, ◌≤◌, ◌<◌, length};
 ghost use Rattle.decision.specs.Working.{few};
-ghost use Rattle.transmissions.specs.Decided.{IsFix, HoldsFixes, Shows};
+ghost use Rattle.shown.specs.Decided.{IsFix, HoldsFixes, Shows};
 
 use decision::Decision;
 use fixes::{Fix, MAX_FIXES};
-use items::{Candidate, Item, Verified};
+use items::Item;
 use links::Transmission;
 use rule::row::Row;
 
@@ -16,19 +16,11 @@ mod part;
 
 pub use part::Shown;
 
-// A fix as an item of a decision: standing 0, consistent, unjudged, not preferred.
+// A fix as an item of a decision.
 fn item_of<'s>(fix: &'s Fix<'_>) -> Item<'s>
     ensures { IsFix fix.now result }
 {
-    let report = fix.report;
-    let candidate = Candidate {
-        standing: 0,
-        weight: report.weight(),
-        consistent: true,
-        preferred: false,
-        verified: Verified::Unjudged,
-    };
-    Item::new(report, &fix.inputs.0, &fix.identity.0, candidate)
+    shown::item_of(fix.report, &fix.inputs.0, &fix.identity.0)
 }
 
 // The fixes of a transmission as items, of which the first is one.
@@ -82,12 +74,11 @@ fn outcome_many(transmission: &Transmission<'_, '_>) -> Decision
 
 /// What is decided of a transmission.
 pub fn outcome(transmission: &Transmission<'_, '_>) -> Decision
-    requires some { 0 < length transmission.now }
     requires few { length transmission.now ≤ MAX_FIXES }
     ensures { Shows transmission.now result }
 {
     if transmission.len() <= 1 {
-        return decision::decide_alone(1);
+        return decision::decide_alone(transmission.len());
     }
     if transmission.len() <= decision::FEW {
         return outcome_few(transmission);

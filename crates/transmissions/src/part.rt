@@ -5,7 +5,7 @@ ghost use Rattle.rule.specs.Outcome.{Refused};
 ghost use Rattle.arithmetic.specs.declared.standing.ChiSquare.{ChiSquare as Squared};
 ghost use Rattle.shown.specs.Fix.{Fix as ShownFix};
 ghost use Rattle.shown.specs.Shown.{shown};
-ghost use Rattle.transmissions.specs.Decided.{Shows};
+ghost use Rattle.shown.specs.Decided.{Shows};
 
 use arithmetic::standing::ChiSquare;
 use decision::Decision;
@@ -22,7 +22,7 @@ pub struct Shown<'t, 's, 'a> {
 
 impl<'t, 's, 'a> Model for Shown<'t, 's, 'a> {
     ghost use Rattle.shown.specs.Shown.{Transmission as Outcome};
-    ghost use Rattle.transmissions.specs.Decided.{shown_by, Within};
+    ghost use Rattle.shown.specs.Decided.{shown_by, Within};
     ghost use Rattle.std.specs.Prelude.{length as count};
 
     ghost Value = { Outcome };

@@ -1,8 +1,8 @@
 use Rattle.std.proofs.Common.{refl, ◌∙◌, subst}
 use Rattle.shown.specs.Items.{no_fix, at}
 use Rattle.decision.proofs.Holding.{each-one}
-use Rattle.transmissions.specs.Decided.{IsFix}
-use Rattle.transmissions.proofs.Showing.{get_or-default}
+use Rattle.shown.specs.Decided.{IsFix}
+use Rattle.shown.proofs.Showing.{get_or-default}
 use Rattle.transmissions.proofs.outcome_few.Goals as goal
 
 pub outcome_in-requires-clause-first : goal.outcome_in-requires-clause-first

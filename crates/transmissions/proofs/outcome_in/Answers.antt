@@ -1,6 +1,6 @@
 use Rattle.std.proofs.Common.{sym, ◌∙◌, subst}
-use Rattle.transmissions.specs.Decided.{HoldsFixes}
-use Rattle.transmissions.proofs.Showing.{shows}
+use Rattle.shown.specs.Decided.{HoldsFixes}
+use Rattle.shown.proofs.Showing.{shows}
 use Rattle.transmissions.proofs.outcome_in.Goals as goal
 
 pub returns : goal.returns

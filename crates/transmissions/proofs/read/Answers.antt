@@ -2,8 +2,8 @@ use Rattle.std.proofs.Common.{◌<◌, subst, ◌∙◌, arith, length}
 use lib.ListN.{length-set}
 use Rattle.shown.specs.Items.{no_fix, at}
 use Rattle.decision.proofs.Holding.{each-more}
-use Rattle.transmissions.specs.Decided.{IsFix}
-use Rattle.transmissions.proofs.Showing.{get_or-default}
+use Rattle.shown.specs.Decided.{IsFix}
+use Rattle.shown.proofs.Showing.{get_or-default}
 use Rattle.transmissions.proofs.read.Goals as goal
 
 pub fix-requires : goal.fix-requires

@@ -1,5 +1,5 @@
 use Rattle.std.proofs.Common.{◌≡◌, length}
-use Rattle.transmissions.specs.Decided.{HoldsFixes}
+use Rattle.shown.specs.Decided.{HoldsFixes}
 use Rattle.transmissions.proofs.read.Given as goal
 
 abbrev pub invariant-loop-i : goal.invariant-loop-i

@@ -1,7 +1,8 @@
 use mathlib.Core.Path.{sym, ◌∙◌}
 use Rattle.shown.specs.Items.{no_fix}
 use Rattle.transmissions.specs.Leads.{first_of}
-use Rattle.transmissions.proofs.Showing.{alone-first, ranked-some, first-at}
+use Rattle.shown.proofs.Showing.{ranked-some}
+use Rattle.transmissions.proofs.Showing.{alone-first, first-at}
 use Rattle.transmissions.proofs.latest.first_ranked.Goals as goal
 
 pub returns-then-len-eq1 : goal.returns-then-len-eq1

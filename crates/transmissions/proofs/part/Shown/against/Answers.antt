@@ -1,5 +1,5 @@
 use native.Mathlib.Omega.{arith}
-use Rattle.transmissions.proofs.Showing.{refusal-here, kept-below, against-is}
+use Rattle.shown.proofs.Showing.{refusal-here, kept-below, against-is}
 use Rattle.transmissions.proofs.part.Shown.against.Goals as goal
 
 pub offset_bounds-deref-i : goal.offset_bounds-deref-i

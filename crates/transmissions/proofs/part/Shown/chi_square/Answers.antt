@@ -3,7 +3,7 @@ use native.Mathlib.Omega.{arith}
 use Rattle.rule.specs.Outcome.{Refused}
 use Rattle.shown.specs.Fix.{Fix}
 use Rattle.arithmetic.specs.declared.standing.ChiSquare.{ChiSquare}
-use Rattle.transmissions.proofs.Showing.{refusal-here, refusal-is}
+use Rattle.shown.proofs.Showing.{refusal-here, refusal-is}
 use Rattle.transmissions.proofs.part.Shown.chi_square.Goals as goal
 
 pub offset_bounds-deref-i : goal.offset_bounds-deref-i

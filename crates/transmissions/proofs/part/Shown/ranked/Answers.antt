@@ -1,4 +1,4 @@
-use Rattle.transmissions.proofs.Showing.{named, named-is}
+use Rattle.shown.proofs.Showing.{named, named-is}
 use Rattle.transmissions.proofs.part.Shown.ranked.Goals as goal
 
 pub bounds-deref-i : goal.bounds-deref-i

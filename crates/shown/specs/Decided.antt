@@ -15,16 +15,16 @@ use Rattle.decision.specs.Working.{Each}
 
 -- ---- fixes as items
 
--- standing 0, consistent, unjudged, not preferred
-abbrev pub candidate_for : Fix → Candidate
-candidate_for f = record { standing = 0; weight = weight f.record_bytes; consistent = true; preferred = false; verified = Unjudged }
+-- what a decision goes by of a record besides: standing 0, consistent, unjudged, not preferred
+abbrev pub candidate_for : List ℕ → Candidate
+candidate_for r = record { standing = 0; weight = weight r; consistent = true; preferred = false; verified = Unjudged }
 
 -- x is the item of f
 pub record IsFix (f : Fix) (x : Item) : Type 0 where
   pub report : x.report.bytes.now ≡ f.record_bytes
   pub inputs : x.inputs.now ≡ f.inputs
   pub identity : x.identity.now ≡ f.identity
-  pub candidate : x.candidate ≡ candidate_for f
+  pub candidate : x.candidate ≡ candidate_for f.record_bytes
 
 -- the first k of a list of items are those of fixes
 abbrev pub HoldsFixes : List Fix → List Item → ℕ → Type 0

@@ -1,0 +1,254 @@
+-- What is shown of fixes is what a decision of their items shows.
+use Rattle.std.specs.Prelude.{Some, slice_get}
+use Prim.Native.Nat.{ℕ, zero, suc, ◌≤◌, ◌<◌}
+use mathlib.Core.Path.{◌≡◌, refl, sym, ap, subst, ◌∙◌}
+use mathlib.Core.Bool.{not, false≢true}
+use mathlib.Core.List.Memᴰ
+use mathlib.Core.List.Permᴰ
+use mathlib.Core.List.{List, [], ◌∷◌, map, flat_map, Memᴰ}
+use native.Mathlib.Omega.{arith}
+use lib.ListN.{length, get_or, length-map}
+use Rattle.octets.specs.Order.{same}
+use Rattle.record.specs.Fields.{tag_count}
+use Rattle.record.proofs.Laws.{subset-fewer, subset-irrefl}
+use Rattle.arithmetic.specs.Agree.{agrees_of}
+use Rattle.arithmetic.specs.declared.standing.ChiSquare.{ChiSquare}
+use Rattle.ranges.specs.Lists.{any_of, filter, insert, sort, count_from, up_to}
+use Rattle.ranges.proofs.Lists.{up_in, by-places}
+use Rattle.ranges.proofs.Orders.{perm-mem}
+use Rattle.ranges.proofs.Bools.{or, and_left}
+use Rattle.items.specs.Values as V
+use Rattle.items.specs.declared.item.Item.{Item}
+use Rattle.rule.specs.Standing.{decide}
+use Rattle.rule.specs.Outcome.{Refused, Outcome}
+use Rattle.rule.specs.Listed.{relations}
+use Rattle.rule.specs.Rows.{all}
+use Rattle.rule.proofs.Known.{some-here}
+use Rattle.decision.specs.Claims.{listed_in}
+use Rattle.decision.specs.Answer.{refusal}
+use Rattle.decision.specs.Answered.{Says}
+use Rattle.decision.specs.declared.Decision.{Decision}
+use Rattle.decision.specs.declared.Refusal.{Refusal}
+use Rattle.decision.proofs.Carried.{Alike, carried, carried_outcome}
+use Rattle.decision.proofs.Laws.{Sound, Named, opponent, successor, listed-once, refused-names, some_ranked}
+use Rattle.shown.specs.Fix.{Fix}
+use Rattle.shown.specs.Shown.{subset_of, agreement, shown}
+use Rattle.shown.specs.Items.{no_fix, at}
+use Rattle.shown.specs.Claims.{fix_relations}
+use Rattle.shown.proofs.Indexed.{at_in}
+use Rattle.shown.proofs.Plainly.{shown-is-decided}
+use Rattle.shown.specs.Decided.{IsFix, HoldsFixes, refused_by, refused_of, outcome_in, shown_by, AllBelow, Within, Shows}
+
+-- ---- a decision says its outcome
+
+map-back : (rs : List (Refused ℕ ChiSquare)) → map refused_by (map refusal rs) ≡ rs
+map-back [] = refl
+map-back (r ∷ rs) = ap (λ (l : List (Refused ℕ ChiSquare)). r ∷ l) (map-back rs)
+
+outcome-is : (d : Decision) (o : Outcome ℕ ChiSquare) → Says d o → outcome_in d ≡ o
+outcome-is d o w = rw (w.ranked, w.dominated, w.refusals, map-back o.refused) refl
+
+module _ (gs : List Fix) (l : List Item) (long : length l ≡ length gs) (w : HoldsFixes gs l (length l)) where
+  abbrev o : Outcome ℕ ChiSquare
+  o = decide (relations l) (all l)
+
+  item : (i : ℕ) → i < length l → (x : Item) × (slice_get l i ≡ Some x) × IsFix (at gs i) x
+  item i h = let r = some-here l i h in (r.0, r.1, w i r.0 h r.1)
+
+  alike : Alike (relations l) fix_relations (at gs) (λ c. c) (all l)
+  unfolding V.disagrees V.ahead
+  alike = record {
+    disagrees = λ i j m n.
+        let a = item i (up_in (length l) i m) in let b = item j (up_in (length l) j n) in
+        sym (rw (a.1, b.1, a.2.report, b.2.report, b.2.candidate) refl);
+    chi_square = λ i j m n.
+        let a = item i (up_in (length l) i m) in let b = item j (up_in (length l) j n) in
+        sym (rw (a.1, b.1, a.2.report, b.2.report) refl);
+    outstands = λ i j m n.
+        let a = item i (up_in (length l) i m) in let b = item j (up_in (length l) j n) in
+        sym (rw (a.1, b.1, a.2.candidate, b.2.candidate) refl);
+    passed = λ i m. let a = item i (up_in (length l) i m) in sym (rw (a.1, a.2.candidate) refl);
+    within = λ i j m n.
+        let a = item i (up_in (length l) i m) in let b = item j (up_in (length l) j n) in
+        sym (rw (a.1, b.1, a.2.report, b.2.report, a.2.inputs, b.2.inputs) refl);
+    lower = λ i j m n.
+        let a = item i (up_in (length l) i m) in let b = item j (up_in (length l) j n) in
+        sym (rw (a.1, b.1, a.2.identity, b.2.identity) refl);
+    ahead = λ i j m n.
+        let a = item i (up_in (length l) i m) in let b = item j (up_in (length l) j n) in
+        sym (rw (a.1, b.1, a.2.candidate, b.2.candidate, a.2.identity, b.2.identity) refl);
+  }
+
+  -- what is shown of the fixes is what is decided of their items, each index standing for its fix
+  shown-of-items : shown gs ≡ carried_outcome (at gs) (λ c. c) o
+  shown-of-items =
+      shown-is-decided gs
+      ∙ ap (decide fix_relations) (sym (by-places no_fix gs))
+      ∙ ap (λ (n : ℕ). decide fix_relations (map (at gs) (up_to n))) (sym long)
+      ∙ carried (relations l) fix_relations (at gs) (λ c. c) (all l) alike
+
+  -- ---- it names fixes only
+
+  listed-below : (i : ℕ) → Memᴰ i (listed_in o) → i < length l
+  listed-below i m = up_in (length l) i (perm-mem (Permᴰ.symm (listed-once (relations l) (all l))) m)
+
+  against-below : (x : Refused ℕ ChiSquare) → Memᴰ x o.refused → x.against < length l
+  against-below x m = go (refused-names (relations l) (all l) x m)
+    where
+      go : Named (relations l) (all l) x → x.against < length l
+      go (opponent q c k d u) = up_in (length l) x.against k
+      go (successor q c k d v w) = up_in (length l) x.against k
+
+  map-in : {A B : Type 0} (f : A → B) (k : List A) (x : A) → Memᴰ x k → Memᴰ (f x) (map f k)
+  map-in f [] x m = absurd (Memᴰ.not-nil m)
+  map-in f (y ∷ k) x m = or (Memᴰ.cases_cons m) (λ e. Memᴰ.head (ap f e)) (λ z. Memᴰ.tail (map-in f k x z))
+
+  refusal-at : (rs : List (Refused ℕ ChiSquare)) (i : ℕ) (d : Refusal) → i < length (map refusal rs) → (x : Refused ℕ ChiSquare) × Memᴰ x rs × (get_or (map refusal rs) i d ≡ refusal x)
+  refusal-at [] i d h = absurd (omega arith)
+  refusal-at (x ∷ rs) zero d h = (x, Memᴰ.head refl, refl)
+  refusal-at (x ∷ rs) (suc i) d h = let r = refusal-at rs i d (omega arith) in (r.0, Memᴰ.tail r.1, r.2)
+
+  module _ (d : Decision) (says : Says d o) where
+    list-below : (k m : List ℕ) → k ≡ m → ((i : ℕ) → Memᴰ i m → i < length l) → AllBelow (length gs) k
+    list-below k m e h i lt = let z = h (get_or k i 0) (subst (Memᴰ (get_or k i 0)) e (at_in 0 k i lt)) in omega (arith, z, long)
+
+    within : Within (length gs) d
+    within =
+        record {
+          ranked = list-below d.ranked.items o.ranked says.ranked (λ i m. listed-below i (Memᴰ.append_left _ m));
+          dominated = list-below d.dominated.items o.dominated says.dominated (λ i m. listed-below i (Memᴰ.append_right o.ranked (Memᴰ.append_left _ m)));
+          refused = λ i r k.
+              let x = refusal-at o.refused i r (rw says.refusals at k) in
+              let z = listed-below _ (Memᴰ.append_right o.ranked (Memᴰ.append_right o.dominated (map-in (λ (y : Refused ℕ ChiSquare). y.item) o.refused x.0 x.1))) in
+              let e = ap (λ (k : List Refusal). (get_or k i r).refused) says.refusals ∙ ap (λ (y : Refusal). y.refused) x.2 in
+              omega (arith, z, e, long);
+          against = λ i r k.
+              let x = refusal-at o.refused i r (rw says.refusals at k) in
+              let z = against-below x.0 x.1 in
+              let e = ap (λ (k : List Refusal). (get_or k i r).kept) says.refusals ∙ ap (λ (y : Refusal). y.kept) x.2 in
+              omega (arith, z, e, long);
+        }
+
+    pub shows : Shows gs d
+    shows = record { shown = ap (carried_outcome (at gs) (λ c. c)) (outcome-is d o says) ∙ sym shown-of-items; within = within }
+
+-- ---- some fix is ranked
+
+-- a subset has fewer tags
+sound : Sound fix_relations
+sound = record {
+  standing = λ f. 0;
+  size = λ f. tag_count f.record_bytes;
+  over-is = λ f g e. absurd (false≢true e);
+  dis_size = λ f g e. subset-fewer g.record_bytes f.record_bytes (and_left (subset_of g f) (not (agrees_of (agreement f g))) e);
+  sub_size = λ f g e. subset-fewer f.record_bytes g.record_bytes (and_left (subset_of f g) (same f.inputs g.inputs) e);
+}
+
+pub some-first : (gs : List Fix) → 0 < length gs → (f : Fix) × (rest : List Fix) × ((shown gs).ranked ≡ f ∷ rest)
+some-first [] h = absurd (omega arith)
+some-first (g ∷ gs) h =
+    let all = g ∷ gs in
+    let e = ap (λ (t : Outcome Fix ChiSquare). t.ranked) (shown-is-decided all) in
+    let q = some_ranked fix_relations all sound g (Memᴰ.head refl) in
+    let r = go (decide fix_relations all).ranked q.0 q.1 in
+    (r.0, r.1, e ∙ r.2)
+  where
+    go : (l : List Fix) (x : Fix) → Memᴰ x l → (f : Fix) × (rest : List Fix) × (l ≡ f ∷ rest)
+    go [] x m = absurd (Memᴰ.not-nil m)
+    go (y ∷ l) x m = (y, l, refl)
+
+pub ranked-some : (gs : List Fix) → 0 < length gs → 0 < length (shown gs).ranked
+ranked-some gs h = let r = some-first gs h in rw r.2 (omega arith)
+
+-- whoever is alone is ranked
+pub alone : (f : Fix) → (shown (f ∷ [])).ranked ≡ f ∷ []
+unfolding shown any_of filter sort insert
+alone f = rw (subset-irrefl f.record_bytes) refl
+
+none-dominated : (f : Fix) → (shown (f ∷ [])).dominated ≡ []
+unfolding shown any_of filter
+none-dominated f = rw (subset-irrefl f.record_bytes) refl
+
+none-refused : (f : Fix) → (shown (f ∷ [])).refused ≡ []
+unfolding shown filter flat_map
+none-refused f = rw (subset-irrefl f.record_bytes) refl
+
+none : (d : Decision) → d.ranked.items ≡ [] → d.dominated.items ≡ [] → d.refusals.items ≡ [] → Shows [] d
+unfolding shown filter sort flat_map
+none d p q r = record {
+  shown = rw (p, q, r) refl;
+  within = record {
+    ranked = λ i k. absurd (omega (arith, k, ap (λ (z : List ℕ). length z) p));
+    dominated = λ i k. absurd (omega (arith, k, ap (λ (z : List ℕ). length z) q));
+    refused = λ i x k. absurd (omega (arith, k, ap (λ (z : List Refusal). length z) r));
+    against = λ i x k. absurd (omega (arith, k, ap (λ (z : List Refusal). length z) r));
+  };
+}
+
+-- nothing opposes at most one
+pub shows-few : (gs : List Fix) (d : Decision) → length gs ≤ 1 → d.ranked.items ≡ up_to (length gs) → d.dominated.items ≡ [] → d.refusals.items ≡ [] → Shows gs d
+unfolding count_from
+shows-few [] d h p q r = none d p q r
+shows-few (f ∷ []) d h p q r = record {
+  shown = rw (p, q, r, alone f, none-dominated f, none-refused f) refl;
+  within = record {
+    ranked = λ i k. rw p (first i (rw p at k));
+    dominated = λ i k. absurd (omega (arith, k, ap (λ (z : List ℕ). length z) q));
+    refused = λ i x k. absurd (omega (arith, k, ap (λ (z : List Refusal). length z) r));
+    against = λ i x k. absurd (omega (arith, k, ap (λ (z : List Refusal). length z) r));
+  };
+}
+  where
+    first : (i : ℕ) → i < 1 → get_or (0 ∷ []) i 0 < 1
+    first zero k = omega arith
+    first (suc i) k = absurd (omega arith)
+shows-few (f ∷ (g ∷ gs)) d h p q r = absurd (omega arith)
+
+-- ---- one of those that are listed
+
+pub at-map : {A B : Type 0} (f : A → B) (l : List A) (i : ℕ) (x : A) (y : B) → i < length l → get_or (map f l) i y ≡ f (get_or l i x)
+at-map f [] i x y h = absurd (omega arith)
+at-map f (z ∷ l) zero x y h = refl
+at-map f (z ∷ l) (suc i) x y h = at-map f l i x y (omega arith)
+
+pub get_or-default : {A : Type 0} (l : List A) (i : ℕ) (x y : A) → i < length l → get_or l i x ≡ get_or l i y
+get_or-default [] i x y h = absurd (omega arith)
+get_or-default (z ∷ l) zero x y h = refl
+get_or-default (z ∷ l) (suc i) x y h = get_or-default l i x y (omega arith)
+
+module _ (gs : List Fix) where
+  -- what an index in a list stands for; m is the list as it is lent
+  module _ (l m : List ℕ) (e : m ≡ l) (i : ℕ) (b : AllBelow (length gs) l) (h : i < length (map (at gs) l)) where
+    pub named : (i < length m) × (get_or m i 0 < length gs)
+    named = let k : i < length l = rw (length-map l (at gs)) at h in (rw e k, rw e (b i k))
+
+    pub named-is : (f : Fix) → f ≡ get_or gs (get_or m i 0) f → (x : Fix) → get_or (map (at gs) l) i x ≡ f
+    named-is f q x =
+        at-map (at gs) l i 0 x (rw e at named.0) ∙ ap (λ (k : List ℕ). at gs (get_or k i 0)) (sym e) ∙ get_or-default gs (get_or m i 0) no_fix f named.1 ∙ sym q
+
+  -- and in a refusal
+  module _ (d : Decision) (w : Within (length gs) d) (m : List Refusal) (e : m ≡ d.refusals.items) (i : ℕ) (h : i < length (shown_by gs d).refused) where
+    here : i < length d.refusals.items
+    here = rw (length-map d.refusals.items refused_by) at (rw (length-map (map refused_by d.refusals.items) (refused_of gs)) at h)
+
+    pub refusal-here : i < length m
+    refusal-here = rw e here
+
+    pub refused-below : (r : Refusal) → (get_or m i r).refused < length gs
+    refused-below r = rw e (w.refused i r here)
+
+    pub kept-below : (r : Refusal) → (get_or m i r).kept < length gs
+    kept-below r = rw e (w.against i r here)
+
+    pub refusal-is : (r : Refusal) (x : Refused Fix ChiSquare) → get_or (shown_by gs d).refused i x ≡ refused_of gs (refused_by (get_or m i r))
+    refusal-is r x =
+        let l = d.refusals.items in
+        at-map (refused_of gs) (map refused_by l) i (refused_by r) x (rw (length-map (map refused_by l) (refused_of gs)) at h)
+        ∙ ap (refused_of gs) (at-map refused_by l i r (refused_by r) here)
+        ∙ ap (λ (k : List Refusal). refused_of gs (refused_by (get_or k i r))) (sym e)
+
+    pub item-is : (r : Refusal) (f : Fix) → f ≡ get_or gs (get_or m i r).refused f → (x : Refused Fix ChiSquare) → (get_or (shown_by gs d).refused i x).item ≡ f
+    item-is r f q x = ap (λ (z : Refused Fix ChiSquare). z.item) (refusal-is r x) ∙ get_or-default gs _ no_fix f (refused-below r) ∙ sym q
+
+    pub against-is : (r : Refusal) (f : Fix) → f ≡ get_or gs (get_or m i r).kept f → (x : Refused Fix ChiSquare) → (get_or (shown_by gs d).refused i x).against ≡ f
+    against-is r f q x = ap (λ (z : Refused Fix ChiSquare). z.against) (refusal-is r x) ∙ get_or-default gs _ no_fix f (kept-below r) ∙ sym q
