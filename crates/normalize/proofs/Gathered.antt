@@ -1,6 +1,6 @@
 -- What gathering a further fix comes to at where the first of its identity stands.
 use Prim.Native.Nat.{ℕ, zero, suc, ◌+◌, ◌≤◌, ◌<◌}
-use mathlib.Core.Path.{◌≡◌, refl, sym, ap, ◌∙◌, subst}
+use mathlib.Core.Path.{◌≡◌, refl, sym, ap, ◌∙◌}
 use mathlib.Core.Bool.{Bool, true, false}
 use mathlib.Core.List.{List, [], ◌∷◌, ◌++◌, map}
 use native.Mathlib.Omega.{arith}
@@ -17,11 +17,10 @@ use Rattle.ranges.specs.Lists.{any_of}
 use Rattle.ranges.proofs.Bools.{by}
 use Rattle.ranges.proofs.Lists.{any-of}
 use Rattle.shown.specs.Fix.{Fix}
-use Rattle.shown.specs.Items.{Apart}
 use Rattle.shown.proofs.Indexed.{at_in}
 use Rattle.tracked.specs.Held.{RefusedFix, fix_of, held_in, is_of}
 use Rattle.normalize.specs.Normal.{signed_by, sign_first, gather, gather_all, distinct, normalized}
-use Rattle.normalize.proofs.Distinct.{gather-held, gather-new, all_apart, all_append, none_apart}
+use Rattle.normalize.proofs.Distinct.{gather-held, gather-new, all_append}
 use Rattle.normalize.specs.Deciding.{kept}
 
 -- the first that has it gains its signers
@@ -76,9 +75,6 @@ none-yet ks = refl
 -- ---- what is known of fixes that are gathered
 
 module _ (fs : List Fix) (ks : List Fix) (e : ks ≡ distinct fs) where
-  pub given-apart : Apart ks
-  given-apart = subst Apart (sym e) (all_apart [] fs none_apart)
-
   pub given-kept : kept ks ≡ normalized fs
   unfolding normalized
   given-kept = ap kept e

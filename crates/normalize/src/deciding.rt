@@ -79,7 +79,7 @@ fn list_refused<'a>(
     }
 }
 
-// Puts what is kept of fixes with different identities into a transmission that holds nothing.
+// Puts what is kept of fixes into a transmission that holds nothing.
 fn decide<'a>(fixes: &[Fix<'a>], into: &mut Transmission<'a>)
     requires few { length fixes.now ≤ max_gathered }
     requires none { into.old ≡ nothing_held }
