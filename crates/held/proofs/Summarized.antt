@@ -1,14 +1,6 @@
 -- Laws of summaries: how long they are, which a conviction leaves, and that what it leaves stays formed.
-use Prim.Native.Nat.{ℕ, ◌+◌, ◌≤◌}
-use mathlib.Core.Path.{◌≡◌, refl, sym, ap, ◌∙◌}
-use mathlib.Core.Bool.{true, false, not}
-use mathlib.Core.List.{List, [], ◌∷◌, ◌++◌, append-nil}
-use native.Mathlib.Omega.{arith}
-use native.Mathlib.Nat.{add-zero}
-use lib.Dec.{eqb}
-use lib.ListN.{length, get_or, take, drop, length-append}
-use lib.Seq.{take-take, get_or-take, get_or-drop}
-use borrow.Author.Tests.{eq-eqb, ne_eqb, eqb-false, not-true}
+use Rattle.std.proofs.Common.{ℕ, ◌+◌, ◌≤◌, ◌≡◌, refl, sym, ap, ◌∙◌, true, false, not, List, [], ◌∷◌, ◌++◌, append-nil, arith, add-zero, eqb, length, get_or, take, drop, length-append, take-take, get_or-take, get_or-drop, eq-eqb, ne_eqb}
+use borrow.Author.Tests.{eqb-false, not-true}
 use Rattle.octets.specs.Masks.{with_bit}
 use Rattle.octets.proofs.Lookup.{bit-set}
 use Rattle.octets.proofs.Numbers.{length-word-bytes}

@@ -1,10 +1,6 @@
 -- Lists of calls one after another: what a further list does to the bytes and whether it is refused as full; and that every list leaves a register, also one of
 -- which calls were refused.
-use Prim.Native.Nat.{ℕ}
-use mathlib.Core.Path.{◌≡◌, refl, sym, ap, ◌∙◌}
-use mathlib.Core.Bool.{Bool, true, not, ◌&&◌}
-use mathlib.Core.List.{List, [], ◌∷◌, ◌++◌}
-use lib.Dec.{eqb}
+use Rattle.std.proofs.Common.{ℕ, ◌≡◌, refl, sym, ap, ◌∙◌, Bool, true, not, ◌&&◌, List, [], ◌∷◌, ◌++◌, eqb}
 use Rattle.ranges.proofs.Bools.{and_assoc}
 use Rattle.held.specs.After.{After}
 use Rattle.register.specs.Register.{Register}

@@ -1,13 +1,7 @@
 -- The register after a history of calls, the latest first: it holds what the history has, but for malformed calls and calls of convicted engines.
-use Prim.Native.Nat.{ℕ, ◌≤◌}
-use mathlib.Core.Path.{◌≡◌, refl, sym, ap, ◌∙◌}
-use mathlib.Core.Bool.{Bool, true, false, not, ◌&&◌, ◌||◌, false≢true, and-false, and-true}
-use mathlib.Core.Logic.{◌⊎◌, inl, inr, ⊎_elim}
-use mathlib.Core.List.{List, [], ◌∷◌}
-use native.Mathlib.Omega.{arith}
-use lib.Dec.{eqb, leb, ltb}
-use lib.ListN.{length}
-use borrow.Author.Tests.{eq-eqb, ne_eqb, eqb-true, eqb-false, not-true, lt-leb, le-leb, ltb-true, ltb-false, leb-true}
+use Rattle.std.proofs.Common.{ℕ, ◌≤◌, ◌≡◌, refl, sym, ap, ◌∙◌, Bool, true, false, not, ◌&&◌, ◌||◌, ◌⊎◌, inl, inr, ⊎_elim, List, [], ◌∷◌, arith, eqb, leb, ltb, length, eq-eqb, ne_eqb, eqb-true, le-leb, ltb-true, ltb-false, leb-true}
+use mathlib.Core.Bool.{false≢true, and-false, and-true}
+use borrow.Author.Tests.{eqb-false, not-true, lt-leb}
 use Rattle.octets.specs.Masks.{bit}
 use Rattle.octets.specs.Order.{same}
 use Rattle.octets.specs.Words.{word}

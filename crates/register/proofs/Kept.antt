@@ -1,12 +1,6 @@
 -- On any bytes that are a register: what they decode to is valid, every call leaves a register, and every refusal leaves the bytes.
-use Prim.Native.Nat.{ℕ}
-use mathlib.Core.Path.{◌≡◌, refl, sym, ◌∙◌}
-use mathlib.Core.Bool.{true, false, ◌&&◌, true≢false}
-use mathlib.Core.List.{List}
-use native.Mathlib.Omega.{arith}
-use lib.Dec.{ltb, leb, eqb}
-use lib.ListN.{length}
-use borrow.Author.Tests.{eqb-true, not-true, ltb-false, leb-true}
+use Rattle.std.proofs.Common.{ℕ, ◌≡◌, refl, sym, ◌∙◌, true, false, ◌&&◌, true≢false, List, arith, ltb, leb, eqb, length, eqb-true, ltb-false, leb-true}
+use borrow.Author.Tests.{not-true}
 use Rattle.octets.specs.Masks.{bit}
 use Rattle.ranges.proofs.Bools.{by, and_left, and_right}
 use Rattle.octets.specs.Bytes.{Bytes}

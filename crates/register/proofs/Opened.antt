@@ -1,12 +1,5 @@
 -- What bytes that are a register show: its parts, and that they are the bytes of what they hold.
-use Prim.Native.Nat.{ℕ, ◌+◌, ◌*◌, ◌≤◌}
-use mathlib.Core.Path.{◌≡◌, refl, sym, ap, ap₂, ◌∙◌}
-use mathlib.Core.Bool.{true, false, ◌&&◌}
-use mathlib.Core.List.{List, ◌++◌}
-use native.Mathlib.Omega.{arith}
-use lib.Dec.{leb, eqb}
-use lib.ListN.{length, drop, length-take, length-drop}
-use borrow.Author.Tests.{ne_eqb, eqb-true, leb-true}
+use Rattle.std.proofs.Common.{ℕ, ◌+◌, ◌*◌, ◌≤◌, ◌≡◌, refl, sym, ap, ap₂, ◌∙◌, true, false, ◌&&◌, List, ◌++◌, arith, leb, eqb, length, drop, length-take, length-drop, ne_eqb, eqb-true, leb-true}
 use Rattle.octets.specs.Words.{word_bytes, word_at}
 use Rattle.octets.specs.Runs.{all_zero}
 use Rattle.ranges.proofs.Bools.{and_left, and_right}
@@ -35,26 +28,23 @@ pub record Opened (m : List ℕ) : Type 0 where
 pub opened : (m : List ℕ) → well_formed m ≡ true → Opened m
 unfolding well_formed
 opened m h =
-    let a₂ = leb (summary_count m) max_summaries in
-    let a₃ = leb (record_count m) max_records in
-    let a₄ = is_table summary_size summary_size (summary_count m) (summary_table m) in
-    let a₅ = all_places (summary_formed (convicted_in m)) (summaries_in m) in
-    let a₆ = is_table record_size place_size (record_count m) (record_table m) in
-    let a₇ = all_places (place_formed (convicted_in m)) (records_in m) in
-    let h₂ = and_right (eqb (length m) register_size) (a₂ && (a₃ && (a₄ && (a₅ && (a₆ && a₇))))) h in
-    let h₃ = and_right a₂ (a₃ && (a₄ && (a₅ && (a₆ && a₇)))) h₂ in
-    let h₄ = and_right a₃ (a₄ && (a₅ && (a₆ && a₇))) h₃ in
-    let h₅ = and_right a₄ (a₅ && (a₆ && a₇)) h₄ in
-    let h₆ = and_right a₅ (a₆ && a₇) h₅ in
+    let h₂ = and_right (eqb (length m) register_size) _ h in
+    let h₃ = and_right (leb (summary_count m) max_summaries) _ h₂ in
+    let h₄ = and_right (leb (record_count m) max_records) _ h₃ in
+    let h₅ = and_right (is_table summary_size summary_size (summary_count m) (summary_table m)) _ h₄ in
+    let h₆ = and_right (all_places (summary_formed (convicted_in m)) (summaries_in m)) _ h₅ in
     record {
-      size = eqb-true (length m) register_size (and_left (eqb (length m) register_size) (a₂ && (a₃ && (a₄ && (a₅ && (a₆ && a₇))))) h);
-      few_summaries = leb-true (summary_count m) max_summaries (and_left a₂ (a₃ && (a₄ && (a₅ && (a₆ && a₇)))) h₂);
-      few_records = leb-true (record_count m) max_records (and_left a₃ (a₄ && (a₅ && (a₆ && a₇))) h₃);
-      summary-table = and_left a₄ (a₅ && (a₆ && a₇)) h₄;
-      summaries-formed = and_left a₅ (a₆ && a₇) h₅;
-      record-table = and_left a₆ a₇ h₆;
-      records-formed = and_right a₆ a₇ h₆;
+      size = eqb-true _ _ (and_left _ _ h);
+      few_summaries = leb-true _ _ (and_left _ _ h₂);
+      few_records = leb-true _ _ (and_left _ _ h₃);
+      summary-table = and_left _ _ h₄;
+      summaries-formed = and_left _ _ h₅;
+      record-table = and_left _ _ h₆;
+      records-formed = and_right (is_table record_size place_size (record_count m) (record_table m)) _ h₆;
     }
+
+pub sized : (m : List ℕ) → well_formed m ≡ true → length m ≡ register_size
+sized m h = (opened m h).size
 
 -- bytes of another length are no register
 pub other-size : (m : List ℕ) → (length m ≡ register_size → ⊥) → well_formed m ≡ false
@@ -86,11 +76,11 @@ module _ (m : List ℕ) (o : Opened m) where
   pub records-ascend : ascending record_size (records_in m) ≡ true
   records-ascend = and_left (ascending record_size (records_in m)) (all_zero (drop (record_count m * place_size) (record_table m))) o.record-table
 
-  pub summaries-are : summary_table m ≡ table_of summary_size max_summaries (summaries_in m)
-  summaries-are = table_is summary_size max_summaries (summary_count m) summary_size (summary_table m) summary-bytes-length o.few_summaries o.summary-table
+  pub summaries-table : summary_table m ≡ table_of summary_size max_summaries (summaries_in m)
+  summaries-table = table_is summary_size max_summaries (summary_count m) summary_size (summary_table m) summary-bytes-length o.few_summaries o.summary-table
 
-  pub records-are : record_table m ≡ table_of place_size max_records (records_in m)
-  records-are = table_is place_size max_records (record_count m) record_size (record_table m) record-bytes-length o.few_records o.record-table
+  pub records-table : record_table m ≡ table_of place_size max_records (records_in m)
+  records-table = table_is place_size max_records (record_count m) record_size (record_table m) record-bytes-length o.few_records o.record-table
 
   module _ (b : Bytes m) where
     -- a number of the header, and what follows it
@@ -103,7 +93,7 @@ module _ (m : List ℕ) (o : Opened m) where
         let p₀ = number 0 4 (convicted_in m) (omega arith) refl in
         let p₁ = number summary_count_at 2 (length (summaries_in m)) (omega arith) (sym summaries-length) in
         let p₂ = number record_count_at 2 (length (records_in m)) (omega arith) (sym records-length) in
-        let p₃ : drop summaries_at m ≡ table_of summary_size max_summaries (summaries_in m) ++ table_of place_size max_records (records_in m) = cut m summaries_at summaries_size ∙ ap₂ (λ (x y : List ℕ). x ++ y) summaries-are records-are in
+        let p₃ : drop summaries_at m ≡ table_of summary_size max_summaries (summaries_in m) ++ table_of place_size max_records (records_in m) = cut m summaries_at summaries_size ∙ ap₂ (λ (x y : List ℕ). x ++ y) summaries-table records-table in
         p₀ ∙ ap (λ (t : List ℕ). word_bytes 4 (convicted_in m) ++ t) (p₁ ∙ ap (λ (t : List ℕ). word_bytes 2 (length (summaries_in m)) ++ t) (p₂ ∙ ap (λ (t : List ℕ). word_bytes 2 (length (records_in m)) ++ t) p₃))
 
     -- a well-formed memory is the encoding of what it decodes to

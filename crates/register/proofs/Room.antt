@@ -1,12 +1,8 @@
 -- No call is refused as full exactly when each beginning of the list leaves at most 96 different records and 256 different summaries.
-use Prim.Native.Nat.{ℕ, suc}
-use mathlib.Core.Path.{◌≡◌, refl, sym, ap, ◌∙◌}
-use mathlib.Core.Bool.{Bool, true, false, cond, not, ◌&&◌, ◌||◌, true≢false, false≢true, and-false}
-use mathlib.Core.List.{List, [], ◌∷◌, reverse, reverse_aux}
-use native.Mathlib.Omega.{arith}
-use lib.Dec.{eqb, leb, ltb}
-use lib.ListN.{length, take}
-use borrow.Author.Tests.{le-leb, lt-leb, leb-true, not-true}
+use Rattle.std.proofs.Common.{ℕ, suc, ◌≡◌, refl, sym, ap, ◌∙◌, Bool, true, false, cond, not, ◌&&◌, ◌||◌, true≢false, List, [], ◌∷◌, reverse, arith, eqb, leb, ltb, length, take, le-leb, leb-true}
+use mathlib.Core.Bool.{false≢true, and-false}
+use mathlib.Core.List.{reverse_aux}
+use borrow.Author.Tests.{lt-leb, not-true}
 use Rattle.octets.specs.Masks.{bit}
 use Rattle.octets.specs.Order.{same}
 use Rattle.ranges.proofs.Bools.{by, and_left, and_right, and_both}

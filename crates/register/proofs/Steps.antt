@@ -1,14 +1,6 @@
 -- What each operation does to a valid register: it stays valid, and which engines sign a record afterwards. Valid registers that hold the same are the same.
-use Prim.Native.Nat.{ℕ, ◌^◌, ◌≤◌, ◌<◌}
-use mathlib.Core.Path.{◌≡◌, refl, sym, ap, ap₂, subst, ◌∙◌}
-use mathlib.Core.Bool.{Bool, true, false, cond, not, ◌&&◌, false≢true, and-true}
-use mathlib.Core.List.{List, [], ◌∷◌, ◌++◌, append-nil}
-use native.Mathlib.Omega.{arith}
-use native.Mathlib.Nat.{le_trans}
-use lib.Dec.{leb, eqb}
-use lib.ListN.{length, take, drop, take-append-drop, drop_of_length-le}
-use lib.Seq.{drop_at, length-take-le}
-use borrow.Author.Tests.{eqb-true, leb-false}
+use Rattle.std.proofs.Common.{ℕ, ◌^◌, ◌≤◌, ◌<◌, ◌≡◌, refl, sym, ap, ap₂, subst, ◌∙◌, Bool, true, false, cond, not, ◌&&◌, List, [], ◌∷◌, ◌++◌, append-nil, arith, le_trans, leb, eqb, length, take, drop, take-append-drop, drop_of_length-le, drop_at, length-take-le, eqb-true, leb-false}
+use mathlib.Core.Bool.{false≢true, and-true}
 use Rattle.octets.specs.Masks.{bit, with_bit, without_bit}
 use Rattle.octets.specs.Order.{same}
 use Rattle.octets.specs.Words.{word, word_bytes}

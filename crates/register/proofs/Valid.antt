@@ -1,12 +1,5 @@
 -- Registers that bytes can hold: their bytes are well-formed, and decode to them.
-use Prim.Native.Nat.{ℕ, ◌^◌, ◌≤◌, ◌<◌}
-use mathlib.Core.Path.{◌≡◌, refl, ap₂, ◌∙◌}
-use mathlib.Core.Bool.{true, ◌&&◌}
-use mathlib.Core.List.{List}
-use native.Mathlib.Omega.{arith}
-use lib.Dec.{leb, eqb}
-use lib.ListN.{length, drop, length-append}
-use borrow.Author.Tests.{eq-eqb, le-leb}
+use Rattle.std.proofs.Common.{ℕ, ◌^◌, ◌≤◌, ◌<◌, ◌≡◌, refl, ap₂, ◌∙◌, true, ◌&&◌, List, arith, leb, eqb, length, drop, length-append, eq-eqb, le-leb}
 use Rattle.octets.specs.Order.{same}
 use Rattle.octets.specs.Words.{word_bytes}
 use Rattle.ranges.proofs.Bools.{and_left, and_both}
@@ -84,36 +77,16 @@ module _ (s : Register) (v : Valid s) where
   unfolding encode
   size = rw (length-append, length-append, length-append, length-append, length-word-bytes 4 s.convicted, length-word-bytes 2 (length s.summaries), length-word-bytes 2 (length s.records), l₁, l₂) refl
 
-  summary-table : is_table summary_size summary_size (summary_count (encode s)) (summary_table (encode s)) ≡ true
-  summary-table = rw (summary-count-back, summary-bytes-back) (is-table-of summary_size max_summaries summary_size s.summaries v.summaries-wide v.summaries-ascend)
-
-  record-table : is_table record_size place_size (record_count (encode s)) (record_table (encode s)) ≡ true
-  record-table = rw (record-count-back, record-bytes-back) (is-table-of place_size max_records record_size s.records v.records-wide v.records-ascend)
-
-  formed-summaries : all_places (summary_formed (convicted_in (encode s))) (summaries_in (encode s)) ≡ true
-  formed-summaries = rw (convicted-back, summaries-back) v.summaries-formed
-
-  formed-records : all_places (place_formed (convicted_in (encode s))) (records_in (encode s)) ≡ true
-  formed-records =
-      rw (convicted-back, records-back)
-      (all-weaken (place_held s.convicted) (place_formed s.convicted) (λ p. and_left (place_formed s.convicted p) (same (word_bytes 4 (signers_in p)) (drop record_size p))) s.records v.records-held)
-
   -- the bytes of a valid register are one
   pub formed-encode : well_formed (encode s) ≡ true
   unfolding well_formed
   formed-encode =
-      let a₂ = leb (summary_count (encode s)) max_summaries in
-      let a₃ = leb (record_count (encode s)) max_records in
-      let a₄ = is_table summary_size summary_size (summary_count (encode s)) (summary_table (encode s)) in
-      let a₅ = all_places (summary_formed (convicted_in (encode s))) (summaries_in (encode s)) in
-      let a₆ = is_table record_size place_size (record_count (encode s)) (record_table (encode s)) in
-      let a₇ = all_places (place_formed (convicted_in (encode s))) (records_in (encode s)) in
-      let h₂ : a₂ ≡ true = le-leb (summary_count (encode s)) max_summaries (rw summary-count-back v.few_summaries) in
-      let h₃ : a₃ ≡ true = le-leb (record_count (encode s)) max_records (rw record-count-back v.few_records) in
-      and_both (eqb (length (encode s)) register_size) (a₂ && (a₃ && (a₄ && (a₅ && (a₆ && a₇))))) (eq-eqb (length (encode s)) register_size size)
-      (and_both a₂ (a₃ && (a₄ && (a₅ && (a₆ && a₇)))) h₂
-      (and_both a₃ (a₄ && (a₅ && (a₆ && a₇))) h₃
-      (and_both a₄ (a₅ && (a₆ && a₇)) summary-table (and_both a₅ (a₆ && a₇) formed-summaries (and_both a₆ a₇ record-table formed-records)))))
+      rw (
+        size, summary-count-back, record-count-back, le-leb (length s.summaries) max_summaries v.few_summaries, le-leb (length s.records) max_records v.few_records, summary-bytes-back, record-bytes-back,
+        is-table-of summary_size max_summaries summary_size s.summaries v.summaries-wide v.summaries-ascend, is-table-of place_size max_records record_size s.records v.records-wide v.records-ascend,
+        places-of-table summary_size max_summaries s.summaries v.summaries-wide, places-of-table place_size max_records s.records v.records-wide, convicted-back, v.summaries-formed
+      )
+      (all-weaken (place_held s.convicted) (place_formed s.convicted) (λ p. and_left _ _) s.records v.records-held)
 
   -- an operation on its bytes is the operation on it
   pub on-encode : (f : Register → After Register) → on_memory f (encode s) ≡ commit (encode s) (f s)

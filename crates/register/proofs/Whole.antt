@@ -1,14 +1,10 @@
 -- The claims on whole lists, on the register's bytes: what they hold, and that lists of which the same remains leave the same.
-use Prim.Native.Nat.{ℕ, suc, ◌+◌, ◌/◌, ◌%◌}
-use mathlib.Core.Path.{◌≡◌, refl, sym, ap, ap₂, ◌∙◌}
-use mathlib.Core.Bool.{Bool, true, false, cond, not, ◌&&◌, ◌||◌, false≢true, and-false, or-false, or-true}
-use mathlib.Core.List.{List, [], ◌∷◌, ◌++◌, reverse, reverse_aux}
-use native.Mathlib.Omega.{arith}
-use lib.Dec.{eqb, leb, ltb}
+use Rattle.std.proofs.Common.{ℕ, suc, ◌+◌, ◌/◌, ◌%◌, ◌≡◌, refl, sym, ap, ap₂, ◌∙◌, Bool, true, false, cond, not, ◌&&◌, ◌||◌, List, [], ◌∷◌, ◌++◌, reverse, arith, eqb, leb, ltb, length, drop, replicate, drop_at, eq-eqb, eqb-true}
+use mathlib.Core.Bool.{false≢true, and-false, or-false, or-true}
+use mathlib.Core.List.{reverse_aux}
 use lib.Arith.{bin_ind}
-use lib.ListN.{length, drop, replicate, replicate-append-replicate}
-use lib.Seq.{drop_at}
-use borrow.Author.Tests.{eq-eqb, eqb-true, eqb-false}
+use lib.ListN.{replicate-append-replicate}
+use borrow.Author.Tests.{eqb-false}
 use Rattle.octets.specs.Masks.{bit}
 use Rattle.octets.specs.Order.{same}
 use Rattle.octets.specs.Words.{word_bytes}

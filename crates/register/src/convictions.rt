@@ -14,7 +14,7 @@ ghost use Rattle.register.specs.Strikes.{kept_at};
 
 use crate::Register;
 use crate::formed::well_formed;
-use crate::layout::SUMMARY_COUNT_AT;
+use crate::layout::{CONVICTED_AT, RECORD_COUNT_AT, SUMMARIES_AT, SUMMARY_COUNT_AT};
 use crate::refusals::{Refusal, number};
 use held::engines::{Engine, Signers};
 use held::layout::{PLACE_SIZE, SUMMARIES_SIZE};
@@ -54,21 +54,20 @@ fn strike_records(t: &mut [u8], n: usize, engine: Engine) -> usize
 }
 
 // Strikes an engine from a register.
+#[tactic(auto, using(crate::proofs::Opened::sized))]
 fn strike(memory: &mut [u8], engine: Engine)
     requires { well_formed memory.old ≡ true }
     ensures struck { decode memory.new ≡ strike_engine engine.number (decode memory.old) }
     ensures formed { well_formed memory.new ≡ true }
 {
-    let (convicted, rest) = memory.split_at_mut(SUMMARY_COUNT_AT);
-    let (summary_count, rest) = rest.split_at_mut(2);
-    let (record_count, tables) = rest.split_at_mut(2);
+    let (header, tables) = memory.split_at_mut(SUMMARIES_AT);
     let (summaries, records) = tables.split_at_mut(SUMMARIES_SIZE);
-    let first = strike_summaries(summaries, u16_at(summary_count, 0) as usize, engine);
-    let second = strike_records(records, u16_at(record_count, 0) as usize, engine);
-    let struck = Signers(u32_at(convicted, 0)).with(engine);
-    put_u32(convicted, 0, struck.0);
-    put_u16(summary_count, 0, first as u16);
-    put_u16(record_count, 0, second as u16);
+    let first = strike_summaries(summaries, u16_at(header, SUMMARY_COUNT_AT) as usize, engine);
+    let second = strike_records(records, u16_at(header, RECORD_COUNT_AT) as usize, engine);
+    let struck = Signers(u32_at(header, CONVICTED_AT)).with(engine);
+    put_u32(header, CONVICTED_AT, struck.0);
+    put_u16(header, SUMMARY_COUNT_AT, first as u16);
+    put_u16(header, RECORD_COUNT_AT, second as u16);
 }
 
 impl<'a> Register<'a> {
@@ -86,6 +85,7 @@ impl<'a> Register<'a> {
 }
 
 /// Convicts an engine.
+#[tactic(auto, unfolding(crate::specs::Memory::on_memory))]
 pub fn conviction(memory: &mut [u8], engine: u32) -> u32
     ensures { after result memory.new ≡ on_memory (take_conviction engine) memory.old }
 {

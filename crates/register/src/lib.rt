@@ -39,7 +39,7 @@ impl<'a> Register<'a> {
     }
 
     /// Whether an engine is convicted.
-    #[tactic(auto, unfolding(crate::specs::Memory::decode))]
+    #[tactic(auto, using(crate::proofs::Opened::sized), unfolding(crate::specs::Memory::decode))]
     pub fn is_convicted(&self, engine: Engine) -> bool
         ensures { result ≡ bit (decode self.now.memory.now).convicted engine.number }
     {

@@ -11,7 +11,7 @@ ghost use Rattle.register.specs.Memory.{well_formed, decode, on_memory};
 
 use crate::Register;
 use crate::formed::well_formed;
-use crate::layout::{MAX_RECORDS, SUMMARY_COUNT_AT};
+use crate::layout::{MAX_RECORDS, RECORD_COUNT_AT, SUMMARIES_AT};
 use crate::refusals::{Refusal, number};
 use held::engines::{Engine, Signers};
 use held::layout::{PLACE_SIZE, SUMMARIES_SIZE};
@@ -61,24 +61,23 @@ fn signers_with(
 }
 
 // Puts a record in, or its signer.
+#[tactic(auto, using(crate::proofs::Opened::sized))]
 fn sign(memory: &mut [u8], engine: Engine, r: Record) -> Result<(), Refusal>
     requires register { well_formed memory.old ≡ true }
     requires free { bit (decode memory.old).convicted engine.number ≡ false }
     ensures signed { after (number_of result) (decode memory.new) ≡ sign_record engine.number r.entry.bytes.now (decode memory.old) }
     ensures formed { well_formed memory.new ≡ true }
 {
-    let (convicted, rest) = memory.split_at_mut(SUMMARY_COUNT_AT);
-    let (summary_count, rest) = rest.split_at_mut(2);
-    let (record_count, tables) = rest.split_at_mut(2);
+    let (header, tables) = memory.split_at_mut(SUMMARIES_AT);
     let (summaries, places) = tables.split_at_mut(SUMMARIES_SIZE);
-    let mut records = Records::of(places, u16_at(record_count, 0) as usize);
+    let mut records = Records::of(places, u16_at(header, RECORD_COUNT_AT) as usize);
     let found = records.search(r.bytes);
     if records.is_full(found) {
         return Err(Refusal::Full);
     }
     let signers = signers_with(records.places(), found, engine);
     records.put(found, &signed(r, signers));
-    put_u16(record_count, 0, records.count() as u16);
+    put_u16(header, RECORD_COUNT_AT, records.count() as u16);
     Ok(())
 }
 
@@ -102,6 +101,7 @@ impl<'a> Register<'a> {
 }
 
 /// Reports a record for an engine.
+#[tactic(auto, unfolding(crate::specs::Memory::on_memory))]
 pub fn report(memory: &mut [u8], engine: u32, r: &[u8]) -> u32
     ensures { after result memory.new ≡ on_memory (take_report engine r.now) memory.old }
 {

@@ -9,7 +9,7 @@ ghost use Rattle.register.specs.Memory.{well_formed, decode, on_memory};
 
 use crate::Register;
 use crate::formed::well_formed;
-use crate::layout::SUMMARY_COUNT_AT;
+use crate::layout::{SUMMARIES_AT, SUMMARY_COUNT_AT};
 use crate::refusals::{Refusal, number};
 use held::engines::Engine;
 use held::layout::{MAX_SUMMARIES, SUMMARIES_SIZE};
@@ -23,23 +23,22 @@ use record::layout::MAX_MODEL;
 type Summaries<'a> = Table<'a, SUMMARY_SIZE, SUMMARY_SIZE, MAX_SUMMARIES>;
 
 // Puts a summary in, unless it is held.
+#[tactic(auto, using(crate::proofs::Opened::sized))]
 fn hold(memory: &mut [u8], summary: &[u8; SUMMARY_SIZE]) -> Result<(), Refusal>
     requires register { well_formed memory.old ≡ true }
     requires summary { summary_formed (decode memory.old).convicted summary.now ≡ true }
     ensures held { after (number_of result) (decode memory.new) ≡ hold_summary summary.now (decode memory.old) }
     ensures formed { well_formed memory.new ≡ true }
 {
-    let (convicted, rest) = memory.split_at_mut(SUMMARY_COUNT_AT);
-    let (summary_count, rest) = rest.split_at_mut(2);
-    let (record_count, tables) = rest.split_at_mut(2);
+    let (header, tables) = memory.split_at_mut(SUMMARIES_AT);
     let (places, records) = tables.split_at_mut(SUMMARIES_SIZE);
-    let mut summaries = Summaries::of(places, u16_at(summary_count, 0) as usize);
+    let mut summaries = Summaries::of(places, u16_at(header, SUMMARY_COUNT_AT) as usize);
     let found = summaries.search(summary);
     if summaries.is_full(found) {
         return Err(Refusal::Full);
     }
     summaries.put(found, summary);
-    put_u16(summary_count, 0, summaries.count() as u16);
+    put_u16(header, SUMMARY_COUNT_AT, summaries.count() as u16);
     Ok(())
 }
 
@@ -72,6 +71,7 @@ impl<'a> Register<'a> {
 }
 
 /// Takes a summary of a model from an engine.
+#[tactic(auto, unfolding(crate::specs::Memory::on_memory))]
 pub fn summary(memory: &mut [u8], engine: u32, model: u32, spec: u16, inputs: &[u8]) -> u32
     ensures { after result memory.new ≡ on_memory (take_summary engine model spec inputs.now) memory.old }
 {

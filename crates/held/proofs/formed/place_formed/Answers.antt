@@ -1,6 +1,4 @@
-use mathlib.Core.Path.{refl, sym, ◌∙◌}
-use native.Mathlib.Omega.{arith}
-use lib.Seq.{length-take-le}
+use Rattle.std.proofs.Common.{refl, sym, ◌∙◌, arith, length-take-le}
 use Rattle.record.specs.Layout.{record_size}
 use Rattle.held.proofs.Signatures.{signers-at}
 use Rattle.held.proofs.formed.place_formed.Goals as goal

@@ -1,7 +1,4 @@
-use Prim.Native.Nat.{◌+◌, ◌-◌, ◌*◌}
-use mathlib.Core.Path.{◌≡◌, refl, ap, ◌∙◌}
-use mathlib.Core.Bool.{not}
-use lib.ListN.{take, drop}
+use Rattle.std.proofs.Common.{◌+◌, ◌-◌, ◌*◌, ◌≡◌, refl, ap, ◌∙◌, not, take, drop}
 use Rattle.places.proofs.Walks.{step-at}
 use Rattle.held.specs.Limits.{place_size}
 use Rattle.held.specs.Signed.{place_formed, begin_formed}

@@ -1,7 +1,4 @@
-use Prim.Native.Nat.{ℕ, ◌/◌, ◌%◌}
-use mathlib.Core.Path.{◌≡◌, ap, ◌∙◌}
-use mathlib.Core.List.{List, ◌∷◌, ◌++◌, append-nil}
-use lib.ListN.{length, take, drop, set, replicate}
+use Rattle.std.proofs.Common.{ℕ, ◌/◌, ◌%◌, ◌≡◌, ap, ◌∙◌, List, ◌∷◌, ◌++◌, append-nil, length, take, drop, set, replicate}
 use Rattle.octets.specs.Words.{word_bytes}
 use Rattle.octets.specs.Writes.{put_word}
 use Rattle.models.specs.Summary.{summary_of, inputs_size, summary_size, summary_inputs_at}

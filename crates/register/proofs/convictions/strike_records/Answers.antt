@@ -1,6 +1,5 @@
 -- Each turn takes the engine's signature off one record, and keeps the record below if another is left.
-use Prim.Native.Nat.{◌*◌}
-use mathlib.Core.Path.{sym, ◌∙◌}
+use Rattle.std.proofs.Common.{◌*◌, sym, ◌∙◌}
 use Rattle.held.specs.Limits.{place_size}
 use Rattle.held.proofs.Striking.{left-none, left-inside, left-gone, left-stays, left-cleared}
 use Rattle.register.proofs.Striking.{unsigned, still-signed, changed-there}

@@ -1,9 +1,5 @@
 -- Past the counts: the tables.
-use Prim.Native.Nat.{◌-◌}
-use mathlib.Core.Path.{◌≡◌, refl, sym, ◌∙◌}
-use mathlib.Core.Bool.{◌&&◌}
-use lib.ListN.{length, take, drop}
-use borrow.Author.Tests.{le-leb, eq-eqb}
+use Rattle.std.proofs.Common.{◌-◌, ◌≡◌, refl, sym, ◌∙◌, ◌&&◌, length, take, drop, le-leb, eq-eqb}
 use Rattle.ranges.proofs.Bools.{and_assoc}
 use Rattle.octets.proofs.Moves.{tail-lent}
 use Rattle.places.specs.Places.{places, is_table, all_places}

@@ -1,7 +1,5 @@
-use Rattle.std.proofs.Common.{◌≡◌, ◌≤◌, List, ℕ, ◌++◌, length, drop, refl, arith}
-use mathlib.Core.List.{append-nil}
-use lib.ListN.{replicate, length-append, length-drop, length-replicate, drop_of_length-le}
-use lib.Seq.{take_at}
+use Rattle.std.proofs.Common.{◌≡◌, ◌≤◌, List, ℕ, ◌++◌, length, drop, refl, arith, append-nil, replicate, length-append, length-drop, drop_of_length-le, take_at}
+use lib.ListN.{length-replicate}
 use Rattle.octets.specs.Words.{word_bytes}
 use Rattle.octets.specs.Writes.{put_word}
 use Rattle.record.specs.Layout.{record_size}
