@@ -1,8 +1,6 @@
 -- A turn of the loop that writes transmissions one after another, and its end.
-use Rattle.std.proofs.Common.{◌≡◌, ◌+◌, ◌≤◌, ◌<◌, ◌++◌, ◌∙◌, sym, ap, length, drop, get_or, List, [], ◌∷◌, ℕ, zero, suc, ◌-◌, take, true, subst, add-one, arith, refl}
-use mathlib.Core.List.{map}
+use Rattle.std.proofs.Common.{◌≡◌, ◌+◌, ◌≤◌, ◌<◌, ◌++◌, ◌∙◌, sym, ap, length, drop, get_or, List, [], ◌∷◌, ℕ, zero, suc, ◌-◌, take, true, subst, add-one, arith, refl, map, take_all}
 use Rattle.std.proofs.Math.ListN.{drop_of_length-le, length-map, length-drop}
-use lib.Seq.{take_all}
 use Rattle.std.proofs.Math.Seq.{drop-cons}
 use Rattle.text.specs.declared.Text.{Text}
 use Rattle.text.specs.Texts.{append}

@@ -1,20 +1,14 @@
 -- Every board fits what a caller lends, and its length is 0 or greater than every refusal's number.
-use Prim.Native.Nat.{ℕ, zero, suc, ◌+◌, ◌-◌, ◌≤◌, ◌<◌}
-use mathlib.Core.Path.{◌≡◌, refl, sym, ap, ap₂, ◌∙◌, subst}
-use mathlib.Core.Bool.{Bool, true, not}
-use mathlib.Core.Logic.{◌⊎◌, inl, inr, ⊎_elim}
-use mathlib.Core.List.{List, [], ◌∷◌, ◌++◌, map, Memᴰ, Permᴰ}
-use native.Mathlib.Omega.{arith}
-use lib.Dec.{eqb}
-use lib.ListN.{length, drop, length-append, length-map, length-drop}
-use borrow.Author.Tests.{eqb-true, lt-ltb}
+use Rattle.std.proofs.Common.{ℕ, zero, suc, ◌+◌, ◌-◌, ◌≤◌, ◌<◌, ◌≡◌, refl, sym, ap, ap₂, ◌∙◌, subst, Bool, true, not, ◌&&◌, ◌⊎◌, inl, inr, ⊎_elim, List, [], ◌∷◌, ◌++◌, map, arith, eqb, length, drop, length-append, length-drop, eqb-true, eq-eqb, lt-ltb}
+use mathlib.Core.List.{Memᴰ, Permᴰ}
+use lib.ListN.{length-map}
 use Rattle.ranges.specs.Lists.{filter, sort, up_to}
 use Rattle.ranges.proofs.Lists.{sort-perm, count-length}
 use Rattle.ranges.proofs.Orders.{perm-length}
 use Rattle.ranges.proofs.Searches.{filter_range}
-use Rattle.ranges.specs.Range.{filt}
-use Rattle.ranges.proofs.Range.{filt-at}
-use Rattle.ranges.proofs.Bools.{by, no_true}
+use Rattle.ranges.specs.Range.{first, filt}
+use Rattle.ranges.proofs.Range.{first-is, first-not-past, filt-at, filt-ext}
+use Rattle.ranges.proofs.Bools.{by, no_true, same_test, and_both, and_left, and_right}
 use Rattle.arithmetic.specs.declared.standing.ChiSquare.{ChiSquare}
 use Rattle.rule.specs.Outcome.{Refused, Outcome}
 use Rattle.decision.specs.Claims.{listed_in}
@@ -26,11 +20,10 @@ use Rattle.shown.specs.Shown.{Transmission, shown}
 use Rattle.shown.specs.Claims.{fix_relations}
 use Rattle.shown.proofs.Plainly.{shown-is-decided}
 use Rattle.links.specs.Transmissions.{transmissions_of}
-use Rattle.links.specs.Walk as W
 use Rattle.links.proofs.Fitness.{self-linked}
-use Rattle.links.proofs.Indexed.{transmissions-are}
-use Rattle.links.specs.Links.{link_at}
-use Rattle.links.proofs.Linking.{links-turned}
+use Rattle.links.proofs.Indexed.{together_at, first_at, together-at-is, transmissions-are}
+use Rattle.links.proofs.Parting.{first-once}
+use Rattle.links.proofs.Reaching.{SelfLinked, chain-joined, chain-turned}
 use Rattle.transmissions.specs.Picture.{older_than, picture, latest_of, max_shown}
 use Rattle.drawing.specs.Text.{board_text, board_size}
 use Rattle.drawing.proofs.Lengths.{lines_in, all_lines, texts-width, board-long}
@@ -112,19 +105,33 @@ module _ (fs : List Fix) (w : AllFormed fs) (a : Apart fs) (few : length fs ≤ 
   abbrev n : ℕ
   n = length fs
 
+  -- the first fix of the transmission of j
   abbrev lab : ℕ → ℕ
-  lab = W.label (link_at fs) n
+  lab j = first (λ s. first_at fs s && together_at fs s j) 0 n
+
+  self : SelfLinked fs
+  self f m = self-linked f.record_bytes (w f m).form
+
+  labelled : (s j : ℕ) → s < n → j < n → first_at fs s ≡ true → together_at fs s j ≡ has lab s j
+  labelled s j h k p =
+      let found = λ (b : lab j < n). first-is (λ i. first_at fs i && together_at fs i j) 0 n (omega arith) in
+      same_test (together_at fs s j) (has lab s j)
+      (λ t. let l = first-not-past (λ i. first_at fs i && together_at fs i j) 0 n s (omega arith) (omega arith) (and_both (first_at fs s) (together_at fs s j) p t) in
+      let b : lab j < n = omega arith in
+      let c = λ (i : ℕ). λ (d : i < n). λ (q : together_at fs i j ≡ true). (together-at-is fs self i j d k).0 q in
+      eq-eqb (lab j) s (first-once fs few w a (lab j) s b h (and_left _ _ (found b)) p (chain-joined (c (lab j) b (and_right (first_at fs (lab j)) _ (found b))) (chain-turned (c s h t)))))
+      (λ t. let e = eqb-true (lab j) s t in let b : lab j < n = omega arith in rw (← e) (and_right (first_at fs (lab j)) _ (found b)))
 
   -- no more fixes are in transmissions than there are
   parted : total (λ (c : List Fix). length c) (transmissions_of fs) ≤ length fs
-  unfolding W.members W.heads
   parted =
-      let heads = filt (W.is_head (link_at fs) n) 0 n in
-      let e = ap (total (λ (c : List Fix). length c)) (transmissions-are fs few (λ f m. self-linked f.record_bytes (w f m).form) a (link_at fs) (λ i j h k. refl) (links-turned fs)) in
-      let f = total-map (λ (c : List Fix). length c) (λ s. map (at fs) (W.members (link_at fs) n s)) heads in
-      let g = total-same (λ s. length (map (at fs) (W.members (link_at fs) n s))) (λ s. length (filter (has lab s) (up_to n))) heads
-      (λ s _. length-map (filt (W.is_member (link_at fs) n s) 0 n) (at fs) ∙ ap (λ (l : List ℕ). length l) (sym (filter_range (W.is_member (link_at fs) n s) 0 n))) in
-      let h = several lab (W.is_head (link_at fs) n) 0 n (up_to n) in
+      let heads = filt (first_at fs) 0 n in
+      let e = ap (total (λ (c : List Fix). length c)) (transmissions-are fs self) in
+      let f = total-map (λ (c : List Fix). length c) (λ s. map (at fs) (filt (together_at fs s) 0 n)) heads in
+      let g = total-same (λ s. length (map (at fs) (filt (together_at fs s) 0 n))) (λ s. length (filter (has lab s) (up_to n))) heads
+      (λ s m. let z = filt-at (first_at fs) 0 n s m in
+      length-map (filt (together_at fs s) 0 n) (at fs) ∙ ap (λ (l : List ℕ). length l) (filt-ext (together_at fs s) (has lab s) 0 n (λ j _ k. labelled s j (omega arith) (omega arith) z.2) ∙ sym (filter_range (has lab s) 0 n))) in
+      let h = several lab (first_at fs) 0 n (up_to n) in
       let k = count-length 0 n in
       omega (arith, e, f, g, h, k)
 

@@ -1,13 +1,7 @@
 -- A board has no bytes exactly where no record counts.
-use Prim.Native.Nat.{ℕ, ◌-◌, ◌<◌}
-use mathlib.Core.Path.{◌≡◌, refl}
-use mathlib.Core.Bool.{Bool, true, false, not}
+use Rattle.std.proofs.Common.{ℕ, ◌-◌, ◌<◌, ◌≡◌, refl, Bool, true, false, not, List, [], ◌∷◌, map, arith, eqb, length, length-drop, ne_eqb}
 use mathlib.Core.List.Memᴰ
-use mathlib.Core.List.{List, [], ◌∷◌, map, Memᴰ}
-use native.Mathlib.Omega.{arith}
-use lib.Dec.{eqb}
-use lib.ListN.{length, length-drop}
-use borrow.Author.Tests.{ne_eqb}
+use mathlib.Core.List.{Memᴰ}
 use Rattle.ranges.specs.Lists.{any_of, filter, sort}
 use Rattle.ranges.proofs.Bools.{by}
 use Rattle.ranges.proofs.Lists.{filter_none, filter-some, sort-perm}
@@ -91,7 +85,7 @@ module _ (s : Register) (v : Valid s) where
   unfolding picture
   picture-some k =
       let x = standing s v in
-      let w = partition fs x.few (λ f m. self-linked f.record_bytes (x.formed f m).form) x.apart in
+      let w = partition fs (λ f m. self-linked f.record_bytes (x.formed f m).form) in
       let c = w.each k.0 k.1 in
       (shown c.0, perm-mem (sort-perm older_than (map shown (transmissions_of fs))) (map_of shown (transmissions_of fs) c.0 c.1))
 

@@ -1,7 +1,5 @@
 -- Eight worked cases, and that a board of no records has no bytes.
-use Prim.Native.Nat.{ℕ}
-use mathlib.Core.Path.{◌≡◌, refl}
-use mathlib.Core.List.{List, []}
+use Rattle.std.proofs.Common.{ℕ, ◌≡◌, refl, List, []}
 use Rattle.floats.proofs.Worked.{root-of-4}
 use Rattle.text.proofs.Readback.{height-texts}
 use Rattle.geometry.proofs.Positions.{position-4}

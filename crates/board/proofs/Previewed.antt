@@ -1,13 +1,7 @@
 -- What a preview gives: the refusals in their order, the board after the conviction, the present board where nothing of the engine is held, and after a list of
 -- calls the board after that list with the conviction at its end.
-use Prim.Native.Nat.{ℕ, ◌≤◌}
-use mathlib.Core.Path.{◌≡◌, refl, sym, ap, ap₂, ◌∙◌}
-use mathlib.Core.Bool.{true, false, cond, not, ◌&&◌}
-use mathlib.Core.List.{List, [], ◌∷◌}
-use native.Mathlib.Omega.{arith}
-use lib.Dec.{ltb, eqb}
-use lib.ListN.{length}
-use borrow.Author.Tests.{ne_eqb, eqb-false, le-ltb, ltb-true, ltb-false}
+use Rattle.std.proofs.Common.{ℕ, ◌≤◌, ◌≡◌, refl, sym, ap, ap₂, ◌∙◌, true, false, cond, not, ◌&&◌, List, [], ◌∷◌, arith, ltb, eqb, length, ne_eqb, le-ltb, ltb-true, ltb-false}
+use borrow.Author.Tests.{eqb-false}
 use Rattle.ranges.proofs.Bools.{by, and_both}
 use Rattle.octets.specs.Bytes.{Bytes}
 use Rattle.places.specs.Places.{keep_places}

@@ -1,12 +1,9 @@
 -- What a register shows after a list of calls: each fix is of one transmission and has one line there, and the oldest transmission comes first.
-use Prim.Native.Nat.{ℕ, suc}
-use mathlib.Core.Path.{◌≡◌, refl, sym, ap, ap₂, ◌∙◌, subst}
-use mathlib.Core.Bool.{Bool, true, not, false≢true}
-use mathlib.Core.Logic.{◌⊎◌, inl, inr}
+use Rattle.std.proofs.Common.{ℕ, suc, ◌≡◌, refl, sym, ap, ap₂, ◌∙◌, subst, Bool, true, not, ◌⊎◌, inl, inr, List, [], ◌∷◌, map, arith}
+use mathlib.Core.Bool.{false≢true}
 use mathlib.Core.List.Memᴰ
 use mathlib.Core.List.Permᴰ
-use mathlib.Core.List.{List, [], ◌∷◌, map, Memᴰ, Permᴰ}
-use native.Mathlib.Omega.{arith}
+use mathlib.Core.List.{Memᴰ, Permᴰ}
 use Rattle.octets.specs.Order.{same}
 use Rattle.octets.proofs.Comparison.{same-eq}
 use Rattle.record.specs.Fields.{tag_count}
@@ -201,7 +198,7 @@ what-is-shown cs f =
     let fs = fixes_of ss ps in
     let x = standing-over cs f in
     let d : Apart fs = x.apart in
-    let w : Partition fs = partition fs x.few (λ f m. self-linked f.record_bytes (x.formed f m).form) d in
+    let w : Partition fs = partition fs (λ f m. self-linked f.record_bytes (x.formed f m).form) in
     record {
       parted = w;
       one_line = λ c m. lines c;

@@ -1,10 +1,5 @@
 -- The fixes of a register.
-use mathlib.Core.Path.{◌≡◌}
-use mathlib.Core.Bool.{true}
-use mathlib.Core.List.{List}
-use Prim.Native.Nat.{ℕ, ◌≤◌}
-use native.Mathlib.Omega.{arith}
-use lib.ListN.{length, take, drop}
+use Rattle.std.proofs.Common.{◌≡◌, true, List, ℕ, ◌≤◌, arith, length, take, drop}
 use Rattle.octets.specs.Order.{same}
 use Rattle.octets.specs.Words.{word_bytes}
 use Rattle.record.specs.Layout.{record_size}

@@ -1,10 +1,5 @@
 -- The claim about whole lists: both rooms hold and show the same.
-use Prim.Native.Nat.{ℕ, ◌≤◌}
-use mathlib.Core.Path.{◌≡◌, sym, ap, ap₂, ◌∙◌, subst}
-use mathlib.Core.Bool.{true}
-use mathlib.Core.List.{List}
-use lib.ListN.{length}
-use borrow.Author.Tests.{le-ltb}
+use Rattle.std.proofs.Common.{ℕ, ◌≤◌, ◌≡◌, sym, ap, ap₂, ◌∙◌, subst, true, List, length, le-ltb}
 use Rattle.drawing.specs.Text.{board_size}
 use Rattle.held.specs.After.{write_text}
 use Rattle.register.specs.Memory.{decode, fresh}

@@ -1,8 +1,7 @@
 -- A whole board and a whole preview, by computation. The session program prints these lines for the same reports, for the preview with a conviction after
 -- them, and so does the second writing of the board in plain Rust (oracle/peer).
-use Prim.Native.Nat.{ℕ}
-use mathlib.Core.Path.{◌≡◌, refl}
-use mathlib.Core.List.{List, [], ◌∷◌, ◌++◌, flat_map}
+use Rattle.std.proofs.Common.{ℕ, ◌≡◌, refl, List, [], ◌∷◌, ◌++◌}
+use mathlib.Core.List.{flat_map}
 use lib.Count.{count_leading_zeros}
 use lib.Ieee.{of_bits, to_bits, round, le, lt, eq, of_int, div, mul, add, sub, neg, is_nan}
 use Rattle.octets.specs.Ascii.{ascii}

@@ -1,10 +1,6 @@
 -- How long the text of transmissions is.
-use Prim.Native.Nat.{ℕ, suc, ◌+◌, ◌*◌, ◌≤◌}
-use mathlib.Core.Path.{◌≡◌, refl}
-use mathlib.Core.Logic.{◌⊎◌, inl, inr}
-use mathlib.Core.List.{List, [], ◌∷◌, flat_map}
-use native.Mathlib.Omega.{arith}
-use lib.ListN.{length, length-append}
+use Rattle.std.proofs.Common.{ℕ, suc, ◌+◌, ◌*◌, ◌≤◌, ◌≡◌, refl, ◌⊎◌, inl, inr, List, [], ◌∷◌, arith, length, length-append}
+use mathlib.Core.List.{flat_map}
 use Rattle.octets.specs.Ascii.{ascii}
 use Rattle.shown.specs.Shown.{Transmission}
 use Rattle.drawing.specs.Text.{ranked_text, dominated_text, refused_text, text_of, text_from, board_text}

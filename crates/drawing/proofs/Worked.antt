@@ -1,9 +1,6 @@
 -- The lines of the worked session, and a line with everything at its widest.
-use mathlib.Core.Path.{◌≡◌, refl}
-use mathlib.Core.List.{List, [], ◌∷◌, ◌++◌}
-use Prim.Native.Nat.{ℕ}
+use Rattle.std.proofs.Common.{◌≡◌, refl, List, [], ◌∷◌, ◌++◌, ℕ, replicate}
 use lib.Ieee.{binary64, of_bits, to_bits}
-use lib.ListN.{replicate}
 use Rattle.octets.specs.Words.{word_bytes, word}
 use Rattle.octets.specs.Masks.{bits}
 use Rattle.text.specs.Numbers.{digits, signed, hex}

@@ -1,14 +1,6 @@
 -- What a search by identity finds among fixes that ascend, and what entering a further fix comes to at what it finds.
-use Prim.Native.Nat.{ℕ, zero, suc, ◌≤◌, ◌<◌}
-use mathlib.Core.Path.{◌≡◌, refl, sym, ap, ◌∙◌}
-use mathlib.Core.Bool.{true, false}
-use mathlib.Core.List.{List, [], ◌∷◌}
-use native.Mathlib.Omega.{arith}
-use lib.Dec.{ltb}
-use lib.ListN.{length, get_or, set, drop, length-set}
-use lib.Seq.{take_all}
+use Rattle.std.proofs.Common.{ℕ, zero, suc, ◌≤◌, ◌<◌, ◌≡◌, refl, sym, ap, ◌∙◌, true, false, List, [], ◌∷◌, arith, ltb, length, get_or, set, drop, length-set, take_all, ltb-true, ltb-false}
 use Rattle.std.proofs.lemmas.List.{take-append-le}
-use borrow.Author.Tests.{ltb-true, ltb-false}
 use Rattle.std.specs.List.{insert, refill, AllWithin, HoldsAt}
 use Rattle.std.specs.List.Sorted.{IsNonDecreasingBy}
 use Rattle.std.specs.Ordering.{ordering_index}

@@ -1,13 +1,7 @@
 -- What is known of the fixes of a board: they ascend, so that no two have one identity; each is formed; and there are no more of them than records.
-use Prim.Native.Nat.{ℕ, suc, ◌+◌, ◌≤◌}
-use mathlib.Core.Path.{◌≡◌, refl, sym, subst}
-use mathlib.Core.Bool.{true}
+use Rattle.std.proofs.Common.{ℕ, suc, ◌+◌, ◌≤◌, ◌≡◌, refl, sym, subst, true, List, [], ◌∷◌, arith, ltb, length, ltb-true, ltb-false}
 use mathlib.Core.List.Memᴰ
-use mathlib.Core.List.{List, [], ◌∷◌, Memᴰ}
-use native.Mathlib.Omega.{arith}
-use lib.Dec.{ltb}
-use lib.ListN.{length}
-use borrow.Author.Tests.{ltb-true, ltb-false}
+use mathlib.Core.List.{Memᴰ}
 use Rattle.octets.specs.Order.{is_before}
 use Rattle.octets.proofs.Comparison.{before-irrefl}
 use Rattle.ranges.specs.Lists.{filter}

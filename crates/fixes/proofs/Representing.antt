@@ -1,12 +1,6 @@
 -- The walk over a register's records, place by place: what holds of the fixes before each, and at the end.
-use Prim.Native.Nat.{ℕ, ◌+◌, ◌*◌, ◌-◌, ◌≤◌, ◌<◌}
-use mathlib.Core.Path.{◌≡◌, refl, sym, ap, ap₂, ◌∙◌}
-use mathlib.Core.Bool.{Bool, true, false, ◌&&◌}
-use mathlib.Core.List.{List, [], ◌∷◌, map}
-use native.Mathlib.Omega.{arith}
+use Rattle.std.proofs.Common.{ℕ, ◌+◌, ◌*◌, ◌-◌, ◌≤◌, ◌<◌, ◌≡◌, refl, sym, ap, ap₂, ◌∙◌, Bool, true, false, ◌&&◌, List, [], ◌∷◌, map, arith, length, take, drop, length-drop, length-take-le, take_all}
 use native.Mathlib.Nat.{sub-zero}
-use lib.ListN.{length, take, drop, length-drop}
-use lib.Seq.{length-take-le, take_all}
 use Rattle.octets.specs.Words.{word, word_at}
 use Rattle.ranges.specs.Lists.{filter}
 use Rattle.ranges.proofs.Bools.{and_left, and_right}

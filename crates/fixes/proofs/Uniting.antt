@@ -1,8 +1,5 @@
 -- Which of two fixes represents both, from the lesser of their records.
-use mathlib.Core.Path.{◌≡◌, sym, ◌∙◌}
-use mathlib.Core.Bool.{Bool, true, false}
-use mathlib.Core.List.{List}
-use Prim.Native.Nat.{ℕ}
+use Rattle.std.proofs.Common.{◌≡◌, sym, ◌∙◌, Bool, true, false, List, ℕ}
 use Rattle.octets.specs.Order.{is_before, same}
 use Rattle.octets.specs.Lesser.{lesser_of}
 use Rattle.octets.proofs.Comparison.{same_refl, less-same}

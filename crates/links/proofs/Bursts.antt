@@ -1,12 +1,6 @@
 -- Bursts with a pause between them: no chain leads from one to the other, and each has the transmissions that it has alone.
-use Prim.Native.Nat.{ℕ, zero, suc, ◌≤◌}
-use mathlib.Core.Path.{◌≡◌, refl, sym, ap, ◌∙◌, subst}
-use mathlib.Core.Bool.{Bool, true, ◌&&◌}
-use mathlib.Core.List.{List, [], ◌∷◌, Memᴰ}
-use native.Mathlib.Omega.{arith}
-use lib.Dec.{ltb, leb}
-use lib.ListN.{length}
-use borrow.Author.Tests.{leb-true, le-leb, ltb-true, lt-ltb}
+use Rattle.std.proofs.Common.{ℕ, zero, suc, ◌≤◌, ◌≡◌, refl, sym, ap, ◌∙◌, subst, Bool, true, ◌&&◌, List, [], ◌∷◌, arith, ltb, leb, length, leb-true, le-leb, ltb-true, lt-ltb}
+use mathlib.Core.List.{Memᴰ}
 use Rattle.ranges.specs.Lists.{any_of, filter}
 use Rattle.ranges.proofs.Lists.{filter-in, filter-of, filter_same}
 use Rattle.ranges.proofs.Bools.{by, or, and_left, and_right, and_both, same_test}
@@ -14,7 +8,7 @@ use Rattle.shown.specs.Fix.{Fix}
 use Rattle.shown.specs.Ages.{time_of}
 use Rattle.links.specs.Transmissions.{linked, Chain, here, more, reach, transmission_of}
 use Rattle.links.specs.Bursts.{Pause, BurstsStayApart}
-use Rattle.links.proofs.Reaching.{SelfLinked, some_in, chain-in, transmission-is}
+use Rattle.links.proofs.Reaching.{SelfLinked, chain-in, together, together-is, transmission-tested}
 use Rattle.links.proofs.Fitness.{self-linked}
 use Rattle.links.proofs.Limits.{link-exactly-when}
 
@@ -25,12 +19,6 @@ twice {A = A} p q (x ∷ l) =
     by (p x)
     (λ h. by (q x) (λ k. rw (h, k) (ap (λ (t : List A). x ∷ t) (twice p q l))) (λ k. rw (h, k) (twice p q l)))
     (λ h. rw h (twice p q l))
-
--- what at least one link leads to is all that pass a test
-tested : (l : List Fix) (a : Fix) (n : ℕ) → 1 ≤ n → (q : Fix → Bool) × (reach l n a ≡ filter q l)
-unfolding reach
-tested l a zero h = absurd (omega arith)
-tested l a (suc n) h = (λ g. any_of (linked g) (reach l n a), refl)
 
 -- ---- a burst: all that a test holds of, where a link leads from none of these to another
 
@@ -53,23 +41,13 @@ module _ (fs : List Fix) (self : SelfLinked fs) (p : Fix → Bool)
   as-alone : (a : Fix) → Memᴰ a fs → p a ≡ true → transmission_of fs a ≡ transmission_of (filter p fs) a
   as-alone a m h =
       let k = filter-of p fs a m h in
-      let q = tested fs a (length fs) (some_in a fs m) in
-      let r = tested (filter p fs) a (length (filter p fs)) (some_in a (filter p fs) k) in
-      q.1 ∙ filter_same q.0 (λ x. p x && r.0 x) fs (agree k q r) ∙ sym (twice p r.0 fs) ∙ sym r.1
-    where
-      agree : Memᴰ a (filter p fs) → (q : (t : Fix → Bool) × (transmission_of fs a ≡ filter t fs)) (r : (t : Fix → Bool) × (transmission_of (filter p fs) a ≡ filter t (filter p fs)))
-          (x : Fix) → Memᴰ x fs → q.0 x ≡ (p x && r.0 x)
-      agree k q r x n =
-          same_test (q.0 x) (p x && r.0 x)
-          (λ t.
-          let c = (transmission-is fs a m self x).0 (subst (λ (l : List Fix). Memᴰ x l) (sym q.1) (filter-of q.0 fs x n t)) in
-          let i = chain-inside h c in
-          let u = (transmission-is (filter p fs) a k self-inside x).1 i.1 in
-          and_both (p x) (r.0 x) i.0 (filter-in r.0 (filter p fs) x (subst (λ (l : List Fix). Memᴰ x l) r.1 u)).1)
-          (λ t.
-          let u = filter-of r.0 (filter p fs) x (filter-of p fs x n (and_left (p x) (r.0 x) t)) (and_right (p x) (r.0 x) t) in
-          let c = (transmission-is (filter p fs) a k self-inside x).0 (subst (λ (l : List Fix). Memᴰ x l) (sym r.1) u) in
-          (filter-in q.0 fs x (subst (λ (l : List Fix). Memᴰ x l) q.1 ((transmission-is fs a m self x).1 (chain-outside c)))).1)
+      let q = together fs in
+      let r = together (filter p fs) in
+      transmission-tested fs self a m
+      ∙ filter_same (q a) (λ x. p x && r a x) fs (λ x n. same_test (q a x) (p x && r a x)
+      (λ t. let i = chain-inside h ((together-is fs self a x m n).0 t) in and_both (p x) (r a x) i.0 ((together-is (filter p fs) self-inside a x k (chain-in i.1)).1 i.1))
+      (λ t. (together-is fs self a x m n).1 (chain-outside ((together-is (filter p fs) self-inside a x k (filter-of p fs x n (and_left _ _ t))).0 (and_right (p x) (r a x) t)))))
+      ∙ sym (twice p (r a) fs) ∙ sym (transmission-tested (filter p fs) self-inside a k)
 
 -- ---- before and after a pause
 

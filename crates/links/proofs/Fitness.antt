@@ -1,10 +1,5 @@
 -- A fix links to itself.
-use Prim.Native.Nat.{ℕ, zero, suc, ◌-◌, ◌≤◌}
-use mathlib.Core.Path.{◌≡◌, refl}
-use mathlib.Core.Bool.{true}
-use mathlib.Core.List.{List}
-use native.Mathlib.Omega.{arith}
-use borrow.Author.Tests.{eq-eqb, le-ltb, le-leb}
+use Rattle.std.proofs.Common.{ℕ, zero, suc, ◌-◌, ◌≤◌, ◌≡◌, refl, true, List, arith, eq-eqb, le-ltb, le-leb}
 use Rattle.octets.specs.Order.{same}
 use Rattle.octets.proofs.Comparison.{same_refl}
 use Rattle.record.specs.Fields.{time, message, tags, tag_count, tags_from, tag_at}

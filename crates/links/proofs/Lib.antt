@@ -1,6 +1,5 @@
 pub mod Marks
-pub mod Chains
-pub mod Naming
+pub mod Visiting
 pub mod Symmetry
 pub mod Positions
 pub mod Labelling

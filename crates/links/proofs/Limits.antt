@@ -1,11 +1,7 @@
 -- The limit in time of a link: when two records link, which fixes are one transmission by computation, and that two fixes further apart rank alone.
-use Prim.Native.Nat.{ℕ, ◌+◌, ◌-◌, ◌≤◌, ◌<◌}
-use mathlib.Core.Path.{◌≡◌, refl, ap, ap₂, ◌∙◌}
-use mathlib.Core.Bool.{true, false}
-use mathlib.Core.List.{List, [], ◌∷◌, flat_map, map}
-use native.Mathlib.Omega.{arith}
-use lib.Dec.{ltb}
-use borrow.Author.Tests.{ltb-true, ltb-false, leb-true, le-leb, lt-leb}
+use Rattle.std.proofs.Common.{ℕ, ◌+◌, ◌-◌, ◌≤◌, ◌<◌, ◌≡◌, refl, ap, ap₂, ◌∙◌, true, false, List, [], ◌∷◌, map, arith, ltb, ltb-true, ltb-false, leb-true, le-leb}
+use mathlib.Core.List.{flat_map}
+use borrow.Author.Tests.{lt-leb}
 use Rattle.octets.specs.Words.{word, word_bytes}
 use Rattle.octets.specs.Order.{same, is_before}
 use Rattle.octets.proofs.Comparison.{same_refl}

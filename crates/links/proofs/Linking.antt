@@ -1,17 +1,10 @@
 -- Whether two fixes link, from the times of their records and what ties them.
-use Prim.Native.Nat.{ℕ, zero, suc, ◌<◌}
-use mathlib.Core.Path.{◌≡◌, refl, sym, ap₂, ◌∙◌}
-use mathlib.Core.Bool.{Bool, true, false, ◌&&◌}
-use mathlib.Core.List.{List, [], ◌∷◌}
-use native.Mathlib.Omega.{arith}
-use lib.ListN.{length, get_or}
+use Rattle.std.proofs.Common.{ℕ, zero, suc, ◌<◌, ◌≡◌, refl, sym, ap₂, ◌∙◌, Bool, true, false, ◌&&◌, List, [], ◌∷◌, arith, length, get_or}
 use Rattle.record.specs.Fields.{time}
 use Rattle.record.specs.Relations.{tied}
 use Rattle.shown.specs.Fix.{Fix}
 use Rattle.shown.specs.Items.{no_fix, at}
 use Rattle.links.specs.Transmissions.{near_in_time, records_link, linked}
-use Rattle.links.specs.Chains.{Symmetric}
-use Rattle.links.proofs.Symmetry.{linked-turned}
 use Rattle.links.specs.Links.{link_at}
 
 and-true : (b : Bool) → b ≡ (b && true)
@@ -47,7 +40,3 @@ at_is fs i x h e = e ∙ same-at fs i x no_fix h
 
 pub linked-there : (fs : List Fix) (i j : ℕ) (x y : Fix) (b : Bool) → i < length fs → j < length fs → x ≡ get_or fs i x → y ≡ get_or fs j y → b ≡ linked x y → b ≡ link_at fs i j
 linked-there fs i j x y b h k e d p = p ∙ ap₂ linked (at_is fs i x h e) (at_is fs j y k d)
-
--- links between the fixes of a list go both ways
-pub links-turned : (fs : List Fix) → Symmetric (link_at fs)
-links-turned fs = record { turned = λ i j. linked-turned _ _ }

@@ -1,28 +1,25 @@
 -- Fixes by their labels are the transmissions of fixes.
-use Prim.Native.Nat.{ℕ, zero, suc, ◌+◌, ◌≤◌, ◌<◌}
-use mathlib.Core.Path.{◌≡◌, refl, sym, ap, ◌∙◌}
-use mathlib.Core.Bool.{Bool, true, false, cond}
-use mathlib.Core.List.{List, [], ◌∷◌, ◌++◌, map}
-use native.Mathlib.Omega.{arith}
-use lib.Dec.{eqb}
-use lib.ListN.{length, get_or}
-use borrow.Author.Tests.{eqb-true, eq-eqb, ltb-true, ltb-false}
-use Rattle.ranges.specs.Tables.{Cached, marked}
+use Rattle.std.proofs.Common.{ℕ, zero, suc, ◌+◌, ◌≤◌, ◌<◌, ◌≡◌, refl, sym, ap, subst, ◌∙◌, Bool, true, false, cond, List, [], ◌∷◌, ◌++◌, map, arith, length, get_or, replicate, eqb-true, eq-eqb, eq-or-lt_of_le}
+use mathlib.Core.List.{Memᴰ}
+use Rattle.octets.proofs.Comparison.{same-eq, same_refl}
+use Rattle.ranges.specs.Tables.{marked}
 use Rattle.ranges.specs.Range.{filt}
 use Rattle.ranges.proofs.Range.{filt-ext, filt-few, filt-at}
-use Rattle.ranges.proofs.Bools.{by, no_true}
+use Rattle.ranges.proofs.Bools.{by, or, clash, no_true, same_test}
 use Rattle.fixes.specs.Slots.{max_fixes}
 use Rattle.shown.specs.Fix.{Fix}
-use Rattle.shown.specs.Items.{at, AllFormed, Apart}
+use Rattle.shown.specs.Items.{no_fix, at, AllFormed, Apart}
 use Rattle.shown.proofs.Indexed.{at_in}
-use Rattle.links.specs.Transmissions.{transmissions_of}
-use Rattle.links.specs.Walk as W
-use Rattle.links.proofs.Fitness.{self-linked}
-use Rattle.links.proofs.Naming.{label-le}
-use Rattle.links.proofs.Labelling.{LabelledBelow, labels-end}
-use Rattle.links.proofs.Indexed.{map_same, transmissions-are}
+use Rattle.links.specs.Transmissions.{Chain, here, is_first, transmissions_of}
 use Rattle.links.specs.Links.{link_at, has, having}
-use Rattle.links.proofs.Linking.{links-turned}
+use Rattle.links.specs.Labels.{relabel}
+use Rattle.links.specs.Walk.{no_marks, unmarked, visit}
+use Rattle.links.proofs.Fitness.{self-linked}
+use Rattle.links.proofs.Marks.{Grown, no-marks, visited-grown}
+use Rattle.links.proofs.Labelling.{relabel-length, relabel-at}
+use Rattle.links.proofs.Reaching.{SelfLinked, chain-joined, chain-turned}
+use Rattle.links.proofs.Visiting.{Visited, visit-visited, complete}
+use Rattle.links.proofs.Indexed.{map_same, together_at, first_at, together-at-is, transmissions-are, first-of}
 
 -- ---- indices that pass a test, one after another
 
@@ -55,44 +52,117 @@ pub filt-none : (g : ℕ → Bool) → [] ≡ filt g 0 0
 unfolding filt
 filt-none g = refl
 
+le_of_lt_suc : (i : ℕ) {s : ℕ} → i < s + 1 → i ≤ s
+le_of_lt_suc i h = omega arith
+
 -- ---- the walks so far
+
+-- fix j is of the transmission whose first fix is k, and that comes before s
+pub record Led (fs : List Fix) (s k j : ℕ) : Type 0 where
+  pub below : k < s
+  pub first : is_first fs (at fs k) ≡ true
+  pub chain : Chain fs (at fs k) (at fs j)
 
 -- the walks from the fixes before s, the first fixes among these, and their labels
 pub record Walked (fs : List Fix) (s : ℕ) (m : List Bool) (l firsts : List ℕ) : Type 0 where
-  pub below : LabelledBelow (link_at fs) (length fs) s m l
-  pub firsts_are : firsts ≡ filt (W.is_head (link_at fs) (length fs)) 0 s
+  pub wide : length m ≡ max_fixes
+  pub long : length l ≡ max_fixes
+  pub led : (j : ℕ) → j < length fs → marked m j ≡ true → Led fs s (get_or l j 0) j
+  pub seen : (i j : ℕ) → i < s → j < length fs → Chain fs (at fs i) (at fs j) → marked m j ≡ true
+  pub firsts_are : firsts ≡ filt (first_at fs) 0 s
 
-module _ (fs : List Fix) (few : length fs ≤ max_fixes) (s : ℕ) (m : List Bool) (l : List ℕ) (w : LabelledBelow (link_at fs) (length fs) s m l) (h : s < length fs) where
-  pub is-first : marked m s ≡ false → W.is_head (link_at fs) (length fs) s ≡ true
-  is-first e =
-      let a = label-le (link_at fs) (length fs) few s h in
-      let b = ltb-false (W.label (link_at fs) (length fs) s) s (sym (w.who s h) ∙ e) in
-      eq-eqb _ _ (omega arith)
+pub walked-none : (fs : List Fix) → Walked fs 0 no_marks (replicate max_fixes 0) []
+unfolding filt
+walked-none fs = record {
+  wide = refl;
+  long = refl;
+  led = λ j h e. clash e (no-marks max_fixes j);
+  seen = λ i j h k c. absurd (omega arith);
+  firsts_are = refl;
+}
 
-  pub not-first : marked m s ≡ true → W.is_head (link_at fs) (length fs) s ≡ false
-  not-first e =
-      let b = ltb-true (W.label (link_at fs) (length fs) s) s (sym (w.who s h) ∙ e) in
-      no_true (eqb (W.label (link_at fs) (length fs) s) s) (λ t. let z = eqb-true (W.label (link_at fs) (length fs) s) s t in absurd (omega arith))
+module _ (fs : List Fix) (few : length fs ≤ max_fixes) (formed : AllFormed fs) (apart : Apart fs) where
+  self : SelfLinked fs
+  self f m = self-linked f.record_bytes (formed f m).form
 
--- ---- at their end
+  -- that of which two fixes are first is one
+  pub first-once : (i j : ℕ) → i < length fs → j < length fs → is_first fs (at fs i) ≡ true → is_first fs (at fs j) ≡ true → Chain fs (at fs i) (at fs j) → i ≡ j
+  first-once i j h k p q c =
+      let r = first-of fs self i i h h (here (at_in no_fix fs i h)) in
+      let s = first-of fs self j i k h (chain-turned c) in
+      let x = apart i r.0 h (let l = r.1 in omega arith) (same-eq _ _ (sym r.3 ∙ p)) in
+      let y = apart j s.0 k (let l = s.1 in omega arith) (same-eq _ _ (sym s.3 ∙ q)) in
+      let z = first-of fs self i j h k c in
+      let v = apart i z.0 h (let l = z.1 in omega arith) (same-eq _ _ (sym z.3 ∙ p)) in
+      let l = s.1 in let o = z.1 in omega arith
 
-module _ (fs : List Fix) (few : length fs ≤ max_fixes) (s : ℕ) (m : List Bool) (l firsts : List ℕ) (w : Walked fs s m l firsts) (most : s ≤ length fs) (all : length fs ≤ s) where
-  labelled : Cached 0 l (W.label (link_at fs) (length fs)) (length fs)
-  labelled = labels-end (link_at fs) (length fs) few s m l all w.below
+  module _ (s : ℕ) (h : s < length fs) (m : List Bool) (l firsts : List ℕ) (w : Walked fs s m l firsts) where
+    -- fix s has a mark: it is of an earlier transmission
+    pub walked-by : marked m s ≡ true → Walked fs (s + 1) m l firsts
+    walked-by e =
+        let d = w.led s h e in
+        let k = get_or l s 0 in
+        let b = d.below in
+        let r = first-of fs self s k h (omega arith) (chain-turned d.chain) in
+        let i = r.1 in
+        record {
+          wide = w.wide;
+          long = w.long;
+          led = λ j t p. let q = w.led j t p in record { below = let c = q.below in omega arith; first = q.first; chain = q.chain };
+          seen = λ i j t u c. or (eq-or-lt_of_le (le_of_lt_suc i t))
+              (λ z. w.seen k j b u (chain-joined d.chain (subst (λ (x : ℕ). Chain fs (at fs x) (at fs j)) z c)))
+              (λ z. w.seen i j z u c);
+          firsts_are = passed-by (first_at fs) s firsts w.firsts_are (no_true _ (λ t. let z = apart s r.0 h (omega arith) (same-eq _ _ (sym r.3 ∙ t)) in absurd (omega arith)));
+        }
 
-  having-are : (k : ℕ) → having fs l k ≡ map (at fs) (W.members (link_at fs) (length fs) k)
-  unfolding W.members Cached
-  having-are k = ap (map (at fs)) (filt-ext (has l k) (W.is_member (link_at fs) (length fs) k) 0 (length fs) (λ j _ h. ap (λ (x : ℕ). eqb x k) (labelled j (omega arith))))
+    -- it has none: it is the first of its transmission, and a visit marks all of that
+    pub walked-in : marked m s ≡ false → (r : List Bool) (q fs' : List ℕ) → r ≡ visit (link_at fs) (length fs) (unmarked m) s m → q ≡ relabel s m r l → fs' ≡ firsts ++ (s ∷ []) → Walked fs (s + 1) r q fs'
+    walked-in e r q fs' a b p = record {
+      wide = g.same ∙ w.wide;
+      long = ap length b ∙ relabel-length s m r l ∙ w.long;
+      led = λ j t u.
+          let wd = w.wide in
+          let lg = w.long in
+          let sm = g.same in
+          rw (b, relabel-at s m r l j (omega arith) (omega arith) (omega arith), u) (by (marked m j)
+          (λ c. let d = w.led j t c in rw c (record { below = let x = d.below in omega arith; first = d.first; chain = d.chain }))
+          (λ c. rw c (record { below = omega arith; first = is-first; chain = or (v.sound j u) (λ d. clash d c) (λ d. d) })));
+      seen = λ i j t u c. or (eq-or-lt_of_le (le_of_lt_suc i t))
+          (λ z. complete fs apart s h m r unseen v (subst (λ (x : ℕ). Chain fs (at fs x) (at fs j)) z c) j u refl)
+          (λ z. g.kept j (w.seen i j z u c));
+      firsts_are = passed-in (first_at fs) s firsts w.firsts_are fs' is-first p;
+    }
+      where
+        g : Grown m r
+        g = visited-grown (link_at fs) (length fs) (unmarked m) s m r a
 
-  heads-are : firsts ≡ W.heads (link_at fs) (length fs)
-  unfolding W.heads
-  heads-are = let z : s ≡ length fs = omega arith in w.firsts_are ∙ ap (filt (W.is_head (link_at fs) (length fs)) 0) z
+        v : Visited fs s m r
+        v = let wd = w.wide in rw a (visit-visited fs (unmarked m) s m (omega arith) h e (omega arith))
 
-  pub parts-are : AllFormed fs → Apart fs → map (having fs l) firsts ≡ transmissions_of fs
-  parts-are formed apart =
-      ap (map (having fs l)) heads-are
-      ∙ map_same (having fs l) (λ k. map (at fs) (W.members (link_at fs) (length fs) k)) (W.heads (link_at fs) (length fs)) (λ k _. having-are k)
-      ∙ sym (transmissions-are fs few (λ f n. self-linked f.record_bytes (formed f n).form) apart (link_at fs) (λ i j h k. refl) (links-turned fs))
+        unseen : (j : ℕ) → j < length fs → Chain fs (at fs s) (at fs j) → marked m j ≡ false
+        unseen j t c = no_true (marked m j) (λ u. let d = w.led j t u in clash (w.seen (get_or l j 0) s d.below h (chain-joined d.chain (chain-turned c))) e)
+
+        is-first : is_first fs (at fs s) ≡ true
+        is-first =
+            let f = first-of fs self s s h h (here (at_in no_fix fs s h)) in
+            or (eq-or-lt_of_le f.1)
+            (λ z. f.3 ∙ rw z (same_refl (at fs s).identity))
+            (λ z. clash (w.seen f.0 s z h (chain-turned f.2)) e)
+
+  -- at their end
+  pub parts-are : (s : ℕ) (m : List Bool) (l firsts : List ℕ) → Walked fs s m l firsts → s ≤ length fs → length fs ≤ s → map (having fs l) firsts ≡ transmissions_of fs
+  parts-are s m l firsts w most all =
+      let z : s ≡ length fs = omega arith in
+      ap (map (having fs l)) (w.firsts_are ∙ ap (filt (first_at fs) 0) z)
+      ∙ map_same (having fs l) (λ k. map (at fs) (filt (together_at fs k) 0 (length fs))) (filt (first_at fs) 0 (length fs)) (λ k n.
+      let t = filt-at (first_at fs) 0 (length fs) k n in
+      ap (map (at fs)) (filt-ext (has l k) (together_at fs k) 0 (length fs) (λ j _ b.
+      let d = w.led j (omega arith) (w.seen j j (omega arith) (omega arith) (here (at_in no_fix fs j (omega arith)))) in
+      let e = d.below in
+      same_test (has l k j) (together_at fs k j)
+      (λ u. (together-at-is fs self k j (omega arith) (omega arith)).1 (rw (← eqb-true (get_or l j 0) k u) d.chain))
+      (λ u. eq-eqb (get_or l j 0) k (first-once (get_or l j 0) k (omega arith) (omega arith) d.first t.2 (chain-joined d.chain (chain-turned ((together-at-is fs self k j (omega arith) (omega arith)).0 u))))))))
+      ∙ sym (transmissions-are fs self)
 
 -- ---- one transmission
 

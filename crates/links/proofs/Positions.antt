@@ -1,7 +1,5 @@
 -- Tags {1}, {2}, {1,2} make one transmission; and {1}, {2}, {3} make three.
-use mathlib.Core.Path.{◌≡◌, refl}
-use mathlib.Core.Bool.{true}
-use mathlib.Core.List.{[], ◌∷◌}
+use Rattle.std.proofs.Common.{◌≡◌, refl, true, [], ◌∷◌}
 use Rattle.octets.specs.Words.{word, word_bytes}
 use Rattle.octets.specs.Order.{same, is_before}
 use Rattle.octets.specs.Runs.{all_zero}

@@ -1,19 +1,13 @@
 -- A transmission is everything that a chain of links leads to: `reach` by as many links as there are fixes misses none.
-use Prim.Native.Nat.{ℕ, zero, suc, ◌≤◌}
-use mathlib.Core.Path.{◌≡◌, refl, sym, ap, subst}
-use mathlib.Core.Bool.{Bool, true}
-use mathlib.Core.Logic.{◌⊎◌, ◌↔◌, inl, inr}
+use Rattle.std.proofs.Common.{ℕ, zero, suc, ◌-◌, ◌∙◌, ◌≤◌, ◌≡◌, refl, sym, ap, subst, Bool, true, ◌⊎◌, ◌↔◌, inl, inr, List, [], ◌∷◌, arith, ltb, length, ltb-true, ltb-false}
 use mathlib.Core.List.Memᴰ
-use mathlib.Core.List.{List, [], ◌∷◌, Memᴰ}
-use native.Mathlib.Omega.{arith}
-use lib.Dec.{ltb}
-use lib.ListN.{length}
-use borrow.Author.Tests.{ltb-true, ltb-false}
-use Rattle.ranges.proofs.Bools.{by, or}
+use mathlib.Core.List.{Memᴰ}
+use Rattle.ranges.proofs.Bools.{by, or, same_test}
 use Rattle.ranges.specs.Lists.{any_of, filter}
 use Rattle.shown.specs.Fix.{Fix}
 use Rattle.links.specs.Transmissions.{linked, Chain, here, more, reach, transmission_of}
-use Rattle.ranges.proofs.Lists.{any-in, any-of, filter-in, filter-of}
+use Rattle.ranges.proofs.Lists.{any-in, any-of, filter-in, filter-of, filter_same}
+use Rattle.links.proofs.Symmetry.{linked-turned}
 use Rattle.links.proofs.Listing.{filter-no-wider, filter-all}
 
 -- each fix links to itself
@@ -24,20 +18,29 @@ pub some_in : {A : Type 0} (x : A) (l : List A) → Memᴰ x l → 1 ≤ length 
 some_in x [] m = absurd (Memᴰ.not-nil m)
 some_in x (y ∷ l) m = omega arith
 
--- what a chain leads to is in the list
-pub chain-in : {fs : List Fix} {a x : Fix} → Chain fs a x → Memᴰ x fs
-chain-in (here m) = m
-chain-in (more c m e) = m
+-- ---- chains: what they lead from and to is in the list; they can be joined, and turned round
+
+module _ {fs : List Fix} where
+  pub chain-from : {a x : Fix} → Chain fs a x → Memᴰ a fs
+  chain-from (here m) = m
+  chain-from (more c m e) = chain-from c
+
+  pub chain-in : {a x : Fix} → Chain fs a x → Memᴰ x fs
+  chain-in (here m) = m
+  chain-in (more c m e) = m
+
+  pub chain-joined : {a b x : Fix} → Chain fs a b → Chain fs b x → Chain fs a x
+  chain-joined p (here m) = p
+  chain-joined p (more c m e) = more (chain-joined p c) m e
+
+  pub chain-turned : {a x : Fix} → Chain fs a x → Chain fs x a
+  chain-turned (here m) = here m
+  chain-turned (more {f} {g} c m e) = chain-joined (more (here m) (chain-in c) (linked-turned f.record_bytes g.record_bytes ∙ e)) (chain-turned c)
 
 module _ (fs : List Fix) (a : Fix) (a_in : Memᴰ a fs) (self : SelfLinked fs) where
   -- g links to one that n links lead to
   abbrev near : ℕ → Fix → Bool
   near n g = any_of (linked g) (reach fs n a)
-
-  reach-in : (n : ℕ) (x : Fix) → Memᴰ x (reach fs n a) → Memᴰ x fs
-  unfolding reach
-  reach-in zero x m = or (Memᴰ.cases_cons m) (λ e. subst (λ (z : Fix). Memᴰ z fs) (sym e) a_in) (λ k. absurd (Memᴰ.not-nil k))
-  reach-in (suc n) x m = (filter-in (near n) fs x m).0
 
   -- ---- a chain leads to each
 
@@ -102,3 +105,30 @@ module _ (fs : List Fix) (a : Fix) (a_in : Memᴰ a fs) (self : SelfLinked fs) w
       go : (n : ℕ) → length fs ≡ n → Chain fs a x → Memᴰ x (reach fs n a)
       go zero e c = absurd (let s = some_in a fs a_in in omega arith)
       go (suc m) e c = complete m e x c
+
+-- ---- so it is all that pass a test, and that of each of its fixes
+
+-- a chain leads from a to x
+abbrev pub together : List Fix → Fix → Fix → Bool
+together fs a x = any_of (linked x) (reach fs (length fs - 1) a)
+
+module _ (fs : List Fix) (self : SelfLinked fs) where
+  pub transmission-tested : (a : Fix) → Memᴰ a fs → transmission_of fs a ≡ filter (together fs a) fs
+  unfolding reach
+  transmission-tested a m = let z : length fs ≡ suc (length fs - 1) = let s = some_in a fs m in omega arith in ap (λ (n : ℕ). reach fs n a) z
+
+  pub together-is : (a x : Fix) → Memᴰ a fs → Memᴰ x fs → (together fs a x ≡ true) ↔ Chain fs a x
+  together-is a x m n =
+      let e = transmission-tested a m in
+      let i = transmission-is fs a m self x in
+      (λ t. i.0 (rw e (filter-of (together fs a) fs x n t)), λ c. (filter-in (together fs a) fs x (rw e at (i.1 c))).1)
+
+  pub same-transmission : {a b : Fix} → Chain fs a b → transmission_of fs a ≡ transmission_of fs b
+  same-transmission {a} {b} c =
+      let m = chain-from c in
+      let n = chain-in c in
+      transmission-tested a m
+      ∙ filter_same (together fs a) (together fs b) fs (λ x k. same_test (together fs a x) (together fs b x)
+      (λ t. (together-is b x n k).1 (chain-joined (chain-turned c) ((together-is a x m k).0 t)))
+      (λ t. (together-is a x m k).1 (chain-joined c ((together-is b x n k).0 t))))
+      ∙ sym (transmission-tested b n)

@@ -1,11 +1,5 @@
 -- A link between two records goes both ways.
-use mathlib.Core.Path.{◌≡◌, refl, ap, ap₂}
-use mathlib.Core.Bool.{◌&&◌}
-use mathlib.Core.List.{List}
-use Prim.Native.Nat.{ℕ}
-use native.Mathlib.Omega.{arith}
-use lib.Dec.{ltb, leb}
-use borrow.Author.Tests.{ltb-true, ltb-false, le-ltb}
+use Rattle.std.proofs.Common.{◌≡◌, refl, ap, ap₂, ◌&&◌, List, ℕ, arith, ltb, leb, ltb-true, ltb-false, le-ltb}
 use Rattle.octets.specs.Order.{is_before, same}
 use Rattle.ranges.proofs.Bools.{by}
 use Rattle.record.specs.Fields.{time, message}

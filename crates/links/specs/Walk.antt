@@ -1,7 +1,6 @@
--- No claim rests on these definitions: they say what a walk over links marks, and the number by which it names a transmission.
+-- No claim rests on these definitions: they say what a walk over links marks.
 -- One mark for each of the 96 places says what the walk has reached.
-use Rattle.std.specs.Prelude.{Bool, true, false, cond, List, [], ◌∷◌, ℕ, zero, suc, ◌+◌, eqb, set, replicate}
-use Rattle.ranges.specs.Range.{first, filt}
+use Rattle.std.specs.Prelude.{Bool, true, false, cond, List, [], ◌∷◌, ℕ, zero, suc, ◌+◌, set, replicate}
 use Rattle.ranges.specs.Tables.{marked}
 use Rattle.fixes.specs.Slots.{max_fixes}
 
@@ -25,28 +24,3 @@ module _ (link : ℕ → ℕ → Bool) (n : ℕ) where
   unfoldable pub visit : ℕ → ℕ → List Bool → List Bool
   visit zero i m = m
   visit (suc f) i m = each (visit f) (link i) (set m i true) 0 n
-
-  -- who is reached from s
-  unfoldable pub reached : ℕ → List Bool
-  reached s = visit (unmarked no_marks) s no_marks
-
-  -- ---- a transmission is named by its first member
-
-  -- the transmission of j: the first from which j is reached
-  unfoldable pub label : ℕ → ℕ
-  label j = first (λ s. marked (reached s) j) 0 n
-
-  -- s is the first of its transmission
-  abbrev pub is_head : ℕ → Bool
-  is_head s = eqb (label s) s
-
-  -- j is of transmission s
-  abbrev pub is_member : ℕ → ℕ → Bool
-  is_member s j = eqb (label j) s
-
-  -- the transmissions, and the members of one, ascending
-  unfoldable pub heads : List ℕ
-  heads = filt is_head 0 n
-
-  unfoldable pub members : ℕ → List ℕ
-  members s = filt (is_member s) 0 n

@@ -1,6 +1,5 @@
 -- The order of transmissions by their first ranked is transitive.
-use mathlib.Core.Path.{◌≡◌}
-use mathlib.Core.Bool.{true}
+use Rattle.std.proofs.Common.{◌≡◌, true}
 use Rattle.shown.specs.Shown.{Transmission}
 use Rattle.shown.proofs.Ages.{first-trans}
 use Rattle.transmissions.specs.Picture.{older_than}

@@ -1,10 +1,7 @@
 -- Leads in order are what is shown of transmissions in order.
-use Prim.Native.Nat.{ℕ, zero, suc, ◌+◌, ◌-◌, ◌≤◌, ◌<◌}
-use mathlib.Core.Path.{◌≡◌, refl, sym, ap, ap₂, ◌∙◌}
-use mathlib.Core.Bool.{not}
-use mathlib.Core.List.{List, [], ◌∷◌, map, Memᴰ}
-use native.Mathlib.Omega.{arith}
-use lib.ListN.{length, get_or, drop, length-map}
+use Rattle.std.proofs.Common.{Option, ℕ, zero, suc, ◌+◌, ◌-◌, ◌≤◌, ◌<◌, ◌≡◌, refl, sym, ap, ap₂, ◌∙◌, not, List, [], ◌∷◌, map, arith, length, get_or, drop, ltb, ltb-false}
+use mathlib.Core.List.{Memᴰ}
+use lib.ListN.{length-map}
 use Rattle.ranges.specs.Lists.{insert, sort, last_of, up_to, count_from}
 use Rattle.ranges.proofs.Lists.{sort-map, sort-in, sort-perm, count-length, up_in, by-places}
 use Rattle.ranges.proofs.Orders.{perm-length}
@@ -12,9 +9,6 @@ use Rattle.ranges.proofs.Bools.{by}
 use Rattle.std.specs.List as S
 use Rattle.std.specs.List.{position, position_or_len}
 use Rattle.std.specs.Option.{unwrap_or}
-use Rattle.std.proofs.Common.{Option}
-use lib.Dec.{ltb}
-use borrow.Author.Tests.{ltb-false}
 use Rattle.std.proofs.lemmas.List.Sums.{prefix_len-le-length}
 use Rattle.links.proofs.Indexed.{map-map}
 use Rattle.links.proofs.Partition.{map-from}

@@ -1,8 +1,5 @@
 -- Whom a transmission is known by: the first that is ranked, or whoever is alone.
-use mathlib.Core.Path.{◌≡◌, ap, sym, ◌∙◌}
-use mathlib.Core.List.{List, [], ◌∷◌}
-use native.Mathlib.Omega.{arith}
-use lib.ListN.{length, get_or}
+use Rattle.std.proofs.Common.{◌≡◌, ap, sym, ◌∙◌, List, [], ◌∷◌, arith, length, get_or}
 use Rattle.shown.specs.Fix.{Fix}
 use Rattle.shown.specs.Items.{at}
 use Rattle.shown.specs.Shown.{Transmission, shown}

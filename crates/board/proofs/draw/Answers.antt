@@ -1,6 +1,5 @@
 -- `draw` meets its contract: the table of summaries and the records lie in the register's bytes, and the board of the fixes is the register's.
-use native.Mathlib.Omega.{arith}
-use mathlib.Core.Path.{◌∙◌}
+use Rattle.std.proofs.Common.{arith, ◌∙◌}
 use Rattle.octets.proofs.Puts.{put_as}
 use Rattle.register.proofs.Opened.{opened}
 use Rattle.board.proofs.Lent.{lends, few-fixes, all-formed, in-order, board-is, board-lies}

@@ -1,8 +1,7 @@
-use borrow.Author.Rules.{rules}
+use Rattle.std.proofs.Common.{rules, refl}
 use Rattle.std.proofs.lemmas.Fn.{always_returns_same}
 use Rattle.fixes.specs.Order.{order}
 use Rattle.fixes.proofs.Entering.{united-there, put-there}
-use mathlib.Core.Path.{refl}
 use Rattle.fixes.proofs.enter.Goals as goal
 
 pub returns-in-Ok : goal.returns-in-Ok

@@ -1,8 +1,4 @@
-use Prim.Native.Nat.{◌≤◌}
-use mathlib.Core.Path.{◌≡◌, sym, ap, ◌∙◌}
-use mathlib.Core.Bool.{true}
-use native.Mathlib.Omega.{arith}
-use lib.ListN.{length, length-set}
+use Rattle.std.proofs.Common.{◌≤◌, ◌≡◌, sym, ap, ◌∙◌, true, arith, length, length-set}
 use Rattle.links.specs.Walk as W
 use Rattle.links.specs.Walk.{unmarked}
 use Rattle.links.specs.Labels.{relabel}

@@ -1,7 +1,5 @@
 -- The measure is the number of places without a mark: a visit marks one that had none, and then no mark is taken away.
-use Prim.Native.Nat.{◌-◌}
-use mathlib.Core.Path.{◌≡◌}
-use lib.ListN.{length}
+use Rattle.std.proofs.Common.{◌-◌, ◌≡◌, length}
 use Rattle.links.specs.Walk as W
 use Rattle.links.specs.Walk.{unmarked, each}
 use Rattle.links.proofs.Labelling.{Progress}

@@ -1,5 +1,4 @@
-use Rattle.std.proofs.Common.{◌<◌, subst, ◌∙◌, arith, length}
-use lib.ListN.{length-set}
+use Rattle.std.proofs.Common.{◌<◌, subst, ◌∙◌, arith, length, length-set}
 use Rattle.shown.specs.Items.{no_fix, at}
 use Rattle.decision.proofs.Holding.{each-more}
 use Rattle.shown.specs.Decided.{IsFix}

@@ -1,5 +1,4 @@
-use mathlib.Core.List.{map}
-use Rattle.std.proofs.Common.{◌≡◌, ◌+◌, drop}
+use Rattle.std.proofs.Common.{◌≡◌, ◌+◌, drop, map}
 use Rattle.text.specs.Texts.{append}
 use Rattle.drawing.specs.Text.{text_from}
 use Rattle.transmissions.specs.Leads.{shown_at}

@@ -1,5 +1,4 @@
-use Rattle.std.proofs.Common.{◌≡◌, take}
-use Rattle.std.specs.Prelude.{flat_map}
+use Rattle.std.proofs.Common.{◌≡◌, take, flat_map}
 use Rattle.text.specs.Texts.{append}
 use Rattle.drawing.specs.Text.{refused_text}
 use Rattle.board.proofs.texts.push_refused.Given as goal

@@ -1,5 +1,4 @@
-use native.Mathlib.Omega.{arith}
-use mathlib.Core.Path.{ap, ◌∙◌}
+use Rattle.std.proofs.Common.{arith, ap, ◌∙◌}
 use Rattle.shown.specs.Fix.{Fix}
 use Rattle.shown.specs.Ages.{time_of}
 use Rattle.transmissions.proofs.Arranging.{arranged-none, arranged-more, arranged-few}

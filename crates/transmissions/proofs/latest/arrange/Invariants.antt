@@ -1,7 +1,4 @@
-use Prim.Native.Nat.{◌-◌, ◌≤◌}
-use mathlib.Core.Path.{◌≡◌}
-use lib.ListN.{length}
-use mathlib.Core.List.{map}
+use Rattle.std.proofs.Common.{◌-◌, ◌≤◌, ◌≡◌, length, map}
 use Rattle.ranges.specs.Lists.{sort, count_from}
 use Rattle.transmissions.specs.Leads.{before, lead_of}
 use Rattle.transmissions.proofs.latest.arrange.Given as goal

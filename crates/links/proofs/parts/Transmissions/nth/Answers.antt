@@ -1,6 +1,4 @@
-use mathlib.Core.Path.{ap, ◌∙◌}
-use native.Mathlib.Omega.{arith}
-use borrow.Author.Tests.{eq-eqb, ne_eqb}
+use Rattle.std.proofs.Common.{ap, ◌∙◌, arith, eq-eqb, ne_eqb}
 use Rattle.links.proofs.Parting.{filt-none, passed-in, passed-by, passed-few, all-below}
 use Rattle.links.proofs.parts.Transmissions.nth.Goals.{then-self-j, else-self-j}
 use Rattle.links.proofs.parts.Transmissions.nth.Goals as goal

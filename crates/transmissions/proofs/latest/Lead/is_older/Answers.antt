@@ -1,5 +1,4 @@
-use Rattle.std.proofs.Common.{refl}
-use borrow.Author.Tests.{lt-ltb, le-ltb}
+use Rattle.std.proofs.Common.{refl, lt-ltb, le-ltb}
 use Rattle.transmissions.specs.Leads.{before}
 use Rattle.transmissions.proofs.latest.Lead.is_older.Goals as goal
 

@@ -1,5 +1,4 @@
-use mathlib.Core.Path.{ap}
-use native.Mathlib.Omega.{arith}
+use Rattle.std.proofs.Common.{ap, arith}
 use Rattle.rule.specs.Outcome.{Refused}
 use Rattle.shown.specs.Fix.{Fix}
 use Rattle.arithmetic.specs.declared.standing.ChiSquare.{ChiSquare}
