@@ -1,6 +1,6 @@
 //! A conviction over a table: those that stay are moved down, and the rest is cleared.
 
-ghost use Rattle.std.specs.Prelude.{◌≡◌, ◌++◌, ◌*◌, ◌-◌, ◌≤◌, length, take, replicate};
+ghost use Rattle.std.specs.Prelude.{◌≡◌, ◌++◌, ◌+◌, ◌*◌, ◌-◌, ◌≤◌, length, take, drop, replicate};
 ghost use Rattle.places.specs.Places.{places, keep_places};
 ghost use Rattle.models.specs.Summary.{summary_size};
 ghost use Rattle.held.specs.Summaries.{is_of_another, no_value};
@@ -18,6 +18,18 @@ pub fn clear_rest(t: &mut [u8], n: usize, w: usize)
     octets::runs::clear(&mut t[end..]);
 }
 
+/// Copies the w bytes at `from` down to `to`, unless that is where they stand.
+pub fn move_down(t: &mut [u8], from: usize, to: usize, w: usize)
+    requires to_le_from { to ≤ from }
+    requires w_in_bounds { from + w ≤ length t.old }
+    ensures { t.new ≡ take to t.old ++ (take w (drop from t.old) ++ drop (to + w) t.old) }
+{
+    if to == from {
+        return;
+    }
+    octets::runs::copy_down(t, from, to, w);
+}
+
 /// Takes an engine's summaries out of the first n of a table, and returns how many are left.
 pub fn strike_summaries(t: &mut [u8], n: usize, engine: Engine) -> usize
     requires { n * summary_size ≤ length t.old }
@@ -29,7 +41,7 @@ pub fn strike_summaries(t: &mut [u8], n: usize, engine: Engine) -> usize
         if t[at] == engine.number {
             continue;
         }
-        octets::runs::copy_down(t, at, j * SUMMARY_SIZE, SUMMARY_SIZE);
+        move_down(t, at, j * SUMMARY_SIZE, SUMMARY_SIZE);
         j += 1;
     }
     clear_rest(t, j, SUMMARY_SIZE);

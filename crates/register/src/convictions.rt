@@ -18,8 +18,7 @@ use crate::layout::{CONVICTED_AT, RECORD_COUNT_AT, SUMMARIES_AT, SUMMARY_COUNT_A
 use crate::refusals::{Refusal, number};
 use held::engines::{Engine, Signers};
 use held::layout::{PLACE_SIZE, SUMMARIES_SIZE};
-use held::strikes::{clear_rest, strike_summaries};
-use octets::runs::copy_down;
+use held::strikes::{clear_rest, move_down, strike_summaries};
 use octets::words::{put_u16, put_u32, u16_at, u32_at};
 use record::layout::RECORD_SIZE;
 
@@ -29,7 +28,7 @@ fn keep_place(t: &mut [u8], from: usize, to: usize, signers: Signers)
     requires place_size_in_bounds { from + place_size ≤ length t.old }
     ensures { t.new ≡ kept_at from to signers.0 t.old }
 {
-    copy_down(t, from, to, PLACE_SIZE);
+    move_down(t, from, to, PLACE_SIZE);
     put_u32(t, to + RECORD_SIZE, signers.0);
 }
 

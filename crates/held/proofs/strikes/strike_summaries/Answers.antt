@@ -14,8 +14,8 @@ loop-i-preserved-then-t-at c =
 pub loop-i-preserved : goal.loop-i-preserved
 loop-i-preserved c =
     let i = c.loop-i.i * summary_size in
-    left-stays c.loop-i.invariant c.loop-i-test.true c.copy_down.new.s (of-another c.args.engine.number c.loop-i.t i c.if-t-at.false)
-    (whole-moved c.loop-i.t c.copy_down.new.s i (c.loop-i.j * summary_size) c.copy_down.ensures)
+    left-stays c.loop-i.invariant c.loop-i-test.true c.move_down.new.t (of-another c.args.engine.number c.loop-i.t i c.if-t-at.false)
+    (whole-moved c.loop-i.t c.move_down.new.t i (c.loop-i.j * summary_size) c.move_down.ensures)
 
 pub returns : goal.returns
 returns c =
