@@ -91,11 +91,10 @@ pub fn board(memory: &[u8], out: &mut [u8]) -> u32
 pub fn preview(memory: &[u8], engine: u32, out: &mut [u8]) -> u32
     ensures { after result out.new ≡ draw_preview engine memory.now out.old }
 {
-    if memory.len() != REGISTER_SIZE {
+    let Ok(bytes) = <&[u8; REGISTER_SIZE]>::try_from(memory) else {
         return 1;
-    }
-    let mut copied = [0u8; REGISTER_SIZE];
-    octets::runs::copy(memory, &mut copied);
+    };
+    let mut copied = *bytes;
     let refusal = register::convictions::conviction(&mut copied, engine);
     if refusal != 0 {
         return refusal;
