@@ -6,8 +6,7 @@ use Rattle.places.specs.Places.{places, all_places}
 use Rattle.record.specs.Layout.{record_size}
 use Rattle.record.specs.Formed as R
 use Rattle.models.specs.Summary.{summary_size}
-use Rattle.fixes.specs.Slots.{max_fixes}
-use Rattle.fixes.specs.Slots.{slot_formed}
+use Rattle.fixes.specs.Slots.{max_fixes, slot_formed}
 use Rattle.held.specs.Limits.{place_size}
 use Rattle.held.specs.Signed.{place_formed}
 use Rattle.held.proofs.Testing.{all-weaken}
@@ -37,15 +36,15 @@ module _ (m : List ℕ) (w : well_formed m ≡ true) where
   tail-is = tail-lent m records_at
 
   pub formed-places : all_places slot_formed (records_in m) ≡ true
-  formed-places = all-weaken (place_formed (convicted_in m)) slot_formed (λ p h. and_left (R.well_formed (take record_size p)) _ h) (records_in m) o.records-formed
+  formed-places = all-weaken (place_formed (convicted_in m)) slot_formed (λ p h. and_left (R.well_formed (take record_size p)) _ h) (records_in m) o.records_formed
 
   pub record Lends (a b : ℕ) : Type 0 where
     pub summaries_lie : a * summary_size ≤ length (summary_table m)
     pub records_lie : b * place_size ≤ length tail
     pub few : b ≤ max_fixes
     pub formed : all_places slot_formed (places place_size b tail) ≡ true
-    pub summaries-are : places summary_size a (summary_table m) ≡ (decode m).summaries
-    pub records-are : places place_size b tail ≡ (decode m).records
+    pub summaries_are : places summary_size a (summary_table m) ≡ (decode m).summaries
+    pub records_are : places place_size b tail ≡ (decode m).records
 
   pub lends : (a b : ℕ) → a ≡ summary_count m → b ≡ record_count m → Lends a b
   unfolding decode
@@ -59,8 +58,8 @@ module _ (m : List ℕ) (w : well_formed m ≡ true) where
         records_lie = rw (f, tail-is, y) (omega arith);
         few = rw f r;
         formed = rw (f, tail-is) formed-places;
-        summaries-are = rw e refl;
-        records-are = rw (f, tail-is) refl;
+        summaries_are = rw e refl;
+        records_are = rw (f, tail-is) refl;
       }
 
   pub few-held : length (decode m).records ≤ max_fixes
@@ -74,7 +73,7 @@ module _ (m : List ℕ) (w : well_formed m ≡ true) where
   -- what is known of the fixes that it lends
   module _ (a b : ℕ) (e : a ≡ summary_count m) (f : b ≡ record_count m) (fs : List Fix) (is : fs ≡ fixes_of (places summary_size a (summary_table m)) (places place_size b tail)) where
     fixes-are : fs ≡ fixes_of (decode m).summaries (decode m).records
-    fixes-are = let l = lends a b e f in is ∙ ap₂ fixes_of l.summaries-are l.records-are
+    fixes-are = let l = lends a b e f in is ∙ ap₂ fixes_of l.summaries_are l.records_are
 
     pub few-fixes : length fs ≤ max_fixes
     few-fixes = let h = fixes-few (decode m).summaries (decode m).records formed-held in let k = few-held in rw fixes-are (omega arith)

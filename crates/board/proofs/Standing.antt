@@ -5,8 +5,7 @@ use Rattle.octets.specs.Words.{word_bytes}
 use Rattle.record.specs.Layout.{record_size}
 use Rattle.record.specs.Formed as R
 use Rattle.ranges.proofs.Bools.{and_left}
-use Rattle.fixes.specs.Slots.{max_fixes}
-use Rattle.fixes.specs.Slots.{slot_formed}
+use Rattle.fixes.specs.Slots.{max_fixes, slot_formed}
 use Rattle.fixes.specs.Fixes.{fixes_of}
 use Rattle.shown.specs.Items.{AllFormed, Apart}
 use Rattle.fixes.proofs.Kept.{fixes-formed, fixes-apart, fixes-few}
@@ -26,7 +25,7 @@ held-formed c p h = and_left (R.well_formed (take record_size p)) _ (and_left (p
 
 pub standing : (s : Register) → Valid s → Standing s.summaries s.records
 standing s v =
-    let h = all-weaken (place_held s.convicted) slot_formed (held-formed s.convicted) s.records v.records-held in
+    let h = all-weaken (place_held s.convicted) slot_formed (held-formed s.convicted) s.records v.records_held in
     let f = fixes-few s.summaries s.records h in
     let g = v.few_records in
     record { formed = fixes-formed s.summaries s.records h; apart = fixes-apart s.summaries s.records h; few = omega arith }

@@ -44,6 +44,7 @@ fn draw_fixes(fixes: &[Fix<'_>], out: &mut [u8]) -> usize
 }
 
 // Writes the board of a register.
+#[tactic(auto, using(register::proofs::Opened::sized))]
 fn draw(memory: &[u8], out: &mut [u8]) -> usize
     requires memory_value { well_formed memory.now ≡ true }
     requires board_size_in_bounds { board_size ≤ length out.old }

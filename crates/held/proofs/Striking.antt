@@ -34,10 +34,6 @@ left-none {x} {n} {t} h = record {
 }
 
 module _ {x : Strike} {n : ℕ} {t₀ t : List ℕ} {i j : ℕ} (l : Left x n t₀ t i j) where
-  -- what stays ends where the loop is, or below
-  pub left-lower : j * x.width ≤ i * x.width
-  left-lower = mul-le-mul_right x.width l.moved.few
-
   -- the rest cleared
   pub left-cleared : n ≤ i → (t' : List ℕ) → t' ≡ take (j * x.width) t ++ replicate (length t - j * x.width) 0 → Struck x.width (kept_by x (places x.width n t₀)) t₀ j t'
   left-cleared h t' q =

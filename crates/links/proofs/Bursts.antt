@@ -43,11 +43,11 @@ module _ (fs : List Fix) (self : SelfLinked fs) (p : Fix → Bool)
       let k = filter-of p fs a m h in
       let q = together fs in
       let r = together (filter p fs) in
-      transmission-tested fs self a m
+      transmission-tested fs a m
       ∙ filter_same (q a) (λ x. p x && r a x) fs (λ x n. same_test (q a x) (p x && r a x)
       (λ t. let i = chain-inside h ((together-is fs self a x m n).0 t) in and_both (p x) (r a x) i.0 ((together-is (filter p fs) self-inside a x k (chain-in i.1)).1 i.1))
       (λ t. (together-is fs self a x m n).1 (chain-outside ((together-is (filter p fs) self-inside a x k (filter-of p fs x n (and_left _ _ t))).0 (and_right (p x) (r a x) t)))))
-      ∙ sym (twice p (r a) fs) ∙ sym (transmission-tested (filter p fs) self-inside a k)
+      ∙ sym (twice p (r a) fs) ∙ sym (transmission-tested (filter p fs) a k)
 
 -- ---- before and after a pause
 

@@ -68,11 +68,11 @@ module _ (fs : List Fix) (self : SelfLinked fs) where
       ap (map (transmission_of fs)) (filter-places no_fix (is_first fs) fs)
       ∙ map-map (transmission_of fs) (at fs) (filt (first_at fs) 0 (length fs))
       ∙ map_same (λ i. transmission_of fs (at fs i)) (λ i. map (at fs) (filt (together_at fs i) 0 (length fs))) (filt (first_at fs) 0 (length fs))
-      (λ i m. let z = filt-at (first_at fs) 0 (length fs) i m in transmission-tested fs self (at fs i) (at_in no_fix fs i (omega arith)) ∙ filter-places no_fix (together fs (at fs i)) fs)
+      (λ i m. let z = filt-at (first_at fs) 0 (length fs) i m in transmission-tested fs (at fs i) (at_in no_fix fs i (omega arith)) ∙ filter-places no_fix (together fs (at fs i)) fs)
 
   -- the first of a transmission is no later than any of it
   pub first-of : (s k : ℕ) → s < length fs → k < length fs → Chain fs (at fs s) (at fs k) → (i : ℕ) × (i ≤ k) × Chain fs (at fs s) (at fs i) × (first_at fs s ≡ same (at fs s).identity (at fs i).identity)
   first-of s k h b c =
       let r = first-place no_fix (together fs (at fs s)) fs k b ((together-at-is s k h b).1 c) in
       let l = r.1 in
-      (r.0, l, (together-at-is s r.0 h (omega arith)).0 r.2, ap (leads (at fs s)) (transmission-tested fs self (at fs s) (at_in no_fix fs s h) ∙ r.3.1))
+      (r.0, l, (together-at-is s r.0 h (omega arith)).0 r.2, ap (leads (at fs s)) (transmission-tested fs (at fs s) (at_in no_fix fs s h) ∙ r.3.1))

@@ -112,14 +112,14 @@ module _ (fs : List Fix) (a : Fix) (a_in : Memᴰ a fs) (self : SelfLinked fs) w
 abbrev pub together : List Fix → Fix → Fix → Bool
 together fs a x = any_of (linked x) (reach fs (length fs - 1) a)
 
-module _ (fs : List Fix) (self : SelfLinked fs) where
-  pub transmission-tested : (a : Fix) → Memᴰ a fs → transmission_of fs a ≡ filter (together fs a) fs
-  unfolding reach
-  transmission-tested a m = let z : length fs ≡ suc (length fs - 1) = let s = some_in a fs m in omega arith in ap (λ (n : ℕ). reach fs n a) z
+pub transmission-tested : (fs : List Fix) (a : Fix) → Memᴰ a fs → transmission_of fs a ≡ filter (together fs a) fs
+unfolding reach
+transmission-tested fs a m = let z : length fs ≡ suc (length fs - 1) = let s = some_in a fs m in omega arith in ap (λ (n : ℕ). reach fs n a) z
 
+module _ (fs : List Fix) (self : SelfLinked fs) where
   pub together-is : (a x : Fix) → Memᴰ a fs → Memᴰ x fs → (together fs a x ≡ true) ↔ Chain fs a x
   together-is a x m n =
-      let e = transmission-tested a m in
+      let e = transmission-tested fs a m in
       let i = transmission-is fs a m self x in
       (λ t. i.0 (rw e (filter-of (together fs a) fs x n t)), λ c. (filter-in (together fs a) fs x (rw e at (i.1 c))).1)
 
@@ -127,8 +127,8 @@ module _ (fs : List Fix) (self : SelfLinked fs) where
   same-transmission {a} {b} c =
       let m = chain-from c in
       let n = chain-in c in
-      transmission-tested a m
+      transmission-tested fs a m
       ∙ filter_same (together fs a) (together fs b) fs (λ x k. same_test (together fs a x) (together fs b x)
       (λ t. (together-is b x n k).1 (chain-joined (chain-turned c) ((together-is a x m k).0 t)))
       (λ t. (together-is a x m k).1 (chain-joined c ((together-is b x n k).0 t))))
-      ∙ sym (transmission-tested b n)
+      ∙ sym (transmission-tested fs b n)

@@ -257,12 +257,12 @@ start-valid = record {
   small = omega arith;
   few_summaries = omega arith;
   few_records = omega arith;
-  summaries-wide = tt;
-  records-wide = tt;
-  summaries-ascend = unfold ascending in refl;
-  records-ascend = unfold ascending in refl;
-  summaries-formed = unfold all_places in refl;
-  records-held = unfold all_places in refl;
+  summaries_wide = tt;
+  records_wide = tt;
+  summaries_ascend = unfold ascending in refl;
+  records_ascend = unfold ascending in refl;
+  summaries_formed = unfold all_places in refl;
+  records_held = unfold all_places in refl;
 }
 
 pub history : (h : List Call) → roomy h ≡ true → Sum h (run h)

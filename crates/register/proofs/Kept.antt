@@ -33,12 +33,12 @@ module _ (m : List ℕ) (o : Opened m) (b : Bytes m) where
     small = let s = o.size in word_small m b 0 4 (omega arith);
     few_summaries = rw (summaries-length m o) o.few_summaries;
     few_records = rw (records-length m o) o.few_records;
-    summaries-wide = summaries-wide m o;
-    records-wide = records-wide m o;
-    summaries-ascend = summaries-ascend m o;
-    records-ascend = records-ascend m o;
-    summaries-formed = o.summaries-formed;
-    records-held = all_held (convicted_in m) (record_count m) (record_table m) (bytes_drop records_at m b) (let f = o.few_records in rw (record-bytes-length m o) (omega arith)) o.records-formed;
+    summaries_wide = summaries-wide m o;
+    records_wide = records-wide m o;
+    summaries_ascend = summaries-ascend m o;
+    records_ascend = records-ascend m o;
+    summaries_formed = o.summaries_formed;
+    records_held = all_held (convicted_in m) (record_count m) (record_table m) (bytes_drop records_at m b) (let f = o.few_records in rw (record-bytes-length m o) (omega arith)) o.records_formed;
   }
 
 -- ---- every call leaves a valid register

@@ -2,11 +2,9 @@ pub mod Frames
 pub mod Opened
 pub mod Parts
 pub mod Views
-pub mod Signing
-pub mod Holding
+pub mod Written
 pub mod Answers
 pub mod Striking
-pub mod Struck
 pub mod Valid
 pub mod Steps
 pub mod History

@@ -20,10 +20,10 @@ pub record Opened (m : List ℕ) : Type 0 where
   pub size : length m ≡ register_size
   pub few_summaries : summary_count m ≤ max_summaries
   pub few_records : record_count m ≤ max_records
-  pub summary-table : is_table summary_size summary_size (summary_count m) (summary_table m) ≡ true
-  pub summaries-formed : all_places (summary_formed (convicted_in m)) (summaries_in m) ≡ true
-  pub record-table : is_table record_size place_size (record_count m) (record_table m) ≡ true
-  pub records-formed : all_places (place_formed (convicted_in m)) (records_in m) ≡ true
+  pub summaries_sorted : is_table summary_size summary_size (summary_count m) (summary_table m) ≡ true
+  pub summaries_formed : all_places (summary_formed (convicted_in m)) (summaries_in m) ≡ true
+  pub records_sorted : is_table record_size place_size (record_count m) (record_table m) ≡ true
+  pub records_formed : all_places (place_formed (convicted_in m)) (records_in m) ≡ true
 
 pub opened : (m : List ℕ) → well_formed m ≡ true → Opened m
 unfolding well_formed
@@ -37,10 +37,10 @@ opened m h =
       size = eqb-true _ _ (and_left _ _ h);
       few_summaries = leb-true _ _ (and_left _ _ h₂);
       few_records = leb-true _ _ (and_left _ _ h₃);
-      summary-table = and_left _ _ h₄;
-      summaries-formed = and_left _ _ h₅;
-      record-table = and_left _ _ h₆;
-      records-formed = and_right (is_table record_size place_size (record_count m) (record_table m)) _ h₆;
+      summaries_sorted = and_left _ _ h₄;
+      summaries_formed = and_left _ _ h₅;
+      records_sorted = and_left _ _ h₆;
+      records_formed = and_right (is_table record_size place_size (record_count m) (record_table m)) _ h₆;
     }
 
 pub sized : (m : List ℕ) → well_formed m ≡ true → length m ≡ register_size
@@ -71,16 +71,16 @@ module _ (m : List ℕ) (o : Opened m) where
   records-wide = let f = o.few_records in places-wide place_size (record_count m) (record_table m) (rw record-bytes-length (omega arith))
 
   pub summaries-ascend : ascending summary_size (summaries_in m) ≡ true
-  summaries-ascend = and_left (ascending summary_size (summaries_in m)) (all_zero (drop (summary_count m * summary_size) (summary_table m))) o.summary-table
+  summaries-ascend = and_left (ascending summary_size (summaries_in m)) (all_zero (drop (summary_count m * summary_size) (summary_table m))) o.summaries_sorted
 
   pub records-ascend : ascending record_size (records_in m) ≡ true
-  records-ascend = and_left (ascending record_size (records_in m)) (all_zero (drop (record_count m * place_size) (record_table m))) o.record-table
+  records-ascend = and_left (ascending record_size (records_in m)) (all_zero (drop (record_count m * place_size) (record_table m))) o.records_sorted
 
   pub summaries-table : summary_table m ≡ table_of summary_size max_summaries (summaries_in m)
-  summaries-table = table_is summary_size max_summaries (summary_count m) summary_size (summary_table m) summary-bytes-length o.few_summaries o.summary-table
+  summaries-table = table_is summary_size max_summaries (summary_count m) summary_size (summary_table m) summary-bytes-length o.few_summaries o.summaries_sorted
 
   pub records-table : record_table m ≡ table_of place_size max_records (records_in m)
-  records-table = table_is place_size max_records (record_count m) record_size (record_table m) record-bytes-length o.few_records o.record-table
+  records-table = table_is place_size max_records (record_count m) record_size (record_table m) record-bytes-length o.few_records o.records_sorted
 
   module _ (b : Bytes m) where
     -- a number of the header, and what follows it

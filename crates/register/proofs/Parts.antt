@@ -44,7 +44,7 @@ module _ (m t : List ℕ) (t-is : t ≡ drop summaries_at m) (q : List ℕ) wher
       key = omega arith;
       size = summary-bytes-length m o;
       few = o.few_summaries;
-      table = o.summary-table;
+      table = o.summaries_sorted;
     })
 
     pub records-sorted : n ≡ word_at 2 record_count_at h → q ≡ drop summaries_size t → Sorted place_size record_size max_records n q
@@ -54,7 +54,7 @@ module _ (m t : List ℕ) (t-is : t ≡ drop summaries_at m) (q : List ℕ) wher
       key = omega arith;
       size = record-bytes-length m o;
       few = o.few_records;
-      table = o.record-table;
+      table = o.records_sorted;
     })
 
 -- whether a call is refused as full, by what a search found

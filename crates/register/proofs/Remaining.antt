@@ -179,10 +179,10 @@ module _ (cs : List Call) (f : none_full fresh cs ≡ true) where
       let v = (sum cs f).valid in
       let x = convicts cs in
       rw (decoded cs f) (
-        ascending-ext summary_size s.summaries (summaries_held (remaining cs)) v.summaries-ascend (sums-ascend x cs)
+        ascending-ext summary_size s.summaries (summaries_held (remaining cs)) v.summaries_ascend (sums-ascend x cs)
             (λ p. summarized cs f p ∙ sym (sums-hold x p cs))
-            (λ p. nothing-follows p s.summaries v.summaries-wide ∙ sym (sums-nothing x p cs)),
-        ascending-ext record_size s.records (records_held (remaining cs)) v.records-ascend (recs-ascend x cs)
+            (λ p. nothing-follows p s.summaries v.summaries_wide ∙ sym (sums-nothing x p cs)),
+        ascending-ext record_size s.records (records_held (remaining cs)) v.records_ascend (recs-ascend x cs)
             (λ r. held-signed s v r ∙ ap (λ (m : ℕ). not (eqb m 0)) (same-mask r) ∙ sym (recs-hold x r cs))
             (λ r. lookup-signed s v r ∙ ap follows (same-mask r) ∙ sym (recs-follow x r cs)),
       )

@@ -134,10 +134,10 @@ module _ (h : List Call) (s : Register) (u : Sum h s) where
   held-summaries p = u.held p ∙ sym (kept-summaries (convicts h) p h)
 
   record-count : length (nub (records_of (remaining h))) ≡ length s.records
-  record-count = count_of record_size s.records (records_of (remaining h)) u.valid.records-ascend held-records
+  record-count = count_of record_size s.records (records_of (remaining h)) u.valid.records_ascend held-records
 
   summary-count : length (nub (summaries_of (remaining h))) ≡ length s.summaries
-  summary-count = count_of summary_size s.summaries (summaries_of (remaining h)) u.valid.summaries-ascend held-summaries
+  summary-count = count_of summary_size s.summaries (summaries_of (remaining h)) u.valid.summaries_ascend held-summaries
 
   room : fits h ≡ true
   room =

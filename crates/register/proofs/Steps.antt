@@ -62,13 +62,13 @@ module _ (s : Register) (v : Valid s) (r : List ℕ) where
 
   module _ (h : holds record_size r s.records ≡ true) where
     long : length r ≡ record_size
-    long = held-long record_size place_size r s.records key_of v.records-wide h
+    long = held-long record_size place_size r s.records key_of v.records_wide h
 
     rest : drop record_size (r ++ lookup record_size r s.records) ≡ lookup record_size r s.records
     rest = drop_at r (lookup record_size r s.records) record_size long
 
     pub held-is : Place s.convicted (r ++ lookup record_size r s.records)
-    held-is = place s.convicted (r ++ lookup record_size r s.records) (held-passes record_size r (place_held s.convicted) s.records v.records-held h)
+    held-is = place s.convicted (r ++ lookup record_size r s.records) (held-passes record_size r (place_held s.convicted) s.records v.records_held h)
 
     pub signed : eqb (signers_of r s) 0 ≡ false
     signed = ap (λ (x : List ℕ). eqb (word x) 0) (sym rest) ∙ held-is.some
@@ -106,7 +106,7 @@ module _ (s : Register) (v : Valid s) (e : ℕ) (q : List ℕ) (a : e ≤ max_en
   pub report-signers : (r : List ℕ) → signers_of r with-report ≡ cond (same q r) (with_bit (signers_of r s) e) (signers_of r s)
   report-signers r =
       by (same q r)
-      (λ h. ap (λ (x : List ℕ). word (lookup record_size x reported-records)) (sym (same-eq q r h)) ∙ ap word (lookup-put record_size (add_signer e) q (record-length q w) s.records v.records-ascend)
+      (λ h. ap (λ (x : List ℕ). word (lookup record_size x reported-records)) (sym (same-eq q r h)) ∙ ap word (lookup-put record_size (add_signer e) q (record-length q w) s.records v.records_ascend)
       ∙ word-of-bytes 4 (with_bit (signers_of q s) e) (with-small (signers_of q s) e a (signers-small s v q))
       ∙ ap (λ (x : List ℕ). with_bit (signers_of x s) e) (same-eq q r h) ∙ sym (ap (λ (b : Bool). cond b (with_bit (signers_of r s) e) (signers_of r s)) h))
       (λ h. ap word (lookup-put-other record_size (add_signer e) q (record-length q w) r s.records h) ∙ sym (ap (λ (b : Bool). cond b (with_bit (signers_of r s) e) (signers_of r s)) h))
@@ -116,18 +116,18 @@ module _ (s : Register) (v : Valid s) (e : ℕ) (q : List ℕ) (a : e ≤ max_en
     small = v.small;
     few_summaries = v.few_summaries;
     few_records = few;
-    summaries-wide = v.summaries-wide;
-    records-wide = put-wide record_size (add_signer e) q (record-length q w) place_size (λ x l. added-wide e x) (λ x l. added-wide e x) s.records key_of v.records-wide;
-    summaries-ascend = v.summaries-ascend;
-    records-ascend = put-ascending record_size (add_signer e) q (record-length q w) s.records v.records-ascend;
-    summaries-formed = v.summaries-formed;
-    records-held = put_all record_size (add_signer e) q (place_held s.convicted) s.records (signed-first s.convicted e q a w z) (signed-again s.convicted e q a w z) v.records-held;
+    summaries_wide = v.summaries_wide;
+    records_wide = put-wide record_size (add_signer e) q (record-length q w) place_size (λ x l. added-wide e x) (λ x l. added-wide e x) s.records key_of v.records_wide;
+    summaries_ascend = v.summaries_ascend;
+    records_ascend = put-ascending record_size (add_signer e) q (record-length q w) s.records v.records_ascend;
+    summaries_formed = v.summaries_formed;
+    records_held = put_all record_size (add_signer e) q (place_held s.convicted) s.records (signed-first s.convicted e q a w z) (signed-again s.convicted e q a w z) v.records_held;
   }
     where
       few : length reported-records ≤ max_records
       few =
           by (holds record_size q s.records)
-          (λ h. rw (put-length-held record_size (add_signer e) q (record-length q w) s.records v.records-ascend h) v.few_records)
+          (λ h. rw (put-length-held record_size (add_signer e) q (record-length q w) s.records v.records_ascend h) v.few_records)
           (λ h. let n = leb-false max_records (length s.records) (sym (rw h refl) ∙ f) in let m = put-length record_size (add_signer e) q (record-length q w) s.records in omega arith)
 
 -- ---- a summary
@@ -152,34 +152,34 @@ module _ (s : Register) (v : Valid s) (p : List ℕ) (l : length p ≡ summary_s
     small = v.small;
     few_summaries = few;
     few_records = v.few_records;
-    summaries-wide = put-wide summary_size no_value p l summary_size (λ x h. refl) (λ x h. refl) s.summaries all_of v.summaries-wide;
-    records-wide = v.records-wide;
-    summaries-ascend = put-ascending summary_size no_value p l s.summaries v.summaries-ascend;
-    records-ascend = v.records-ascend;
-    summaries-formed = put_all summary_size no_value p (summary_formed s.convicted) s.summaries (rw (append-nil p) g) (λ x h k. rw (h, append-nil p) g) v.summaries-formed;
-    records-held = v.records-held;
+    summaries_wide = put-wide summary_size no_value p l summary_size (λ x h. refl) (λ x h. refl) s.summaries all_of v.summaries_wide;
+    records_wide = v.records_wide;
+    summaries_ascend = put-ascending summary_size no_value p l s.summaries v.summaries_ascend;
+    records_ascend = v.records_ascend;
+    summaries_formed = put_all summary_size no_value p (summary_formed s.convicted) s.summaries (rw (append-nil p) g) (λ x h k. rw (h, append-nil p) g) v.summaries_formed;
+    records_held = v.records_held;
   }
     where
       few : length (put_place summary_size no_value p s.summaries) ≤ max_summaries
       few =
           by (holds summary_size p s.summaries)
-          (λ h. rw (put-length-held summary_size no_value p l s.summaries v.summaries-ascend h) v.few_summaries)
+          (λ h. rw (put-length-held summary_size no_value p l s.summaries v.summaries_ascend h) v.few_summaries)
           (λ h. let n = leb-false max_summaries (length s.summaries) (sym (rw h refl) ∙ f) in let m = put-length summary_size no_value p l s.summaries in omega arith)
 
 pub whole-summary : (s : Register) → Valid s → (p : List ℕ) → p ++ lookup summary_size p s.summaries ≡ p
-whole-summary s v p = ap (λ (l : List ℕ). p ++ l) (nothing-follows p s.summaries v.summaries-wide) ∙ append-nil p
+whole-summary s v p = ap (λ (l : List ℕ). p ++ l) (nothing-follows p s.summaries v.summaries_wide) ∙ append-nil p
 
 -- ---- registers that hold the same
 
 module _ (s t : Register) (v : Valid s) (u : Valid t) where
   pub summaries-same : ((p : List ℕ) → holds summary_size p s.summaries ≡ holds summary_size p t.summaries) → s.summaries ≡ t.summaries
   summaries-same h =
-      ascending-ext summary_size s.summaries t.summaries v.summaries-ascend u.summaries-ascend h
-      (λ p. nothing-follows p s.summaries v.summaries-wide ∙ sym (nothing-follows p t.summaries u.summaries-wide))
+      ascending-ext summary_size s.summaries t.summaries v.summaries_ascend u.summaries_ascend h
+      (λ p. nothing-follows p s.summaries v.summaries_wide ∙ sym (nothing-follows p t.summaries u.summaries_wide))
 
   pub records-same : ((r : List ℕ) → signers_of r s ≡ signers_of r t) → s.records ≡ t.records
   records-same h =
-      ascending-ext record_size s.records t.records v.records-ascend u.records-ascend
+      ascending-ext record_size s.records t.records v.records_ascend u.records_ascend
       (λ r. held-signed s v r ∙ ap (λ (n : ℕ). not (eqb n 0)) (h r) ∙ sym (held-signed t u r))
       (λ r. lookup-signed s v r ∙ ap (λ (n : ℕ). cond (eqb n 0) [] (word_bytes 4 n)) (h r) ∙ sym (lookup-signed t u r))
 
@@ -188,7 +188,7 @@ module _ (s t : Register) (v : Valid s) (u : Valid t) where
 module _ (s : Register) (v : Valid s) (e : ℕ) (a : e ≤ max_engine) where
   pub struck-signers : (r : List ℕ) → signers_of r (strike_engine e s) ≡ without_bit (signers_of r s) e
   struck-signers r =
-      ap word (lookup-kept record_size (has_another_signer e) (drop_signer e) place_size key_of (signers-wide e) r s.records v.records-wide v.records-ascend)
+      ap word (lookup-kept record_size (has_another_signer e) (drop_signer e) place_size key_of (signers-wide e) r s.records v.records_wide v.records_ascend)
       ∙ by (holds record_size r s.records)
       (λ h. by (eqb (without_bit (signers_of r s) e) 0)
       (λ z. rw (h, ap word (rest s v r h), z, no_word) (sym (eqb-true (without_bit (signers_of r s) e) 0 z)))
@@ -203,18 +203,18 @@ module _ (s : Register) (v : Valid s) (e : ℕ) (a : e ≤ max_engine) where
     small = with-small s.convicted e a v.small;
     few_summaries = le_trans (kept-length summary_size (is_of_another e) no_value s.summaries) v.few_summaries;
     few_records = le_trans (kept-length record_size (has_another_signer e) (drop_signer e) s.records) v.few_records;
-    summaries-wide = kept-wide summary_size (is_of_another e) no_value summary_size all_of none_more s.summaries v.summaries-wide;
-    records-wide = kept-wide record_size (has_another_signer e) (drop_signer e) place_size key_of (signers-wide e) s.records v.records-wide;
-    summaries-ascend = kept-ascending summary_size (is_of_another e) no_value summary_size all_of none_more s.summaries v.summaries-wide v.summaries-ascend;
-    records-ascend = kept-ascending record_size (has_another_signer e) (drop_signer e) place_size key_of (signers-wide e) s.records v.records-wide v.records-ascend;
-    summaries-formed = kept-all summary_size (is_of_another e) no_value (summary_formed s.convicted) (summary_formed (with_bit s.convicted e)) (kept-summary s.convicted e) s.summaries v.summaries-formed;
-    records-held = kept-all record_size (has_another_signer e) (drop_signer e) (place_held s.convicted) (place_held (with_bit s.convicted e)) (kept_record s.convicted e) s.records v.records-held;
+    summaries_wide = kept-wide summary_size (is_of_another e) no_value summary_size all_of none_more s.summaries v.summaries_wide;
+    records_wide = kept-wide record_size (has_another_signer e) (drop_signer e) place_size key_of (signers-wide e) s.records v.records_wide;
+    summaries_ascend = kept-ascending summary_size (is_of_another e) no_value summary_size all_of none_more s.summaries v.summaries_wide v.summaries_ascend;
+    records_ascend = kept-ascending record_size (has_another_signer e) (drop_signer e) place_size key_of (signers-wide e) s.records v.records_wide v.records_ascend;
+    summaries_formed = kept-all summary_size (is_of_another e) no_value (summary_formed s.convicted) (summary_formed (with_bit s.convicted e)) (kept-summary s.convicted e) s.summaries v.summaries_formed;
+    records_held = kept-all record_size (has_another_signer e) (drop_signer e) (place_held s.convicted) (place_held (with_bit s.convicted e)) (kept_record s.convicted e) s.records v.records_held;
   }
 
   -- a summary stays where it is of another engine
   pub struck-holds : (p : List ℕ) → holds summary_size p (strike_engine e s).summaries ≡ (holds summary_size p s.summaries && is_of_another e p)
   struck-holds p =
-      holds_kept summary_size (is_of_another e) no_value summary_size all_of none_more p s.summaries v.summaries-wide v.summaries-ascend
+      holds_kept summary_size (is_of_another e) no_value summary_size all_of none_more p s.summaries v.summaries_wide v.summaries_ascend
       ∙ ap (λ (l : List ℕ). holds summary_size p s.summaries && is_of_another e l) (whole-summary s v p)
 
   -- where nothing of the engine is held, the summaries and the records stay
@@ -233,7 +233,7 @@ module _ (s : Register) (v : Valid s) (e : ℕ) (z : bit s.convicted e ≡ true)
   pub convicted-no-summary : (p : List ℕ) → holds summary_size p s.summaries ≡ true → is_of_another e p ≡ true
   convicted-no-summary p h =
       let c = s.convicted in
-      let f : summary_formed c p ≡ true = ap (summary_formed c) (sym (whole-summary s v p)) ∙ held-passes summary_size p (summary_formed c) s.summaries v.summaries-formed h in
+      let f : summary_formed c p ≡ true = ap (summary_formed c) (sym (whole-summary s v p)) ∙ held-passes summary_size p (summary_formed c) s.summaries v.summaries_formed h in
       let n : not (bit c (engine_of p)) ≡ true = and_right (leb (model_of p) max_model) (not (bit c (engine_of p))) (and_right (leb (engine_of p) max_engine) (leb (model_of p) max_model && not (bit c (engine_of p))) f) in
       by (eqb (engine_of p) e) (λ q. absurd (false≢true (sym (rw (eqb-true (engine_of p) e q, z) refl) ∙ n))) (λ q. rw q refl)
 

@@ -23,12 +23,12 @@ pub record Valid (s : Register) : Type 0 where
   pub small : s.convicted < 256 ^ 4
   pub few_summaries : length s.summaries ≤ max_summaries
   pub few_records : length s.records ≤ max_records
-  pub summaries-wide : wide summary_size s.summaries
-  pub records-wide : wide place_size s.records
-  pub summaries-ascend : ascending summary_size s.summaries ≡ true
-  pub records-ascend : ascending record_size s.records ≡ true
-  pub summaries-formed : all_places (summary_formed s.convicted) s.summaries ≡ true
-  pub records-held : all_places (place_held s.convicted) s.records ≡ true
+  pub summaries_wide : wide summary_size s.summaries
+  pub records_wide : wide place_size s.records
+  pub summaries_ascend : ascending summary_size s.summaries ≡ true
+  pub records_ascend : ascending record_size s.records ≡ true
+  pub summaries_formed : all_places (summary_formed s.convicted) s.summaries ≡ true
+  pub records_held : all_places (place_held s.convicted) s.records ≡ true
 
 module _ (s : Register) (v : Valid s) where
   abbrev t₁ : List ℕ
@@ -38,10 +38,10 @@ module _ (s : Register) (v : Valid s) where
   t₂ = table_of place_size max_records s.records
 
   l₁ : length t₁ ≡ summaries_size
-  l₁ = table-length summary_size max_summaries s.summaries v.summaries-wide v.few_summaries
+  l₁ = table-length summary_size max_summaries s.summaries v.summaries_wide v.few_summaries
 
   l₂ : length t₂ ≡ records_size
-  l₂ = table-length place_size max_records s.records v.records-wide v.few_records
+  l₂ = table-length place_size max_records s.records v.records_wide v.few_records
 
   convicted-back : convicted_in (encode s) ≡ s.convicted
   unfolding encode
@@ -64,10 +64,10 @@ module _ (s : Register) (v : Valid s) where
   record-bytes-back = frame-records s.convicted (length s.summaries) (length s.records) t₁ t₂ l₁
 
   summaries-back : summaries_in (encode s) ≡ s.summaries
-  summaries-back = ap₂ (places summary_size) summary-count-back summary-bytes-back ∙ places-of-table summary_size max_summaries s.summaries v.summaries-wide
+  summaries-back = ap₂ (places summary_size) summary-count-back summary-bytes-back ∙ places-of-table summary_size max_summaries s.summaries v.summaries_wide
 
   records-back : records_in (encode s) ≡ s.records
-  records-back = ap₂ (places place_size) record-count-back record-bytes-back ∙ places-of-table place_size max_records s.records v.records-wide
+  records-back = ap₂ (places place_size) record-count-back record-bytes-back ∙ places-of-table place_size max_records s.records v.records_wide
 
   pub decode-encode : decode (encode s) ≡ s
   unfolding decode
@@ -83,10 +83,10 @@ module _ (s : Register) (v : Valid s) where
   formed-encode =
       rw (
         size, summary-count-back, record-count-back, le-leb (length s.summaries) max_summaries v.few_summaries, le-leb (length s.records) max_records v.few_records, summary-bytes-back, record-bytes-back,
-        is-table-of summary_size max_summaries summary_size s.summaries v.summaries-wide v.summaries-ascend, is-table-of place_size max_records record_size s.records v.records-wide v.records-ascend,
-        places-of-table summary_size max_summaries s.summaries v.summaries-wide, places-of-table place_size max_records s.records v.records-wide, convicted-back, v.summaries-formed
+        is-table-of summary_size max_summaries summary_size s.summaries v.summaries_wide v.summaries_ascend, is-table-of place_size max_records record_size s.records v.records_wide v.records_ascend,
+        places-of-table summary_size max_summaries s.summaries v.summaries_wide, places-of-table place_size max_records s.records v.records_wide, convicted-back, v.summaries_formed
       )
-      (all-weaken (place_held s.convicted) (place_formed s.convicted) (λ p. and_left _ _) s.records v.records-held)
+      (all-weaken (place_held s.convicted) (place_formed s.convicted) (λ p. and_left _ _) s.records v.records_held)
 
   -- an operation on its bytes is the operation on it
   pub on-encode : (f : Register → After Register) → on_memory f (encode s) ≡ commit (encode s) (f s)

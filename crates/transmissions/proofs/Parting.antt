@@ -1,20 +1,19 @@
 -- What is known of the transmissions of fixes.
 use Rattle.std.proofs.Common.{ℕ, zero, suc, ◌≤◌, ◌<◌, ◌≡◌, refl, sym, subst, ◌∙◌, Bool, true, List, [], ◌∷◌, arith, length, get_or}
 use mathlib.Core.Bool.{false≢true}
-use mathlib.Core.List.Memᴰ
 use mathlib.Core.List.{Memᴰ}
-use lib.ListN.{length-map}
 use Rattle.octets.specs.Order.{is_before}
 use Rattle.octets.proofs.Comparison.{before-trans}
-use Rattle.ranges.specs.Lists.{any_of, filter}
+use Rattle.ranges.specs.Lists.{filter}
 use Rattle.ranges.proofs.Lists.{filter-in, filter-few}
 use Rattle.ranges.proofs.Bools.{by, and_left, and_right, and_both}
 use Rattle.items.specs.Layout.{max_items}
 use Rattle.shown.specs.Fix.{Fix}
 use Rattle.shown.specs.Items.{AllFormed}
 use Rattle.shown.proofs.Indexed.{at_in}
-use Rattle.links.specs.Transmissions.{linked, reach, transmission_of, leads, is_first, transmissions_of}
+use Rattle.links.specs.Transmissions.{transmission_of, leads, is_first, transmissions_of}
 use Rattle.links.proofs.Partition.{map-from}
+use Rattle.links.proofs.Reaching.{together, transmission-tested}
 use Rattle.fixes.specs.Order.{ascends, ascends_from}
 use Rattle.fixes.proofs.Entering.{rest-ascends}
 use Rattle.fixes.proofs.Kept.{apart}
@@ -49,18 +48,9 @@ filter-ascends p (f ∷ fs) e =
 
 -- ---- a transmission is some of the fixes
 
-by-test : (fs : List Fix) (a : Fix) (k : ℕ) → 0 < k → (p : Fix → Bool) × (reach fs k a ≡ filter p fs)
-unfolding reach
-by-test fs a zero h = absurd (omega arith)
-by-test fs a (suc k) h = (λ g. any_of (linked g) (reach fs k a), refl)
-
 led : (a : Fix) (c : List Fix) → leads a c ≡ true → 0 < length c
 led a [] e = absurd (false≢true e)
 led a (f ∷ c) e = omega arith
-
-held : (fs : List Fix) (a : Fix) → Memᴰ a fs → 0 < length fs
-held [] a m = absurd (Memᴰ.not-nil m)
-held (f ∷ fs) a m = omega arith
 
 module _ (fs : List Fix) (w : AllFormed fs) (e : ascends fs ≡ true) (few : length fs ≤ max_items) where
   filtered : (p : Fix → Bool) → 0 < length (filter p fs) → Part (filter p fs)
@@ -76,14 +66,9 @@ module _ (fs : List Fix) (w : AllFormed fs) (e : ascends fs ≡ true) (few : len
   a-part c m =
       let r = map-from (transmission_of fs) (filter (is_first fs) fs) c m in
       let q = filter-in (is_first fs) fs r.0 r.1 in
-      let t = by-test fs r.0 (length fs) (held fs r.0 q.0) in
-      let is : c ≡ filter t.0 fs = r.2 ∙ t.1 in
+      let is : c ≡ filter (together fs r.0) fs = r.2 ∙ transmission-tested fs r.0 q.0 in
       let some : 0 < length c = subst (λ (z : List Fix). 0 < length z) (sym r.2) (led r.0 (transmission_of fs r.0) q.1) in
-      subst Part (sym is) (filtered t.0 (subst (λ (z : List Fix). 0 < length z) is some))
+      subst Part (sym is) (filtered (together fs r.0) (subst (λ (z : List Fix). 0 < length z) is some))
 
   pub parts-of : AllParts (transmissions_of fs)
   parts-of k h = a-part (get_or (transmissions_of fs) k []) (at_in [] (transmissions_of fs) k h)
-
-pub few-parts : (fs : List Fix) → length (transmissions_of fs) ≤ length fs
-unfolding transmissions_of
-few-parts fs = rw (length-map (filter (is_first fs) fs) (transmission_of fs)) (filter-few (is_first fs) fs)

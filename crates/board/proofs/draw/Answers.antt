@@ -1,24 +1,8 @@
 -- `draw` meets its contract: the table of summaries and the records lie in the register's bytes, and the board of the fixes is the register's.
-use Rattle.std.proofs.Common.{arith, ◌∙◌}
+use Rattle.std.proofs.Common.{◌∙◌}
 use Rattle.octets.proofs.Puts.{put_as}
-use Rattle.register.proofs.Opened.{opened}
 use Rattle.board.proofs.Lent.{lends, few-fixes, all-formed, in-order, board-is, board-lies}
 use Rattle.board.proofs.draw.Goals as goal
-
-pub u16_at-n-requires : goal.u16_at-n-requires
-u16_at-n-requires c = omega (arith, (opened c.args.memory.now c.requires.memory_value).size)
-
-pub u16_at-records-requires : goal.u16_at-records-requires
-u16_at-records-requires c = omega (arith, (opened c.args.memory.now c.requires.memory_value).size)
-
-pub slice_bounds-summaries-end : goal.slice_bounds-summaries-end
-slice_bounds-summaries-end c = omega (arith, (opened c.args.memory.now c.requires.memory_value).size)
-
-pub slice_bounds-represent-count : goal.slice_bounds-represent-count
-slice_bounds-represent-count c = omega (arith, (opened c.args.memory.now c.requires.memory_value).size)
-
-pub slice_bounds-represent-start : goal.slice_bounds-represent-start
-slice_bounds-represent-start c = omega (arith, (opened c.args.memory.now c.requires.memory_value).size)
 
 pub invariant_of-summaries : goal.invariant_of-summaries
 invariant_of-summaries c = record { within = (lends c.args.memory.now c.requires.memory_value c.u16_at-n.result c.u16_at-records.result c.u16_at-n.ensures c.u16_at-records.ensures).summaries_lie }

@@ -14,7 +14,7 @@ use Rattle.held.specs.Signed.{has_another_signer, drop_signer}
 use Rattle.register.specs.Layout.{summary_count_at, record_count_at}
 use Rattle.register.proofs.Opened.{opened}
 use Rattle.register.proofs.Parts.{summaries-sorted, records-sorted}
-use Rattle.register.proofs.Struck.{struck}
+use Rattle.register.proofs.Written.{struck}
 use Rattle.register.proofs.convictions.strike.Goals as goal
 
 pub strike_summaries-first-requires : goal.strike_summaries-first-requires

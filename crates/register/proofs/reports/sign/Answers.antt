@@ -1,5 +1,4 @@
-use Rattle.std.proofs.Common.{rules, arith, ◌≡◌, sym, ap, ◌∙◌, List, ℕ, ◌++◌, take}
-use lib.Seq.{take_at}
+use Rattle.std.proofs.Common.{rules, arith, ◌≡◌, sym, ap, ◌∙◌, List, ℕ, ◌++◌, take, take_at}
 use Rattle.octets.specs.Masks.{with_bit}
 use Rattle.octets.specs.Words.{word_bytes}
 use Rattle.octets.proofs.Numbers.{all-bytes}
@@ -12,7 +11,7 @@ use Rattle.register.specs.Layout.{max_records}
 use Rattle.register.specs.Signers.{signers_found}
 use Rattle.register.proofs.Opened.{opened}
 use Rattle.register.proofs.Parts.{records-sorted}
-use Rattle.register.proofs.Signing.{refused, signed}
+use Rattle.register.proofs.Written.{refused-record, signed}
 use Rattle.register.proofs.reports.sign.Goals as goal
 
 pub of-records-requires : goal.of-records-requires
@@ -32,7 +31,7 @@ put-requires c =
 pub returns-then-is_full-clause-signed : goal.returns-then-is_full-clause-signed
 returns-then-is_full-clause-signed c =
     let q = c.of-records.result in
-    refused c.args.memory.now c.requires.register c.args.engine.number c.args.r.bytes.now _ _ c.split_at_mut-header.ensures.front c.split_at_mut-header.ensures.back q.count (c.of-records.ensures.count ∙ c.u16_at.ensures) q.places.now
+    refused-record c.args.memory.now c.requires.register c.args.engine.number c.args.r.bytes.now _ _ c.split_at_mut-header.ensures.front c.split_at_mut-header.ensures.back q.count (c.of-records.ensures.count ∙ c.u16_at.ensures) q.places.now
     (c.of-records.ensures.places ∙ c.split_at_mut-summaries.ensures.back) c.search-found.result c.search-found.ensures (sym c.is_full.ensures ∙ c.if-is_full.true) _ (search rules)
 
 pub returns : goal.returns

@@ -5,7 +5,7 @@ use Rattle.places.specs.Tables.{sought}
 use Rattle.models.specs.Summary.{summary_size}
 use Rattle.register.proofs.Opened.{opened}
 use Rattle.register.proofs.Parts.{summaries-sorted}
-use Rattle.register.proofs.Holding.{refused, held-put}
+use Rattle.register.proofs.Written.{refused-summary, held-put}
 use Rattle.register.proofs.summaries.hold.Goals as goal
 
 pub of-summaries-requires : goal.of-summaries-requires
@@ -20,7 +20,7 @@ put-requires c =
 pub returns-then-is_full-clause-held : goal.returns-then-is_full-clause-held
 returns-then-is_full-clause-held c =
     let q = c.of-summaries.result in
-    refused c.args.memory.now c.requires.register c.args.summary.now _ _ c.split_at_mut-header.ensures.front c.split_at_mut-header.ensures.back q.count (c.of-summaries.ensures.count ∙ c.u16_at.ensures) q.places.now
+    refused-summary c.args.memory.now c.requires.register c.args.summary.now _ _ c.split_at_mut-header.ensures.front c.split_at_mut-header.ensures.back q.count (c.of-summaries.ensures.count ∙ c.u16_at.ensures) q.places.now
     (c.of-summaries.ensures.places ∙ c.split_at_mut-places.ensures.front) c.search-found.result c.search-found.ensures (sym c.is_full.ensures ∙ c.if-is_full.true) _ (search rules)
 
 pub returns : goal.returns
