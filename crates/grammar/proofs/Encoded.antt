@@ -1,18 +1,16 @@
 -- Numbers as std writes their bytes are numbers in memory.
-use Rattle.std.proofs.Common.{◌≡◌, ◌∙◌, sym, ap, refl, ℕ, zero, suc, ◌+◌, ◌*◌, ◌/◌, ◌%◌, ◌^◌, ◌-◌, ◌≤◌, ◌++◌, Option, Some, None, length-append, append-nil, List, [], ◌∷◌, length, take, drop, replicate, w16, w32, w64, arith}
+use Rattle.std.proofs.Common.{◌≡◌, ◌∙◌, sym, ap, refl, ℕ, zero, suc, ◌+◌, ◌*◌, ◌/◌, ◌%◌, ◌^◌, ◌-◌, ◌≤◌, ◌++◌, Option, Some, None, length-append, append-nil, List, [], ◌∷◌, length, take, drop, replicate, w16, w32, w64, arith, ℤ, div-one, pow-suc, drop_of_length-le}
 use Rattle.std.proofs.lemmas.List.{drop-replicate, take_all, length-replicate}
-use Rattle.std.specs.Prelude.{ℤ}
 use Rattle.record.specs.Layout.{record_size, long_message, max_tags, max_models}
 use Rattle.octets.proofs.Numbers.{length-word-bytes}
 use Rattle.grammar.specs.declared.lines.Report.{Report}
 use Rattle.grammar.specs.Records.{bits, pad, words, height_bytes, message_bytes, place_bytes, sighting_bytes, cited_bytes}
 use Rattle.grammar.specs.Gives.{record_bytes}
 use Rattle.std.specs.Int.{to_le_bytes, byte_at, bytes_low_first}
-use native.Mathlib.Nat.{div-div-eq-div-mul, div-one, pow-suc}
+use native.Mathlib.Nat.{div-div-eq-div-mul}
 use Rattle.octets.specs.Words.{word_bytes}
 use Rattle.octets.specs.Put.{Put}
 use Rattle.octets.proofs.Puts as Puts
-use lib.ListN.{drop_of_length-le}
 
 byte-at : (i n : ℕ) → byte_at i n ≡ n / 256 ^ i % 256
 byte-at zero n = ap (λ (x : ℕ). x % 256) (sym (div-one n))

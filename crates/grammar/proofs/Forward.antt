@@ -1,11 +1,9 @@
 -- An operation takes bytes, so that a session is an operation and the session of what is left.
-use Rattle.std.proofs.Common.{◌≡◌, ◌∙◌, sym, ap, refl, ℕ, zero, suc, ◌+◌, ◌-◌, ◌≤◌, ◌<◌, ltb, List, [], ◌∷◌, length, take, drop, Option, Some, None, Result, Ok, Err, eqb, MatchOption, ok_or, arith, length-drop, length-take}
+use Rattle.std.proofs.Common.{◌≡◌, ◌∙◌, sym, ap, refl, ℕ, zero, suc, ◌+◌, ◌-◌, ◌≤◌, ◌<◌, ltb, List, [], ◌∷◌, length, take, drop, Option, Some, None, Result, Ok, Err, eqb, MatchOption, ok_or, arith, length-drop, length-take, ltb-true, ltb-false, eqb-true, eq-eqb, ne_eqb, option_map, position, ◌==◌}
 use Rattle.ranges.proofs.Bools.{by}
-use borrow.Author.Tests.{ltb-true, ltb-false, eqb-true, eq-eqb, ne_eqb}
 use Rattle.std.specs.List.{position_or_len}
 use Rattle.std.specs.Str.{bytes_eq}
 use Rattle.std.proofs.lemmas.Slice.Eq.{bytes_eq-Decides}
-use Rattle.std.specs.Prelude.{option_map, position, ◌==◌}
 use Rattle.register.specs.Calls.{Call}
 use Rattle.grammar.specs.declared.lines.Due.{Due}
 use Rattle.grammar.specs.declared.lines.Due.TheVariants as due

@@ -1,6 +1,5 @@
 -- The height that is not known.
-use Rattle.std.proofs.Common.{◌≡◌, sym, ap, refl, true, ℕ, List, Some, None, ◌∙◌}
-use Rattle.std.specs.Prelude.{codes}
+use Rattle.std.proofs.Common.{◌≡◌, sym, ap, refl, true, ℕ, List, Some, None, ◌∙◌, codes}
 use Rattle.std.specs.Str.{bytes_eq}
 use Rattle.grammar.specs.Numbers.{read_height}
 

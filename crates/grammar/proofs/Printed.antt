@@ -1,15 +1,7 @@
 -- Numbers that are printed are read back as themselves, and no number has two texts.
-use Prim.Native.Nat.{ℕ, zero, suc, ◌+◌, ◌-◌, ◌*◌, ◌/◌, ◌%◌, ◌^◌, ◌≤◌, ◌<◌}
-use mathlib.Core.Path.{◌≡◌, refl, sym, ap, ◌∙◌}
-use mathlib.Core.Bool.{Bool, true, false, ◌&&◌, ◌||◌}
-use mathlib.Core.List.{List, [], ◌∷◌, ◌++◌, append_assoc, append-nil}
-use native.Mathlib.Omega.{arith}
-use native.Mathlib.Nat.{add-suc}
-use borrow.Author.Tests.{lt-ltb, le-ltb, le-leb, ne_eqb, leb-true, eqb-true, eqb-false}
-use lib.Dec.{ltb, leb, eqb}
-use lib.IntN.{pos, negsuc}
-use lib.ListN.{length, get_or, get_or-append}
-use Rattle.std.specs.Prelude.{Some, None, option_map, option_and_then}
+use Rattle.std.proofs.Common.{ℕ, zero, suc, ◌+◌, ◌-◌, ◌*◌, ◌/◌, ◌%◌, ◌^◌, ◌≤◌, ◌<◌, ◌≡◌, refl, sym, ap, ◌∙◌, Bool, true, false, ◌&&◌, ◌||◌, List, [], ◌∷◌, ◌++◌, append_assoc, append-nil, arith, add-suc, lt-ltb, le-ltb, le-leb, ne_eqb, leb-true, eqb-true, ltb, leb, eqb, pos, negsuc, length, get_or, Some, None, option_map, option_and_then}
+use borrow.Author.Tests.{eqb-false}
+use lib.ListN.{get_or-append}
 use Rattle.ranges.proofs.Bools.{by, and_left, and_right, and_both}
 use Rattle.text.specs.Numbers.{digits, signed, decimal_value}
 use Rattle.text.proofs.Shapes.{digits-one}

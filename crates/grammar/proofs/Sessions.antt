@@ -1,7 +1,6 @@
 -- What a session says, and that nothing else reads sessions so.
-use Rattle.std.proofs.Common.{◌≡◌, ◌∙◌, sym, ap, refl, ℕ, zero, suc, ◌≤◌, ◌<◌, ltb, eqb, cond, List, [], ◌∷◌, length, Result, Ok, Err, arith}
+use Rattle.std.proofs.Common.{◌≡◌, ◌∙◌, sym, ap, refl, ℕ, zero, suc, ◌≤◌, ◌<◌, ltb, eqb, cond, List, [], ◌∷◌, length, Result, Ok, Err, arith, ltb-true, ltb-false, eq-eqb, ne_eqb}
 use Rattle.ranges.proofs.Bools.{by}
-use borrow.Author.Tests.{ltb-true, ltb-false, eq-eqb, ne_eqb}
 use Rattle.register.specs.Calls.{Call}
 use Rattle.grammar.specs.declared.lines.BadLine.{BadLine}
 use Rattle.grammar.specs.Lines.{At, Reading, ◌>>=◌}

@@ -1,12 +1,7 @@
 -- Numbers from the highest byte first to the lowest first, byte by byte.
-use Prim.Native.Nat.{ℕ, zero, suc, ◌+◌, ◌-◌, ◌*◌, ◌%◌, ◌≤◌, ◌<◌}
-use mathlib.Core.Path.{◌≡◌, refl, ap, ◌∙◌}
-use mathlib.Core.List.{List, [], ◌∷◌, ◌++◌, append-nil, reverse, reverse_aux}
-use native.Mathlib.Omega.{arith}
-use borrow.Author.Tests.{ltb-true, ltb-false}
-use lib.Dec.{ltb}
-use lib.ListN.{length, take, drop, get_or, drop_of_length-le, length-drop, length-append, length-reverse, get_or-append}
-use lib.Seq.{take_all, length-take-le, get_or-take, get_or-drop, get_or-append-add}
+use Rattle.std.proofs.Common.{ℕ, zero, suc, ◌+◌, ◌-◌, ◌*◌, ◌%◌, ◌≤◌, ◌<◌, ◌≡◌, refl, ap, ◌∙◌, List, [], ◌∷◌, ◌++◌, append-nil, reverse, arith, ltb-true, ltb-false, ltb, length, take, drop, get_or, drop_of_length-le, length-drop, length-append, take_all, length-take-le, get_or-take, get_or-drop, get_or-append-add}
+use mathlib.Core.List.{reverse_aux}
+use lib.ListN.{length-reverse, get_or-append}
 use Rattle.ranges.proofs.Bools.{by}
 use Rattle.grammar.specs.Numbers.{swap_bytes}
 

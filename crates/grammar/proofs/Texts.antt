@@ -1,7 +1,6 @@
 -- The definitions of values at the steps of the loops that read them.
-use Rattle.std.proofs.Common.{ltb, sym, ap, ◌/◌, ◌++◌, append_assoc, append-nil, suc, option_map, MatchOption, ◌≡◌, refl, ℕ, ◌+◌, ◌-◌, ◌*◌, ◌≤◌, ◌<◌, List, [], ◌∷◌, length, drop, get_or, Option, Some, None, ◌∙◌, arith, drop-cons, add-one}
-use borrow.Author.Tests.{le-leb, lt-leb, le-ltb, eq-eqb, ne_eqb}
-use lib.ListN.{drop_of_length-le}
+use Rattle.std.proofs.Common.{ltb, sym, ap, ◌/◌, ◌++◌, append_assoc, append-nil, suc, option_map, MatchOption, ◌≡◌, refl, ℕ, ◌+◌, ◌-◌, ◌*◌, ◌≤◌, ◌<◌, List, [], ◌∷◌, length, drop, get_or, Option, Some, None, ◌∙◌, arith, drop-cons, add-one, le-leb, le-ltb, eq-eqb, ne_eqb, drop_of_length-le}
+use borrow.Author.Tests.{lt-leb}
 use Rattle.ranges.proofs.Bools.{by}
 use Rattle.text.specs.Numbers.{decimal_value}
 use Rattle.grammar.specs.Numbers.{numbers_by, read_hex, hex_up_to, read_numbers, read_number, split_once, hex_byte, hex_bytes, ◌>>=◌, all_digits, digits_after}

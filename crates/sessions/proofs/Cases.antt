@@ -1,7 +1,6 @@
 -- The cases of a session's output.
-use Rattle.std.proofs.Common.{◌≡◌, ap, sym, refl, ℕ, ◌≤◌, List, length, length-append, Some, None, Result, Ok, Err, ltb, arith}
+use Rattle.std.proofs.Common.{◌≡◌, ap, sym, refl, ℕ, ◌≤◌, List, length, length-append, Some, None, Result, Ok, Err, ltb, arith, ltb-false}
 use Rattle.std.specs.Result.{result_err, result_map_both}
-use borrow.Author.Tests.{ltb-false}
 use Rattle.ranges.proofs.Bools.{by}
 use Rattle.octets.specs.Ascii.{ascii}
 use Rattle.text.proofs.Readback.{decimal-width}

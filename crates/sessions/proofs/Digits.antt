@@ -1,11 +1,5 @@
 -- A register's answers are digits, so that their lines have one width.
-use Prim.Native.Nat.{ℕ, ◌≤◌}
-use mathlib.Core.Path.{◌≡◌, refl}
-use mathlib.Core.Bool.{Bool, not, ◌||◌}
-use mathlib.Core.List.{List}
-use native.Mathlib.Omega.{arith}
-use lib.Dec.{ltb, eqb}
-use lib.ListN.{length}
+use Rattle.std.proofs.Common.{ℕ, ◌≤◌, ◌≡◌, refl, Bool, not, ◌||◌, List, arith, ltb, eqb, length}
 use Rattle.octets.specs.Masks.{bit}
 use Rattle.ranges.proofs.Bools.{by}
 use Rattle.text.proofs.Shapes.{digits-one}

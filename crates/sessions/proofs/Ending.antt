@@ -1,12 +1,6 @@
 -- The board after the answers, and the cases of a session's output.
-use Prim.Native.Nat.{ℕ, ◌+◌, ◌-◌, ◌≤◌, ◌<◌}
-use mathlib.Core.Path.{◌≡◌, refl, sym, ap, ◌∙◌}
-use mathlib.Core.Bool.{true}
-use mathlib.Core.List.{List, [], ◌∷◌, ◌++◌, append_assoc}
-use native.Mathlib.Omega.{arith}
-use lib.ListN.{length, take, drop, length-drop}
-use lib.Seq.{sets-eq, drop-drop}
-use borrow.Author.Tests.{le-ltb}
+use Rattle.std.proofs.Common.{ℕ, ◌+◌, ◌-◌, ◌≤◌, ◌<◌, ◌≡◌, refl, sym, ap, ◌∙◌, true, List, [], ◌∷◌, ◌++◌, append_assoc, arith, length, take, drop, length-drop, drop-drop, le-ltb}
+use lib.Seq.{sets-eq}
 use Rattle.octets.specs.Ascii.{ascii}
 use Rattle.octets.specs.Bytes.{Bytes}
 use Rattle.octets.specs.Put.{Put}
@@ -57,8 +51,3 @@ printed-none (b ∷ t) h = absurd (omega arith)
 pub printed-some : (t : List ℕ) → 0 < length t → t ≡ printed t
 printed-some [] h = absurd (omega arith)
 printed-some (b ∷ t) h = refl
-
-pub printed-fits : (t : List ℕ) → length t ≤ board_size → length (printed t) ≤ board_size
-unfolding ascii
-printed-fits [] h = omega arith
-printed-fits (b ∷ t) h = h

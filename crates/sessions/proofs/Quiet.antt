@@ -1,13 +1,5 @@
 -- What is printed of a session without a board, and that only the empty input prints nothing before it.
-use Prim.Native.Nat.{ℕ, ◌≤◌, ◌<◌}
-use mathlib.Core.Path.{◌≡◌, refl, sym, ap, ◌∙◌}
-use mathlib.Core.Logic.{⊎_elim}
-use mathlib.Core.List.{List, [], ◌∷◌, ◌++◌}
-use native.Mathlib.Omega.{arith}
-use lib.Dec.{ltb}
-use lib.ListN.{length, get_or, length-append}
-use borrow.Author.Tests.{le-ltb}
-use Rattle.std.specs.Prelude.{Result, Ok, Err}
+use Rattle.std.proofs.Common.{ℕ, ◌≤◌, ◌<◌, ◌≡◌, refl, sym, ap, ◌∙◌, ⊎_elim, List, [], ◌∷◌, ◌++◌, arith, ltb, length, get_or, length-append, le-ltb, Result, Ok, Err}
 use Rattle.std.specs.Result.{result_map_both}
 use Rattle.ranges.specs.Lists.{any_of}
 use Rattle.ranges.proofs.Bools.{by}

@@ -1,8 +1,4 @@
-use Prim.Native.Nat.{◌%◌, ℕ, ◌+◌, ◌-◌, ◌*◌}
-use mathlib.Core.Path.{refl, sym, ap, ◌∙◌}
-use mathlib.Core.List.{List, ◌++◌}
-use native.Mathlib.Omega.{arith}
-use lib.ListN.{replicate, get_or, drop, take, set, length-set}
+use Rattle.std.proofs.Common.{◌%◌, ℕ, ◌+◌, ◌-◌, ◌*◌, refl, sym, ap, ◌∙◌, List, ◌++◌, arith, replicate, get_or, drop, take, set, length-set}
 use Rattle.octets.proofs.Moves.{up}
 use Rattle.grammar.specs.Numbers as Val
 use Rattle.grammar.proofs.Swapped.{swap_at, length-swap, all-taken}

@@ -1,6 +1,5 @@
-use Rattle.std.proofs.Common.{ap, ◌∙◌, w32, rules}
+use Rattle.std.proofs.Common.{ap, ◌∙◌, w32, rules, to_z-of_z}
 use Rattle.std.specs.Int.{cast_unsigned}
-use mir.Facts.{to_z-of_z}
 use Rattle.octets.specs.Words.{word_bytes}
 use Rattle.text.specs.Texts.{append}
 use Rattle.grammar.proofs.Encoded.{bytes-of-u32}
