@@ -39,6 +39,15 @@ impl Lead {
     }
 }
 
+// The first ranked fix of a transmission, by what is decided of it. A function of its own, since room for a decision is cleared first.
+fn first_decided<'s, 'a>(transmission: &Transmission<'s, 'a>) -> &'s Fix<'a>
+    requires { Part transmission.now }
+    ensures { result.now ≡ first_of transmission.now }
+{
+    let decision = crate::outcome(transmission);
+    Shown::of(transmission, &decision).ranked(0)
+}
+
 // The first ranked fix of a transmission; whoever is alone is that.
 fn first_ranked<'s, 'a>(transmission: Transmission<'s, 'a>) -> &'s Fix<'a>
     requires { Part transmission }
@@ -47,8 +56,7 @@ fn first_ranked<'s, 'a>(transmission: Transmission<'s, 'a>) -> &'s Fix<'a>
     if transmission.len() == 1 {
         return transmission.fix(0);
     }
-    let decision = crate::outcome(&transmission);
-    Shown::of(&transmission, &decision).ranked(0)
+    first_decided(&transmission)
 }
 
 // Where the first stands that is not older, if there is one.
