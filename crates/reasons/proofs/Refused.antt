@@ -1,7 +1,6 @@
 -- The cases of a reason, and that there is one exactly where a session is refused.
-use Rattle.std.proofs.Common.{◌≡◌, ap, sym, refl, ℕ, ◌≤◌, List, [], ◌∷◌, length, get_or, length-append, Some, None, Result, Ok, Err, ltb, eqb, arith}
+use Rattle.std.proofs.Common.{◌≡◌, ap, sym, refl, ℕ, ◌≤◌, List, [], ◌∷◌, length, get_or, length-append, Some, None, Result, Ok, Err, ltb, eqb, arith, lt-ltb}
 use Rattle.std.specs.Result.{result_err}
-use borrow.Author.Tests.{lt-ltb}
 use Rattle.octets.specs.Ascii.{ascii}
 use Rattle.text.proofs.Readback.{decimal-width}
 use Rattle.register.specs.Calls.{Call}
