@@ -81,12 +81,10 @@ module _ (s : Register) (v : Valid s) where
   pub formed-encode : well_formed (encode s) ≡ true
   unfolding well_formed
   formed-encode =
-      rw (
-        size, summary-count-back, record-count-back, le-leb (length s.summaries) max_summaries v.few_summaries, le-leb (length s.records) max_records v.few_records, summary-bytes-back, record-bytes-back,
-        is-table-of summary_size max_summaries summary_size s.summaries v.summaries_wide v.summaries_ascend, is-table-of place_size max_records record_size s.records v.records_wide v.records_ascend,
-        places-of-table summary_size max_summaries s.summaries v.summaries_wide, places-of-table place_size max_records s.records v.records_wide, convicted-back, v.summaries_formed
-      )
-      (all-weaken (place_held s.convicted) (place_formed s.convicted) (λ p. and_left _ _) s.records v.records_held)
+      rw (size, summary-count-back, record-count-back, le-leb (length s.summaries) max_summaries v.few_summaries, le-leb (length s.records) max_records v.few_records, summary-bytes-back, record-bytes-back)
+      (rw (is-table-of summary_size max_summaries summary_size s.summaries v.summaries_wide v.summaries_ascend, is-table-of place_size max_records record_size s.records v.records_wide v.records_ascend)
+      (rw (places-of-table summary_size max_summaries s.summaries v.summaries_wide, places-of-table place_size max_records s.records v.records_wide, convicted-back, v.summaries_formed)
+      (all-weaken (place_held s.convicted) (place_formed s.convicted) (λ p. and_left _ _) s.records v.records_held)))
 
   -- an operation on its bytes is the operation on it
   pub on-encode : (f : Register → After Register) → on_memory f (encode s) ≡ commit (encode s) (f s)

@@ -39,8 +39,8 @@ pub returns : goal.returns
 returns c =
     let m = c.args.memory.now in
     let d = struck m c.requires (all-bytes m (λ i. (c.slice_known-1.given i).fits)) c.args.engine.number (omega (arith, c.args.engine.small)) _ _ c.split_at_mut-header.ensures.front c.split_at_mut-header.ensures.back
-        c.u16_at.result c.u16_at-2.result _ _ c.u16_at.ensures c.u16_at-2.ensures c.split_at_mut-summaries.ensures.front c.split_at_mut-summaries.ensures.back
-        c.strike_summaries-first.result c.strike_records-second.result _ _ c.strike_summaries-first.ensures c.strike_records-second.ensures c.with-struck.result.0 _
-        (c.with-struck.ensures ∙ ap (λ (b : ℕ). with_bit b c.args.engine.number) c.u32_at.ensures)
-        (c.put_u16-2.ensures ∙ ap (put_word 2 record_count_at c.strike_records-second.result) (c.put_u16.ensures ∙ ap (put_word 2 summary_count_at c.strike_summaries-first.result) c.put_u32.ensures)) in
+    c.u16_at.result c.u16_at-2.result _ _ c.u16_at.ensures c.u16_at-2.ensures c.split_at_mut-summaries.ensures.front c.split_at_mut-summaries.ensures.back
+    c.strike_summaries-first.result c.strike_records-second.result _ _ c.strike_summaries-first.ensures c.strike_records-second.ensures c.with-struck.result.0 _
+    (c.with-struck.ensures ∙ ap (λ (b : ℕ). with_bit b c.args.engine.number) c.u32_at.ensures)
+    (c.put_u16-2.ensures ∙ ap (put_word 2 record_count_at c.strike_records-second.result) (c.put_u16.ensures ∙ ap (put_word 2 summary_count_at c.strike_summaries-first.result) c.put_u32.ensures)) in
     record { struck = d.decoded; formed = d.formed }

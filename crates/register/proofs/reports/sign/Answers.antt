@@ -40,7 +40,7 @@ returns c =
     let q = c.of-records.result in
     let f = c.search-found.result in
     let d = λ (t : List ℕ). λ (k : t ≡ c.put.new.self.places.now). signed m c.requires.register c.args.engine.number c.args.r.bytes.now _ _ c.split_at_mut-header.ensures.front c.split_at_mut-header.ensures.back q.count (c.of-records.ensures.count ∙ c.u16_at.ensures) q.places.now
-        (c.of-records.ensures.places ∙ c.split_at_mut-summaries.ensures.back) f c.search-found.ensures c.args.r.size (sym c.is_full.ensures ∙ c.if-is_full.false) (all-bytes m (λ i. (c.slice_known-1.given i).fits)) (omega (arith, c.args.engine.small))
-        c.args.r.formed c.requires.free _ (c.signed.ensures ∙ ap (λ (x : ℕ). c.args.r.bytes.now ++ word_bytes 4 x) (c.signers_with-signers.ensures ∙ ap (λ (ps : List (List ℕ)). with_bit (signers_found ps f) c.args.engine.number) c.places.ensures))
-        _ _ t c.count.result c.split_at_mut-summaries.ensures.front (c.count.ensures ∙ c.put.ensures.count) c.put_u16.ensures (k ∙ c.put.ensures.places) in
+    (c.of-records.ensures.places ∙ c.split_at_mut-summaries.ensures.back) f c.search-found.ensures c.args.r.size (sym c.is_full.ensures ∙ c.if-is_full.false) (all-bytes m (λ i. (c.slice_known-1.given i).fits)) (omega (arith, c.args.engine.small))
+    c.args.r.formed c.requires.free _ (c.signed.ensures ∙ ap (λ (x : ℕ). c.args.r.bytes.now ++ word_bytes 4 x) (c.signers_with-signers.ensures ∙ ap (λ (ps : List (List ℕ)). with_bit (signers_found ps f) c.args.engine.number) c.places.ensures))
+    _ _ t c.count.result c.split_at_mut-summaries.ensures.front (c.count.ensures ∙ c.put.ensures.count) c.put_u16.ensures (k ∙ c.put.ensures.places) in
     record { signed = (d _ (search rules)).0; formed = (d _ (search rules)).1 }
