@@ -1,5 +1,5 @@
 -- What bytes that are a register show: its parts, and that they are the bytes of what they hold.
-use Rattle.std.proofs.Common.{ℕ, ◌+◌, ◌*◌, ◌≤◌, ◌≡◌, refl, sym, ap, ap₂, ◌∙◌, true, false, ◌&&◌, List, ◌++◌, arith, leb, eqb, length, drop, length-take, length-drop, ne_eqb, eqb-true, leb-true}
+use Rattle.std.proofs.Common.{ℕ, ◌+◌, ◌*◌, ◌≤◌, ◌≡◌, refl, sym, ap, ap₂, ◌∙◌, true, false, List, ◌++◌, arith, leb, eqb, length, drop, length-take, length-drop, ne_eqb, eqb-true, leb-true}
 use Rattle.octets.specs.Words.{word_bytes, word_at}
 use Rattle.octets.specs.Runs.{all_zero}
 use Rattle.ranges.proofs.Bools.{and_left, and_right}

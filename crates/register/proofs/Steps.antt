@@ -8,7 +8,7 @@ use Rattle.ranges.proofs.Bools.{by, and_left, and_right}
 use Rattle.octets.proofs.Comparison.{same-eq}
 use Rattle.octets.proofs.Lookup.{clear-unset, bit-zero, bit_below, without-le}
 use Rattle.octets.proofs.Numbers.{word-of-bytes}
-use Rattle.places.specs.Places.{all_places, holds, lookup, put_place, keep_places}
+use Rattle.places.specs.Places.{all_places, holds, lookup, put_place}
 use Rattle.places.proofs.Tables.{wide}
 use Rattle.places.proofs.Keys.{holds-none, holds_later, lookup-here, lookup-later, absent, ascending-ext}
 use Rattle.places.proofs.Putting.{lookup-put, lookup-put-other, put-ascending, put-length, put-length-held, put-wide, put_all}

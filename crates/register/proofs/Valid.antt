@@ -1,17 +1,15 @@
 -- Registers that bytes can hold: their bytes are well-formed, and decode to them.
-use Rattle.std.proofs.Common.{ℕ, ◌^◌, ◌≤◌, ◌<◌, ◌≡◌, refl, ap₂, ◌∙◌, true, ◌&&◌, List, arith, leb, eqb, length, drop, length-append, eq-eqb, le-leb}
-use Rattle.octets.specs.Order.{same}
-use Rattle.octets.specs.Words.{word_bytes}
-use Rattle.ranges.proofs.Bools.{and_left, and_both}
+use Rattle.std.proofs.Common.{ℕ, ◌^◌, ◌≤◌, ◌<◌, ◌≡◌, refl, ap₂, ◌∙◌, true, List, arith, length, length-append, le-leb}
+use Rattle.ranges.proofs.Bools.{and_left}
 use Rattle.octets.proofs.Numbers.{length-word-bytes}
-use Rattle.places.specs.Places.{places, table_of, is_table, ascending, all_places}
+use Rattle.places.specs.Places.{places, table_of, ascending, all_places}
 use Rattle.places.proofs.Tables.{wide, table-length, is-table-of, places-of-table}
 use Rattle.models.specs.Summary.{summary_size}
 use Rattle.record.specs.Layout.{record_size}
 use Rattle.held.specs.After.{After}
 use Rattle.held.specs.Limits.{max_summaries, place_size, summaries_size}
 use Rattle.held.specs.Summaries.{summary_formed}
-use Rattle.held.specs.Signed.{signers_in, place_formed}
+use Rattle.held.specs.Signed.{place_formed}
 use Rattle.held.proofs.Testing.{all-weaken}
 use Rattle.held.proofs.Signatures.{place_held}
 use Rattle.register.specs.Layout.{max_records, records_size, register_size}
