@@ -1,14 +1,6 @@
 -- Laws of kept_places, for every key width: what is held and what follows each key afterwards, and the loop that moves the places that stay down over
 -- those that go.
-use Prim.Native.Nat.{ℕ, ◌+◌, ◌*◌, ◌-◌, ◌≤◌, ◌<◌}
-use mathlib.Core.Path.{◌≡◌, refl, sym, ap, ap₂, ◌∙◌}
-use mathlib.Core.Bool.{Bool, true, false, cond, ◌&&◌}
-use mathlib.Core.List.{List, [], ◌∷◌, ◌++◌, append-nil, append_assoc}
-use native.Mathlib.Omega.{arith}
-use native.Mathlib.Nat.{mul-le-mul_right, add-mul}
-use native.Mathlib.Numerals.{add-one}
-use lib.ListN.{length, get_or, take, drop, replicate, take-append-drop, length-append, length-drop}
-use lib.Seq.{take_at, drop_at, take_all, take-suc, drop-drop, length-take-le}
+use Rattle.std.proofs.Common.{ℕ, ◌+◌, ◌*◌, ◌-◌, ◌≤◌, ◌<◌, ◌≡◌, refl, sym, ap, ap₂, ◌∙◌, Bool, true, false, cond, ◌&&◌, List, [], ◌∷◌, ◌++◌, append-nil, append_assoc, arith, mul-le-mul_right, add-mul, add-one, length, get_or, take, drop, replicate, take-append-drop, length-append, length-drop, take_at, drop_at, take_all, take-suc, drop-drop, length-take-le}
 use Rattle.octets.specs.Order.{same}
 use Rattle.ranges.proofs.Bools.{by, and_left, and_right, and_both}
 use Rattle.octets.proofs.Comparison.{before-irrefl, same-eq}
@@ -217,18 +209,3 @@ module _ (k : ℕ) (test : List ℕ → Bool) (f : List ℕ → List ℕ) where
 
           single : (y : List ℕ) → flat (y ∷ []) ≡ y
           single y = unfold flat in append-nil y
-
-    -- the rest cleared: the table of those that stay
-    pub compact-end : (cap : ℕ) (ps : List (List ℕ)) (t₀ t : List ℕ) (i j : ℕ) → length t₀ ≡ cap * w → length ps ≤ i → length ps ≤ cap → Compacted ps t₀ t i j
-        → take (j * w) t ++ replicate (length t - j * w) 0 ≡ table_of w cap (keep_places k test f ps)
-    compact-end cap ps t₀ t i j e h l c =
-        let all : take i ps ≡ ps = take_all i ps h in
-        let n : j ≡ length (keep_places k test f ps) = c.count ∙ ap (λ (x : List (List ℕ)). length (keep_places k test f x)) all in
-        let m = kept-length ps in
-        let s : length t ≡ cap * w = c.size ∙ e in
-        let z : cap * w ≡ j * w + (cap - j) * w = ap (λ (x : ℕ). x * w) (whole cap j (omega arith)) ∙ add-mul j (cap - j) w in
-        let r : length t - j * w ≡ (cap - j) * w = omega arith in
-        ap₂ (λ (x y : List ℕ). x ++ y) (c.done ∙ ap (λ (x : List (List ℕ)). flat (keep_places k test f x)) all) (ap (λ (x : ℕ). replicate x 0) (r ∙ ap (λ (x : ℕ). (cap - x) * w) n))
-      where
-        whole : (c j : ℕ) → j ≤ c → c ≡ j + (c - j)
-        whole c j h = omega arith

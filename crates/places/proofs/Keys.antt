@@ -1,15 +1,8 @@
 -- What the order of a table's keys gives, for every width: the position of a key says whether it is held, insertion there and removal keep the order,
 -- and two tables in which the same keys are held with the same contents are equal.
-use Prim.Native.Nat.{ℕ, zero, suc, ◌≤◌, ◌<◌}
-use mathlib.Core.Path.{◌≡◌, refl, sym, ap₂, ◌∙◌}
-use mathlib.Core.Bool.{Bool, true, false, ◌&&◌, ◌||◌, true≢false, false≢true}
-use mathlib.Core.Logic.{⊎_elim}
-use mathlib.Core.List.{List, [], ◌∷◌, ◌++◌}
-use native.Mathlib.Omega.{arith}
-use native.Mathlib.Nat.{not-suc-le-zero, le_of_suc-le-suc}
-use borrow.Author.Tests.{ltb-true, ltb-false}
-use lib.Dec.{ltb, leb-suc-suc, leb-zero}
-use lib.ListN.{length, get_or, take, drop, take-append-drop}
+use Rattle.std.proofs.Common.{ℕ, zero, suc, ◌≤◌, ◌<◌, ◌≡◌, refl, sym, ap₂, ◌∙◌, Bool, true, false, ◌&&◌, ◌||◌, true≢false, ⊎_elim, List, [], ◌∷◌, ◌++◌, arith, not-suc-le-zero, le_of_suc-le-suc, ltb-true, ltb-false, ltb, length, get_or, take, drop, take-append-drop}
+use mathlib.Core.Bool.{false≢true}
+use lib.Dec.{leb-suc-suc, leb-zero}
 use Rattle.octets.specs.Order.{is_before, same}
 use Rattle.ranges.proofs.Bools.{by, and_left, and_right, and_both}
 use Rattle.octets.proofs.Comparison.{before-trans, before-irrefl, before-asym, before-le, tri, same_refl, less-same, more_same, same-eq}
@@ -113,20 +106,6 @@ rank-before k key (p ∷ ps) (suc i) h =
     less : (r : ℕ) → suc i < suc r → i < r
     less r h = omega arith
 
--- the place at the position does not
-pub rank-stops : (k : ℕ) (key : List ℕ) (ps : List (List ℕ)) → rank k key ps < length ps → is_before (take k (get_or ps (rank k key ps) [])) key ≡ false
-rank-stops k key [] h = absurd (none (unfold rank in h))
-  where
-    none : 0 < 0 → ⊥
-    none h = omega arith
-rank-stops k key (p ∷ ps) h =
-    by (is_before (take k p) key)
-    (λ b. rw (rank-more k key p ps b) (rank-stops k key ps (less (rank k key ps) (rw (rank-more k key p ps b) at h))))
-    (λ b. rw (rank-here k key p ps b) b)
-  where
-    less : (r : ℕ) → suc r < suc (length ps) → r < length ps
-    less r h = omega arith
-
 -- places that ascend from a key all come after it
 from_each : (k : ℕ) (from : List ℕ) (ps : List (List ℕ)) (i : ℕ) → ascending_from k from ps ≡ true → i < length ps → is_before from (take k (get_or ps i [])) ≡ true
 from_each k from [] i h l = absurd (not-suc-le-zero l)
@@ -183,25 +162,6 @@ comes-after k key p ps n b =
     ⊎_elim (λ l. l)
     (⊎_elim (λ e. absurd (true≢false (sym (holds-here k key p ps (rw e (same_refl (take k p)))) ∙ n))) (λ l. absurd (false≢true (sym b ∙ l))))
     (tri key (take k p))
-
-insert-from : (k : ℕ) (from x : List ℕ) (ps : List (List ℕ)) → is_before from (take k x) ≡ true → ascending_from k from ps ≡ true → holds k (take k x) ps ≡ false
-    → ascending_from k from (with_place (rank k (take k x) ps) x ps) ≡ true
-insert-from k from x [] g h n = unfold rank in from_cons k from x [] g (unfold ascending_from in refl)
-insert-from k from x (p ∷ ps) g h n =
-    by (is_before (take k p) (take k x))
-    (λ b. rw (rank-more k (take k x) p ps b) (from_cons k from p (with_place (rank k (take k x) ps) x ps) (from-head k from p ps h)
-    (insert-from k (take k p) x ps b (from_tail k from p ps h) (sym (holds_later k (take k x) p ps (less-same (take k p) (take k x) b)) ∙ n))))
-    (λ b. rw (rank-here k (take k x) p ps b) (from_cons k from x (p ∷ ps) g (from_cons k (take k x) p ps (comes-after k (take k x) p ps n b) (from_tail k from p ps h))))
-
--- a place whose key is not held, put in at its position
-pub insert-ascending : (k : ℕ) (x : List ℕ) (ps : List (List ℕ)) → ascending k ps ≡ true → holds k (take k x) ps ≡ false → ascending k (with_place (rank k (take k x) ps) x ps) ≡ true
-insert-ascending k x [] h n = unfold rank ascending ascending_from in refl
-insert-ascending k x (p ∷ ps) h n =
-    let t : ascending_from k (take k p) ps ≡ true = sym (ascending-from k p ps) ∙ h in
-    by (is_before (take k p) (take k x))
-    (λ b. rw (rank-more k (take k x) p ps b) (ascending-from k p (with_place (rank k (take k x) ps) x ps)
-    ∙ insert-from k (take k p) x ps b t (sym (holds_later k (take k x) p ps (less-same (take k p) (take k x) b)) ∙ n)))
-    (λ b. rw (rank-here k (take k x) p ps b) (ascending-from k x (p ∷ ps) ∙ from_cons k (take k x) p ps (comes-after k (take k x) p ps n b) t))
 
 -- ---- a table is what it holds
 

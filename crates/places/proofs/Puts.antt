@@ -1,10 +1,5 @@
 -- A place put into a sorted table: what is written lies within it, and what is left is the table of the places with that one put in.
-use Rattle.std.proofs.Common.{◌≡◌, ℕ, suc, ◌+◌, ◌*◌, ◌≤◌, ◌<◌, true, false, List, [], ◌++◌, length, take, drop, get_or, refl, sym, ap, ap₂, ◌∙◌, arith}
-use Rattle.std.specs.Prelude.{Result, Ok, Err, IfOk}
-use native.Mathlib.Nat.{suc-mul, mul-le-mul_right}
-use lib.ListN.{set, take-append-drop, length-drop}
-use lib.Seq.{length-take-le}
-use borrow.Author.Tests.{leb-false}
+use Rattle.std.proofs.Common.{◌≡◌, ℕ, suc, ◌+◌, ◌*◌, ◌≤◌, ◌<◌, true, false, List, [], ◌++◌, length, take, drop, get_or, refl, sym, ap, ap₂, ◌∙◌, arith, Result, Ok, Err, IfOk, suc-mul, mul-le-mul_right, set, take-append-drop, length-drop, length-take-le, leb-false}
 use Rattle.ranges.proofs.Bools.{by, and_left}
 use Rattle.octets.specs.Runs.{all_zero}
 use Rattle.places.specs.Places.{places, table_of, ascending, holds}

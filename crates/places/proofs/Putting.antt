@@ -1,14 +1,6 @@
 -- Laws of put_place, for every key width: where the place goes, what is held and what follows each key afterwards.
-use Prim.Native.Nat.{ℕ, suc, ◌+◌, ◌≤◌, ◌<◌}
-use mathlib.Core.Path.{◌≡◌, refl, sym, ap, ◌∙◌}
-use mathlib.Core.Bool.{Bool, true, false, ◌||◌, false≢true}
-use mathlib.Core.Logic.{⊎_elim}
-use mathlib.Core.List.{List, [], ◌∷◌, ◌++◌}
-use native.Mathlib.Omega.{arith}
-use lib.Dec.{ltb}
-use lib.ListN.{length, get_or, take, drop, set, take-append-drop, length-append, length-take, length-drop}
-use borrow.Author.Tests.{ltb-true}
-use lib.Seq.{take_at, drop_at, length-take-le}
+use Rattle.std.proofs.Common.{ℕ, suc, ◌+◌, ◌≤◌, ◌<◌, ◌≡◌, refl, sym, ap, ◌∙◌, Bool, true, false, ◌||◌, ⊎_elim, List, [], ◌∷◌, ◌++◌, arith, ltb, length, get_or, take, drop, set, take-append-drop, length-append, length-take, length-drop, ltb-true, take_at, drop_at, length-take-le}
+use mathlib.Core.Bool.{false≢true}
 use Rattle.octets.specs.Order.{is_before, same}
 use Rattle.ranges.proofs.Bools.{by, and_left, and_right, and_both}
 use Rattle.octets.proofs.Comparison.{before-irrefl, before-asym, tri, same_refl, less-same, more_same, same-eq}

@@ -1,14 +1,9 @@
 -- What the bytes of a table are as a list of places, for every width and room: the round trips, and what insertion, removal and replacement of
 -- bytes do to the places.
-use Prim.Native.Nat.{ℕ, zero, suc, ◌+◌, ◌*◌, ◌-◌, ◌≤◌, ◌<◌}
-use mathlib.Core.Path.{◌≡◌, refl, sym, ap, ap₂, ◌∙◌}
-use mathlib.Core.Bool.{true}
-use mathlib.Core.List.{List, [], ◌∷◌, ◌++◌, append_assoc}
-use native.Mathlib.Omega.{arith}
-use native.Mathlib.Nat.{suc-mul, zero-mul, mul-le-mul_right, add-mul, mul_comm, mul-sub, not-suc-le-zero, le_of_suc-le-suc}
-use native.Mathlib.Numerals.{add-one}
-use lib.ListN.{length, get_or, take, drop, set, replicate, length-append, length-drop, length-take, length-replicate, length-set, take-append-drop, replicate-append-replicate}
-use lib.Seq.{take_at, drop_at, take-add, take-append-add, length-take-le, split_at, set_split}
+use Rattle.std.proofs.Common.{ℕ, zero, suc, ◌+◌, ◌*◌, ◌-◌, ◌≤◌, ◌<◌, ◌≡◌, refl, sym, ap, ap₂, ◌∙◌, true, List, [], ◌∷◌, ◌++◌, append_assoc, arith, suc-mul, zero-mul, mul-le-mul_right, add-mul, mul_comm, not-suc-le-zero, le_of_suc-le-suc, add-one, length, get_or, take, drop, set, replicate, length-append, length-drop, length-take, length-set, take-append-drop, take_at, drop_at, take-add, length-take-le}
+use native.Mathlib.Nat.{mul-sub}
+use lib.ListN.{length-replicate, replicate-append-replicate}
+use lib.Seq.{take-append-add, split_at, set_split}
 use Rattle.places.specs.Places.{places, flat, table_of, is_table, ascending}
 use Rattle.places.specs.Positions.{insert_at, with_place}
 use Rattle.octets.specs.Runs.{all_zero}

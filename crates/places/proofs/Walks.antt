@@ -1,13 +1,5 @@
 -- A walk over the places of a table, for every width: where a place ends, what stands at it, one step, and the end.
-use Prim.Native.Nat.{ℕ, zero, suc, ◌+◌, ◌*◌, ◌-◌, ◌≤◌, ◌<◌}
-use mathlib.Core.Path.{◌≡◌, refl, sym, ap, ◌∙◌}
-use mathlib.Core.Bool.{Bool, true, ◌&&◌}
-use mathlib.Core.List.{List, [], ◌∷◌}
-use native.Mathlib.Omega.{arith}
-use native.Mathlib.Nat.{suc-mul, zero-mul, mul-le-mul_right, le_trans, le_of_eq, not-suc-le-zero, le_of_suc-le-suc}
-use native.Mathlib.Numerals.{add-one}
-use lib.ListN.{get_or, take, drop}
-use lib.Seq.{drop-drop, take-take}
+use Rattle.std.proofs.Common.{ℕ, zero, suc, ◌+◌, ◌*◌, ◌-◌, ◌≤◌, ◌<◌, ◌≡◌, refl, sym, ap, ◌∙◌, Bool, true, ◌&&◌, List, [], ◌∷◌, arith, suc-mul, zero-mul, mul-le-mul_right, le_trans, le_of_eq, not-suc-le-zero, le_of_suc-le-suc, add-one, get_or, take, drop, drop-drop, take-take}
 use Rattle.places.specs.Places.{places, all_places}
 
 -- ---- where a place ends

@@ -1,7 +1,4 @@
-use Rattle.std.proofs.Common.{arith, ◌≡◌, ◌<◌, ◌*◌, ◌+◌, ◌-◌, List, ℕ, take, drop, ◌++◌, sym, ap, ◌∙◌}
-use Rattle.std.specs.Prelude.{Result, Err, false}
-use borrow.Author.Tests.{leb-false}
-use lib.Seq.{length-take-le}
+use Rattle.std.proofs.Common.{arith, ◌≡◌, ◌<◌, ◌*◌, ◌+◌, ◌-◌, List, ℕ, take, drop, ◌++◌, sym, ap, ◌∙◌, Result, Err, false, leb-false, length-take-le}
 use borrow.Rule.Slice.PartMut.{put_mid}
 use Rattle.places.specs.Tables.{full}
 use Rattle.places.proofs.Puts.{found-room, replaced, replaced-count, new-room, next-room, inserted, inserted-count}
