@@ -5,11 +5,10 @@ use mathlib.Core.List.{List, [], ◌∷◌, ◌++◌, map, append_assoc, append-
 use Prim.Native.Nat.{ℕ, zero, suc, ◌+◌, ◌-◌, ◌*◌, ◌≤◌, ◌<◌}
 use native.Mathlib.Nat.{sub-zero}
 use native.Mathlib.Omega.{arith}
-use native.Mathlib.Numerals.{add-one}
 use mir.Val.{bool_byte}
 use lib.Ieee.{Float, binary64, to_bits}
-use lib.ListN.{length, take, drop, set, length-set, length-append, length-replicate, length-take, replicate}
-use lib.Seq.{sets, sets-eq, set_comm, take_at, drop_at}
+use lib.ListN.{length, get_or, take, drop, set, length-set, length-append, length-replicate, length-take, replicate}
+use lib.Seq.{sets-eq, take_at, drop_at}
 use Rattle.octets.specs.Words.{word_bytes}
 use Rattle.octets.specs.Writes.{put_word}
 use Rattle.octets.proofs.Numbers.{length-word-bytes}
@@ -98,35 +97,20 @@ put-zeros n {l₁} {l₂} {l₃} {t} {u} {v} {r₁} {r₂} {r₃} p q r h =
     ∙ append_assoc t (u ++ v) (replicate (n - r₃) 0)
     ∙ ap (λ (d : List ℕ). t ++ d) (append_assoc u v (replicate (n - r₃) 0))
 
-each_append : (l k : List Refusal) → each_bytes (l ++ k) ≡ each_bytes l ++ each_bytes k
-unfolding each_bytes
-each_append [] k = refl
-each_append (x ∷ l) k = ap (λ (t : List ℕ). refusal_bytes x ++ t) (each_append l k) ∙ sym (append_assoc (refusal_bytes x) (each_bytes l) (each_bytes k))
-
 pub length-each : (l : List Refusal) → length (each_bytes l) ≡ length l * refusal_size
 unfolding each_bytes
 length-each [] = refl
 length-each (x ∷ l) = length-append (refusal_bytes x) (each_bytes l) ∙ rw (length-refusal x, length-each l) (omega arith)
 
 -- one refusal more
-pub each_more : (l : List Refusal) (x : Refusal) → each_bytes l ++ refusal_bytes x ≡ each_bytes (l ++ (x ∷ []))
+pub each-more : (l : List Refusal) (i : ℕ) (d : Refusal) → i < length l → each_bytes (take i l) ++ refusal_bytes (get_or l i d) ≡ each_bytes (take (i + 1) l)
 unfolding each_bytes
-each_more l x = sym (each_append l (x ∷ []) ∙ ap (λ (t : List ℕ). each_bytes l ++ t) (append-nil (refusal_bytes x)))
-
--- ---- a byte before a text that was written
-
-sets-before : (t l : List ℕ) (k at b : ℕ) → at < k → set (sets l k t) at b ≡ sets (set l at b) k t
-sets-before [] l k at b h = refl
-sets-before (x ∷ t) l k at b h =
-    sets-before t (set l k x) (suc k) at b (omega arith) ∙ ap (λ (m : List ℕ). sets m (suc k) t) (set_comm l k at x b (λ e. omega arith))
-
-pub put-before : {l l' : List ℕ} {at r : ℕ} {t : List ℕ} (b : ℕ) → Put l (at + 1) t r l' → Put l at (b ∷ t) r (set l' at b)
-put-before {l} {l'} {at} {r} {t} b p =
-    let n = p.next in
-    record {
-      next = omega arith;
-      bytes = ap (λ (m : List ℕ). set m at b) p.bytes ∙ sets-before t l (at + 1) at b (omega arith) ∙ ap (λ (k : ℕ). sets (set l at b) k t) (add-one at);
-    }
+each-more [] i d h = absurd (omega arith)
+each-more (x ∷ l) zero d h = sym (append-nil (refusal_bytes x))
+each-more (x ∷ l) (suc i) d h =
+    let e : suc i + 1 ≡ suc (i + 1) = omega arith in
+    rw e
+    (append_assoc (refusal_bytes x) (each_bytes (take i l)) (refusal_bytes (get_or l i d)) ∙ ap (λ (t : List ℕ). refusal_bytes x ++ t) (each-more l i d (omega arith)))
 
 -- ---- the bytes of a decision that was made
 

@@ -28,7 +28,3 @@ answer_size = refusals_at + refusals_size
 -- refusals with their count before them, and nothing after them
 abbrev pub list_bytes : List Refusal → List ℕ
 list_bytes l = length l ∷ each_bytes l
-
--- how many items have the least tables
-abbrev pub least : ℕ
-least = 4

@@ -1,27 +1,25 @@
 //! A decision's bytes: ranked, dominated and refusals, each a count and room for all items.
 //!
-//! Each writer puts its part at a position of a lent buffer and returns the position after it. The parts are asked for one by
-//! one, so that no whole decision is made and copied.
+//! Each writer puts its part at a position of a lent buffer and returns the position after it.
 #![tactic(auto)]
 
-ghost use Rattle.std.specs.Prelude.{◌≡◌, false, ◌∷◌, map, ◌+◌, ◌*◌, ◌≤◌, ◌<◌, length, replicate};
+ghost use Rattle.std.specs.Prelude.{◌≡◌, ℕ, ◌∷◌, ◌+◌, ◌≤◌, length, replicate};
 ghost use Rattle.octets.specs.Words.{word_bytes};
 ghost use Rattle.octets.specs.Put.{Put};
-ghost use Rattle.items.specs.Layout.{item_size, max_items};
-ghost use Rattle.decision.specs.Working.{few, items_of, among, HoldsFirst};
-ghost use Rattle.decision.specs.Answer.{bad, outcome, indices, refusal, decision, decided};
+ghost use Rattle.items.specs.Layout.{max_items};
+ghost use Rattle.rule.specs.Outcome.{Outcome};
+ghost use Rattle.arithmetic.specs.declared.standing.ChiSquare.{ChiSquare as Squared};
+ghost use Rattle.decision.specs.Answer.{indices, decision as decision_of, decided};
+ghost use Rattle.decision.specs.Answered.{Says};
 ghost use Rattle.held.specs.After.{after};
 ghost use Rattle.answers.specs.Layout.{chi_square_size, refusal_size};
-ghost use Rattle.answers.specs.Offsets.{indices_size, refusals_size, answer_size, least};
+ghost use Rattle.answers.specs.Offsets.{indices_size, refusals_size, answer_size};
 ghost use Rattle.answers.specs.Answer.{indices_bytes, chi_square_bytes, refusal_bytes, answer_bytes, hand_out};
 ghost use Rattle.answers.specs.Offsets.{list_bytes};
 
 use arithmetic::standing::ChiSquare;
-use decision::{Refusal, lists};
-use items::Item;
+use decision::{Decision, FEW, LEAST, Refusal, decide_each, decide_few, decide_least, item_at};
 use items::layout::{ITEM_SIZE, MAX_ITEMS};
-use rule::row::Row;
-use rule::settled::Settled;
 
 /// A count and room for an index of each item.
 pub const INDICES_SIZE: usize = 1 + MAX_ITEMS;
@@ -37,9 +35,6 @@ pub const REFUSALS_SIZE: usize = 1 + MAX_ITEMS * REFUSAL_SIZE;
 
 /// The ranked, the dominated and the refusals.
 pub const ANSWER_SIZE: usize = INDICES_SIZE + INDICES_SIZE + REFUSALS_SIZE;
-
-// Up to this many items have tables that cost less to clear than those for `decision::FEW`.
-const LEAST: usize = 4;
 
 // The answers of items of which something is decided, and of bad ones.
 const DECIDED: u32 = 0;
@@ -91,80 +86,28 @@ fn put_refusal(out: &mut [u8], at: usize, x: Refusal) -> usize
 }
 
 // The refusals, with their count before them.
-fn put_refusals(out: &mut [u8], at: usize, settled: &Settled<'_>) -> usize
-    requires { at + refusals_size ≤ length out.old }
-    ensures { (result ≤ at + refusals_size) × Put out.old at (list_bytes (map refusal (among (items_of settled.now)).refused)) result out.new }
+fn put_refusals(out: &mut [u8], at: usize, refusals: &[Refusal]) -> usize
+    requires room { at + refusals_size ≤ length out.old }
+    requires few { length refusals.now ≤ max_items }
+    ensures { (result ≤ at + refusals_size) × Put out.old at (list_bytes refusals.now) result out.new }
 {
+    out[at] = refusals.len() as u8;
     let mut next = at + 1;
-    let mut count: u8 = 0;
-    let n = settled.len();
-    for i in 0..n {
-        let Some(found) = lists::refusal(settled, i) else {
-            continue;
-        };
-        next = put_refusal(out, next, found);
-        count += 1;
+    for x in refusals {
+        next = put_refusal(out, next, *x);
     }
-    out[at] = count;
     next
 }
 
 // The three parts, one after another, into zeros, so that what is not used is zero.
-fn put_parts(out: &mut [u8], settled: &Settled<'_>)
-    requires { out.old ≡ replicate answer_size 0 }
-    ensures { out.new ≡ answer_bytes (decision (among (items_of settled.now))) }
+fn put_decision<const N: usize>(out: &mut [u8], decision: &Decision<N>)
+    requires zeros { out.old ≡ replicate answer_size 0 }
+    requires few { N ≤ max_items }
+    ensures { (o : Outcome ℕ Squared) → Says decision.now o → out.new ≡ answer_bytes (decision_of o) }
 {
-    let second = put_indices(out, 0, lists::ranked(settled).as_slice());
-    let third = put_indices(out, second, lists::dominated(settled).as_slice());
-    put_refusals(out, third, settled);
-}
-
-// Decides in lent memory: a row for each item, and an item, of which the first is read.
-fn put_in<'b, 'a: 'b>(out: &mut [u8], s: &'a [u8], items: &'b mut [Item<'a>], rows: &'b mut [Row])
-    requires out_value { out.old ≡ replicate answer_size 0 }
-    requires good { bad s.now ≡ false }
-    requires len { length s.now ≡ length items.old * item_size }
-    requires rows_len { length rows.old ≡ length items.old }
-    requires first { HoldsFirst s.now items.old 1 }
-    ensures { out.new ≡ answer_bytes (decision (outcome s.now)) }
-{
-    put_parts(out, &decision::settle(s, items, rows));
-}
-
-fn put_least(out: &mut [u8], s: &[u8], n: usize)
-    requires out_value { out.old ≡ replicate answer_size 0 }
-    requires good { bad s.now ≡ false }
-    requires len { length s.now ≡ n * item_size }
-    requires n_bound { (0 < n) × (n ≤ least) }
-    ensures { out.new ≡ answer_bytes (decision (outcome s.now)) }
-{
-    let mut items = [decision::first(s); LEAST];
-    let mut rows = [Row::empty(); LEAST];
-    put_in(out, s, &mut items[..n], &mut rows[..n]);
-}
-
-fn put_few(out: &mut [u8], s: &[u8], n: usize)
-    requires out_value { out.old ≡ replicate answer_size 0 }
-    requires good { bad s.now ≡ false }
-    requires len { length s.now ≡ n * item_size }
-    requires n_bound { (0 < n) × (n ≤ few) }
-    ensures { out.new ≡ answer_bytes (decision (outcome s.now)) }
-{
-    let mut items = [decision::first(s); decision::FEW];
-    let mut rows = [Row::empty(); decision::FEW];
-    put_in(out, s, &mut items[..n], &mut rows[..n]);
-}
-
-fn put_many(out: &mut [u8], s: &[u8], n: usize)
-    requires out_value { out.old ≡ replicate answer_size 0 }
-    requires good { bad s.now ≡ false }
-    requires len { length s.now ≡ n * item_size }
-    requires n_bound { (0 < n) × (n ≤ max_items) }
-    ensures { out.new ≡ answer_bytes (decision (outcome s.now)) }
-{
-    let mut items = [decision::first(s); MAX_ITEMS];
-    let mut rows = [Row::empty(); MAX_ITEMS];
-    put_in(out, s, &mut items[..n], &mut rows[..n]);
+    let second = put_indices(out, 0, &decision.ranked);
+    let third = put_indices(out, second, &decision.dominated);
+    put_refusals(out, third, &decision.refusals);
 }
 
 /// Decides items in bytes. The array is written where something is decided, and stays as it is on a refusal.
@@ -182,13 +125,13 @@ pub fn decide(s: &[u8], out: &mut [u8; ANSWER_SIZE]) -> u32
         return DECIDED;
     }
     if n <= LEAST {
-        put_least(out, s, n);
+        put_decision(out, &decide_least(n, |i| item_at(s, i)));
         return DECIDED;
     }
-    if n <= decision::FEW {
-        put_few(out, s, n);
+    if n <= FEW {
+        put_decision(out, &decide_few(n, |i| item_at(s, i)));
         return DECIDED;
     }
-    put_many(out, s, n);
+    put_decision(out, &decide_each(n, |i| item_at(s, i)));
     DECIDED
 }

@@ -9,11 +9,11 @@ use Rattle.decision.specs.Answer.{bad, outcome, decided, decision, refusal}
 use Rattle.decision.specs.Answered.{Says, answered}
 use Rattle.decision.proofs.Alone.{ranked-alone}
 
-pub answers : (s : List ℕ) (d : Decision) → bad s ≡ false → Says d (outcome s) → answered (Some d) ≡ decided s
+pub answers : {N : ℕ} (s : List ℕ) (d : Decision N) → bad s ≡ false → Says d (outcome s) → answered (Some d) ≡ decided s
 unfolding decided decision
 answers s d e w = rw (e, w.ranked, w.dominated, w.refusals) refl
 
-pub says-alone : (s : List ℕ) (n : ℕ) (d : Decision) → length s ≡ n * item_size → n ≤ 1 → bad s ≡ false
+pub says-alone : {N : ℕ} (s : List ℕ) (n : ℕ) (d : Decision N) → length s ≡ n * item_size → n ≤ 1 → bad s ≡ false
     → d.ranked.items ≡ up_to n → d.dominated.items ≡ [] → d.refusals.items ≡ [] → Says d (outcome s)
 says-alone s n d long few e p q r =
     let a = ranked-alone s n long few e in

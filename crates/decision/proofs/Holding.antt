@@ -1,13 +1,13 @@
 -- What is decided of the values of items is what is decided of their bytes.
-use Rattle.std.proofs.Common.{◌≡◌, ℕ, ◌+◌, ◌*◌, ◌/◌, ◌<◌, ◌≤◌, zero, suc, true, subst, refl, sym, ap, ◌∙◌, arith, length, get_or, take, drop, slice_get}
+use Rattle.std.proofs.Common.{◌≡◌, ℕ, ◌+◌, ◌*◌, ◌/◌, ◌<◌, ◌≤◌, zero, suc, true, false, subst, refl, sym, ap, ◌∙◌, arith, length, get_or, take, drop, slice_get}
 use Rattle.std.specs.Prelude.{Some, None, is_some, unwrap_or, ◌⊎◌}
 use mathlib.Core.Logic.{inl, inr}
 use mathlib.Core.Bool.{true≢false}
-use mathlib.Core.List.{List, [], ◌∷◌}
+use mathlib.Core.List.{List, [], ◌∷◌, ◌++◌}
 use Rattle.std.proofs.lemmas.Option.{slice_get_read, slice_get_cases}
 use lib.Dec.{eqb}
-use lib.ListN.{set}
-use lib.Seq.{get_or-set_same, get_or-set_other}
+use lib.ListN.{set, length-take}
+use lib.Seq.{get_or-set_same, get_or-set_other, take_at}
 use borrow.Author.Tests.{eqb-true, eqb-false}
 use Rattle.places.specs.Places.{places}
 use Rattle.places.proofs.Walks.{place_of}
@@ -27,10 +27,14 @@ use Rattle.rule.specs.Related.{item_relations}
 use Rattle.rule.specs.Listed.{relations}
 use Rattle.rule.specs.Rows.{all}
 use Rattle.rule.proofs.Known.{some-here}
-use Rattle.decision.specs.Answer.{outcome}
-use Rattle.decision.specs.Working.{Each, HoldsFirst}
+use Rattle.decision.specs.Answer.{bad, outcome}
+use Rattle.decision.specs.Each.{Each, DecidesEach}
+use Rattle.decision.specs.declared.Decision.{Decision}
+use Rattle.decision.specs.Answered.{Says}
+use Rattle.decision.specs.Working.{among}
 use Rattle.decision.proofs.Carried.{Alike, carried}
 use Rattle.decision.proofs.Remeasured.{map_same}
+use Rattle.decision.proofs.Passed.{long-items}
 
 -- ---- the items of bytes, one after another
 
@@ -81,7 +85,18 @@ module _ (holds : ℕ → Item → Type 0) where
       same (suc n) [] a b = absurd (true≢false (ap is_some (sym a)))
       same (suc n) (y ∷ l) a b = some-same (sym a ∙ b)
 
-module _ (s : List ℕ) (l : List Item) (w : HoldsFirst s l (length l)) where
+-- ---- items that are read at the front of a list
+
+pub in-front : (n : ℕ) (l : List Item) (i : ℕ) → i < length (take n l) → i < n
+in-front n l i h = omega (arith, h, length-take n l)
+
+pub decides : {N : ℕ} {d : Decision N} {holds : ℕ → Item → Type 0} (n : ℕ) (l new rest : List Item) → n ≤ length l
+    → (length new ≡ length (take n l)) × Each holds new (length (take n l)) → Says d (among (take n (new ++ rest))) → DecidesEach holds n d
+decides {N} {d} {holds} n l new rest few (e, w) says =
+    let t : length (take n l) ≡ n = omega (arith, few, length-take n l) in
+    record { items = new; long = e ∙ t; held = subst (Each holds new) t w; says = subst (λ k. Says d (among k)) (take_at new rest n (e ∙ t)) says }
+
+module _ (s : List ℕ) (l : List Item) (w : Each (IsItem s) l (length l)) where
   item : (i : ℕ) → i < length l → (x : Item) × (slice_get l i ≡ Some x) × IsItem s i x
   item i h = let r = some-here l i h in (r.0, r.1, w i r.0 h r.1)
 
@@ -117,3 +132,7 @@ module _ (s : List ℕ) (l : List Item) (w : HoldsFirst s l (length l)) where
       ∙ carried (item_relations s) (relations l) (λ i. i) (λ c. c) (all l) alike
       ∙ (λ k. record { ranked = map_same o.ranked k; dominated = map_same o.dominated k; refused = map_same o.refused k })
       ∙ ap (λ n. decide (item_relations s) (up_to n)) z
+
+-- what is decided of items that were given by their places is what is decided of their bytes
+pub says-of : {N : ℕ} {d : Decision N} (s : List ℕ) → bad s ≡ false → (l : List Item) → length l ≡ length s / item_size → Each (IsItem s) l (length l) → Says d (among l) → Says d (outcome s)
+says-of {d = d} s good l long w = subst (Says d) (same-outcome s l w (long-items s good ∙ ap (λ n. n * item_size) (sym long)))

@@ -1,8 +1,7 @@
--- No claim rests on these definitions: they say which items of bytes a list of values holds, what is found of an item, and what is decided of at most one.
-use Rattle.std.specs.Prelude.{◌≡◌, ◌<◌, ℕ, slice_get, replicate, Option, None, Some}
+-- No claim rests on these definitions: they say what is found of an item, and what is decided of at most one.
+use Rattle.std.specs.Prelude.{◌<◌, ℕ, replicate, Option, None, Some}
 use mathlib.Core.List.{List, [], ◌∷◌, Memᴰ}
 use Rattle.items.specs.Layout.{max_items}
-use Rattle.items.specs.Values.{IsItem}
 use Rattle.items.specs.declared.item.Item.{Item}
 use Rattle.rule.specs.Outcome as O
 use Rattle.rule.specs.Standing.{decide}
@@ -13,18 +12,6 @@ use Rattle.decision.specs.Arrays.{Decision}
 use Rattle.decision.specs.declared.Refusal.{Refusal}
 use Rattle.decision.specs.Answer.{indices, refusal, refusals}
 use Rattle.arithmetic.specs.declared.standing.ChiSquare.{ChiSquare}
-
--- up to this many items have small tables
-abbrev pub few : ℕ
-few = 10
-
--- so it is of the first k of a list, each with its place
-abbrev pub Each : (ℕ → Item → Type 0) → List Item → ℕ → Type 0
-Each holds l k = (i : ℕ) (x : Item) → i < k → slice_get l i ≡ Some x → holds i x
-
--- the first k of a list of values are items in s
-abbrev pub HoldsFirst : List ℕ → List Item → ℕ → Type 0
-HoldsFirst s l k = Each (IsItem s) l k
 
 -- the items that are settled
 abbrev pub items_of : Settled → List Item

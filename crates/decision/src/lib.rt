@@ -1,17 +1,18 @@
 //! Which of one transmission's fixes stand, in rank, which are dominated, and which are refused, and against whom.
 //!
-//! `decide` takes the items in any bytes, and `decide_items` the items themselves; `settle` and `lists` are for callers who lend
-//! the memory, and ask for one part of the decision after another.
+//! `decide` takes the items in any bytes; `decide_each` asks for one after another, and `decide_few` and `decide_least` do so with
+//! smaller tables and lists.
 #![tactic(auto)]
 
-ghost use Rattle.std.specs.Prelude.{◌≡◌, false, [], ◌+◌, ◌*◌, ◌≤◌, ◌<◌, length};
+ghost use Rattle.std.specs.Prelude.{◌≡◌, ℕ, false, [], ◌+◌, ◌*◌, ◌≤◌, ◌<◌, length};
 ghost use Rattle.ranges.specs.Lists.{any_of, up_to};
 ghost use Rattle.items.specs.Layout.{item_size, max_items};
 ghost use Rattle.items.specs.Items.{same_identity};
-ghost use Rattle.items.specs.Values.{IsItem, Whole};
 ghost use Rattle.decision.specs.Answer.{bad_at, bad, outcome, decided};
 ghost use Rattle.decision.specs.Answered.{Says, answered};
-ghost use Rattle.decision.specs.Working.{few, items_of, among, HoldsFirst};
+ghost use Rattle.decision.specs.Working.{items_of, among};
+ghost use Rattle.items.specs.Values.{IsItem};
+ghost use Rattle.decision.specs.Each.{few, least, Each, DecidesEach};
 
 use arithmetic::standing::ChiSquare;
 use arrayvec::ArrayVec;
@@ -23,10 +24,13 @@ use rule::row::Row;
 use rule::settled::Settled;
 
 pub mod claims;
-pub mod lists;
+mod lists;
 
 /// Up to this many items have small tables, which cost little to clear.
 pub const FEW: usize = 10;
+
+/// And up to this many still smaller ones.
+pub const LEAST: usize = 4;
 
 /// A refused item, the one that it is refused against, and the chi-square between them where there is one. `superseded`: it is the smaller,
 /// and a verified superset with more standing took its place; else it is the larger.
@@ -50,12 +54,12 @@ impl Default for Refusal {
     }
 }
 
-/// What is decided of items, by their places: the ranked in rank, the dominated and the refusals ascending.
+/// What is decided of at most N items, by their places: the ranked in rank, the dominated and the refusals ascending.
 #[derive(Drop)]
-pub struct Decision {
-    pub ranked: ArrayVec<u8, MAX_ITEMS>,
-    pub dominated: ArrayVec<u8, MAX_ITEMS>,
-    pub refusals: ArrayVec<Refusal, MAX_ITEMS>,
+pub struct Decision<const N: usize> {
+    pub ranked: ArrayVec<u8, N>,
+    pub dominated: ArrayVec<u8, N>,
+    pub refusals: ArrayVec<Refusal, N>,
 }
 
 // Whether item i has the identity of one before it.
@@ -105,70 +109,97 @@ pub fn is_bad(s: &[u8]) -> bool
 }
 
 // What is decided of settled items.
-fn decision_of(settled: &Settled<'_>) -> Decision
+fn decision_of<const N: usize>(settled: &Settled<'_>) -> Decision<N>
+    requires room { length (items_of settled.now) ≤ N }
     ensures { Says result (among (items_of settled.now)) }
 {
-    let refusals = lists::refusals(settled);
-    let dominated = lists::dominated(settled);
-    let ranked = lists::ranked(settled);
-    Decision {
-        ranked,
-        dominated,
-        refusals,
+    let mut decision = Decision {
+        ranked: ArrayVec::new(),
+        dominated: ArrayVec::new(),
+        refusals: ArrayVec::new(),
+    };
+    lists::list_ranked(settled, &mut decision.ranked);
+    lists::list_dominated(settled, &mut decision.dominated);
+    lists::list_refusals(settled, &mut decision.refusals);
+    decision
+}
+
+// Reads the items, of which the first is read.
+fn read<'a, F: Fn(usize) -> Item<'a>>(items: &mut [Item<'a>], item: F)
+    requires given { (i : ℕ) → i < length items.old → F.pre item i }
+    requires first { Each (F.post item) items.old 1 }
+    ensures { (length items.new ≡ length items.old) × Each (F.post item) items.new (length items.old) }
+{
+    for i in 1..items.len() {
+        items[i] = item(i);
     }
 }
 
-/// What is decided of items, in lent rows: one for each.
-pub fn decide_items(items: &[Item<'_>], rows: &mut [Row]) -> Decision
+// What is decided of items, in lent rows: one for each.
+fn decide_items<const N: usize>(items: &[Item<'_>], rows: &mut [Row]) -> Decision<N>
     requires few { length items.now ≤ max_items }
+    requires room { length items.now ≤ N }
     requires rows_len { length rows.old ≡ length items.now }
     ensures { Says result (among items.now) }
 {
     decision_of(&Settled::of(Listed::of(items), rows))
 }
 
-// Reads the items in bytes, of which the first is read.
-fn read<'a>(s: &'a [u8], items: &mut [Item<'a>])
-    requires whole { Whole s.now (length items.old) }
-    requires first { HoldsFirst s.now items.old 1 }
-    ensures { (length items.new ≡ length items.old) × HoldsFirst s.now items.new (length items.old) }
+/// What is decided of at most `LEAST` items, each of which is given by its place.
+pub fn decide_least<'a, F: Fn(usize) -> Item<'a>>(n: usize, item: F) -> Decision<LEAST>
+    requires n_bound { (0 < n) × (n ≤ least) }
+    requires given { (i : ℕ) → i < n → F.pre item i }
+    ensures { DecidesEach (F.post item) n result }
 {
-    let places = places_of::<ITEM_SIZE>(s, items.len());
-    for i in 1..items.len() {
-        items[i] = Item::of(&places[i]);
+    let mut items = [item(0); LEAST];
+    let mut rows = [Row::empty(); LEAST];
+    read(&mut items[..n], item);
+    decide_items(&items[..n], &mut rows[..n])
+}
+
+/// What is decided of at most `FEW` items, each of which is given by its place.
+pub fn decide_few<'a, F: Fn(usize) -> Item<'a>>(n: usize, item: F) -> Decision<FEW>
+    requires n_bound { (0 < n) × (n ≤ few) }
+    requires given { (i : ℕ) → i < n → F.pre item i }
+    ensures { DecidesEach (F.post item) n result }
+{
+    let mut items = [item(0); FEW];
+    let mut rows = [Row::empty(); FEW];
+    read(&mut items[..n], item);
+    decide_items(&items[..n], &mut rows[..n])
+}
+
+// In small tables, where the lists have room for all.
+fn decide_small<'a, F: Fn(usize) -> Item<'a>>(n: usize, item: F) -> Decision<MAX_ITEMS>
+    requires n_bound { (0 < n) × (n ≤ few) }
+    requires given { (i : ℕ) → i < n → F.pre item i }
+    ensures { DecidesEach (F.post item) n result }
+{
+    let mut items = [item(0); FEW];
+    let mut rows = [Row::empty(); FEW];
+    read(&mut items[..n], item);
+    decide_items(&items[..n], &mut rows[..n])
+}
+
+/// What is decided of items, each of which is given by its place.
+pub fn decide_each<'a, F: Fn(usize) -> Item<'a>>(n: usize, item: F) -> Decision<MAX_ITEMS>
+    requires n_bound { (0 < n) × (n ≤ max_items) }
+    requires given { (i : ℕ) → i < n → F.pre item i }
+    ensures { DecidesEach (F.post item) n result }
+{
+    if n <= FEW {
+        return decide_small(n, item);
     }
-}
-
-/// The first of the items in bytes.
-pub fn first(s: &[u8]) -> Item<'_>
-    requires good { bad s.now ≡ false }
-    requires some { item_size ≤ length s.now }
-    ensures { IsItem s.now 0 result }
-{
-    let places = places_of::<ITEM_SIZE>(s, 1);
-    Item::of(&places[0])
-}
-
-/// Settles the items in bytes, in lent memory: a row for each, and an item, of which the first is read.
-pub fn settle<'b, 'a: 'b>(
-    s: &'a [u8],
-    items: &'b mut [Item<'a>],
-    rows: &'b mut [Row],
-) -> Settled<'b>
-    requires good { bad s.now ≡ false }
-    requires len { length s.now ≡ length items.old * item_size }
-    requires rows_len { length rows.old ≡ length items.old }
-    requires first { HoldsFirst s.now items.old 1 }
-    ensures outcome { among (items_of result) ≡ outcome s.now }
-    ensures len { length (items_of result) ≡ length items.old }
-{
-    read(s, items);
-    Settled::of(Listed::of(items), rows)
+    let mut items = [item(0); MAX_ITEMS];
+    let mut rows = [Row::empty(); MAX_ITEMS];
+    read(&mut items[..n], item);
+    decide_items(&items[..n], &mut rows[..n])
 }
 
 /// What is decided of at most one item: nothing opposes it.
-pub fn decide_alone(n: usize) -> Decision
-    requires { n ≤ 1 }
+pub fn decide_alone<const N: usize>(n: usize) -> Decision<N>
+    requires few { n ≤ 1 }
+    requires room { n ≤ N }
     ensures ranked { result.ranked.items ≡ up_to n }
     ensures dominated { result.dominated.items ≡ [] }
     ensures refusals { result.refusals.items ≡ [] }
@@ -184,33 +215,19 @@ pub fn decide_alone(n: usize) -> Decision
     }
 }
 
-fn decide_few(s: &[u8], n: usize) -> Decision
+/// Item i of bytes.
+pub fn item_at(s: &[u8], i: usize) -> Item<'_>
     requires good { bad s.now ≡ false }
-    requires len { length s.now ≡ n * item_size }
-    requires n_bound { (0 < n) × (n ≤ few) }
-    ensures { Says result (outcome s.now) }
+    requires here { i * item_size + item_size ≤ length s.now }
+    ensures { IsItem s.now i result }
 {
-    let mut items = [first(s); FEW];
-    let mut rows = [Row::empty(); FEW];
-    let settled = settle(s, &mut items[..n], &mut rows[..n]);
-    decision_of(&settled)
-}
-
-fn decide_many(s: &[u8], n: usize) -> Decision
-    requires good { bad s.now ≡ false }
-    requires len { length s.now ≡ n * item_size }
-    requires n_bound { (0 < n) × (n ≤ max_items) }
-    ensures { Says result (outcome s.now) }
-{
-    let mut items = [first(s); MAX_ITEMS];
-    let mut rows = [Row::empty(); MAX_ITEMS];
-    let settled = settle(s, &mut items[..n], &mut rows[..n]);
-    decision_of(&settled)
+    let places = places_of::<ITEM_SIZE>(s, i + 1);
+    Item::of(&places[i])
 }
 
 /// What is decided of items in bytes, of `items::layout::ITEM_SIZE` each: any bytes may be lent. Nothing is decided of bad items
 /// (`is_bad`).
-pub fn decide(s: &[u8]) -> Option<Decision>
+pub fn decide(s: &[u8]) -> Option<Decision<MAX_ITEMS>>
     ensures { answered result ≡ decided s.now }
 {
     if is_bad(s) {
@@ -220,8 +237,5 @@ pub fn decide(s: &[u8]) -> Option<Decision>
     if n <= 1 {
         return Some(decide_alone(n));
     }
-    if n <= FEW {
-        return Some(decide_few(s, n));
-    }
-    Some(decide_many(s, n))
+    Some(decide_each(n, |i| item_at(s, i)))
 }

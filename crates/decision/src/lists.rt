@@ -1,10 +1,9 @@
 //! The lists of a decision: the refused and against whom, the dominated, and the ranked in rank.
 
-ghost use Rattle.std.specs.Prelude.{◌≡◌, map, ◌+◌, ◌<◌, length};
+ghost use Rattle.std.specs.Prelude.{◌≡◌, [], map, ◌+◌, ◌≤◌, ◌<◌, length};
 ghost use Rattle.std.specs.List.{prefix_len};
 ghost use Rattle.ranges.specs.Lists.{filter, insert};
 ghost use Rattle.arrayvec.specs.ArrayVec.{array_vec_len};
-ghost use Rattle.items.specs.Layout.{max_items};
 ghost use Rattle.rule.specs.Standing as S;
 ghost use Rattle.rule.specs.Listed.{relations};
 ghost use Rattle.rule.specs.Rows.{all, replaces, opposes};
@@ -13,7 +12,6 @@ ghost use Rattle.decision.specs.Working.{items_of, among, finding, AllBelow};
 
 use crate::Refusal;
 use arrayvec::ArrayVec;
-use items::layout::MAX_ITEMS;
 use rule::settled::Settled;
 
 // The refusal of item i that another takes the place of.
@@ -44,8 +42,8 @@ fn opposed(settled: &Settled<'_>, i: usize) -> Option<Refusal>
     })
 }
 
-/// The refusal of item i, if it is refused.
-pub fn refusal(settled: &Settled<'_>, i: usize) -> Option<Refusal>
+// The refusal of item i, if it is refused.
+fn refusal(settled: &Settled<'_>, i: usize) -> Option<Refusal>
     requires { i < length (items_of settled.now) }
     ensures { result ≡ finding (S.refusal_of (relations (items_of settled.now)) (all (items_of settled.now)) i) }
 {
@@ -58,32 +56,32 @@ pub fn refusal(settled: &Settled<'_>, i: usize) -> Option<Refusal>
     opposed(settled, i)
 }
 
-/// The refusals, ascending by the refused item.
-pub fn refusals(settled: &Settled<'_>) -> ArrayVec<Refusal, MAX_ITEMS>
-    ensures { result.items ≡ map refusal (among (items_of settled.now)).refused }
+/// Lists the refusals, ascending by the refused item.
+pub fn list_refusals<const N: usize>(settled: &Settled<'_>, list: &mut ArrayVec<Refusal, N>)
+    requires none { list.old.items ≡ [] }
+    requires room { length (items_of settled.now) ≤ N }
+    ensures { list.new.items ≡ map refusal (among (items_of settled.now)).refused }
 {
-    let mut list = ArrayVec::new();
     for i in 0..settled.len() {
         let Some(found) = refusal(settled, i) else {
             continue;
         };
         list.push(found);
     }
-    list
 }
 
-/// The dominated, ascending.
-pub fn dominated(settled: &Settled<'_>) -> ArrayVec<u8, MAX_ITEMS>
-    ensures { result.items ≡ (among (items_of settled.now)).dominated }
+/// Lists the dominated, ascending.
+pub fn list_dominated<const N: usize>(settled: &Settled<'_>, list: &mut ArrayVec<u8, N>)
+    requires none { list.old.items ≡ [] }
+    requires room { length (items_of settled.now) ≤ N }
+    ensures { list.new.items ≡ (among (items_of settled.now)).dominated }
 {
-    let mut list = ArrayVec::new();
     for i in 0..settled.len() {
         if !settled.is_dominated(i) {
             continue;
         }
         list.push(i as u8);
     }
-    list
 }
 
 // How many items at the front of a list rank before item i.
@@ -101,10 +99,10 @@ fn place_of(settled: &Settled<'_>, list: &[u8], i: usize) -> usize
 }
 
 // Puts item i in behind those that rank before it.
-fn enter(settled: &Settled<'_>, list: &mut ArrayVec<u8, MAX_ITEMS>, i: usize)
+fn enter<const N: usize>(settled: &Settled<'_>, list: &mut ArrayVec<u8, N>, i: usize)
     requires below { AllBelow (length (items_of settled.now)) list.old.items }
     requires i_below { i < length (items_of settled.now) }
-    requires room { array_vec_len list.old < max_items }
+    requires room { array_vec_len list.old < N }
     ensures items { list.new.items ≡ insert (relations (items_of settled.now)).ahead i list.old.items }
     ensures len { array_vec_len list.new ≡ array_vec_len list.old + 1 }
 {
@@ -112,16 +110,16 @@ fn enter(settled: &Settled<'_>, list: &mut ArrayVec<u8, MAX_ITEMS>, i: usize)
     list.insert(place, i as u8);
 }
 
-/// The ranked, in rank.
-pub fn ranked(settled: &Settled<'_>) -> ArrayVec<u8, MAX_ITEMS>
-    ensures { result.items ≡ (among (items_of settled.now)).ranked }
+/// Lists the ranked, in rank.
+pub fn list_ranked<const N: usize>(settled: &Settled<'_>, list: &mut ArrayVec<u8, N>)
+    requires none { list.old.items ≡ [] }
+    requires room { length (items_of settled.now) ≤ N }
+    ensures { list.new.items ≡ (among (items_of settled.now)).ranked }
 {
-    let mut list = ArrayVec::new();
     for i in (0..settled.len()).rev() {
         if !settled.is_ranked(i) {
             continue;
         }
-        enter(settled, &mut list, i);
+        enter(settled, list, i);
     }
-    list
 }

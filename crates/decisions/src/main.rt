@@ -7,6 +7,7 @@ ghost use Rattle.std.specs.Prelude.{◌<◌};
 
 use arithmetic::standing::ChiSquare;
 use decision::{Decision, Refusal};
+use items::layout::MAX_ITEMS;
 use std::io;
 use verdict::{Comparison, SupersetVerdict};
 
@@ -78,7 +79,7 @@ fn show_lists(
     word(rt, b"\n")
 }
 
-fn show_decision(rt: &impl Print, decided: Option<Decision>) -> io::Result<()> {
+fn show_decision(rt: &impl Print, decided: Option<Decision<MAX_ITEMS>>) -> io::Result<()> {
     match decided {
         Some(d) => show_lists(rt, b"answer 0", &d.ranked, &d.dominated, &d.refusals),
         None => show_lists(rt, b"answer 8", &[], &[], &[]),

@@ -19,7 +19,7 @@ use Rattle.tracked.specs.Held.{RefusedFix}
 use Rattle.normalize.specs.Normal.{refused_fix, lower_refused}
 use Rattle.normalize.specs.Deciding.{kept, refused_at, lower_held}
 
-module _ (ks : List Fix) (d : Decision) (w : Shows ks d) where
+module _ {N : ℕ} (ks : List Fix) (d : Decision N) (w : Shows ks d) where
   -- each index is that of a fix
   pub ranked-in : (l : List ℕ) → l ≡ d.ranked.items → All (λ i. i < length ks) l
   ranked-in l e =

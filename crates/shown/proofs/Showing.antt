@@ -27,6 +27,8 @@ use Rattle.rule.proofs.Known.{some-here}
 use Rattle.decision.specs.Claims.{listed_in}
 use Rattle.decision.specs.Answer.{refusal}
 use Rattle.decision.specs.Answered.{Says}
+use Rattle.decision.specs.Each.{Each}
+use Rattle.decision.specs.Working.{among}
 use Rattle.decision.specs.declared.Decision.{Decision}
 use Rattle.decision.specs.declared.Refusal.{Refusal}
 use Rattle.decision.proofs.Carried.{Alike, carried, carried_outcome}
@@ -37,7 +39,7 @@ use Rattle.shown.specs.Items.{no_fix, at}
 use Rattle.shown.specs.Claims.{fix_relations}
 use Rattle.shown.proofs.Indexed.{at_in}
 use Rattle.shown.proofs.Plainly.{shown-is-decided}
-use Rattle.shown.specs.Decided.{IsFix, HoldsFixes, refused_by, refused_of, outcome_in, shown_by, AllBelow, Within, Shows}
+use Rattle.shown.specs.Decided.{IsFix, refused_by, refused_of, outcome_in, shown_by, AllBelow, Within, Shows}
 
 -- ---- a decision says its outcome
 
@@ -45,10 +47,10 @@ map-back : (rs : List (Refused ℕ ChiSquare)) → map refused_by (map refusal r
 map-back [] = refl
 map-back (r ∷ rs) = ap (λ (l : List (Refused ℕ ChiSquare)). r ∷ l) (map-back rs)
 
-outcome-is : (d : Decision) (o : Outcome ℕ ChiSquare) → Says d o → outcome_in d ≡ o
+outcome-is : {N : ℕ} (d : Decision N) (o : Outcome ℕ ChiSquare) → Says d o → outcome_in d ≡ o
 outcome-is d o w = rw (w.ranked, w.dominated, w.refusals, map-back o.refused) refl
 
-module _ (gs : List Fix) (l : List Item) (long : length l ≡ length gs) (w : HoldsFixes gs l (length l)) where
+module _ (gs : List Fix) (l : List Item) (long : length l ≡ length gs) (w : Each (λ i x. IsFix (at gs i) x) l (length l)) where
   abbrev o : Outcome ℕ ChiSquare
   o = decide (relations l) (all l)
 
@@ -108,7 +110,7 @@ module _ (gs : List Fix) (l : List Item) (long : length l ≡ length gs) (w : Ho
   refusal-at (x ∷ rs) zero d h = (x, Memᴰ.head refl, refl)
   refusal-at (x ∷ rs) (suc i) d h = let r = refusal-at rs i d (omega arith) in (r.0, Memᴰ.tail r.1, r.2)
 
-  module _ (d : Decision) (says : Says d o) where
+  module _ {N : ℕ} (d : Decision N) (says : Says d o) where
     list-below : (k m : List ℕ) → k ≡ m → ((i : ℕ) → Memᴰ i m → i < length l) → AllBelow (length gs) k
     list-below k m e h i lt = let z = h (get_or k i 0) (subst (Memᴰ (get_or k i 0)) e (at_in 0 k i lt)) in omega (arith, z, long)
 
@@ -129,8 +131,12 @@ module _ (gs : List Fix) (l : List Item) (long : length l ≡ length gs) (w : Ho
               omega (arith, z, e, long);
         }
 
-    pub shows : Shows gs d
+    shows : Shows gs d
     shows = record { shown = ap (carried_outcome (at gs) (λ c. c)) (outcome-is d o says) ∙ sym shown-of-items; within = within }
+
+-- of items that were given by their places
+pub shows-each : {N : ℕ} {d : Decision N} (gs : List Fix) (l : List Item) → length l ≡ length gs → Each (λ i x. IsFix (at gs i) x) l (length l) → Says d (among l) → Shows gs d
+shows-each {N} {d} gs l long w says = shows gs l long w d says
 
 -- ---- some fix is ranked
 
@@ -173,7 +179,7 @@ none-refused : (f : Fix) → (shown (f ∷ [])).refused ≡ []
 unfolding shown filter flat_map
 none-refused f = rw (subset-irrefl f.record_bytes) refl
 
-none : (d : Decision) → d.ranked.items ≡ [] → d.dominated.items ≡ [] → d.refusals.items ≡ [] → Shows [] d
+none : {N : ℕ} (d : Decision N) → d.ranked.items ≡ [] → d.dominated.items ≡ [] → d.refusals.items ≡ [] → Shows [] d
 unfolding shown filter sort flat_map
 none d p q r = record {
   shown = rw (p, q, r) refl;
@@ -186,7 +192,7 @@ none d p q r = record {
 }
 
 -- nothing opposes at most one
-pub shows-few : (gs : List Fix) (d : Decision) → length gs ≤ 1 → d.ranked.items ≡ up_to (length gs) → d.dominated.items ≡ [] → d.refusals.items ≡ [] → Shows gs d
+pub shows-few : {N : ℕ} (gs : List Fix) (d : Decision N) → length gs ≤ 1 → d.ranked.items ≡ up_to (length gs) → d.dominated.items ≡ [] → d.refusals.items ≡ [] → Shows gs d
 unfolding count_from
 shows-few [] d h p q r = none d p q r
 shows-few (f ∷ []) d h p q r = record {
@@ -227,7 +233,7 @@ module _ (gs : List Fix) where
         at-map (at gs) l i 0 x (rw e at named.0) ∙ ap (λ (k : List ℕ). at gs (get_or k i 0)) (sym e) ∙ get_or-default gs (get_or m i 0) no_fix f named.1 ∙ sym q
 
   -- and in a refusal
-  module _ (d : Decision) (w : Within (length gs) d) (m : List Refusal) (e : m ≡ d.refusals.items) (i : ℕ) (h : i < length (shown_by gs d).refused) where
+  module _ {N : ℕ} (d : Decision N) (w : Within (length gs) d) (m : List Refusal) (e : m ≡ d.refusals.items) (i : ℕ) (h : i < length (shown_by gs d).refused) where
     here : i < length d.refusals.items
     here = rw (length-map d.refusals.items refused_by) at (rw (length-map (map refused_by d.refusals.items) (refused_of gs)) at h)
 

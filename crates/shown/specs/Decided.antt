@@ -11,7 +11,6 @@ use Rattle.shown.specs.Shown.{Transmission, shown}
 use Rattle.arithmetic.specs.declared.standing.ChiSquare.{ChiSquare}
 use Rattle.decision.specs.declared.Refusal.{Refusal}
 use Rattle.decision.specs.declared.Decision.{Decision}
-use Rattle.decision.specs.Working.{Each}
 
 -- ---- fixes as items
 
@@ -26,36 +25,32 @@ pub record IsFix (f : Fix) (x : Item) : Type 0 where
   pub identity : x.identity.now ≡ f.identity
   pub candidate : x.candidate ≡ candidate_for f.record_bytes
 
--- the first k of a list of items are those of fixes
-abbrev pub HoldsFixes : List Fix → List Item → ℕ → Type 0
-HoldsFixes gs l k = Each (λ i x. IsFix (at gs i) x) l k
-
 -- ---- what is decided of them
 
 abbrev pub refused_by : Refusal → Refused ℕ ChiSquare
 refused_by r = record { item = r.refused; against = r.kept; chi2 = r.chi2; superseded = r.superseded }
 
-abbrev pub outcome_in : Decision → Outcome ℕ ChiSquare
+abbrev pub outcome_in : {N : ℕ} → Decision N → Outcome ℕ ChiSquare
 outcome_in d = record { ranked = d.ranked.items; dominated = d.dominated.items; refused = map refused_by d.refusals.items }
 
 abbrev pub refused_of : List Fix → Refused ℕ ChiSquare → Refused Fix ChiSquare
 refused_of gs r = record { item = at gs r.item; against = at gs r.against; chi2 = r.chi2; superseded = r.superseded }
 
 -- each index stands for its fix
-abbrev pub shown_by : List Fix → Decision → Transmission
+abbrev pub shown_by : {N : ℕ} → List Fix → Decision N → Transmission
 shown_by gs d = let o = outcome_in d in record { ranked = map (at gs) o.ranked; dominated = map (at gs) o.dominated; refused = map (refused_of gs) o.refused }
 
 abbrev pub AllBelow : ℕ → List ℕ → Type 0
 AllBelow n l = (i : ℕ) → i < length l → get_or l i 0 < n
 
 -- it names n fixes
-pub record Within (n : ℕ) (d : Decision) : Type 0 where
+pub record Within {N : ℕ} (n : ℕ) (d : Decision N) : Type 0 where
   pub ranked : AllBelow n d.ranked.items
   pub dominated : AllBelow n d.dominated.items
   pub refused : (i : ℕ) (r : Refusal) → i < length d.refusals.items → (get_or d.refusals.items i r).refused < n
   pub against : (i : ℕ) (r : Refusal) → i < length d.refusals.items → (get_or d.refusals.items i r).kept < n
 
 -- it is what is shown of these fixes
-pub record Shows (gs : List Fix) (d : Decision) : Type 0 where
+pub record Shows {N : ℕ} (gs : List Fix) (d : Decision N) : Type 0 where
   pub shown : shown_by gs d ≡ shown gs
   pub within : Within (length gs) d

@@ -9,7 +9,7 @@ ghost use Rattle.shown.specs.Decided.{Shows};
 
 use arithmetic::standing::ChiSquare;
 use decision::Decision;
-use fixes::Fix;
+use fixes::{Fix, MAX_FIXES};
 use links::Transmission;
 use std::marker::Model;
 
@@ -17,7 +17,7 @@ use std::marker::Model;
 #[derive(Drop)]
 pub struct Shown<'t, 's, 'a> {
     transmission: &'t Transmission<'s, 'a>,
-    decision: &'t Decision,
+    decision: &'t Decision<MAX_FIXES>,
 }
 
 impl<'t, 's, 'a> Model for Shown<'t, 's, 'a> {
@@ -34,7 +34,10 @@ impl<'t, 's, 'a> Model for Shown<'t, 's, 'a> {
 
 impl<'t, 's, 'a> Shown<'t, 's, 'a> {
     /// What is shown of a transmission, of which this was decided.
-    pub fn of(transmission: &'t Transmission<'s, 'a>, decision: &'t Decision) -> Shown<'t, 's, 'a>
+    pub fn of(
+        transmission: &'t Transmission<'s, 'a>,
+        decision: &'t Decision<MAX_FIXES>,
+    ) -> Shown<'t, 's, 'a>
         requires { Shows transmission.now decision.now }
         ensures { result ≡ shown transmission.now }
     {

@@ -3,7 +3,7 @@ use Rattle.ranges.specs.Lists.{up_to}
 use Rattle.decision.proofs.decide_alone.Given as goal
 
 abbrev pub invariant-loop-i : goal.invariant-loop-i
-invariant-loop-i l = record {
+invariant-loop-i g l = record {
   most : l.i ≤ l.n;
   ranked : l.ranked.items ≡ up_to l.i;
 }

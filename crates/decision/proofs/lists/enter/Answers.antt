@@ -7,14 +7,14 @@ use Rattle.decision.proofs.Ranking.{put-in}
 use Rattle.decision.proofs.lists.enter.Goals as goal
 
 pub insert-requires : goal.insert-requires
-insert-requires c =
+insert-requires g c =
     let before = (relations c.args.settled.now.compared.listed.items.now).ahead in
     let a = prefix_len-le-length (λ j. before j c.args.i) c.as_slice.result.now in
     let b = ap length c.as_slice.ensures.value in
     (omega arith, (omega (arith, a, b, c.place_of-place.ensures), c.requires.room))
 
 pub returns-clause-items : goal.returns-clause-items
-returns-clause-items c =
+returns-clause-items g c =
     let before = (relations c.args.settled.now.compared.listed.items.now).ahead in
     c.insert.ensures.items
     ∙ ap (λ k. L.insert c.args.list.now.items k c.args.i) (c.place_of-place.ensures ∙ ap (prefix_len (λ j. before j c.args.i)) c.as_slice.ensures.value)
