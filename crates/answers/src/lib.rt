@@ -3,13 +3,14 @@
 //! Each writer puts its part at a position of a lent buffer and returns the position after it.
 #![tactic(auto)]
 
-ghost use Rattle.std.specs.Prelude.{◌≡◌, ℕ, ◌∷◌, ◌+◌, ◌≤◌, length, replicate};
+ghost use Rattle.std.specs.Prelude.{◌≡◌, ℕ, false, ◌∷◌, ◌+◌, ◌*◌, ◌≤◌, ◌<◌, length, replicate};
 ghost use Rattle.octets.specs.Words.{word_bytes};
 ghost use Rattle.octets.specs.Put.{Put};
-ghost use Rattle.items.specs.Layout.{max_items};
+ghost use Rattle.items.specs.Layout.{item_size, max_items};
 ghost use Rattle.rule.specs.Outcome.{Outcome};
 ghost use Rattle.arithmetic.specs.declared.standing.ChiSquare.{ChiSquare as Squared};
-ghost use Rattle.decision.specs.Answer.{indices, decision as decision_of, decided};
+ghost use Rattle.decision.specs.Answer.{indices, bad, outcome, decision as decision_of, decided};
+ghost use Rattle.decision.specs.Each.{few, least};
 ghost use Rattle.decision.specs.Answered.{Says};
 ghost use Rattle.held.specs.After.{after};
 ghost use Rattle.answers.specs.Layout.{chi_square_size, refusal_size};
@@ -110,6 +111,37 @@ fn put_decision<const N: usize>(out: &mut [u8], decision: &Decision<N>)
     put_refusals(out, third, &decision.refusals);
 }
 
+// Decides in tables of three sizes, each in a function of its own, so that the smaller ones do not wait for the larger.
+fn put_least(out: &mut [u8], s: &[u8], n: usize)
+    requires zeros { out.old ≡ replicate answer_size 0 }
+    requires good { bad s.now ≡ false }
+    requires len { length s.now ≡ n * item_size }
+    requires n_bound { (0 < n) × (n ≤ least) }
+    ensures { out.new ≡ answer_bytes (decision_of (outcome s.now)) }
+{
+    put_decision(out, &decide_least(n, |i| item_at(s, i)));
+}
+
+fn put_few(out: &mut [u8], s: &[u8], n: usize)
+    requires zeros { out.old ≡ replicate answer_size 0 }
+    requires good { bad s.now ≡ false }
+    requires len { length s.now ≡ n * item_size }
+    requires n_bound { (0 < n) × (n ≤ few) }
+    ensures { out.new ≡ answer_bytes (decision_of (outcome s.now)) }
+{
+    put_decision(out, &decide_few(n, |i| item_at(s, i)));
+}
+
+fn put_each(out: &mut [u8], s: &[u8], n: usize)
+    requires zeros { out.old ≡ replicate answer_size 0 }
+    requires good { bad s.now ≡ false }
+    requires len { length s.now ≡ n * item_size }
+    requires n_bound { (0 < n) × (n ≤ max_items) }
+    ensures { out.new ≡ answer_bytes (decision_of (outcome s.now)) }
+{
+    put_decision(out, &decide_each(n, |i| item_at(s, i)));
+}
+
 /// Decides items in bytes. The array is written where something is decided, and stays as it is on a refusal.
 pub fn decide(s: &[u8], out: &mut [u8; ANSWER_SIZE]) -> u32
     ensures { after result out.new ≡ hand_out (decided s.now) out.old }
@@ -125,13 +157,13 @@ pub fn decide(s: &[u8], out: &mut [u8; ANSWER_SIZE]) -> u32
         return DECIDED;
     }
     if n <= LEAST {
-        put_decision(out, &decide_least(n, |i| item_at(s, i)));
+        put_least(out, s, n);
         return DECIDED;
     }
     if n <= FEW {
-        put_decision(out, &decide_few(n, |i| item_at(s, i)));
+        put_few(out, s, n);
         return DECIDED;
     }
-    put_decision(out, &decide_each(n, |i| item_at(s, i)));
+    put_each(out, s, n);
     DECIDED
 }

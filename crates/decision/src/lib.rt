@@ -181,6 +181,18 @@ fn decide_small<'a, F: Fn(usize) -> Item<'a>>(n: usize, item: F) -> Decision<MAX
     decide_items(&items[..n], &mut rows[..n])
 }
 
+// In tables with room for all.
+fn decide_many<'a, F: Fn(usize) -> Item<'a>>(n: usize, item: F) -> Decision<MAX_ITEMS>
+    requires n_bound { (0 < n) × (n ≤ max_items) }
+    requires given { (i : ℕ) → i < n → F.pre item i }
+    ensures { DecidesEach (F.post item) n result }
+{
+    let mut items = [item(0); MAX_ITEMS];
+    let mut rows = [Row::empty(); MAX_ITEMS];
+    read(&mut items[..n], item);
+    decide_items(&items[..n], &mut rows[..n])
+}
+
 /// What is decided of items, each of which is given by its place.
 pub fn decide_each<'a, F: Fn(usize) -> Item<'a>>(n: usize, item: F) -> Decision<MAX_ITEMS>
     requires n_bound { (0 < n) × (n ≤ max_items) }
@@ -190,10 +202,7 @@ pub fn decide_each<'a, F: Fn(usize) -> Item<'a>>(n: usize, item: F) -> Decision<
     if n <= FEW {
         return decide_small(n, item);
     }
-    let mut items = [item(0); MAX_ITEMS];
-    let mut rows = [Row::empty(); MAX_ITEMS];
-    read(&mut items[..n], item);
-    decide_items(&items[..n], &mut rows[..n])
+    decide_many(n, item)
 }
 
 /// What is decided of at most one item: nothing opposes it.

@@ -3,11 +3,9 @@ use mathlib.Core.Bool.{true, false}
 use mathlib.Core.List.{List}
 use Prim.Native.Nat.{ℕ}
 use native.Mathlib.Omega.{arith}
-use Rattle.std.proofs.Common.{rules}
 use Rattle.held.specs.After.{after}
 use Rattle.decision.specs.Answer.{bad, outcome, decided, decision, refused_decision}
 use Rattle.decision.proofs.Passed.{few-items, long-items}
-use Rattle.decision.proofs.Holding.{says-of}
 use Rattle.decision.proofs.Alone.{alone}
 use Rattle.answers.specs.Answer.{answer_bytes, hand_out}
 use Rattle.answers.proofs.Parts.{answer-alone}
@@ -32,41 +30,26 @@ returns-then-n-le1 c =
     let g = good in
     decided-out _ _ _ g (answer-alone _ ∙ ap answer_bytes (alone _ _ (long-items _ g) c.if-n-le1.true g))
 
-pub decide_least-requires : goal.decide_least-requires
-decide_least-requires c κs =
+pub put_least-requires : goal.put_least-requires
+put_least-requires c =
     let good : bad c.args.s.now ≡ false = sym c.is_bad.ensures ∙ c.if-is_bad.false in
-    let long = long-items c.args.s.now good in
-    ((refl, tt), ((omega arith, c.if-n-le-LEAST.true), λ i h k p q r f t v. (good, omega (arith, h, long))))
+    record { zeros = refl; good = good; len = long-items c.args.s.now good; n_bound = (omega arith, c.if-n-le-LEAST.true) }
 
 pub returns-then-n-le-LEAST : goal.returns-then-n-le-LEAST
-returns-then-n-le-LEAST c =
-    let s = c.args.s.now in
-    let good : bad s ≡ false = sym c.is_bad.ensures ∙ c.if-is_bad.false in
-    let d = c.decide_least.ensures in
-    decided-out s _ _ good (c.put_decision.ensures (outcome s) (says-of s good d.items d.long (λ i x h e. let q = d.held i x (omega (arith, d.long, h)) e in search rules) d.says))
+returns-then-n-le-LEAST c = decided-out c.args.s.now _ _ (sym c.is_bad.ensures ∙ c.if-is_bad.false) c.put_least.ensures
 
-pub decide_few-requires : goal.decide_few-requires
-decide_few-requires c κs =
+pub put_few-requires : goal.put_few-requires
+put_few-requires c =
     let good : bad c.args.s.now ≡ false = sym c.is_bad.ensures ∙ c.if-is_bad.false in
-    let long = long-items c.args.s.now good in
-    ((refl, tt), ((omega arith, c.if-n-le-FEW.true), λ i h k p q r f t v. (good, omega (arith, h, long))))
+    record { zeros = refl; good = good; len = long-items c.args.s.now good; n_bound = (omega arith, c.if-n-le-FEW.true) }
 
 pub returns-then-n-le-FEW : goal.returns-then-n-le-FEW
-returns-then-n-le-FEW c =
-    let s = c.args.s.now in
-    let good : bad s ≡ false = sym c.is_bad.ensures ∙ c.if-is_bad.false in
-    let d = c.decide_few.ensures in
-    decided-out s _ _ good (c.put_decision-then-n-le-FEW.ensures (outcome s) (says-of s good d.items d.long (λ i x h e. let q = d.held i x (omega (arith, d.long, h)) e in search rules) d.says))
+returns-then-n-le-FEW c = decided-out c.args.s.now _ _ (sym c.is_bad.ensures ∙ c.if-is_bad.false) c.put_few.ensures
 
-pub decide_each-requires : goal.decide_each-requires
-decide_each-requires c κs =
+pub put_each-requires : goal.put_each-requires
+put_each-requires c =
     let good : bad c.args.s.now ≡ false = sym c.is_bad.ensures ∙ c.if-is_bad.false in
-    let long = long-items c.args.s.now good in
-    ((refl, tt), ((omega arith, few-items c.args.s.now good), λ i h k p q r f t v. (good, omega (arith, h, long))))
+    record { zeros = refl; good = good; len = long-items c.args.s.now good; n_bound = (omega arith, few-items c.args.s.now good) }
 
 pub returns : goal.returns
-returns c =
-    let s = c.args.s.now in
-    let good : bad s ≡ false = sym c.is_bad.ensures ∙ c.if-is_bad.false in
-    let d = c.decide_each.ensures in
-    decided-out s _ _ good (c.put_decision-2.ensures (outcome s) (says-of s good d.items d.long (λ i x h e. let q = d.held i x (omega (arith, d.long, h)) e in search rules) d.says))
+returns c = decided-out c.args.s.now _ _ (sym c.is_bad.ensures ∙ c.if-is_bad.false) c.put_each.ensures
