@@ -4,22 +4,29 @@ use mathlib.Core.List.{List, [], ◌∷◌, Memᴰ}
 use Rattle.items.specs.Layout.{max_items}
 use Rattle.items.specs.declared.item.Item.{Item}
 use Rattle.rule.specs.Outcome as O
+use Rattle.ranges.specs.Lists.{filter}
+use Rattle.rule.specs.Standing as S
 use Rattle.rule.specs.Standing.{decide}
 use Rattle.rule.specs.Listed.{relations}
-use Rattle.rule.specs.Rows.{all}
-use Rattle.rule.specs.declared.settled.Settled.{Settled}
+use Rattle.rule.specs.Rows.{all, replaces, opposes}
 use Rattle.decision.specs.Arrays.{Decision}
 use Rattle.decision.specs.declared.Refusal.{Refusal}
 use Rattle.decision.specs.Answer.{indices, refusal, refusals}
 use Rattle.arithmetic.specs.declared.standing.ChiSquare.{ChiSquare}
 
--- the items that are settled
-abbrev pub items_of : Settled → List Item
-items_of settled = settled.compared.listed.items.now
-
 -- what is decided of items, by their places
 abbrev pub among : List Item → O.Outcome ℕ ChiSquare
 among l = decide (relations l) (all l)
+
+-- the refusal of an item: as another takes its place, as another opposes it, and as it is decided
+abbrev pub replaced_in : List Item → ℕ → List (O.Refused ℕ ChiSquare)
+replaced_in l i = S.replaced (relations l) (all l) i (filter (replaces l i) (all l))
+
+abbrev pub opposed_in : List Item → ℕ → List (O.Refused ℕ ChiSquare)
+opposed_in l i = S.opposed (relations l) (all l) i (filter (opposes l i) (all l))
+
+abbrev pub refusal_in : List Item → ℕ → List (O.Refused ℕ ChiSquare)
+refusal_in l = S.refusal_of (relations l) (all l)
 
 -- the members of a list are below n
 abbrev pub AllBelow : ℕ → List ℕ → Type 0

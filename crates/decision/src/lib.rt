@@ -10,7 +10,8 @@ ghost use Rattle.items.specs.Layout.{item_size, max_items};
 ghost use Rattle.items.specs.Items.{same_identity};
 ghost use Rattle.decision.specs.Answer.{bad_at, bad, outcome, decided};
 ghost use Rattle.decision.specs.Answered.{Says, answered};
-ghost use Rattle.decision.specs.Working.{items_of, among};
+ghost use Rattle.rule.specs.Phases.{items_of};
+ghost use Rattle.decision.specs.Working.{among};
 ghost use Rattle.items.specs.Values.{IsItem};
 ghost use Rattle.decision.specs.Each.{few, least, Each, DecidesEach};
 

@@ -2,13 +2,12 @@
 
 ghost use Rattle.std.specs.Prelude.{◌≡◌, [], map, ◌+◌, ◌≤◌, ◌<◌, length};
 ghost use Rattle.std.specs.List.{prefix_len};
-ghost use Rattle.ranges.specs.Lists.{filter, insert};
+ghost use Rattle.ranges.specs.Lists.{insert};
 ghost use Rattle.arrayvec.specs.ArrayVec.{array_vec_len};
-ghost use Rattle.rule.specs.Standing as S;
 ghost use Rattle.rule.specs.Listed.{relations};
-ghost use Rattle.rule.specs.Rows.{all, replaces, opposes};
 ghost use Rattle.decision.specs.Answer.{refusal};
-ghost use Rattle.decision.specs.Working.{items_of, among, finding, AllBelow};
+ghost use Rattle.rule.specs.Phases.{items_of};
+ghost use Rattle.decision.specs.Working.{among, replaced_in, opposed_in, refusal_in, finding, AllBelow};
 
 use crate::Refusal;
 use arrayvec::ArrayVec;
@@ -17,7 +16,7 @@ use rule::settled::Settled;
 // The refusal of item i that another takes the place of.
 fn replaced(settled: &Settled<'_>, i: usize) -> Option<Refusal>
     requires { i < length (items_of settled.now) }
-    ensures { result ≡ finding (S.replaced (relations (items_of settled.now)) (all (items_of settled.now)) i (filter (replaces (items_of settled.now) i) (all (items_of settled.now)))) }
+    ensures { result ≡ finding (replaced_in (items_of settled.now) i) }
 {
     let kept = settled.replacing(i)?;
     Some(Refusal {
@@ -31,7 +30,7 @@ fn replaced(settled: &Settled<'_>, i: usize) -> Option<Refusal>
 // The refusal of item i that another opposes.
 fn opposed(settled: &Settled<'_>, i: usize) -> Option<Refusal>
     requires { i < length (items_of settled.now) }
-    ensures { result ≡ finding (S.opposed (relations (items_of settled.now)) (all (items_of settled.now)) i (filter (opposes (items_of settled.now) i) (all (items_of settled.now)))) }
+    ensures { result ≡ finding (opposed_in (items_of settled.now) i) }
 {
     let kept = settled.opposing(i)?;
     Some(Refusal {
@@ -45,7 +44,7 @@ fn opposed(settled: &Settled<'_>, i: usize) -> Option<Refusal>
 // The refusal of item i, if it is refused.
 fn refusal(settled: &Settled<'_>, i: usize) -> Option<Refusal>
     requires { i < length (items_of settled.now) }
-    ensures { result ≡ finding (S.refusal_of (relations (items_of settled.now)) (all (items_of settled.now)) i) }
+    ensures { result ≡ finding (refusal_in (items_of settled.now) i) }
 {
     if !settled.is_refused(i) {
         return None;

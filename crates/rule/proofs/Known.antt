@@ -19,12 +19,21 @@ use Rattle.rule.proofs.Sets.{has-set}
 pub here : (l : List Item) (i : ℕ) (x : Item) → i < length l → x ≡ get_or l i x → slice_get l i ≡ Some x
 here l i x h e = slice_get_read l (length l) i x refl h e
 
+there : (l : List Item) (i : ℕ) (x : Item) → i < length l → slice_get l i ≡ Some (get_or l i x)
+there [] i x h = absurd (omega arith)
+there (y ∷ l) zero x h = refl
+there (y ∷ l) (suc i) x h = there l i x (omega arith)
+
 pub some-here : (l : List Item) (i : ℕ) → i < length l → (x : Item) × (slice_get l i ≡ Some x)
 some-here l i h = go (slice_get_cases l i).1
   where
     go : ((x : Item) × (i < length l) × (slice_get l i ≡ Some x) × (get_or l i x ≡ x)) ⊎ ((length l ≤ i) × (slice_get l i ≡ None)) → (x : Item) × (slice_get l i ≡ Some x)
     go (inl (x, a, e, b)) = (x, e)
     go (inr (a, e)) = absurd (omega (arith, a, h))
+
+-- what is said of two of them, as it is read
+pub two-at : {B : Type 0} (d : B) (f : Item → Item → B) (l : List Item) (i j : ℕ) (x y : Item) → i < length l → j < length l → f (get_or l i x) (get_or l j y) ≡ L.at_two d f l i j
+two-at d f l i j x y h k = rw (there l i x h, there l j y k) refl
 
 pub within-at : (l : List Item) (i j : ℕ) → i < length l → j < length l → (relations l).within j i ≡ (L.subset_of l i j && L.same_at l j i)
 within-at l i j h k = let (x, e) = some-here l i h in let (y, d) = some-here l j k in rw (e, d) refl
@@ -62,13 +71,6 @@ disagrees-at l i j h k = let (x, e) = some-here l i h in let (y, d) = some-here 
 
 pub apart-no : (l : List Item) (i j : ℕ) → i < length l → j < length l → L.subset_of l i j ≡ false → (relations l).disagrees i j ≡ false
 apart-no l i j h k e = disagrees-at l i j h k ∙ rw e (by (L.consistent_at l j) (λ t. rw t refl) (λ t. rw t refl))
-
-pub disagrees-no : (l : List Item) (i j : ℕ) → i < length l → j < length l → L.consistent_at l j ≡ false → false ≡ (relations l).disagrees i j
-disagrees-no l i j h k e = sym (disagrees-at l i j h k ∙ rw e refl)
-
-pub disagrees-so : {a : Bool} (l : List Item) (i j : ℕ) → i < length l → j < length l → L.subset_of l i j ≡ true → L.consistent_at l j ≡ true
-    → a ≡ L.apart_at l i j → a ≡ (relations l).disagrees i j
-disagrees-so l i j h k s e f = f ∙ sym (disagrees-at l i j h k ∙ rw (s, e) refl)
 
 pub resists-no : (l : List Item) (i j : ℕ) → (relations l).disagrees i j ≡ false → R.resists l i j ≡ false
 resists-no l i j e = rw e refl

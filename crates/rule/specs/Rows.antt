@@ -1,9 +1,10 @@
 -- No claim rests on these definitions: they say what is known of each of the items of a list, and what is decided of them, as sets of places.
-use Rattle.std.specs.Prelude.{◌≡◌, ℕ, ◌<◌, Bool, not, ◌&&◌, List, length, slice_get, Some}
-use Rattle.ranges.specs.Lists.{up_to}
+use Rattle.std.specs.Prelude.{◌≡◌, ℕ, ◌<◌, Bool, not, ◌&&◌, List, length, slice_get, Option, Some}
+use Rattle.ranges.specs.Lists.{filter, up_to}
 use Rattle.items.specs.declared.item.Item.{Item}
 use Rattle.rule.specs.Standing as S
 use Rattle.rule.specs.declared.row.Row.{Row}
+use Rattle.rule.specs.First.{first_of}
 use Rattle.rule.specs.Listed as L
 use Rattle.rule.specs.Listed.{relations}
 use Rattle.rule.specs.Places.{set}
@@ -52,3 +53,11 @@ module _ (l : List Item) where
 
   abbrev pub is_ranked : ℕ → Bool
   is_ranked i = not (is_refused i) && not (is_covered i)
+
+-- those of a list that pass a test, as a set of places
+abbrev pub who : (List Item → ℕ → Bool) → List Item → ℕ
+who test l = set (test l) (length l)
+
+-- the lowest identity of those that pass a test
+abbrev pub lowest : List Item → (ℕ → Bool) → Option ℕ
+lowest l test = first_of (relations l).lower (filter test (all l))

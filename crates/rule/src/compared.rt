@@ -28,10 +28,8 @@ pub struct Compared<'a> {
 
 impl<'a> Compared<'a> {
     ghost use Rattle.rule.specs.Rows as R;
-    ghost use Rattle.rule.specs.Listed as L;
-    ghost use Rattle.rule.specs.First as F;
     ghost use Rattle.rule.specs.Places.{set};
-    ghost use Rattle.ranges.specs.Lists.{filter};
+    ghost use Rattle.rule.specs.Phases.{compared_items as items_of};
 
     /// Compares each two of the items, in lent rows: one for each.
     pub fn of(listed: Listed<'a>, rows: &'a mut [Row]) -> Self
@@ -43,16 +41,16 @@ impl<'a> Compared<'a> {
     }
 
     fn row(&self, i: usize) -> Row
-        requires { i < length self.now.listed.items.now }
-        ensures { result ≡ R.row self.now.listed.items.now i (length self.now.listed.items.now) }
+        requires { i < length (items_of self.now) }
+        ensures { result ≡ R.row (items_of self.now) i (length (items_of self.now)) }
     {
         self.rows[i]
     }
 
     /// Whether item i passed, has disagreeing subsets, and more standing than each of them.
     fn supersedes(&self, i: usize) -> bool
-        requires { i < length self.now.listed.items.now }
-        ensures { result ≡ R.supersedes self.now.listed.items.now i }
+        requires { i < length (items_of self.now) }
+        ensures { result ≡ R.supersedes (items_of self.now) i }
     {
         if !self.listed.has_passed(i) {
             return false;
@@ -66,7 +64,7 @@ impl<'a> Compared<'a> {
 
     /// Who supersedes.
     pub fn superseding(&self) -> Places
-        ensures { result.word ≡ set (R.supersedes self.now.listed.items.now) (length self.now.listed.items.now) }
+        ensures { result.word ≡ R.who R.supersedes (items_of self.now) }
     {
         let mut some = Places::none();
         for i in 0..self.rows.len() {
@@ -80,8 +78,8 @@ impl<'a> Compared<'a> {
 
     /// Who is superseded.
     pub fn superseded(&self, superseding: Places) -> Places
-        requires { superseding.word ≡ set (R.supersedes self.now.listed.items.now) (length self.now.listed.items.now) }
-        ensures { result.word ≡ set (R.is_superseded self.now.listed.items.now) (length self.now.listed.items.now) }
+        requires { superseding.word ≡ R.who R.supersedes (items_of self.now) }
+        ensures { result.word ≡ R.who R.is_superseded (items_of self.now) }
     {
         let mut some = Places::none();
         for i in 0..self.rows.len() {
@@ -96,8 +94,10 @@ impl<'a> Compared<'a> {
 
     // Whether item i is refused.
     fn is_refused(&self, superseding: Places, superseded: Places, i: usize) -> bool
-        requires { (i < length self.now.listed.items.now) × (superseding.word ≡ set (R.supersedes self.now.listed.items.now) (length self.now.listed.items.now)) × (superseded.word ≡ set (R.is_superseded self.now.listed.items.now) (length self.now.listed.items.now)) }
-        ensures { result ≡ R.is_refused self.now.listed.items.now i }
+        requires i_below { i < length (items_of self.now) }
+        requires superseding { superseding.word ≡ R.who R.supersedes (items_of self.now) }
+        requires superseded { superseded.word ≡ R.who R.is_superseded (items_of self.now) }
+        ensures { result ≡ R.is_refused (items_of self.now) i }
     {
         if superseded.contains(i) {
             return true;
@@ -111,8 +111,8 @@ impl<'a> Compared<'a> {
 
     /// Who is refused.
     pub fn refused(&self, superseding: Places, superseded: Places) -> Places
-        requires { (superseding.word ≡ set (R.supersedes self.now.listed.items.now) (length self.now.listed.items.now)) × (superseded.word ≡ set (R.is_superseded self.now.listed.items.now) (length self.now.listed.items.now)) }
-        ensures { result.word ≡ set (R.is_refused self.now.listed.items.now) (length self.now.listed.items.now) }
+        requires { (superseding.word ≡ R.who R.supersedes (items_of self.now)) × (superseded.word ≡ R.who R.is_superseded (items_of self.now)) }
+        ensures { result.word ≡ R.who R.is_refused (items_of self.now) }
     {
         let mut some = Places::none();
         for i in 0..self.rows.len() {
@@ -126,8 +126,8 @@ impl<'a> Compared<'a> {
 
     /// Who is a subset, with its model inputs, of one that is not refused.
     pub fn covered(&self, refused: Places) -> Places
-        requires { refused.word ≡ set (R.is_refused self.now.listed.items.now) (length self.now.listed.items.now) }
-        ensures { result.word ≡ set (R.is_covered self.now.listed.items.now) (length self.now.listed.items.now) }
+        requires { refused.word ≡ R.who R.is_refused (items_of self.now) }
+        ensures { result.word ≡ R.who R.is_covered (items_of self.now) }
     {
         let mut some = Places::none();
         for i in 0..self.rows.len() {
@@ -146,8 +146,8 @@ impl<'a> Compared<'a> {
 
     // Who takes the place of item i.
     fn replacing(&self, superseding: Places, i: usize) -> Places
-        requires { (i < length self.now.listed.items.now) × (superseding.word ≡ set (R.supersedes self.now.listed.items.now) (length self.now.listed.items.now)) }
-        ensures { result.word ≡ set (R.replaces self.now.listed.items.now i) (length self.now.listed.items.now) }
+        requires { (i < length (items_of self.now)) × (superseding.word ≡ R.who R.supersedes (items_of self.now)) }
+        ensures { result.word ≡ set (R.replaces (items_of self.now) i) (length (items_of self.now)) }
     {
         let mut some = Places::none();
         let mut left = superseding;
@@ -166,8 +166,8 @@ impl<'a> Compared<'a> {
 
     // Who opposes item i.
     fn opposing(&self, superseded: Places, i: usize) -> Places
-        requires { (i < length self.now.listed.items.now) × (superseded.word ≡ set (R.is_superseded self.now.listed.items.now) (length self.now.listed.items.now)) }
-        ensures { result.word ≡ set (R.opposes self.now.listed.items.now i) (length self.now.listed.items.now) }
+        requires { (i < length (items_of self.now)) × (superseded.word ≡ R.who R.is_superseded (items_of self.now)) }
+        ensures { result.word ≡ set (R.opposes (items_of self.now) i) (length (items_of self.now)) }
     {
         let row = self.row(i);
         row.disagreeing.without(superseded)
@@ -175,18 +175,18 @@ impl<'a> Compared<'a> {
 
     /// Of those that take the place of item i the lowest identity.
     pub fn first_replacing(&self, superseding: Places, i: usize) -> Option<usize>
-        requires { (i < length self.now.listed.items.now) × (superseding.word ≡ set (R.supersedes self.now.listed.items.now) (length self.now.listed.items.now)) }
-        ensures first { result ≡ F.first_of (L.relations self.now.listed.items.now).lower (filter (R.replaces self.now.listed.items.now i) (R.all self.now.listed.items.now)) }
-        ensures within { IfSome result (λ k. k < length self.now.listed.items.now) }
+        requires { (i < length (items_of self.now)) × (superseding.word ≡ R.who R.supersedes (items_of self.now)) }
+        ensures first { result ≡ R.lowest (items_of self.now) (R.replaces (items_of self.now) i) }
+        ensures within { IfSome result (λ k. k < length (items_of self.now)) }
     {
         self.listed.lowest(self.replacing(superseding, i))
     }
 
     /// Of those that oppose item i the lowest identity.
     pub fn first_opposing(&self, superseded: Places, i: usize) -> Option<usize>
-        requires { (i < length self.now.listed.items.now) × (superseded.word ≡ set (R.is_superseded self.now.listed.items.now) (length self.now.listed.items.now)) }
-        ensures first { result ≡ F.first_of (L.relations self.now.listed.items.now).lower (filter (R.opposes self.now.listed.items.now i) (R.all self.now.listed.items.now)) }
-        ensures within { IfSome result (λ k. k < length self.now.listed.items.now) }
+        requires { (i < length (items_of self.now)) × (superseded.word ≡ R.who R.is_superseded (items_of self.now)) }
+        ensures first { result ≡ R.lowest (items_of self.now) (R.opposes (items_of self.now) i) }
+        ensures within { IfSome result (λ k. k < length (items_of self.now)) }
     {
         self.listed.lowest(self.opposing(superseded, i))
     }

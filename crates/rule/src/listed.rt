@@ -2,6 +2,7 @@
 
 ghost use Rattle.std.specs.Prelude.{◌≡◌, ◌&&◌, true, length, ◌≤◌, ◌<◌, IfSome};
 ghost use Rattle.items.specs.Layout.{max_items};
+ghost use Rattle.items.specs.Values as V;
 
 use crate::places::Places;
 use crate::row::Row;
@@ -15,12 +16,23 @@ pub struct Listed<'a> {
     ghost few: { length items.now ≤ max_items },
 }
 
+// Whether an item disagrees with its subset, if that is consistent.
+#[tactic(auto, unfolding(items::specs::Values::disagrees))]
+fn disagrees(item: &Item<'_>, subset: &Item<'_>) -> bool
+    requires { V.is_subset subset.now item.now ≡ true }
+    ensures { result ≡ V.disagrees item.now subset.now }
+{
+    if !subset.candidate.consistent {
+        return false;
+    }
+    item.is_apart_from(subset)
+}
+
 impl<'a> Listed<'a> {
     ghost use Rattle.rule.specs.Rows as R;
     ghost use Rattle.rule.specs.Listed as L;
     ghost use Rattle.rule.specs.First as F;
     ghost use Rattle.rule.specs.Places.{has, set};
-    ghost use Rattle.ranges.specs.Lists.{filter};
 
     /// The items of a list.
     pub fn of(items: &'a [Item<'a>]) -> Listed<'a>
@@ -30,23 +42,6 @@ impl<'a> Listed<'a> {
         Listed { items }
     }
 
-    fn is_subset(&self, i: usize, j: usize) -> bool
-        requires { (i < length self.now.items.now) × (j < length self.now.items.now) }
-        ensures { result ≡ L.subset_of self.now.items.now j i }
-    {
-        let smaller = &self.items[i];
-        let larger = &self.items[j];
-        smaller.is_subset_of(larger)
-    }
-
-    fn is_consistent(&self, i: usize) -> bool
-        requires { i < length self.now.items.now }
-        ensures { result ≡ L.consistent_at self.now.items.now i }
-    {
-        let item = &self.items[i];
-        item.candidate.consistent
-    }
-
     /// Whether item i is verified, and passed.
     pub fn has_passed(&self, i: usize) -> bool
         requires { i < length self.now.items.now }
@@ -54,53 +49,6 @@ impl<'a> Listed<'a> {
     {
         let item = &self.items[i];
         item.has_passed()
-    }
-
-    fn is_apart(&self, i: usize, j: usize) -> bool
-        requires { (i < length self.now.items.now) × (j < length self.now.items.now) }
-        ensures { result ≡ L.apart_at self.now.items.now i j }
-    {
-        let item = &self.items[i];
-        let subset = &self.items[j];
-        item.is_apart_from(subset)
-    }
-
-    // Whether item i disagrees with its subset j, if that is consistent.
-    fn disagrees(&self, i: usize, j: usize) -> bool
-        requires { (i < length self.now.items.now) × (j < length self.now.items.now) × (L.subset_of self.now.items.now i j ≡ true) }
-        ensures { result ≡ (L.relations self.now.items.now).disagrees i j }
-    {
-        if !self.is_consistent(j) {
-            return false;
-        }
-        self.is_apart(i, j)
-    }
-
-    fn outstands(&self, i: usize, j: usize) -> bool
-        requires { (i < length self.now.items.now) × (j < length self.now.items.now) }
-        ensures { result ≡ (L.relations self.now.items.now).outstands i j }
-    {
-        let item = &self.items[i];
-        let other = &self.items[j];
-        item.outstands(other)
-    }
-
-    fn has_inputs_of(&self, i: usize, j: usize) -> bool
-        requires { (i < length self.now.items.now) × (j < length self.now.items.now) }
-        ensures { result ≡ L.same_at self.now.items.now i j }
-    {
-        let item = &self.items[i];
-        let other = &self.items[j];
-        item.has_inputs_of(other)
-    }
-
-    fn is_lower(&self, i: usize, j: usize) -> bool
-        requires { (i < length self.now.items.now) × (j < length self.now.items.now) }
-        ensures { result ≡ (L.relations self.now.items.now).lower i j }
-    {
-        let item = &self.items[i];
-        let other = &self.items[j];
-        item.is_lower(other)
     }
 
     /// Whether item i ranks before item j.
@@ -131,7 +79,9 @@ impl<'a> Listed<'a> {
         let Some(b) = best else {
             return Some(j);
         };
-        if self.is_lower(j, b) {
+        let best = &self.items[b];
+        let item = &self.items[j];
+        if item.is_lower(best) {
             return Some(j);
         }
         Some(b)
@@ -139,7 +89,7 @@ impl<'a> Listed<'a> {
 
     /// The lowest identity of some items.
     pub fn lowest(&self, of: Places) -> Option<usize>
-        ensures first { result ≡ F.first_of (L.relations self.now.items.now).lower (filter (has of.word) (R.all self.now.items.now)) }
+        ensures first { result ≡ R.lowest self.now.items.now (has of.word) }
         ensures within { IfSome result (λ b. b < length self.now.items.now) }
     {
         let mut best = None;
@@ -158,13 +108,15 @@ impl<'a> Listed<'a> {
         requires { i < length self.now.items.now }
         ensures { result.word ≡ set (λ j. has of.word j && L.same_at self.now.items.now j i) (length self.now.items.now) }
     {
+        let item = &self.items[i];
         let mut some = Places::none();
         let mut left = of;
         for j in 0..self.items.len() {
             if !left.shift() {
                 continue;
             }
-            if !self.has_inputs_of(j, i) {
+            let other = &self.items[j];
+            if !other.has_inputs_of(item) {
                 continue;
             }
             some.insert(j);
@@ -177,17 +129,19 @@ impl<'a> Listed<'a> {
         requires { i < length self.now.items.now }
         ensures { result ≡ R.row self.now.items.now i (length self.now.items.now) }
     {
+        let item = &self.items[i];
         let mut row = Row::empty();
         for j in 0..self.items.len() {
-            if !self.is_subset(j, i) {
+            let subset = &self.items[j];
+            if !subset.is_subset_of(item) {
                 continue;
             }
             row.subsets.insert(j);
-            if !self.disagrees(i, j) {
+            if !disagrees(item, subset) {
                 continue;
             }
             row.disagreeing.insert(j);
-            if self.outstands(i, j) {
+            if item.outstands(subset) {
                 continue;
             }
             row.resisting.insert(j);

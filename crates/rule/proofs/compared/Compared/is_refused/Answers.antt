@@ -10,21 +10,21 @@ pub returns-then-contains : goal.returns-then-contains
 unfolding S.is_refused
 returns-then-contains c =
     let xs = c.args.self.now.listed.items.now in
-    rw (sym (asked (R.is_superseded xs) (length xs) c.args.i c.requires.2 c.requires.0 (omega arith)) ∙ sym c.contains.ensures ∙ c.if-contains.true) refl
+    rw (sym (asked (R.is_superseded xs) (length xs) c.args.i c.requires.superseded c.requires.i_below (omega arith)) ∙ sym c.contains.ensures ∙ c.if-contains.true) refl
 
 pub returns-then-contains-2 : goal.returns-then-contains-2
 unfolding S.is_refused S.is_contested
 returns-then-contains-2 c =
     let xs = c.args.self.now.listed.items.now in
     refused-not (R.is_superseded xs c.args.i) (R.supersedes xs c.args.i) (any_of (R.opposes xs c.args.i) (R.all xs))
-    (sym (asked (R.is_superseded xs) (length xs) c.args.i c.requires.2 c.requires.0 (omega arith)) ∙ sym c.contains.ensures ∙ c.if-contains.false)
-    (sym (asked (R.supersedes xs) (length xs) c.args.i c.requires.1 c.requires.0 (omega arith)) ∙ sym c.contains-2.ensures ∙ c.if-contains-2.true)
+    (sym (asked (R.is_superseded xs) (length xs) c.args.i c.requires.superseded c.requires.i_below (omega arith)) ∙ sym c.contains.ensures ∙ c.if-contains.false)
+    (sym (asked (R.supersedes xs) (length xs) c.args.i c.requires.superseding c.requires.i_below (omega arith)) ∙ sym c.contains-2.ensures ∙ c.if-contains-2.true)
 
 pub returns : goal.returns
 unfolding S.is_refused S.is_contested
 returns c =
     let xs = c.args.self.now.listed.items.now in
     refused-so (R.is_superseded xs c.args.i) (R.supersedes xs c.args.i) (any_of (R.opposes xs c.args.i) (R.all xs))
-    (sym (asked (R.is_superseded xs) (length xs) c.args.i c.requires.2 c.requires.0 (omega arith)) ∙ sym c.contains.ensures ∙ c.if-contains.false)
-    (sym (asked (R.supersedes xs) (length xs) c.args.i c.requires.1 c.requires.0 (omega arith)) ∙ sym c.contains-2.ensures ∙ c.if-contains-2.false)
+    (sym (asked (R.is_superseded xs) (length xs) c.args.i c.requires.superseded c.requires.i_below (omega arith)) ∙ sym c.contains.ensures ∙ c.if-contains.false)
+    (sym (asked (R.supersedes xs) (length xs) c.args.i c.requires.superseding c.requires.i_below (omega arith)) ∙ sym c.contains-2.ensures ∙ c.if-contains-2.false)
     (c.is_empty.ensures ∙ none-left (R.opposes xs c.args.i) (length xs) c.opposing-opposing.ensures)

@@ -1,8 +1,9 @@
-use Rattle.std.proofs.Common.{sym, ◌∙◌, arith, refl, ◌&&◌}
+use Rattle.std.proofs.Common.{sym, ◌∙◌, arith, refl, ◌&&◌, false}
+use Rattle.octets.specs.Order.{same}
 use Rattle.rule.specs.Listed as L
 use Rattle.rule.specs.Places.{has}
 use Rattle.rule.proofs.Sets.{hit, miss, set-none, shifted, shifted-none, first-of}
-use Rattle.rule.proofs.Known.{both, first-not, second-not}
+use Rattle.rule.proofs.Known.{two-at, both, first-not, second-not}
 use Rattle.rule.proofs.listed.Listed.alike.Goals as goal
 
 pub loop-j-init : goal.loop-j-init
@@ -30,7 +31,7 @@ loop-j-preserved-then-not-has_inputs_of c =
       left = c.shift.ensures.1 ∙ shifted c.args.of.word j c.loop-j.invariant.left;
       some =
           miss (λ j. has c.args.of.word j && L.same_at l j c.args.i) j c.loop-j.invariant.some refl
-          (second-not (has c.args.of.word j) (L.same_at l j c.args.i) c.has_inputs_of.ensures c.if-not-has_inputs_of.true);
+          (second-not (has c.args.of.word j) (L.same_at l j c.args.i) (c.has_inputs_of.ensures ∙ two-at false (λ x y. same x.inputs.now y.inputs.now) l j c.args.i c.index-self-j.result c.index-self-i.result c.loop-j-test.true c.requires) c.if-not-has_inputs_of.true);
     }
 
 pub loop-j-preserved : goal.loop-j-preserved
@@ -42,5 +43,5 @@ loop-j-preserved c =
       some =
           c.insert.ensures (omega arith)
           ∙ hit (λ j. has c.args.of.word j && L.same_at l j c.args.i) j c.loop-j.invariant.some refl
-          (both (c.shift.ensures.0 ∙ first-of c.args.of.word j c.loop-j.invariant.left) c.if-not-shift.false c.has_inputs_of.ensures c.if-not-has_inputs_of.false);
+          (both (c.shift.ensures.0 ∙ first-of c.args.of.word j c.loop-j.invariant.left) c.if-not-shift.false (c.has_inputs_of.ensures ∙ two-at false (λ x y. same x.inputs.now y.inputs.now) l j c.args.i c.index-self-j.result c.index-self-i.result c.loop-j-test.true c.requires) c.if-not-has_inputs_of.false);
     }
