@@ -10,7 +10,7 @@ ghost use Rattle.items.specs.Layout.{item_size, max_items};
 ghost use Rattle.rule.specs.Outcome.{Outcome};
 ghost use Rattle.arithmetic.specs.declared.standing.ChiSquare.{ChiSquare as Squared};
 ghost use Rattle.decision.specs.Answer.{indices, bad, outcome, decision as decision_of, decided};
-ghost use Rattle.decision.specs.Each.{few, least};
+ghost use Rattle.decision.specs.Each.{few, least, some};
 ghost use Rattle.decision.specs.Answered.{Says};
 ghost use Rattle.held.specs.After.{after};
 ghost use Rattle.answers.specs.Layout.{chi_square_size, refusal_size};
@@ -19,7 +19,10 @@ ghost use Rattle.answers.specs.Answer.{indices_bytes, chi_square_bytes, refusal_
 ghost use Rattle.answers.specs.Offsets.{list_bytes};
 
 use arithmetic::standing::ChiSquare;
-use decision::{Decision, FEW, LEAST, Refusal, decide_each, decide_few, decide_least, item_at};
+use decision::{
+    Decision, FEW, LEAST, Refusal, SOME, decide_each, decide_few, decide_least, decide_some,
+    item_at,
+};
 use items::layout::{ITEM_SIZE, MAX_ITEMS};
 
 /// A count and room for an index of each item.
@@ -111,7 +114,7 @@ fn put_decision<const N: usize>(out: &mut [u8], decision: &Decision<N>)
     put_refusals(out, third, &decision.refusals);
 }
 
-// Decides in tables of three sizes, each in a function of its own, so that the smaller ones do not wait for the larger.
+// Decides in tables of four sizes, each in a function of its own, so that the smaller ones do not wait for the larger.
 fn put_least(out: &mut [u8], s: &[u8], n: usize)
     requires zeros { out.old ≡ replicate answer_size 0 }
     requires good { bad s.now ≡ false }
@@ -130,6 +133,16 @@ fn put_few(out: &mut [u8], s: &[u8], n: usize)
     ensures { out.new ≡ answer_bytes (decision_of (outcome s.now)) }
 {
     put_decision(out, &decide_few(n, |i| item_at(s, i)));
+}
+
+fn put_some(out: &mut [u8], s: &[u8], n: usize)
+    requires zeros { out.old ≡ replicate answer_size 0 }
+    requires good { bad s.now ≡ false }
+    requires len { length s.now ≡ n * item_size }
+    requires n_bound { (0 < n) × (n ≤ some) }
+    ensures { out.new ≡ answer_bytes (decision_of (outcome s.now)) }
+{
+    put_decision(out, &decide_some(n, |i| item_at(s, i)));
 }
 
 fn put_each(out: &mut [u8], s: &[u8], n: usize)
@@ -162,6 +175,10 @@ pub fn decide(s: &[u8], out: &mut [u8; ANSWER_SIZE]) -> u32
     }
     if n <= FEW {
         put_few(out, s, n);
+        return DECIDED;
+    }
+    if n <= SOME {
+        put_some(out, s, n);
         return DECIDED;
     }
     put_each(out, s, n);

@@ -1,7 +1,7 @@
 //! Which of one transmission's fixes stand, in rank, which are dominated, and which are refused, and against whom.
 //!
-//! `decide` takes the items in any bytes; `decide_each` asks for one after another, and `decide_few` and `decide_least` do so with
-//! smaller tables and lists.
+//! `decide` takes the items in any bytes; `decide_each` asks for one after another, and `decide_some`, `decide_few` and `decide_least` do so
+//! with smaller tables and lists.
 #![tactic(auto)]
 
 ghost use Rattle.std.specs.Prelude.{◌≡◌, ℕ, false, [], ◌+◌, ◌*◌, ◌≤◌, ◌<◌, length};
@@ -13,7 +13,7 @@ ghost use Rattle.decision.specs.Answered.{Says, answered};
 ghost use Rattle.rule.specs.Phases.{items_of};
 ghost use Rattle.decision.specs.Working.{among};
 ghost use Rattle.items.specs.Values.{IsItem};
-ghost use Rattle.decision.specs.Each.{few, least, Each, DecidesEach};
+ghost use Rattle.decision.specs.Each.{few, least, some, Each, DecidesEach};
 
 use arithmetic::standing::ChiSquare;
 use arrayvec::ArrayVec;
@@ -32,6 +32,9 @@ pub const FEW: usize = 10;
 
 /// And up to this many still smaller ones.
 pub const LEAST: usize = 4;
+
+/// Up to this many items have tables of a third of the most.
+pub const SOME: usize = 32;
 
 /// A refused item, the one that it is refused against, and the chi-square between them where there is one. `superseded`: it is the smaller,
 /// and a verified superset with more standing took its place; else it is the larger.
@@ -166,6 +169,18 @@ pub fn decide_few<'a, F: Fn(usize) -> Item<'a>>(n: usize, item: F) -> Decision<F
 {
     let mut items = [item(0); FEW];
     let mut rows = [Row::empty(); FEW];
+    read(&mut items[..n], item);
+    decide_items(&items[..n], &mut rows[..n])
+}
+
+/// What is decided of at most `SOME` items, each of which is given by its place.
+pub fn decide_some<'a, F: Fn(usize) -> Item<'a>>(n: usize, item: F) -> Decision<SOME>
+    requires n_bound { (0 < n) × (n ≤ some) }
+    requires given { (i : ℕ) → i < n → F.pre item i }
+    ensures { DecidesEach (F.post item) n result }
+{
+    let mut items = [item(0); SOME];
+    let mut rows = [Row::empty(); SOME];
     read(&mut items[..n], item);
     decide_items(&items[..n], &mut rows[..n])
 }

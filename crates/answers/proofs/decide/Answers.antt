@@ -46,6 +46,14 @@ put_few-requires c =
 pub returns-then-n-le-FEW : goal.returns-then-n-le-FEW
 returns-then-n-le-FEW c = decided-out c.args.s.now _ _ (sym c.is_bad.ensures ∙ c.if-is_bad.false) c.put_few.ensures
 
+pub put_some-requires : goal.put_some-requires
+put_some-requires c =
+    let good : bad c.args.s.now ≡ false = sym c.is_bad.ensures ∙ c.if-is_bad.false in
+    record { zeros = refl; good = good; len = long-items c.args.s.now good; n_bound = (omega arith, c.if-n-le-SOME.true) }
+
+pub returns-then-n-le-SOME : goal.returns-then-n-le-SOME
+returns-then-n-le-SOME c = decided-out c.args.s.now _ _ (sym c.is_bad.ensures ∙ c.if-is_bad.false) c.put_some.ensures
+
 pub put_each-requires : goal.put_each-requires
 put_each-requires c =
     let good : bad c.args.s.now ≡ false = sym c.is_bad.ensures ∙ c.if-is_bad.false in
