@@ -5,6 +5,7 @@ use mathlib.Core.Bool.{Bool, true, false, not}
 use mathlib.Core.List.Memᴰ
 use mathlib.Core.List.{List, [], ◌∷◌, ◌++◌, map, map-map, append_assoc, append-nil, Memᴰ}
 use native.Mathlib.Omega.{arith}
+use native.Mathlib.Nat.{zero-add}
 use native.Mathlib.Numerals.{add-one}
 use lib.ListN.{length, get_or, take, drop, length-append, length-map}
 use lib.Seq.{take-suc, length-take-le, get_or-append-add}
@@ -14,16 +15,17 @@ use Rattle.std.specs.List as S
 use Rattle.std.specs.List.{position, position_or_len}
 use Rattle.std.specs.Option.{unwrap_or}
 use Rattle.std.proofs.lemmas.List.Sums.{prefix_len-le-length}
-use Rattle.std.specs.Prelude.{Option, Some, None, slice_get}
+use Rattle.std.specs.Prelude.{Option, Some, None}
 use Rattle.ranges.specs.Lists.{filter, insert, sort, last_of}
 use Rattle.ranges.proofs.Bools.{by, or, clash, no_true}
 use Rattle.ranges.proofs.Lists.{sort-map, sort-in}
 use Rattle.shown.specs.Fix.{Fix}
 use Rattle.shown.specs.Ages.{older}
 use Rattle.shown.proofs.Ages.{older-irrefl, older-trans, older-past}
-use Rattle.tracked.specs.Bytes.{fix_in, fix_places, transmission_in}
+use Rattle.tracked.specs.Held.{HeldTransmission}
+use Rattle.tracked.specs.Bytes.{transmission_in}
 use Rattle.arrange.specs.Arranged.{max_transmissions}
-use Rattle.arrange.specs.Blocks.{has_fix_in, older_block, arranged_blocks, latest_blocks}
+use Rattle.arrange.specs.Blocks.{has_fix_in, older_block, arranged_blocks, latest_blocks, block_in}
 use Rattle.arrange.specs.declared.leads.Lead.{Lead}
 use Rattle.arrange.specs.Leads.{put_behind, entered, kept_of, before, place_of, lead_of, leads_from, order_of}
 use Rattle.arrange.proofs.Stable.{insert-none, insert-yes, insert-no, Weak}
@@ -106,68 +108,49 @@ weak = record {
   past = λ a b c. older-past a.kept b.kept c.kept;
 }
 
--- ---- the fix that is kept
-
-pub first-kept : (b : List ℕ) (ps : List (List ℕ)) (f : Fix) → ps ≡ fix_places b → 1 ≤ length ps → f ≡ fix_in (get_or ps 0 []) → Some f ≡ kept_of (transmission_in b)
-unfolding transmission_in
-first-kept b ps f e h q = ap Some q ∙ go ps h ∙ ap (λ (l : List (List ℕ)). slice_get (map fix_in l) 0) e
-  where
-    go : (l : List (List ℕ)) → 1 ≤ length l → Some (fix_in (get_or l 0 [])) ≡ slice_get (map fix_in l) 0
-    go [] k = absurd (omega arith)
-    go (p ∷ l) k = refl
-
-pub none-kept : (b : List ℕ) (ps : List (List ℕ)) → ps ≡ fix_places b → length ps < 1 → ◌≡◌ {A = Option Fix} None (kept_of (transmission_in b))
-unfolding transmission_in
-none-kept b ps e h = go ps h ∙ ap (λ (l : List (List ℕ)). slice_get (map fix_in l) 0) e
-  where
-    go : (l : List (List ℕ)) → length l < 1 → ◌≡◌ {A = Option Fix} None (slice_get (map fix_in l) 0)
-    go [] k = refl
-    go (p ∷ l) k = absurd (omega arith)
-
 -- ---- leads of transmissions
 
-pub leads-append : (k : ℕ) (bs cs : List (List ℕ)) → leads_from k (bs ++ cs) ≡ leads_from k bs ++ leads_from (k + length bs) cs
+leads-append : (k : ℕ) (ts us : List HeldTransmission) → leads_from k (ts ++ us) ≡ leads_from k ts ++ leads_from (k + length ts) us
 unfolding leads_from
-leads-append k [] cs = ap (λ (i : ℕ). leads_from i cs) (omega arith)
-leads-append k (b ∷ bs) cs =
-    let z : suc k + length bs ≡ k + suc (length bs) = omega arith in
-    ap (λ (l : List Lead). lead_of k (kept_of (transmission_in b)) ++ l) (leads-append (suc k) bs cs ∙ ap (λ (i : ℕ). leads_from (suc k) bs ++ leads_from i cs) z)
-    ∙ sym (append_assoc (lead_of k (kept_of (transmission_in b))) (leads_from (suc k) bs) (leads_from (k + suc (length bs)) cs))
+leads-append k [] us = ap (λ (i : ℕ). leads_from i us) (omega arith)
+leads-append k (t ∷ ts) us =
+    let z : suc k + length ts ≡ k + suc (length ts) = omega arith in
+    ap (λ (l : List Lead). lead_of k (kept_of t) ++ l) (leads-append (suc k) ts us ∙ ap (λ (i : ℕ). leads_from (suc k) ts ++ leads_from i us) z)
+    ∙ sym (append_assoc (lead_of k (kept_of t)) (leads_from (suc k) ts) (leads_from (k + suc (length ts)) us))
 
-pub leads-few : (k : ℕ) (bs : List (List ℕ)) → length (leads_from k bs) ≤ length bs
+leads-few : (k : ℕ) (ts : List HeldTransmission) → length (leads_from k ts) ≤ length ts
 unfolding leads_from
 leads-few k [] = omega arith
-leads-few k (b ∷ bs) = let e = leads-few (suc k) bs in rw (length-append (lead_of k (kept_of (transmission_in b))) (leads_from (suc k) bs)) (one (kept_of (transmission_in b)) e)
+leads-few k (t ∷ ts) = let e = leads-few (suc k) ts in rw (length-append (lead_of k (kept_of t)) (leads_from (suc k) ts)) (one (kept_of t) e)
   where
-    one : (o : Option Fix) → length (leads_from (suc k) bs) ≤ length bs → length (lead_of k o) + length (leads_from (suc k) bs) ≤ suc (length bs)
+    one : (o : Option Fix) → length (leads_from (suc k) ts) ≤ length ts → length (lead_of k o) + length (leads_from (suc k) ts) ≤ suc (length ts)
     one None e = omega arith
     one (Some f) e = omega arith
 
 -- one transmission more
-pub leads-more : (k : ℕ) (bs : List (List ℕ)) (i : ℕ) (d : List ℕ) → i < length bs → leads_from k (take (i + 1) bs) ≡ leads_from k (take i bs) ++ lead_of (k + i) (kept_of (transmission_in (get_or bs i d)))
+leads-more : (ts : List HeldTransmission) (i : ℕ) (d : HeldTransmission) → i < length ts → leads_from 0 (take (i + 1) ts) ≡ leads_from 0 (take i ts) ++ lead_of i (kept_of (get_or ts i d))
 unfolding leads_from
-leads-more k bs i d h =
-    let b = get_or bs i d in
-    let o = kept_of (transmission_in b) in
-    ap (leads_from k) (ap (λ (j : ℕ). take j bs) (add-one i) ∙ take-suc bs i d h)
-    ∙ leads-append k (take i bs) (b ∷ [])
-    ∙ ap (λ (l : List Lead). leads_from k (take i bs) ++ l)
-    (append-nil (lead_of (k + length (take i bs)) o) ∙ ap (λ (j : ℕ). lead_of (k + j) o) (length-take-le i bs (omega arith)))
+leads-more ts i d h =
+    let t = get_or ts i d in
+    let o = kept_of t in
+    ap (leads_from 0) (ap (λ (j : ℕ). take j ts) (add-one i) ∙ take-suc ts i d h)
+    ∙ leads-append 0 (take i ts) (t ∷ [])
+    ∙ ap (λ (l : List Lead). leads_from 0 (take i ts) ++ l)
+    (append-nil (lead_of (0 + length (take i ts)) o) ∙ ap (λ (j : ℕ). lead_of j o) (zero-add (length (take i ts)) ∙ length-take-le i ts (omega arith)))
 
 -- ---- those that they name
+
+abbrev leads_in : ℕ → List (List ℕ) → List Lead
+leads_in k bs = leads_from k (map transmission_in bs)
 
 -- a lead names a transmission, and has the fix that is kept of it
 pub record Names (bs : List (List ℕ)) (x : Lead) : Type 0 where
   pub among : x.place < length bs
   pub kept : kept_of (transmission_in (get_or bs x.place [])) ≡ Some x.kept
 
--- the transmission of a place
-abbrev pub at : List (List ℕ) → ℕ → List ℕ
-at bs k = get_or bs k []
-
 module _ (pre : List (List ℕ)) where
-  first-behind : (b : List ℕ) (bs : List (List ℕ)) → at (pre ++ (b ∷ bs)) (length pre) ≡ b
-  first-behind b bs = let z : length pre + 0 ≡ length pre = omega arith in ap (at (pre ++ (b ∷ bs))) (sym z) ∙ get_or-append-add pre (b ∷ bs) 0 []
+  first-behind : (b : List ℕ) (bs : List (List ℕ)) → block_in (pre ++ (b ∷ bs)) (length pre) ≡ b
+  first-behind b bs = let z : length pre + 0 ≡ length pre = omega arith in ap (block_in (pre ++ (b ∷ bs))) (sym z) ∙ get_or-append-add pre (b ∷ bs) 0 []
 
 -- the part in front grows by one
 shifted : (pre : List (List ℕ)) (b : List ℕ) (bs : List (List ℕ)) → (pre ++ (b ∷ [])) ++ bs ≡ pre ++ (b ∷ bs)
@@ -176,7 +159,7 @@ shifted pre b bs = append_assoc pre (b ∷ []) bs
 longer : (pre : List (List ℕ)) (b : List ℕ) → length (pre ++ (b ∷ [])) ≡ suc (length pre)
 longer pre b = length-append pre (b ∷ []) ∙ omega arith
 
-leads-named : (bs pre : List (List ℕ)) (x : Lead) → Memᴰ x (leads_from (length pre) bs) → Names (pre ++ bs) x
+leads-named : (bs pre : List (List ℕ)) (x : Lead) → Memᴰ x (leads_in (length pre) bs) → Names (pre ++ bs) x
 unfolding leads_from
 leads-named [] pre x m = absurd (Memᴰ.not-nil m)
 leads-named (b ∷ bs) pre x m =
@@ -195,27 +178,27 @@ leads-named (b ∷ bs) pre x m =
 
 module _ (b : List ℕ) (bs pre : List (List ℕ)) where
   abbrev name : Lead → List ℕ
-  name x = at (pre ++ (b ∷ bs)) (place_of x)
+  name x = block_in (pre ++ (b ∷ bs)) (place_of x)
 
-  named-more : map name (leads_from (suc (length pre)) bs) ≡ filter has_fix_in bs → map name (leads_from (length pre) (b ∷ bs)) ≡ filter has_fix_in (b ∷ bs)
+  named-more : map name (leads_in (suc (length pre)) bs) ≡ filter has_fix_in bs → map name (leads_in (length pre) (b ∷ bs)) ≡ filter has_fix_in (b ∷ bs)
   unfolding leads_from filter
   named-more rest = go (transmission_in b).fixes refl
     where
-      go : (fs : List Fix) → (transmission_in b).fixes ≡ fs → map name (leads_from (length pre) (b ∷ bs)) ≡ filter has_fix_in (b ∷ bs)
+      go : (fs : List Fix) → (transmission_in b).fixes ≡ fs → map name (leads_in (length pre) (b ∷ bs)) ≡ filter has_fix_in (b ∷ bs)
       go [] e = rw e rest
       go (f ∷ fs) e = rw e (ap₂ ◌∷◌ (first-behind pre b bs) rest)
 
-named-kept : (bs pre : List (List ℕ)) → map (λ x. at (pre ++ bs) (place_of x)) (leads_from (length pre) bs) ≡ filter has_fix_in bs
+named-kept : (bs pre : List (List ℕ)) → map (λ x. block_in (pre ++ bs) (place_of x)) (leads_in (length pre) bs) ≡ filter has_fix_in bs
 unfolding leads_from filter
 named-kept [] pre = refl
 named-kept (b ∷ bs) pre =
     named-more b bs pre
-    (ap₂ (λ (l : List (List ℕ)) (k : ℕ). map (λ x. at l (place_of x)) (leads_from k bs)) (sym (shifted pre b bs)) (sym (longer pre b))
+    (ap₂ (λ (l : List (List ℕ)) (k : ℕ). map (λ x. block_in l (place_of x)) (leads_in k bs)) (sym (shifted pre b bs)) (sym (longer pre b))
     ∙ named-kept bs (pre ++ (b ∷ [])))
 
 module _ (bs : List (List ℕ)) where
   abbrev block : Lead → List ℕ
-  block x = at bs (place_of x)
+  block x = block_in bs (place_of x)
 
   same-order : (x y : Lead) → Names bs x → Names bs y → older_block (block x) (block y) ≡ before x y
   same-order x y n k = go (transmission_in (block x)).fixes (transmission_in (block y)).fixes refl refl
@@ -228,26 +211,26 @@ module _ (bs : List (List ℕ)) where
           let b : g ≡ y.kept = let h = rw e at k.kept in cc in
           rw (d, e) (ap₂ older a b)
 
-  sorted-are : map block (sort before (leads_from 0 bs)) ≡ arranged_blocks bs
+  sorted-are : map block (sort before (leads_in 0 bs)) ≡ arranged_blocks bs
   unfolding arranged_blocks
   sorted-are =
-      sym (sort-map block before older_block (leads_from 0 bs) (λ x y m n. same-order x y (leads-named bs [] x m) (leads-named bs [] y n)))
+      sym (sort-map block before older_block (leads_in 0 bs) (λ x y m n. same-order x y (leads-named bs [] x m) (leads-named bs [] y n)))
       ∙ ap (sort older_block) (named-kept bs [])
 
   abbrev sorted : List Lead
-  sorted = sort before (leads_from 0 bs)
+  sorted = sort before (leads_in 0 bs)
 
-  pub order-are : map (at bs) (order_of bs) ≡ latest_blocks bs
+  pub order-are : map (block_in bs) (order_of (map transmission_in bs)) ≡ latest_blocks bs
   order-are =
-      map-map (at bs) place_of (last_of max_transmissions sorted)
+      map-map (block_in bs) place_of (last_of max_transmissions sorted)
       ∙ map-drop block (length sorted - max_transmissions) sorted
       ∙ ap₂ (λ (n : ℕ) (l : List (List ℕ)). drop (n - max_transmissions) l) (sym (length-map sorted block) ∙ ap length sorted-are) sorted-are
 
-  pub order-count : length (order_of bs) ≡ length (latest_blocks bs)
-  order-count = sym (length-map (order_of bs) (at bs)) ∙ ap length order-are
+  pub order-count : length (order_of (map transmission_in bs)) ≡ length (latest_blocks bs)
+  order-count = sym (length-map (order_of (map transmission_in bs)) (block_in bs)) ∙ ap length order-are
 
-  pub order-within : (i : ℕ) → i < length (order_of bs) → get_or (order_of bs) i 0 < length bs
-  order-within i h = go (last_of max_transmissions sorted) (λ x m. leads-named bs [] x (sort-in before (leads_from 0 bs) x (dropped sorted (length sorted - max_transmissions) x m))) i h
+  pub order-within : (i : ℕ) → i < length (order_of (map transmission_in bs)) → get_or (order_of (map transmission_in bs)) i 0 < length bs
+  order-within i h = go (last_of max_transmissions sorted) (λ x m. leads-named bs [] x (sort-in before (leads_in 0 bs) x (dropped sorted (length sorted - max_transmissions) x m))) i h
     where
       dropped : (l : List Lead) (k : ℕ) (x : Lead) → Memᴰ x (drop k l) → Memᴰ x l
       dropped l zero x m = m
@@ -259,40 +242,35 @@ module _ (bs : List (List ℕ)) where
       go (x ∷ l) n zero h = (n x (Memᴰ.head refl)).among
       go (x ∷ l) n (suc i) h = go l (λ y m. n y (Memᴰ.tail m)) i (omega arith)
 
--- those of two lists, one behind the other
-pub both-entered : (bs cs : List (List ℕ)) (l m : List Lead) → l ≡ entered before [] (leads_from 0 bs) → m ≡ entered before l (leads_from (length bs) cs) → m ≡ sort before (leads_from 0 (bs ++ cs))
+-- none at first
+pub none-yet : [] ≡ entered before [] (leads_from 0 [])
+unfolding entered leads_from
+none-yet = refl
+
+-- all of them
+pub entered-all : (ts : List HeldTransmission) → entered before [] (leads_from 0 ts) ≡ sort before (leads_from 0 ts)
 unfolding sort
-both-entered bs cs l m e f =
-    let z : length bs ≡ 0 + length bs = omega arith in
-    f ∙ ap (λ (k : List Lead). entered before k (leads_from (length bs) cs)) e
-    ∙ sym (entered-append before [] (leads_from 0 bs) (leads_from (length bs) cs))
-    ∙ ap (entered before []) (ap (λ (k : ℕ). leads_from 0 bs ++ leads_from k cs) z ∙ sym (leads-append 0 bs cs))
-    ∙ entered-sorted before weak (leads_from 0 (bs ++ cs)) []
+entered-all ts = entered-sorted before weak (leads_from 0 ts) []
 
 -- one more, where it has a fix
-module _ (l₀ l m : List Lead) (k : ℕ) (bs : List (List ℕ)) (i : ℕ) (o : Option Fix) (h : i < length bs) (before-it : l ≡ entered before l₀ (leads_from k (take i bs)))
-    (is : o ≡ kept_of (transmission_in (get_or bs i []))) where
-  more : m ≡ entered before l (lead_of (k + i) o) → m ≡ entered before l₀ (leads_from k (take (i + 1) bs))
-  more e =
-      e ∙ ap₂ (λ (x : List Lead) (q : Option Fix). entered before x (lead_of (k + i) q)) before-it is
-      ∙ sym (entered-append before l₀ (leads_from k (take i bs)) (lead_of (k + i) (kept_of (transmission_in (get_or bs i [])))))
-      ∙ ap (entered before l₀) (sym (leads-more k bs i [] h))
+module _ (l m : List Lead) (ts : List HeldTransmission) (i : ℕ) (d : HeldTransmission) (h : i < length ts) (before-it : l ≡ entered before [] (leads_from 0 (take i ts))) where
+  pub one-more : m ≡ entered before l (lead_of i (kept_of (get_or ts i d))) → m ≡ entered before [] (leads_from 0 (take (i + 1) ts))
+  one-more e =
+      e ∙ ap (λ (x : List Lead). entered before x (lead_of i (kept_of (get_or ts i d)))) before-it
+      ∙ sym (entered-append before [] (leads_from 0 (take i ts)) (lead_of i (kept_of (get_or ts i d))))
+      ∙ ap (entered before []) (sym (leads-more ts i d h))
 
-  pub one-entered : (f : Fix) → o ≡ Some f → m ≡ put_behind before (record { place = k + i; kept = f }) l → m ≡ entered before l₀ (leads_from k (take (i + 1) bs))
+  pub one-entered : (f : Fix) → Some f ≡ kept_of (get_or ts i d) → m ≡ put_behind before (record { place = i; kept = f }) l → m ≡ entered before [] (leads_from 0 (take (i + 1) ts))
   unfolding entered
-  one-entered f q e = more (e ∙ ap (λ (z : Option Fix). entered before l (lead_of (k + i) z)) (sym q))
+  one-entered f q e = one-more (e ∙ ap (λ (z : Option Fix). entered before l (lead_of i z)) q)
 
-  pub none-entered : o ≡ None → m ≡ l → m ≡ entered before l₀ (leads_from k (take (i + 1) bs))
+  pub none-entered : ◌≡◌ {A = Option Fix} None (kept_of (get_or ts i d)) → m ≡ l → m ≡ entered before [] (leads_from 0 (take (i + 1) ts))
   unfolding entered
-  none-entered q e = more (e ∙ ap (λ (z : Option Fix). entered before l (lead_of (k + i) z)) (sym q))
-
-pub none-yet : (l : List Lead) (k : ℕ) → l ≡ entered before l (leads_from k [])
-unfolding entered leads_from
-none-yet l k = refl
+  none-entered q e = one-more (e ∙ ap (λ (z : Option Fix). entered before l (lead_of i z)) q)
 
 -- there is room for each
-pub entered-few : (l₀ l : List Lead) (k : ℕ) (bs : List (List ℕ)) → l ≡ entered before l₀ (leads_from k bs) → length l ≤ length l₀ + length bs
-entered-few l₀ l k bs e = let a = ap length e ∙ entered-length before l₀ (leads_from k bs) in let b = leads-few k bs in omega (arith, a, b)
+pub entered-few : (l : List Lead) (ts : List HeldTransmission) → l ≡ entered before [] (leads_from 0 ts) → length l ≤ length ts
+entered-few l ts e = let a = ap length e ∙ entered-length before [] (leads_from 0 ts) in let b = leads-few 0 ts in omega (arith, a, b)
 
 -- where one goes in
 goes-at : (x : Lead) (l : List Lead) → put_behind before x l ≡ S.insert l (position_or_len (before x) l) x

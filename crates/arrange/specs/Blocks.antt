@@ -1,8 +1,8 @@
 -- No claim rests on these definitions: they say what the code does to a table of transmissions, each in its bytes.
 use Rattle.std.specs.Prelude.{ℕ, ◌+◌, ◌*◌, ◌≤◌, ◌≡◌, Bool, length, get_or, take, drop}
-use mathlib.Core.List.{List, [], ◌∷◌, ◌++◌, Memᴰ}
+use mathlib.Core.List.{List, [], ◌∷◌, ◌++◌, map, Memᴰ}
 use Rattle.ranges.specs.Lists.{filter, sort, last_of}
-use Rattle.places.specs.Places.{places, table_of}
+use Rattle.places.specs.Places.{places, flat, table_of}
 use Rattle.tracked.specs.Layout.{transmission_size}
 use Rattle.tracked.specs.Bytes.{transmission_in}
 use Rattle.tracked.specs.Parts.{Sound}
@@ -45,10 +45,18 @@ pub record Filled (t : List ℕ) (n : ℕ) : Type 0 where
 
 -- ---- by their places
 
--- of the n transmissions of a table and of further ones behind them that of a place
+-- of transmissions that of a place
+abbrev pub block_in : List (List ℕ) → ℕ → List ℕ
+block_in bs k = get_or bs k []
+
+-- of the n transmissions of a table and of further ones behind them
 abbrev pub block_of : ℕ → List ℕ → List (List ℕ) → ℕ → List ℕ
-block_of n t further k = get_or (blocks n t ++ further) k []
+block_of n t further k = block_in (blocks n t ++ further) k
 
 -- a transmission put at place i of a table
 abbrev pub put_block : ℕ → List ℕ → List ℕ → List ℕ
 put_block i b t = take (i * transmission_size) t ++ (b ++ drop (i * transmission_size + transmission_size) t)
+
+-- a table to whose front the transmissions of these places went, among n and further ones behind them
+abbrev pub moved : ℕ → List (List ℕ) → List ℕ → List ℕ → List ℕ
+moved n further order t = flat (map (block_of n t further) order) ++ drop (length order * transmission_size) t

@@ -5,7 +5,6 @@ use Rattle.ranges.specs.Lists.{sort, last_of}
 use Rattle.shown.specs.Fix.{Fix}
 use Rattle.shown.specs.Ages.{older}
 use Rattle.tracked.specs.Held.{HeldTransmission}
-use Rattle.tracked.specs.Bytes.{transmission_in}
 use Rattle.arrange.specs.Arranged.{max_transmissions}
 use Rattle.arrange.specs.declared.leads.Lead.{Lead}
 
@@ -36,10 +35,10 @@ lead_of k None = []
 lead_of k (Some f) = record { place = k; kept = f } ∷ []
 
 -- those of transmissions of which the first stands at place k
-unfoldable pub leads_from : ℕ → List (List ℕ) → List Lead
+unfoldable pub leads_from : ℕ → List HeldTransmission → List Lead
 leads_from k [] = []
-leads_from k (b ∷ bs) = lead_of k (kept_of (transmission_in b)) ++ leads_from (suc k) bs
+leads_from k (t ∷ ts) = lead_of k (kept_of t) ++ leads_from (suc k) ts
 
 -- the places of the latest eight of transmissions, in their order
-abbrev pub order_of : List (List ℕ) → List ℕ
-order_of bs = map place_of (last_of max_transmissions (sort before (leads_from 0 bs)))
+abbrev pub order_of : List HeldTransmission → List ℕ
+order_of ts = map place_of (last_of max_transmissions (sort before (leads_from 0 ts)))

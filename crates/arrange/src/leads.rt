@@ -1,20 +1,16 @@
 //! The order of transmissions, by the fixes that are kept of them.
 
-ghost use Rattle.std.specs.Prelude.{◌≡◌, [], ◌∷◌, ◌++◌, ◌+◌, ◌≤◌, ◌<◌, length, map, position};
+ghost use Rattle.std.specs.Prelude.{◌≡◌, [], ◌≤◌, ◌<◌, length, map, position};
 ghost use Rattle.arrayvec.specs.ArrayVec.{array_vec_len};
 ghost use Rattle.shown.specs.Ages.{time_of, older};
-ghost use Rattle.tracked.specs.Bytes.{transmission_in};
-ghost use Rattle.tracked.specs.Parts.{Sound};
 ghost use Rattle.ranges.specs.Lists.{last_of};
 ghost use Rattle.arrange.specs.Arranged.{max_transmissions};
-ghost use Rattle.arrange.specs.Blocks.{AllSound};
-ghost use Rattle.arrange.specs.Leads.{kept_of, before, put_behind, entered, leads_from, order_of, place_of};
+ghost use Rattle.arrange.specs.Leads.{before, put_behind, entered, leads_from, order_of, place_of};
 
-use crate::MAX_TRANSMISSIONS;
+use crate::{MAX_LEADS, MAX_TRANSMISSIONS};
 use arrayvec::ArrayVec;
+use tracked::block::Block;
 use tracked::fixes::Fix;
-use tracked::layout::TRANSMISSION_SIZE;
-use tracked::transmission::fix_places;
 
 /// A transmission by its place, and the fix that is kept of it.
 #[derive(Default, Drop)]
@@ -44,9 +40,6 @@ impl Lead<'_> {
         self.kept.precedes(&other.kept)
     }
 }
-
-/// The transmissions of a table and a further one.
-pub const MAX_LEADS: usize = MAX_TRANSMISSIONS + 1;
 
 type Leads<'a> = ArrayVec<Lead<'a>, MAX_LEADS>;
 
@@ -84,27 +77,14 @@ fn enter<'a>(leads: &mut Leads<'a>, lead: Lead<'a>)
     leads.insert(place, lead);
 }
 
-/// The fix that is kept of a transmission, where it has one.
-pub fn kept(b: &[u8]) -> Option<Fix<'_>>
-    requires { Sound b.now }
-    ensures { result ≡ kept_of (transmission_in b.now) }
+// Enters transmissions, but for those without a fix.
+fn enter_all<'a>(leads: &mut Leads<'a>, blocks: &[Block<'a>])
+    requires none { leads.old.items ≡ [] }
+    requires few { length blocks.now ≤ MAX_LEADS }
+    ensures { leads.new.items ≡ entered before [] (leads_from 0 blocks.now) }
 {
-    match fix_places(b) {
-        [first, ..] => Some(Fix::read(first)),
-        [] => None,
-    }
-}
-
-// Enters transmissions that stand at this place and behind it, but for those without a fix.
-fn enter_all<'a>(leads: &mut Leads<'a>, from: usize, blocks: &'a [[u8; TRANSMISSION_SIZE]])
-    requires room { array_vec_len leads.old + length blocks.now ≤ MAX_LEADS }
-    requires few { from + length blocks.now ≤ MAX_LEADS }
-    requires sound { AllSound blocks.now }
-    ensures { leads.new.items ≡ entered before leads.old.items (leads_from from blocks.now) }
-{
-    for (i, block) in blocks.iter().enumerate() {
-        if let Some(kept) = kept(block) {
-            let place = from + i;
+    for (place, block) in blocks.iter().enumerate() {
+        if let Some(kept) = block.kept() {
             enter(leads, Lead { place, kept });
         }
     }
@@ -112,7 +92,6 @@ fn enter_all<'a>(leads: &mut Leads<'a>, from: usize, blocks: &'a [[u8; TRANSMISS
 
 // Forgets the first beyond eight.
 fn forget_oldest(leads: &mut Leads<'_>)
-    requires { array_vec_len leads.old ≤ MAX_LEADS }
     ensures { leads.new.items ≡ last_of max_transmissions leads.old.items }
 {
     if MAX_TRANSMISSIONS < leads.len() {
@@ -132,16 +111,13 @@ fn places_of(leads: &[Lead<'_>]) -> Order
     places
 }
 
-/// The order of transmissions and further ones behind them, by their places: that of the latest eight that have a fix.
-pub fn order(blocks: &[[u8; TRANSMISSION_SIZE]], further: &[[u8; TRANSMISSION_SIZE]]) -> Order
-    requires few { length blocks.now + length further.now ≤ MAX_LEADS }
-    requires sound { AllSound blocks.now }
-    requires further_sound { AllSound further.now }
-    ensures { result.items ≡ order_of (blocks.now ++ further.now) }
+/// The order of transmissions, by their places: that of the latest eight that have a fix.
+pub fn order(blocks: &[Block<'_>]) -> Order
+    requires { length blocks.now ≤ MAX_LEADS }
+    ensures { result.items ≡ order_of blocks.now }
 {
     let mut leads = Leads::new();
-    enter_all(&mut leads, 0, blocks);
-    enter_all(&mut leads, blocks.len(), further);
+    enter_all(&mut leads, blocks);
     forget_oldest(&mut leads);
     places_of(&leads)
 }

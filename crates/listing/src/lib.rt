@@ -1,12 +1,10 @@
 //! The listing of a track: its transmissions in their order, as the lines of a board.
 #![tactic(auto)]
 
-ghost use Rattle.std.specs.Prelude.{◌≡◌, true, ◌≤◌, length, map, flat_map};
+ghost use Rattle.std.specs.Prelude.{◌≡◌, true, ◌≤◌, length, flat_map};
 ghost use Rattle.octets.specs.Put.{Put};
 ghost use Rattle.text.specs.Texts.{append};
 ghost use Rattle.held.specs.After.{after};
-ghost use Rattle.tracked.specs.Bytes.{transmission_in};
-ghost use Rattle.arrange.specs.Blocks.{AllSound};
 ghost use Rattle.drawing.specs.Text.{ranked_text, board_size};
 ghost use Rattle.stored.specs.Memory.{well_formed, decode};
 ghost use Rattle.listing.specs.Listing as T;
@@ -15,10 +13,8 @@ use drawing::Role;
 use stored::layout::CONTESTED_AT;
 use stored::parts::transmissions;
 use text::Text;
-use tracked::fixes::Fix;
-use tracked::layout::TRANSMISSION_SIZE;
+use tracked::block::Block;
 use tracked::refused::RefusedFix;
-use tracked::transmission::Transmission;
 
 pub mod claims;
 
@@ -26,10 +22,12 @@ pub mod claims;
 const LISTING_SIZE: usize = 16384;
 
 // The lines of the fixes that stand.
-fn push_standing(out: &mut Text, fixes: &[Fix<'_>])
-    ensures { out.new ≡ append out.old (flat_map ranked_text fixes.now) }
+fn push_standing(out: &mut Text, block: &Block<'_>)
+    ensures { out.new ≡ append out.old (flat_map ranked_text block.now.fixes) }
 {
-    for fix in fixes {
+    let n = block.fix_count();
+    for k in 0..n {
+        let fix = block.fix(k);
         drawing::push_line(out, Role::Ranked, fix.report, fix.signers);
     }
 }
@@ -44,30 +42,32 @@ fn push_refusal(out: &mut Text, refusal: &RefusedFix<'_>)
 }
 
 // The lines of the refused fixes.
-fn push_refusals(out: &mut Text, refused: &[RefusedFix<'_>])
-    ensures { out.new ≡ append out.old (flat_map T.refused_text refused.now) }
+fn push_refusals(out: &mut Text, block: &Block<'_>)
+    ensures { out.new ≡ append out.old (flat_map T.refused_text block.now.refused) }
 {
-    for refusal in refused {
-        push_refusal(out, refusal);
+    let n = block.refused_count();
+    for k in 0..n {
+        push_refusal(out, &block.refusal(k));
     }
 }
 
 // The header and the lines of a transmission.
-fn push_held(out: &mut Text, number: u64, held: &Transmission<'_>)
-    ensures { out.new ≡ append out.old (T.held_text number held.now) }
+fn push_held(out: &mut Text, number: u64, block: &Block<'_>)
+    ensures { out.new ≡ append out.old (T.held_text number block.now) }
 {
-    drawing::push_header(out, number, held.fixes.len(), 0, held.refused.len());
-    push_standing(out, &held.fixes);
-    push_refusals(out, &held.refused);
+    let standing = block.fix_count() as usize;
+    let refused = block.refused_count() as usize;
+    drawing::push_header(out, number, standing, 0, refused);
+    push_standing(out, block);
+    push_refusals(out, block);
 }
 
 // Transmissions one after another, numbered from 1.
-fn push_all(out: &mut Text, blocks: &[[u8; TRANSMISSION_SIZE]])
-    requires { AllSound blocks.now }
-    ensures { out.new ≡ append out.old (T.held_from 1 (map transmission_in blocks.now)) }
+fn push_all(out: &mut Text, blocks: &[Block<'_>])
+    ensures { out.new ≡ append out.old (T.held_from 1 blocks.now) }
 {
     for (i, block) in blocks.iter().enumerate() {
-        push_held(out, i as u64 + 1, &Transmission::read(block));
+        push_held(out, i as u64 + 1, block);
     }
 }
 
@@ -84,7 +84,7 @@ fn push_listing(out: &mut Text, memory: &[u8])
     ensures { out.new ≡ append out.old (T.listing_of (decode memory.now)) }
 {
     push_contested(out, octets::words::u64_at(memory, CONTESTED_AT));
-    push_all(out, transmissions(memory));
+    push_all(out, &transmissions(memory));
 }
 
 // Writes the listing of a track.

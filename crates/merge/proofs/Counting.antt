@@ -8,30 +8,20 @@ use native.Mathlib.Numerals.{add-one}
 use mathlib.Core.Logic.{◌⊎◌, inl, inr}
 use borrow.Author.Tests.{lt-ltb, le-ltb}
 use lib.ListN.{length, get_or, take, drop, set, length-drop}
-use lib.Seq.{get_or-drop}
+use lib.Seq.{get_or-drop, length-take-le}
+use Rattle.std.proofs.lemmas.List.{get_or-take}
+use Rattle.std.specs.Option.{unwrap_or}
+use Rattle.shown.proofs.Indexed.{at_in}
 use Rattle.std.specs.Prelude.{Option, Some, None, position}
 use Rattle.std.proofs.lemmas.List.Sums.{position_or_len_is}
 use Rattle.std.proofs.lemmas.List.Quantifiers.{position-Some}
 use Rattle.ranges.specs.Lists.{any_of, filter}
 use Rattle.ranges.proofs.Bools.{by, clash}
-use Rattle.ranges.proofs.Lists.{filter_none}
+use Rattle.ranges.proofs.Lists.{any-no, filter_none}
 use Rattle.normalize.proofs.Gathered.{none-of}
 use Rattle.merge.specs.Searching.{only}
 
 module _ {A : Type 0} (test : A → Bool) where
-  more-suc : (l : List A) (k : ℕ) (d : A) → k < length l → any_of test (take k l) ≡ false → test (get_or l k d) ≡ false → any_of test (take (suc k) l) ≡ false
-  unfolding any_of
-  more-suc [] k d h a e = absurd (omega arith)
-  more-suc (x ∷ l) zero d h a e = rw e refl
-  more-suc (x ∷ l) (suc k) d h a e =
-      by (test x)
-      (λ t. clash refl (rw t at a))
-      (λ t. rw t (more-suc l k d (omega arith) (rw t at a) e))
-
-  -- one more at the front
-  pub any-more : (l : List A) (k : ℕ) (d : A) → k < length l → any_of test (take k l) ≡ false → test (get_or l k d) ≡ false → any_of test (take (k + 1) l) ≡ false
-  any-more l k d h a e = rw (add-one k) (more-suc l k d h a e)
-
   -- that at one place alone
   pub filter-one : (l : List A) (i : ℕ) (d : A) → i < length l → any_of test (take i l) ≡ false → test (get_or l i d) ≡ true → any_of test (drop (suc i) l) ≡ false
       → filter test l ≡ get_or l i d ∷ []
@@ -92,6 +82,26 @@ module _ {A : Type 0} (test : A → Bool) where
   place-none l n d h p =
       let q = position_or_len_is test l (length l) d (omega arith) (λ k m. p k (omega arith)) (λ m. absurd (omega arith)) in
       rw (q, le-ltb (length l) (length l) (omega arith)) refl
+
+  -- among the first n
+  pub place-among : (l : List A) (n i : ℕ) (d : A) → i < n → n ≤ length l → test (get_or l i d) ≡ true → ((k : ℕ) → k < i → test (get_or l k d) ≡ false)
+      → position test (take n l) ≡ Some i
+  place-among l n i d h m e p =
+      place-is (take n l) i d (omega (arith, length-take-le n l m)) (ap test (get_or-take n l i d h) ∙ e) (λ k q. ap test (get_or-take n l k d (omega arith)) ∙ p k q)
+
+  pub none-among : (l : List A) (n : ℕ) (d : A) → n ≤ length l → ((k : ℕ) → k < n → test (get_or l k d) ≡ false) → position test (take n l) ≡ None
+  none-among l n d m p = place-none (take n l) n d (omega (arith, length-take-le n l m)) (λ k q. ap test (get_or-take n l k d q) ∙ p k q)
+
+  -- the first before one that passes, or that one
+  pub first-or : (l : List A) (k : ℕ) (d : A) → k < length l → test (get_or l k d) ≡ true → (o : Option ℕ) → o ≡ position test (take k l) → position test l ≡ Some (unwrap_or o k)
+  first-or l k d h e (Some i) q =
+      let n : length (take k l) ≡ k = length-take-le k l (omega arith) in
+      let s = position-Some test (take k l) i d (sym q) in
+      place-is l i d (omega (arith, n, s.0)) (ap test (sym (get_or-take k l i d (omega (arith, n, s.0)))) ∙ s.1) (λ j m. ap test (sym (get_or-take k l j d (omega (arith, n, s.0)))) ∙ s.2 j m)
+  first-or l k d h e None q =
+      let n : length (take k l) ≡ k = length-take-le k l (omega arith) in
+      place-is l k d h e
+      (λ j m. ap test (sym (get_or-take k l j d m)) ∙ any-no test (take k l) (get_or (take k l) j d) (none-of test (take k l) (sym q)) (at_in d (take k l) j (omega (arith, n))))
 
   none-front : (l : List A) (i : ℕ) (d : A) → i ≤ length l → ((k : ℕ) → k < i → test (get_or l k d) ≡ false) → any_of test (take i l) ≡ false
   unfolding any_of

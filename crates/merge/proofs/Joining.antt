@@ -30,13 +30,9 @@ use Rattle.arrange.specs.Arranged.{max_transmissions, arranged}
 use Rattle.arrange.specs.Blocks.{block_table, arranged_blocks}
 use Rattle.merge.specs.declared.Merged.TheVariants.{Duplicate}
 use Rattle.merge.specs.Merged.{in_place, answer_of, opened, joined, merged_into, merged}
-use Rattle.merge.specs.Searching.{only, ties_block, Steady}
+use Rattle.merge.specs.Searching.{only, Steady}
 use Rattle.merge.proofs.Counting.{Alone, alone-at, none-alone, filter-one, replace-one}
 use Rattle.merge.proofs.Written.{AllSteady, written, arranged-written, normal-read, normal-steady}
-
--- a test of bytes is one of values
-pub tied_is : (f : Fix) (b : List ℕ) → tied_to f (transmission_in b) ≡ ties_block f.record_bytes b
-tied_is f b = ap (any_of _) (sym (held-are b)) ∙ any-map _ (ties_to f.record_bytes) _ (held_places b) (λ p m. refl)
 
 -- ---- what is told of it
 
@@ -71,27 +67,18 @@ map-set h (y ∷ l) zero x = refl
 map-set h (y ∷ l) (suc k) x = ap (λ r. h y ∷ r) (map-set h l k x)
 
 module _ (f : Fix) (bs : List (List ℕ)) where
-  abbrev hs : List HeldTransmission
+  abbrev pub hs : List HeldTransmission
   hs = map transmission_in bs
 
-  abbrev test : List ℕ → Bool
-  test = ties_block f.record_bytes
-
-  tied-values : filter (tied_to f) hs ≡ map transmission_in (filter test bs)
-  tied-values = filter_map transmission_in test (tied_to f) bs (λ b m. tied_is f b)
-
   -- none or several
-  pub merged-none : only test bs ≡ None → merged f hs ≡ opened f hs
+  pub merged-none : only (tied_to f) hs ≡ None → merged f hs ≡ opened f hs
   unfolding merged
-  merged-none e =
-      or (none-alone test bs [] e)
-      (λ p. ap (merged_into f hs) (tied-values ∙ ap (map transmission_in) p))
-      (λ p. ap (merged_into f hs) (tied-values ∙ ap (map transmission_in) p.are))
+  merged-none e = or (none-alone (tied_to f) hs (transmission_in []) e) (λ p. ap (merged_into f hs) p) (λ p. ap (merged_into f hs) p.are)
 
   -- transmission i alone
-  module _ (i : ℕ) (e : only test bs ≡ Some i) where
-    alone : Alone test bs i []
-    alone = alone-at test bs i [] e
+  module _ (i : ℕ) (e : only (tied_to f) hs ≡ Some i) where
+    alone : Alone (tied_to f) hs i (transmission_in [])
+    alone = alone-at (tied_to f) hs i (transmission_in []) e
 
     abbrev b : List ℕ
     b = get_or bs i []
@@ -100,32 +87,18 @@ module _ (f : Fix) (bs : List (List ℕ)) where
     t = transmission_in b
 
     pub there : i < length bs
-    there = alone.first.there
+    there = rw (sym (length-map bs transmission_in)) alone.first.there
 
     merged-one : merged f hs ≡ joined f t hs
     unfolding merged
-    merged-one = ap (merged_into f hs) (tied-values ∙ ap (map transmission_in) (filter-one test bs i [] there alone.first.before alone.first.here alone.behind))
+    merged-one =
+        ap (merged_into f hs)
+        (filter-one (tied_to f) hs i (transmission_in []) alone.first.there alone.first.before alone.first.here alone.behind
+        ∙ ap (λ (u : HeldTransmission). u ∷ []) (get_or-map transmission_in bs i []))
 
     -- u in its place
     placed : (u : HeldTransmission) → in_place f u hs ≡ set hs i u
-    placed u =
-        replace-one (tied_to f) u hs i (transmission_in []) (rw (length-map bs transmission_in) there)
-        (ap (any_of (tied_to f)) (sym (front bs i)) ∙ tested (take i bs) ∙ alone.first.before)
-        (ap (tied_to f) (get_or-map transmission_in bs i []) ∙ tied_is f b ∙ alone.first.here)
-        (ap (any_of (tied_to f)) (sym (rest bs (suc i))) ∙ tested (drop (suc i) bs) ∙ alone.behind)
-      where
-        tested : (l : List (List ℕ)) → any_of (tied_to f) (map transmission_in l) ≡ any_of test l
-        tested l = any-map transmission_in test (tied_to f) l (λ x m. tied_is f x)
-
-        front : (l : List (List ℕ)) (k : ℕ) → map transmission_in (take k l) ≡ take k (map transmission_in l)
-        front l zero = refl
-        front [] (suc k) = refl
-        front (x ∷ l) (suc k) = ap (λ (r : List HeldTransmission). transmission_in x ∷ r) (front l k)
-
-        rest : (l : List (List ℕ)) (k : ℕ) → map transmission_in (drop k l) ≡ drop k (map transmission_in l)
-        rest l zero = refl
-        rest [] (suc k) = refl
-        rest (x ∷ l) (suc k) = rest l k
+    placed u = replace-one (tied_to f) u hs i (transmission_in []) alone.first.there alone.first.before alone.first.here alone.behind
 
     -- f is held: it gains a signer
     pub duplicate : any_of (is_of f) (held_in t) ≡ true → merged f hs ≡ record { answer = Duplicate; entered = 0; left = set hs i (sign_in f t) }

@@ -14,7 +14,7 @@ use Rattle.normalize.specs.Normal.{normalized}
 use Rattle.normalize.proofs.Claimed.{alone-stands}
 use Rattle.normalize.proofs.Validity.{Holdable}
 use Rattle.arrange.specs.Arranged.{arranged}
-use Rattle.arrange.specs.Blocks.{blocks, block_table, admitted, AllSound}
+use Rattle.arrange.specs.Blocks.{blocks, block_table, admitted, AllSound, Filled}
 use Rattle.arrange.proofs.Tables.{table_filled, latest-few}
 use Rattle.arrange.proofs.Values.{latest-values}
 use Rattle.merge.specs.declared.Merged.TheVariants.{Changed, Dropped}
@@ -65,15 +65,15 @@ module _ (f : Fix) (bs : List (List ℕ)) (s : AllSteady bs) (b : List ℕ) (w :
 
   -- the table that is left
   module _ (t : List ℕ) (n : ℕ) (count : n ≡ length (admitted bs b)) (bytes : t ≡ block_table (admitted bs b)) where
-    there : blocks n t ≡ admitted bs b
-    there = (table_filled (admitted bs b) t n admitted-sound count (rw count (latest-few (bs ++ (b ∷ [])))) bytes).0
+    left : (blocks n t ≡ admitted bs b) × Filled t n
+    left = table_filled (admitted bs b) t n admitted-sound count (rw count (latest-few (bs ++ (b ∷ [])))) bytes
 
-    pub left-sound : AllSound (blocks n t)
-    left-sound = subst AllSound (sym there) admitted-sound
+    pub left-filled : Filled t n
+    left-filled = left.1
 
     pub leaves : (k : Bool) → k ≡ any_of (keeps f) (map transmission_in (blocks n t)) → Leaves (opened f ts) (record { answer = cond k Changed Dropped; entered = 0; count = n }) t
     leaves k e = record {
-      answer = opened-answer k (e ∙ ap (λ (l : List (List ℕ)). any_of (keeps f) (map transmission_in l)) there);
+      answer = opened-answer k (e ∙ ap (λ (l : List (List ℕ)). any_of (keeps f) (map transmission_in l)) left.0);
       entered = opened-entered;
       count = count ∙ ap length opened-bytes ∙ length-map (opened f ts).left transmission_bytes;
       bytes = bytes ∙ ap block_table opened-bytes;

@@ -1,7 +1,8 @@
 -- Transmissions of a table whose bytes are those of what they hold.
 use Prim.Native.Nat.{ℕ, ◌^◌, ◌≤◌, ◌<◌}
 use mathlib.Core.Path.{◌≡◌, refl, sym, ap, ap₂, ◌∙◌, subst}
-use mathlib.Core.Bool.{Bool, true, false}
+use mathlib.Core.Bool.{Bool, true, false, ◌||◌}
+use Rattle.std.specs.List.{list_any}
 use mathlib.Core.List.{List, [], ◌∷◌, map, Memᴰ}
 use lib.ListN.{length, get_or}
 use Rattle.std.specs.Prelude.{Some, None, slice_get}
@@ -80,12 +81,11 @@ none-kept f t e = go t.fixes e
     go [] q = refl
     go (h ∷ fs) q = absurd (cc)
 
-module _ (f : Fix) (bs : List (List ℕ)) where
-  abbrev pub kept_in : List ℕ → Bool
-  kept_in b = keeps f (transmission_in b)
+pub one-keeps : (f g : Fix) (ts : List HeldTransmission) (t : HeldTransmission) (i : ℕ) → i < length ts → t ≡ get_or ts i t → kept_of t ≡ Some g → is_of f g ≡ true
+    → any_of (keeps f) ts ≡ true
+one-keeps f g ts t i h e k q = any-of (keeps f) ts (get_or ts i t) (at_in t ts i h) (ap (keeps f) (sym e) ∙ kept-is f g t k ∙ q)
 
-  pub kept-values : any_of (keeps f) (map transmission_in bs) ≡ any_of kept_in bs
-  kept-values = any-map transmission_in kept_in (keeps f) bs (λ b m. refl)
-
-  pub one-keeps : (g : Fix) (i : ℕ) → i < length bs → kept_of (transmission_in (get_or bs i [])) ≡ Some g → is_of f g ≡ true → any_of (keeps f) (map transmission_in bs) ≡ true
-  one-keeps g i h e q = kept-values ∙ any-of kept_in bs (get_or bs i []) (at_in [] bs i h) (kept-is f g (transmission_in (get_or bs i [])) e ∙ q)
+pub any-listed : {A : Type 0} (test : A → Bool) (l : List A) → list_any test l ≡ any_of test l
+unfolding any_of
+any-listed test [] = refl
+any-listed test (x ∷ l) = ap (λ (b : Bool). test x || b) (any-listed test l)

@@ -2,10 +2,11 @@
 use Rattle.std.specs.Prelude.{ℕ, ◌+◌, ◌≡◌, Bool, cond, ◌||◌, length, drop, Option, Some, None, is_some, option_and_then, position}
 use mathlib.Core.List.{List, [], ◌∷◌, map, Memᴰ}
 use Rattle.ranges.specs.Lists.{any_of}
+use Rattle.record.specs.Relations.{tied}
 use Rattle.shown.specs.Fix.{Fix}
-use Rattle.tracked.specs.Held.{HeldTransmission}
+use Rattle.tracked.specs.Held.{HeldTransmission, held_in}
 use Rattle.tracked.specs.Bytes.{transmission_in, transmission_bytes}
-use Rattle.tracked.specs.Parts.{Sound, held_places, ties_to}
+use Rattle.tracked.specs.Parts.{Sound}
 use Rattle.normalize.specs.declared.Joined.{Joined}
 use Rattle.arrange.specs.Blocks.{blocks, block_table, Filled}
 use Rattle.merge.specs.declared.Outcome.{Outcome}
@@ -23,8 +24,8 @@ module _ {A : Type 0} (test : A → Bool) (l : List A) where
   only = option_and_then last_at (position test l)
 
 -- some fix that a transmission holds is tied to a record
-abbrev pub ties_block : List ℕ → List ℕ → Bool
-ties_block r b = any_of (ties_to r) (held_places b)
+abbrev pub ties : List ℕ → HeldTransmission → Bool
+ties r t = any_of (λ g. tied g.record_bytes r) (held_in t)
 
 abbrev pub single : Fix → HeldTransmission
 single f = record { fixes = f ∷ []; refused = [] }

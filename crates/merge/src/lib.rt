@@ -1,21 +1,21 @@
 //! What a track does with a further fix.
 #![tactic(auto)]
 
-ghost use Rattle.std.specs.Prelude.{◌≡◌, true, map, ◌<◌, Option, Some, IfSome, length, get_or, position};
+ghost use Rattle.std.specs.Prelude.{◌≡◌, true, map, ◌≤◌, Some, IfSome, length, take, position};
+ghost use Rattle.std.specs.List.{list_any};
 ghost use Rattle.ranges.specs.Lists.{any_of};
-ghost use Rattle.shown.specs.Items.{no_fix};
-ghost use Rattle.tracked.specs.Held.{held_in, is_of};
+ghost use Rattle.tracked.specs.Held.{held_in, is_of, tied_to};
 ghost use Rattle.tracked.specs.Bytes.{transmission_in, transmission_bytes};
-ghost use Rattle.tracked.specs.Parts.{held_count, Sound};
 ghost use Rattle.normalize.specs.Joining.{with_fix};
 ghost use Rattle.normalize.specs.Taking.{taken_in, told_of};
-ghost use Rattle.arrange.specs.Blocks.{blocks, AllSound, Filled};
+ghost use Rattle.arrange.specs.Blocks.{blocks};
 ghost use Rattle.merge.specs.Merged as M;
 ghost use Rattle.merge.specs.Searching as S;
 
 use normalize::Joined;
 use normalize::blocks::take_in;
 use record::Record;
+use tracked::block::Block;
 use tracked::fixes::Fix;
 use tracked::layout::{FIX_COUNT_AT, FIXES_AT, TRANSMISSION_SIZE};
 
@@ -43,24 +43,16 @@ pub struct Outcome {
 }
 
 // The first of these transmissions that is tied to a record, if there is one.
-fn first_tied(blocks: &[[u8; TRANSMISSION_SIZE]], r: Record) -> Option<usize>
-    requires { AllSound blocks.now }
-    ensures { result ≡ position (S.ties_block r.entry.bytes.now) blocks.now }
+fn first_tied(blocks: &[Block<'_>], r: Record) -> Option<usize>
+    ensures { result ≡ position (S.ties r.entry.bytes.now) blocks.now }
 {
-    for (i, block) in blocks.iter().enumerate() {
-        if tracked::ties(block, r) {
-            return Some(i);
-        }
-    }
-    None
+    blocks.iter().position(|block| block.ties(r))
 }
 
 // The transmission that alone is tied to a record, if there is one.
-fn only_tied(t: &[u8], n: usize, r: Record) -> Option<usize>
-    requires { Filled t.now n }
-    ensures { result ≡ S.only (S.ties_block r.entry.bytes.now) (blocks n t.now) }
+fn only_tied(blocks: &[Block<'_>], r: Record) -> Option<usize>
+    ensures { result ≡ S.only (S.ties r.entry.bytes.now) blocks.now }
 {
-    let blocks = arrange::blocks(t, n);
     let i = first_tied(blocks, r)?;
     match first_tied(&blocks[i + 1..], r) {
         None => Some(i),
@@ -92,12 +84,11 @@ fn has_set(held: &Fix<'_>, fix: &Fix<'_>) -> bool
 }
 
 // Whether the fix kept of some transmission has the message, tags and inputs of a fix.
-fn keeps_set(blocks: &[[u8; TRANSMISSION_SIZE]], fix: &Fix<'_>) -> bool
-    requires { AllSound blocks.now }
-    ensures { result ≡ true → any_of (M.keeps fix.now) (map transmission_in blocks.now) ≡ true }
+fn keeps_set(blocks: &[Block<'_>], fix: &Fix<'_>) -> bool
+    ensures { result ≡ true → any_of (M.keeps fix.now) blocks.now ≡ true }
 {
     for block in blocks {
-        if let Some(kept) = arrange::kept(block) {
+        if let Some(kept) = block.kept() {
             if has_set(&kept, fix) {
                 return true;
             }
@@ -106,25 +97,26 @@ fn keeps_set(blocks: &[[u8; TRANSMISSION_SIZE]], fix: &Fix<'_>) -> bool
     false
 }
 
-// Whether the fix kept of some transmission has the identity of a fix.
-fn keeps_identity(blocks: &[[u8; TRANSMISSION_SIZE]], fix: &Fix<'_>) -> bool
-    requires { AllSound blocks.now }
-    ensures { result ≡ any_of (M.keeps fix.now) (map transmission_in blocks.now) }
+// Whether the fix kept of a transmission has the identity of a fix.
+fn leads(block: &Block<'_>, fix: &Fix<'_>) -> bool
+    ensures { result ≡ M.keeps fix.now block.now }
 {
-    for block in blocks {
-        if let Some(kept) = arrange::kept(block) {
-            if kept.is_of(fix) {
-                return true;
-            }
-        }
+    match block.kept() {
+        Some(kept) => kept.is_of(fix),
+        None => false,
     }
-    false
+}
+
+// Whether that of some transmission has.
+fn keeps_identity(blocks: &[Block<'_>], fix: &Fix<'_>) -> bool
+    ensures { result ≡ list_any (M.keeps fix.now) blocks.now }
+{
+    blocks.iter().any(|block| leads(block, fix))
 }
 
 // The same. Mostly that is the fix itself, and nothing is hashed.
-fn keeps(blocks: &[[u8; TRANSMISSION_SIZE]], mut fix: Fix<'_>) -> bool
-    requires { AllSound blocks.now }
-    ensures { result ≡ any_of (M.keeps fix.entry) (map transmission_in blocks.now) }
+fn keeps(blocks: &[Block<'_>], mut fix: Fix<'_>) -> bool
+    ensures { result ≡ any_of (M.keeps fix.entry) blocks.now }
 {
     if keeps_set(blocks, &fix) {
         return true;
@@ -139,7 +131,7 @@ fn open(t: &mut [u8], n: usize, fix: Fix<'_>) -> Outcome
     ensures { S.Leaves (M.opened fix.entry (map transmission_in (blocks n t.old))) result t.new }
 {
     let count = arrange::admit(t, n, &alone(fix.copied()));
-    let answer = if keeps(arrange::blocks(t, count), fix) {
+    let answer = if keeps(&arrange::blocks(t, count), fix) {
         Merged::Changed
     } else {
         Merged::Dropped
@@ -151,34 +143,31 @@ fn open(t: &mut [u8], n: usize, fix: Fix<'_>) -> Outcome
     }
 }
 
-// The first held fix that has the identity of another, which fix k has. Where that is the first of all, nothing is hashed.
-fn first_identified(b: &[u8], k: u8, fix: &Fix<'_>) -> u8
-    requires sound { Sound b.now }
-    requires among { k < held_count b.now }
-    requires here { is_of fix.now (get_or (held_in (transmission_in b.now)) k no_fix) ≡ true }
-    ensures { position (is_of fix.now) (held_in (transmission_in b.now)) ≡ Some result }
+// The first of so many held fixes that has the identity of another, if one has. Where there are none, nothing is hashed.
+fn first_identified(block: &Block<'_>, n: u8, fix: &Fix<'_>) -> Option<u8>
+    requires { n ≤ length (held_in block.now) }
+    ensures { result ≡ position (is_of fix.now) (take n (held_in block.now)) }
 {
-    if k == 0 {
-        return 0;
+    if n == 0 {
+        return None;
     }
     let mut fix = fix.copied();
     fix.learn();
-    for i in 0..k {
-        if tracked::held_fix(b, i).is_of(&fix) {
-            return i;
+    for i in 0..n {
+        if block.held_fix(i).is_of(&fix) {
+            return Some(i);
         }
     }
-    k
+    None
 }
 
 // The first held fix that has the identity of another, where some held fix has its message, tags and inputs.
-fn duplicate_of(b: &[u8], fix: &Fix<'_>) -> Option<u8>
-    requires { Sound b.now }
-    ensures { IfSome result (λ k. position (is_of fix.now) (held_in (transmission_in b.now)) ≡ Some k) }
+fn duplicate_of(block: &Block<'_>, fix: &Fix<'_>) -> Option<u8>
+    ensures { IfSome result (λ k. position (is_of fix.now) (held_in block.now) ≡ Some k) }
 {
-    for k in 0..tracked::held_count(b) {
-        if has_set(&tracked::held_fix(b, k), fix) {
-            return Some(first_identified(b, k, fix));
+    for k in 0..block.held_count() {
+        if has_set(&block.held_fix(k), fix) {
+            return Some(first_identified(block, k, fix).unwrap_or(k));
         }
     }
     None
@@ -191,7 +180,10 @@ fn join(b: &mut [u8], fix: Fix<'_>) -> Option<Joined>
     ensures told { result ≡ told_of fix.entry (transmission_in b.old) }
     ensures decided { IfSome result (λ _. S.Steady b.new × (transmission_in b.new ≡ with_fix fix.entry (transmission_in b.old))) }
 {
-    if let Some(k) = duplicate_of(b, &fix) {
+    let Some(b) = b.as_mut_array() else {
+        return None;
+    };
+    if let Some(k) = duplicate_of(&Block::of(b), &fix) {
         tracked::sign(b, k, fix.signers);
         return None;
     }
@@ -214,7 +206,7 @@ fn answer_of(j: Joined) -> Merged
 // A fix that is tied to transmission i alone.
 fn join_at(t: &mut [u8], n: usize, i: usize, fix: Fix<'_>) -> Outcome
     requires ready { S.Ready t.old n }
-    requires only { S.only (S.ties_block fix.record_bytes) (blocks n t.old) ≡ Some i }
+    requires only { S.only (tied_to fix) (map transmission_in (blocks n t.old)) ≡ Some i }
     ensures { S.Leaves (M.merged fix.entry (map transmission_in (blocks n t.old))) result t.new }
 {
     let a = i * TRANSMISSION_SIZE;
@@ -239,7 +231,7 @@ pub fn merge(t: &mut [u8], n: usize, fix: Fix<'_>) -> Outcome
     requires { S.Ready t.old n }
     ensures { S.Leaves (M.merged fix.entry (map transmission_in (blocks n t.old))) result t.new }
 {
-    match only_tied(t, n, fix.report) {
+    match only_tied(&arrange::blocks(t, n), fix.report) {
         Some(i) => join_at(t, n, i, fix),
         None => open(t, n, fix),
     }

@@ -74,18 +74,17 @@ none-yet ks = refl
 
 -- ---- what is known of fixes that are gathered
 
-module _ (fs : List Fix) (ks : List Fix) (e : ks ≡ distinct fs) where
-  pub given-kept : kept ks ≡ normalized fs
-  unfolding normalized
-  given-kept = ap kept e
+pub kept_distinct : (fs : List Fix) → kept (distinct fs) ≡ normalized fs
+unfolding normalized
+kept_distinct fs = refl
 
 -- those that a transmission holds, and with one between
-pub gathered-all : (fs : List Fix) (xs : List RefusedFix) (a b c : List Fix)
-    → a ≡ gather_all [] fs → b ≡ gather_all a (map fix_of xs) → c ≡ b → c ≡ distinct (held_in (record { fixes = fs; refused = xs }))
-gathered-all fs xs a b c p q r = r ∙ q ∙ ap (λ (l : List Fix). gather_all l (map fix_of xs)) p ∙ sym (all_append [] fs (map fix_of xs))
+pub gathered-all : (fs : List Fix) (xs : List RefusedFix) (a b : List Fix)
+    → a ≡ gather_all [] fs → b ≡ gather_all a (map fix_of xs) → b ≡ distinct (held_in (record { fixes = fs; refused = xs }))
+gathered-all fs xs a b p q = q ∙ ap (λ (l : List Fix). gather_all l (map fix_of xs)) p ∙ sym (all_append [] fs (map fix_of xs))
 
-pub gathered_with : (f : Fix) (fs : List Fix) (xs : List RefusedFix) (a b c d : List Fix)
-    → a ≡ gather_all [] fs → b ≡ gather a f → c ≡ gather_all b (map fix_of xs) → d ≡ c → d ≡ distinct (fs ++ (f ∷ map fix_of xs))
+pub gathered_with : (f : Fix) (fs : List Fix) (xs : List RefusedFix) (a b c : List Fix)
+    → a ≡ gather_all [] fs → b ≡ gather a f → c ≡ gather_all b (map fix_of xs) → c ≡ distinct (fs ++ (f ∷ map fix_of xs))
 unfolding gather_all
-gathered_with f fs xs a b c d p q r s =
-    s ∙ r ∙ ap (λ (l : List Fix). gather_all l (map fix_of xs)) (q ∙ ap (λ (l : List Fix). gather l f) p) ∙ sym (all_append [] fs (f ∷ map fix_of xs))
+gathered_with f fs xs a b c p q r =
+    r ∙ ap (λ (l : List Fix). gather_all l (map fix_of xs)) (q ∙ ap (λ (l : List Fix). gather l f) p) ∙ sym (all_append [] fs (f ∷ map fix_of xs))

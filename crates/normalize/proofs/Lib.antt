@@ -1,5 +1,5 @@
 -- Fixes gathered (Distinct, Gathered), made items (Items), what is kept of them (Lowest, Kept), a further one (Taken, Told), those that are signed (Signed), and the claims
--- (Differing, United, Claimed, Validity, Given).
+-- (Differing, United, Claimed, Validity, Given); and that nothing becomes of those that were kept, all of them, where they are decided again (Settled).
 pub mod Distinct
 pub mod Gathered
 pub mod Lowest
@@ -13,3 +13,4 @@ pub mod Claimed
 pub mod Validity
 pub mod Given
 pub mod Identities
+pub mod Settled

@@ -6,7 +6,7 @@ use mathlib.Core.List.{List, [], ◌∷◌, ◌++◌, map}
 use native.Mathlib.Omega.{arith}
 use lib.ListN.{length, get_or, set}
 use Rattle.std.proofs.lemmas.List.Quantifiers.{position-Some}
-use Rattle.std.specs.Prelude.{Option, Some, None, position}
+use Rattle.std.specs.Prelude.{Some, None, position}
 use Rattle.ranges.specs.Lists.{any_of}
 use Rattle.ranges.proofs.Bools.{by}
 use Rattle.ranges.proofs.Lists.{any-of}
@@ -15,11 +15,7 @@ use Rattle.shown.proofs.Indexed.{at_in}
 use Rattle.tracked.specs.Held.{RefusedFix, HeldTransmission, fix_of, held_in, is_of}
 use Rattle.tracked.specs.Values.{signed_refused}
 use Rattle.normalize.specs.Normal.{signed_by}
-use Rattle.normalize.specs.Joining.{with_fix}
-use Rattle.normalize.specs.Did.{did}
-use Rattle.normalize.specs.declared.Joined.{Joined}
-use Rattle.normalize.specs.Joining.{sign_refused}
-use Rattle.normalize.specs.Taking.{taken_in, told_of}
+use Rattle.normalize.specs.Joining.{sign_refused, sign_in}
 use Rattle.normalize.proofs.Gathered.{none-of, sign-set}
 
 any_append : (test : Fix → Bool) (l r : List Fix) → any_of test (l ++ r) ≡ (any_of test l || any_of test r)
@@ -46,44 +42,31 @@ module _ (f : Fix) (t : HeldTransmission) where
     stands : any_of (is_of f) t.fixes ≡ true
     stands = let s = position-Some (is_of f) t.fixes i d e in any-of (is_of f) t.fixes (get_or t.fixes i d) (at_in d t.fixes i s.0) s.1
 
-    held-standing : any_of (is_of f) (held_in t) ≡ true
+    pub held-standing : any_of (is_of f) (held_in t) ≡ true
     held-standing = any_append (is_of f) t.fixes (map fix_of t.refused) ∙ rw stands refl
 
-    pub left-standing : (fs : List Fix) → fs ≡ set t.fixes i (signed_by f (get_or t.fixes i d)) → (record { fixes = fs; refused = t.refused }) ≡ taken_in f t
-    left-standing fs g =
-        let s = position-Some (is_of f) t.fixes i d e in
-        rw (held-standing, stands, g, sign-set f t.fixes i d s.0 s.1 s.2) refl
-
-    pub told-standing : ◌≡◌ {A = Option Joined} None (told_of f t)
-    told-standing = rw held-standing refl
+    pub left-standing : (fs : List Fix) → fs ≡ set t.fixes i (signed_by f (get_or t.fixes i d)) → (record { fixes = fs; refused = t.refused }) ≡ sign_in f t
+    left-standing fs g = let s = position-Some (is_of f) t.fixes i d e in rw (stands, g, sign-set f t.fixes i d s.0 s.1 s.2) refl
 
   module _ (e : position (is_of f) t.fixes ≡ None) where
     none-stands : any_of (is_of f) t.fixes ≡ false
     none-stands = none-of (is_of f) t.fixes e
 
+    pub held-behind : any_of (is_of f) (held_in t) ≡ any_of (λ x. is_of f (fix_of x)) t.refused
+    held-behind = any_append (is_of f) t.fixes (map fix_of t.refused) ∙ rw none-stands (sym (none_held (is_of f) t.refused))
+
     -- among the refused
     module _ (i : ℕ) (d : RefusedFix) (q : position (λ x. is_of f (fix_of x)) t.refused ≡ Some i) where
-      held-refused : any_of (is_of f) (held_in t) ≡ true
+      pub held-refused : any_of (is_of f) (held_in t) ≡ true
       held-refused =
           let s = position-Some (λ x. is_of f (fix_of x)) t.refused i d q in
-          any_append (is_of f) t.fixes (map fix_of t.refused)
-          ∙ rw none-stands (sym (none_held (is_of f) t.refused) ∙ any-of (λ x. is_of f (fix_of x)) t.refused (get_or t.refused i d) (at_in d t.refused i s.0) s.1)
+          held-behind ∙ any-of (λ x. is_of f (fix_of x)) t.refused (get_or t.refused i d) (at_in d t.refused i s.0) s.1
 
-      pub left-refused : (xs : List RefusedFix) → xs ≡ set t.refused i (signed_refused f.signers (get_or t.refused i d)) → (record { fixes = t.fixes; refused = xs }) ≡ taken_in f t
+      pub left-refused : (xs : List RefusedFix) → xs ≡ set t.refused i (signed_refused f.signers (get_or t.refused i d)) → (record { fixes = t.fixes; refused = xs }) ≡ sign_in f t
       left-refused xs g =
           let s = position-Some (λ x. is_of f (fix_of x)) t.refused i d q in
-          rw (held-refused, none-stands, g, sign-refused f t.refused i d s.0 s.1 s.2) refl
-
-      pub told-refused : ◌≡◌ {A = Option Joined} None (told_of f t)
-      told-refused = rw held-refused refl
+          rw (none-stands, g, sign-refused f t.refused i d s.0 s.1 s.2) refl
 
     -- nowhere
-    module _ (q : position (λ x. is_of f (fix_of x)) t.refused ≡ None) where
-      held-none : any_of (is_of f) (held_in t) ≡ false
-      held-none = any_append (is_of f) t.fixes (map fix_of t.refused) ∙ rw none-stands (sym (none_held (is_of f) t.refused) ∙ none-of (λ x. is_of f (fix_of x)) t.refused q)
-
-      pub left-none : (u : HeldTransmission) → u ≡ with_fix f t → u ≡ taken_in f t
-      left-none u g = rw held-none g
-
-      pub told-none : (j : Joined) → j ≡ did f t (with_fix f t) → ◌≡◌ {A = Option Joined} (Some j) (told_of f t)
-      told-none j g = rw (held-none, g) refl
+    pub held-none : position (λ x. is_of f (fix_of x)) t.refused ≡ None → any_of (is_of f) (held_in t) ≡ false
+    held-none q = held-behind ∙ none-of (λ x. is_of f (fix_of x)) t.refused q

@@ -1,17 +1,18 @@
 //! What becomes of a transmission that loses signers, and of the bytes of one that a further fix is tied to: they are copied and read,
 //! decided as values, and written once.
 
-ghost use Rattle.std.specs.Prelude.{◌≡◌};
+ghost use Rattle.std.specs.Prelude.{◌≡◌, IsTrue};
 ghost use Rattle.ranges.specs.Lists.{filter};
 ghost use Rattle.tracked.specs.Held.{held_in};
 ghost use Rattle.tracked.specs.Bytes.{transmission_in, transmission_bytes};
 ghost use Rattle.tracked.specs.Parts.{Sound};
 ghost use Rattle.normalize.specs.Normal.{normalized};
 ghost use Rattle.normalize.specs.Signed.{is_signed};
-ghost use Rattle.normalize.specs.Taking.{signed_only, taken_in, told_of};
+ghost use Rattle.normalize.specs.Taking.{Settled, signed_only, taken_in, told_of};
 
 use crate::deciding::decide_again;
 use crate::{Joined, joining};
+use tracked::block::Block;
 use tracked::fixes::Fix;
 use tracked::layout::TRANSMISSION_SIZE;
 use tracked::transmission::Transmission;
@@ -25,28 +26,33 @@ fn drop_unsigned(held: &mut Transmission<'_>)
 }
 
 /// Decides the fixes of a transmission that are signed again. A fix whose signers are none is left out: its engine was convicted, or its
-/// models no longer stand.
-pub fn renew(held: &mut Transmission<'_>)
-    ensures { held.new ≡ normalized (filter is_signed (held_in held.old)) }
+/// models no longer stand. Tells whether none was forgotten: then it is settled.
+pub fn renew(held: &mut Transmission<'_>) -> bool
+    ensures again { held.new ≡ normalized (filter is_signed (held_in held.old)) }
+    ensures settled { IsTrue result → Settled held.new }
 {
     drop_unsigned(held);
     held.learn();
-    decide_again(held);
+    decide_again(held)
 }
 
 /// Takes a further fix into a transmission, in its bytes: where its identity is held, the first fix that has it gains the signers, and
 /// nothing is told; otherwise all are decided again.
-pub fn take_in(b: &mut [u8], mut fix: Fix<'_>) -> Option<Joined>
+pub fn take_in(b: &mut [u8; TRANSMISSION_SIZE], mut fix: Fix<'_>) -> Option<Joined>
     requires { Sound b.old }
     ensures left { b.new ≡ transmission_bytes (taken_in fix.entry (transmission_in b.old)) }
     ensures told { result ≡ told_of fix.entry (transmission_in b.old) }
 {
-    let mut block = [0; TRANSMISSION_SIZE];
-    block.copy_from_slice(b);
-    let mut held = Transmission::read(&block);
+    let was = *b;
+    let mut held = Transmission::read(&Block::of(&was));
     held.learn();
     fix.learn();
-    let told = joining::take_in(&mut held, fix);
-    held.write(b);
-    told
+    if joining::sign(&mut held, &fix) {
+        held.write(b);
+        return None;
+    }
+    let mut kept = Transmission::new();
+    let told = joining::join(&held, &fix, &mut kept);
+    kept.write(b);
+    Some(told)
 }

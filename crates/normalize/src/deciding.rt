@@ -1,15 +1,15 @@
 //! What is kept of the fixes of one transmission, once they are decided: the best five of those that stand, and of the refused the four of
 //! lowest identity.
 
-ghost use Rattle.std.specs.Prelude.{◌≡◌, [], not, map, position, All, ◌<◌, ◌≤◌, length, take};
+ghost use Rattle.std.specs.Prelude.{◌≡◌, not, map, position, All, IsTrue, ◌<◌, length, take};
 ghost use Rattle.ranges.specs.Lists.{insert, sort};
 ghost use Rattle.shown.specs.Items.{at};
 ghost use Rattle.tracked.specs.Layout.{max_standing, max_refused};
 ghost use Rattle.tracked.specs.Held.{held_in};
-ghost use Rattle.tracked.specs.Values.{nothing_held};
 ghost use Rattle.normalize.specs.Normal.{normalized};
+ghost use Rattle.normalize.specs.Taking.{Settled};
 ghost use Rattle.normalize.specs.Joining.{with_fix};
-ghost use Rattle.normalize.specs.Deciding.{max_gathered, kept, refused_at, lower_held};
+ghost use Rattle.normalize.specs.Deciding.{kept, refused_at, lower_held};
 
 use crate::gathering::{Gathered, gather, gather_all, gather_refused};
 use crate::outcome::outcome;
@@ -26,10 +26,10 @@ fn list_standing<'a>(
     ranked: &[u8],
     standing: &mut ArrayVec<Fix<'a>, MAX_STANDING>,
 )
-    requires in_bounds { All (λ i. i < length fixes.now) ranked.now }
-    requires none { standing.old.items ≡ [] }
+    requires { All (λ i. i < length fixes.now) ranked.now }
     ensures { standing.new.items ≡ take max_standing (map (at fixes.now) ranked.now) }
 {
+    standing.clear();
     for i in ranked {
         if standing.is_full() {
             return;
@@ -62,10 +62,10 @@ fn list_refused<'a>(
     refusals: &[Refusal],
     refused: &mut ArrayVec<RefusedFix<'a>, MAX_REFUSED>,
 )
-    requires in_bounds { All (λ x. (x.refused < length fixes.now) × (x.kept < length fixes.now)) refusals.now }
-    requires none { refused.old.items ≡ [] }
+    requires { All (λ x. (x.refused < length fixes.now) × (x.kept < length fixes.now)) refusals.now }
     ensures { refused.new.items ≡ take max_refused (sort lower_held (map (refused_at fixes.now) refusals.now)) }
 {
+    refused.clear();
     for k in (0..refusals.len()).rev() {
         let x = refusals[k];
         enter(
@@ -79,32 +79,31 @@ fn list_refused<'a>(
     }
 }
 
-// Puts what is kept of fixes into a transmission that holds nothing.
-fn decide<'a>(fixes: &[Fix<'a>], into: &mut Transmission<'a>)
-    requires few { length fixes.now ≤ max_gathered }
-    requires none { into.old ≡ nothing_held }
-    ensures { into.new ≡ kept fixes.now }
+// Puts what is kept of fixes in the place of what a transmission holds.
+fn decide<'a>(fixes: &Gathered<'a>, into: &mut Transmission<'a>)
+    ensures { into.new ≡ kept fixes.now.items }
 {
+    let fixes = fixes.as_slice();
     let decided = outcome(fixes);
     list_standing(fixes, &decided.ranked, &mut into.fixes);
     list_refused(fixes, &decided.refusals, &mut into.refused);
 }
 
-/// Decides the fixes that a transmission holds again.
-pub fn decide_again(held: &mut Transmission<'_>)
-    ensures { held.new ≡ normalized (held_in held.old) }
+/// Decides the fixes that a transmission holds again, and tells whether none was forgotten: then it is settled.
+pub fn decide_again(held: &mut Transmission<'_>) -> bool
+    ensures again { held.new ≡ normalized (held_in held.old) }
+    ensures settled { IsTrue result → Settled held.new }
 {
     let mut gathered = Gathered::new();
     gather_all(&mut gathered, &held.fixes);
     gather_refused(&mut gathered, &held.refused);
-    held.clear();
     decide(&gathered, held);
+    held.fixes.len() + held.refused.len() == gathered.len()
 }
 
-/// Puts what is kept of the fixes that a transmission holds and of a further one into one that holds nothing.
-pub fn decide_with<'a>(held: &Transmission<'a>, fix: Fix<'a>, into: &mut Transmission<'a>)
-    requires { into.old ≡ nothing_held }
-    ensures { into.new ≡ with_fix fix.entry held.now }
+/// Puts what is kept of the fixes that a transmission holds and of a further one in the place of what another holds.
+pub fn decide_with<'a>(held: &Transmission<'a>, fix: &Fix<'a>, into: &mut Transmission<'a>)
+    ensures { into.new ≡ with_fix fix.now held.now }
 {
     let mut gathered = Gathered::new();
     gather_all(&mut gathered, &held.fixes);

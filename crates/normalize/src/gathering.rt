@@ -24,13 +24,13 @@ pub fn seat_of(fixes: &[Fix<'_>], fix: &Fix<'_>) -> Option<usize>
 }
 
 /// Gathers a further fix: the first of its identity gains its signers, or it comes last.
-pub fn gather<'a>(gathered: &mut Gathered<'a>, fix: Fix<'a>)
+pub fn gather<'a>(gathered: &mut Gathered<'a>, fix: &Fix<'a>)
     requires { array_vec_len gathered.old < MAX_GATHERED }
-    ensures { gathered.new.items ≡ N.gather gathered.old.items fix.entry }
+    ensures { gathered.new.items ≡ N.gather gathered.old.items fix.now }
 {
-    match seat_of(gathered, &fix) {
+    match seat_of(gathered, fix) {
         Some(i) => gathered[i].sign(fix.signers),
-        None => gathered.push(fix),
+        None => gathered.push(fix.copied()),
     }
 }
 
@@ -40,7 +40,7 @@ pub fn gather_all<'a>(gathered: &mut Gathered<'a>, fixes: &[Fix<'a>])
     ensures { gathered.new.items ≡ N.gather_all gathered.old.items fixes.now }
 {
     for fix in fixes {
-        gather(gathered, fix.copied());
+        gather(gathered, fix);
     }
 }
 
@@ -50,6 +50,6 @@ pub fn gather_refused<'a>(gathered: &mut Gathered<'a>, refused: &[RefusedFix<'a>
     ensures { gathered.new.items ≡ N.gather_all gathered.old.items (map fix_of refused.now) }
 {
     for refusal in refused {
-        gather(gathered, refusal.fix.copied());
+        gather(gathered, &refusal.fix);
     }
 }

@@ -1,12 +1,11 @@
 //! A further fix in the transmission that it is tied to.
 
-ghost use Rattle.std.specs.Prelude.{◌≡◌, count_by, position, not};
+ghost use Rattle.std.specs.Prelude.{◌≡◌, cond, count_by, position, not};
 ghost use Rattle.std.specs.List.{list_any};
-ghost use Rattle.tracked.specs.Held.{fix_of, is_of};
-ghost use Rattle.tracked.specs.Values.{nothing_held};
+ghost use Rattle.tracked.specs.Held.{fix_of, held_in, is_of};
+ghost use Rattle.ranges.specs.Lists.{any_of};
 ghost use Rattle.normalize.specs.Joining as J;
 ghost use Rattle.normalize.specs.Did.{did};
-ghost use Rattle.normalize.specs.Taking.{taken_in, told_of};
 
 use crate::Joined;
 use crate::deciding::decide_with;
@@ -59,37 +58,32 @@ fn place_of(refused: &[RefusedFix<'_>], fix: &Fix<'_>) -> Option<usize>
     refused.iter().position(|refusal| refusal.fix.is_of(fix))
 }
 
-// Decides the fixes of a transmission and a further one, puts what is kept into a transmission that holds nothing, and tells what the fix did.
-fn join<'a>(held: &Transmission<'a>, fix: Fix<'a>, into: &mut Transmission<'a>) -> Joined
-    requires { into.old ≡ nothing_held }
-    ensures left { into.new ≡ J.with_fix fix.entry held.now }
-    ensures told { result ≡ did fix.entry held.now into.new }
+/// Decides the fixes of a transmission and a further one, puts what is kept in the place of what another holds, and tells what the fix did.
+pub fn join<'a>(held: &Transmission<'a>, fix: &Fix<'a>, into: &mut Transmission<'a>) -> Joined
+    ensures left { into.new ≡ J.with_fix fix.now held.now }
+    ensures told { result ≡ did fix.now held.now into.new }
 {
-    decide_with(held, fix.copied(), into);
+    decide_with(held, fix, into);
     Joined {
-        refused: has_refused(&into.refused, &fix),
+        refused: has_refused(&into.refused, fix),
         moved: is_moved(&held.fixes, &into.fixes),
-        upheld: has(&into.fixes, &fix),
+        upheld: has(&into.fixes, fix),
         entered: entered(&held.refused, &into.refused) as u8,
     }
 }
 
-/// Takes a further fix in: where its identity is held, the first fix that has it gains the signers, and nothing is told; otherwise all are
-/// decided again.
-pub fn take_in<'a>(held: &mut Transmission<'a>, fix: Fix<'a>) -> Option<Joined>
-    ensures left { held.new ≡ taken_in fix.entry held.old }
-    ensures told { result ≡ told_of fix.entry held.old }
+/// Adds the signers of a further fix to those of the first fix that has its identity, and tells whether one has.
+pub fn sign(held: &mut Transmission<'_>, fix: &Fix<'_>) -> bool
+    ensures held { result ≡ any_of (is_of fix.now) (held_in held.old) }
+    ensures left { held.new ≡ cond result (J.sign_in fix.now held.old) held.old }
 {
-    if let Some(i) = seat_of(&held.fixes, &fix) {
+    if let Some(i) = seat_of(&held.fixes, fix) {
         held.fixes[i].sign(fix.signers);
-        return None;
+        return true;
     }
-    if let Some(i) = place_of(&held.refused, &fix) {
+    if let Some(i) = place_of(&held.refused, fix) {
         held.refused[i].sign(fix.signers);
-        return None;
+        return true;
     }
-    let mut kept = Transmission::new();
-    let joined = join(held, fix, &mut kept);
-    *held = kept;
-    Some(joined)
+    false
 }

@@ -1,33 +1,14 @@
 -- What becomes of the fixes that a transmission holds, by where they are held.
-use Rattle.std.proofs.Common.{◌≡◌, Bool, true, false, List, [], ◌∷◌, ◌++◌, refl, ap}
-use Rattle.std.specs.Prelude.{map, ◌||◌}
-use mathlib.Core.Bool.{true≢false, false≢true}
-use Rattle.std.specs.List.{list_any, filter as filter_of}
-use Rattle.ranges.specs.Lists.{any_of, filter}
+use Rattle.std.proofs.Common.{◌≡◌, Bool, List, [], ◌∷◌, ◌++◌, refl, ap}
+use Rattle.std.specs.Prelude.{map}
+use Rattle.std.specs.List.{filter as filter_of}
+use Rattle.ranges.specs.Lists.{filter}
 use Rattle.ranges.proofs.Bools.{by}
 use Rattle.shown.specs.Fix.{Fix}
 use Rattle.tracked.specs.Held.{RefusedFix, HeldTransmission, fix_of, held_in}
 use Rattle.recheck.specs.Steps.{passing, refused_changing, changing}
 
 module _ (test : Fix → Bool) where
-  -- ---- some pass
-
-  any-refused : (xs : List RefusedFix) → list_any (λ x. test (fix_of x)) xs ≡ any_of test (map fix_of xs)
-  unfolding any_of
-  any-refused [] = refl
-  any-refused (x ∷ xs) = ap (λ (b : Bool). test (fix_of x) || b) (any-refused xs)
-
-  -- none of those that stand
-  pub any-none : (fs : List Fix) (xs : List RefusedFix) → list_any test fs ≡ false → list_any (λ x. test (fix_of x)) xs ≡ any_of test (fs ++ map fix_of xs)
-  unfolding any_of
-  any-none [] xs e = any-refused xs
-  any-none (f ∷ fs) xs e = by (test f) (λ t. absurd (true≢false (rw t at e))) (λ t. rw t (any-none fs xs (rw t at e)))
-
-  pub any-some : (fs : List Fix) (xs : List RefusedFix) → list_any test fs ≡ true → true ≡ any_of test (fs ++ map fix_of xs)
-  unfolding any_of
-  any-some [] xs e = absurd (false≢true e)
-  any-some (f ∷ fs) xs e = by (test f) (λ t. rw t refl) (λ t. rw t (any-some fs xs (rw t at e)))
-
   -- ---- those that pass
 
   refused-pass : (xs : List RefusedFix) → map fix_of (filter_of (λ x. test (fix_of x)) xs) ≡ filter test (map fix_of xs)

@@ -1,10 +1,8 @@
 //! Which fixes a track's summaries still bear out, and those that they do not taken out.
 
-ghost use Rattle.std.specs.Prelude.{◌≡◌, true, not, map};
-ghost use Rattle.std.specs.List.{list_any, filter};
-ghost use Rattle.ranges.specs.Lists.{any_of};
+ghost use Rattle.std.specs.Prelude.{◌≡◌, true, map};
+ghost use Rattle.std.specs.List.{list_any};
 ghost use Rattle.models.specs.Answers.{listed};
-ghost use Rattle.tracked.specs.Held.{fix_of};
 ghost use Rattle.tracked.specs.Parts.{Sound};
 ghost use Rattle.arrange.specs.Arranged.{arranged};
 ghost use Rattle.arrange.specs.Blocks.{blocks, block_table, Filled};
@@ -18,9 +16,9 @@ use models::summaries::Summaries;
 use normalize::deciding::decide_again;
 use octets::words::u16_at;
 use stored::{layout, parts};
+use tracked::block::Block;
 use tracked::fixes::Fix;
 use tracked::layout::TRANSMISSION_SIZE;
-use tracked::refused::RefusedFix;
 use tracked::transmission::Transmission;
 
 // Whether the models of a fix still say what it was checked under.
@@ -34,41 +32,31 @@ fn stands(summaries: Summaries, fix: &Fix<'_>) -> bool
     octets::order::equal(&inputs.0, &fix.inputs.0)
 }
 
-// Whether some of these fixes does not stand.
-fn any_falls(summaries: Summaries, fixes: &[Fix<'_>]) -> bool
-    ensures { result ≡ list_any (λ f. not (T.stands (listed summaries.entry) f)) fixes.now }
-{
-    fixes.iter().any(|fix| !stands(summaries, fix))
-}
-
-// Whether some of these refused fixes does not.
-fn any_refused_falls(summaries: Summaries, refused: &[RefusedFix<'_>]) -> bool
-    ensures { result ≡ list_any (λ x. not (T.stands (listed summaries.entry) (fix_of x))) refused.now }
-{
-    refused
-        .iter()
-        .any(|refusal| !stands(summaries, &refusal.fix))
-}
-
 // Whether some fix that a transmission holds does not stand.
-fn has_stale(summaries: Summaries, held: &Transmission<'_>) -> bool
-    ensures { result ≡ T.has_stale (listed summaries.entry) held.now }
+fn has_stale(summaries: Summaries, block: &Block<'_>) -> bool
+    ensures { result ≡ T.has_stale (listed summaries.entry) block.now }
 {
-    any_falls(summaries, &held.fixes) || any_refused_falls(summaries, &held.refused)
+    for k in 0..block.held_count() {
+        if !stands(summaries, &block.held_fix(k)) {
+            return true;
+        }
+    }
+    false
+}
+
+// Whether some of these transmissions holds one that does not.
+fn any_has_stale(summaries: Summaries, blocks: &[Block<'_>]) -> bool
+    ensures { result ≡ list_any (T.has_stale (listed summaries.entry)) blocks.now }
+{
+    blocks.iter().any(|block| has_stale(summaries, block))
 }
 
 // Whether some fix that a track holds does not stand.
 fn any_stale(memory: &[u8]) -> bool
     requires { well_formed memory.now ≡ true }
-    ensures { result ≡ any_of (T.has_stale (decode memory.now).summaries) (decode memory.now).transmissions }
+    ensures { result ≡ list_any (T.has_stale (decode memory.now).summaries) (decode memory.now).transmissions }
 {
-    let summaries = parts::summaries(memory);
-    for block in parts::transmissions(memory) {
-        if has_stale(summaries, &Transmission::read(block)) {
-            return true;
-        }
-    }
-    false
+    any_has_stale(parts::summaries(memory), &parts::transmissions(memory))
 }
 
 // Drops the fixes of a transmission that do not stand.
@@ -85,9 +73,11 @@ fn renew(b: &mut [u8], summaries: Summaries)
     requires { Sound b.old }
     ensures { b.new ≡ S.standing_bytes (listed summaries.entry) b.old }
 {
-    let mut block = [0; TRANSMISSION_SIZE];
-    block.copy_from_slice(b);
-    let mut held = Transmission::read(&block);
+    let Some(b) = b.as_mut_array() else {
+        return;
+    };
+    let was = *b;
+    let mut held = Transmission::read(&Block::of(&was));
     drop_stale(&mut held, summaries);
     held.learn();
     decide_again(&mut held);

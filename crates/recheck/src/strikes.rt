@@ -15,6 +15,7 @@ use held::strikes::strike_summaries;
 use normalize::blocks::renew;
 use octets::words::{put_u16, put_u32, u16_at, u32_at};
 use stored::layout;
+use tracked::block::Block;
 use tracked::fixes::Fix;
 use tracked::layout::TRANSMISSION_SIZE;
 use tracked::transmission::Transmission;
@@ -43,9 +44,11 @@ fn strike_fixes(b: &mut [u8], engine: Engine)
     requires { Sound b.old }
     ensures { b.new ≡ S.without_bytes engine.number b.old }
 {
-    let mut block = [0; TRANSMISSION_SIZE];
-    block.copy_from_slice(b);
-    let mut held = Transmission::read(&block);
+    let Some(b) = b.as_mut_array() else {
+        return;
+    };
+    let was = *b;
+    let mut held = Transmission::read(&Block::of(&was));
     unsign_all(&mut held, engine);
     renew(&mut held);
     held.write(b);

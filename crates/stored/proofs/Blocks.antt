@@ -11,6 +11,7 @@ use lib.ListN.{length, take, drop, length-append, length-drop, length-map, repli
 use lib.Seq.{take_at, drop_at, take-take, length-take-le}
 use borrow.Author.Tests.{leb-true, le-leb, not-true}
 use Rattle.ranges.proofs.Bools.{and_left, and_right, and_both, or}
+use Rattle.std.specs.List.{list_all}
 use Rattle.octets.specs.Bytes.{Bytes}
 use Rattle.octets.specs.Words.{word, word_bytes}
 use Rattle.octets.specs.Runs.{all_zero}
@@ -37,6 +38,11 @@ use Rattle.tracked.specs.Parts.{record_formed, Sound}
 use Rattle.tracked.proofs.Encoding.{ValidFix, ValidRefused, Valid, Bounded, Canonical, fix-length, refused-length, fix-count-back, refused-count-back, bytes-of-places, wide-in}
 
 -- ---- places that all pass a test
+
+pub all_listed : (test : List ℕ → Bool) (ps : List (List ℕ)) → list_all test ps ≡ all_places test ps
+unfolding all_places
+all_listed test [] = refl
+all_listed test (p ∷ ps) = ap (λ (b : Bool). test p && b) (all_listed test ps)
 
 module _ (test : List ℕ → Bool) where
   pub passes : (ps : List (List ℕ)) → all_places test ps ≡ true → (p : List ℕ) → Memᴰ p ps → test p ≡ true

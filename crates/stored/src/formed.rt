@@ -1,7 +1,8 @@
 //! Which bytes are a track.
 
 ghost use Rattle.std.specs.Prelude.{◌≡◌, ◌*◌, ◌≤◌, length};
-ghost use Rattle.places.specs.Places.{places, all_places};
+ghost use Rattle.std.specs.List.{list_all};
+ghost use Rattle.places.specs.Places.{all_places};
 ghost use Rattle.held.specs.Limits.{place_size};
 ghost use Rattle.held.specs.Signed.{begin_formed};
 ghost use Rattle.tracked.specs.Layout.{transmission_size};
@@ -13,6 +14,7 @@ use arrange::MAX_TRANSMISSIONS;
 use held::engines::Signers;
 use held::layout::MAX_SUMMARIES;
 use models::summaries::Summaries;
+use places::table::places_of;
 use tracked::layout::{
     FIX_SIZE, FIXES_AT, MAX_REFUSED, MAX_STANDING, REFUSED_AT, REFUSED_SIZE, TRANSMISSION_SIZE,
 };
@@ -32,51 +34,34 @@ fn filled(t: &[u8], n: usize, w: usize, convicted: Signers) -> bool
 }
 
 // Whether the bytes hold a transmission.
-fn transmission_formed(b: &[u8], convicted: Signers) -> bool
-    requires { length b.now ≡ transmission_size }
+#[tactic(auto, unfolding(tracked::specs::Bytes::transmission_formed))]
+fn transmission_formed(b: &[u8; TRANSMISSION_SIZE], convicted: Signers) -> bool
     ensures { result ≡ transmission_formed (begin_formed convicted.0) b.now }
 {
     let n = tracked::fix_count(b) as usize;
-    if n < 1 {
-        return false;
-    }
-    if MAX_STANDING < n {
-        return false;
-    }
     let k = tracked::refused_count(b) as usize;
-    if MAX_REFUSED < k {
-        return false;
-    }
-    if !filled(&b[FIXES_AT..REFUSED_AT], n, FIX_SIZE, convicted) {
-        return false;
-    }
-    filled(&b[REFUSED_AT..], k, REFUSED_SIZE, convicted)
+    1 <= n
+        && n <= MAX_STANDING
+        && k <= MAX_REFUSED
+        && filled(&b[FIXES_AT..REFUSED_AT], n, FIX_SIZE, convicted)
+        && filled(b.split_at(REFUSED_AT).1, k, REFUSED_SIZE, convicted)
 }
 
-// Whether the first n transmissions of a table are.
-fn transmissions_formed(t: &[u8], n: usize, convicted: Signers) -> bool
-    requires { n * transmission_size ≤ length t.now }
-    ensures { result ≡ all_places (transmission_formed (begin_formed convicted.0)) (places transmission_size n t.now) }
+// Whether each of these holds one.
+fn transmissions_formed(blocks: &[[u8; TRANSMISSION_SIZE]], convicted: Signers) -> bool
+    ensures { result ≡ list_all (transmission_formed (begin_formed convicted.0)) blocks.now }
 {
-    for i in 0..n {
-        let at = i * TRANSMISSION_SIZE;
-        if !transmission_formed(&t[at..at + TRANSMISSION_SIZE], convicted) {
-            return false;
-        }
-    }
-    true
+    blocks.iter().all(|b| transmission_formed(b, convicted))
 }
 
 // Whether a table holds n transmissions, and zeros behind them.
+#[tactic(auto, using(crate::proofs::Blocks::all_listed))]
 fn transmission_table_formed(t: &[u8], n: usize, convicted: Signers) -> bool
     requires { n * transmission_size ≤ length t.now }
     ensures { result ≡ filled_by (transmission_formed (begin_formed convicted.0)) transmission_size n t.now }
 {
-    if !transmissions_formed(t, n, convicted) {
-        return false;
-    }
-    let used = n * TRANSMISSION_SIZE;
-    octets::runs::is_zero(&t[used..])
+    transmissions_formed(places_of::<TRANSMISSION_SIZE>(t, n), convicted)
+        && octets::runs::is_zero(t.split_at(n * TRANSMISSION_SIZE).1)
 }
 
 /// Whether the bytes are a track.

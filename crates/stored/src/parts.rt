@@ -1,16 +1,14 @@
 //! What a track holds, read where it stands.
 
-ghost use Rattle.std.specs.Prelude.{◌≡◌, true, map};
+ghost use Rattle.std.specs.Prelude.{◌≡◌, true};
 ghost use Rattle.models.specs.Answers.{listed};
-ghost use Rattle.tracked.specs.Bytes.{transmission_in};
-ghost use Rattle.arrange.specs.Blocks.{AllSound};
 ghost use Rattle.stored.specs.Memory.{well_formed, decode};
 
 use crate::layout;
+use arrange::Blocks;
 use held::engines::Signers;
 use models::summaries::Summaries;
 use octets::words::{u16_at, u32_at};
-use tracked::layout::TRANSMISSION_SIZE;
 
 /// The convicted engines.
 #[tactic(auto, unfolding(crate::specs::Memory::decode))]
@@ -33,11 +31,10 @@ pub fn summaries(memory: &[u8]) -> Summaries
     }
 }
 
-/// The transmissions, each in its bytes.
-pub fn transmissions(memory: &[u8]) -> &[[u8; TRANSMISSION_SIZE]]
+/// The transmissions.
+pub fn transmissions(memory: &[u8]) -> Blocks<'_>
     requires { well_formed memory.now ≡ true }
-    ensures values { map transmission_in result.now ≡ (decode memory.now).transmissions }
-    ensures sound { AllSound result.now }
+    ensures { result.items ≡ (decode memory.now).transmissions }
 {
     let count = memory[layout::TRANSMISSION_COUNT_AT] as usize;
     arrange::blocks(&memory[layout::TRANSMISSIONS_AT..], count)

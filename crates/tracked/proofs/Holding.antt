@@ -17,8 +17,12 @@ use Rattle.record.specs.Layout.{record_size}
 use Rattle.items.specs.Layout.{hash_size}
 use Rattle.items.proofs.Pairing.{taken}
 use Rattle.shown.specs.Fix.{Fix}
+use Rattle.shown.specs.Items.{no_fix, at}
+use Rattle.std.specs.Prelude.{Some, slice_get}
+use Rattle.std.proofs.lemmas.List as S
+use Rattle.std.proofs.lemmas.Option.{slice_get-get_or}
 use Rattle.tracked.specs.Layout as L
-use Rattle.tracked.specs.Held.{fix_of, held_in}
+use Rattle.tracked.specs.Held.{RefusedFix, HeldTransmission, fix_of, held_in}
 use Rattle.tracked.specs.Bytes.{record_in, fix_in, refused_in, fix_count, refused_count, fix_table, refused_table, fix_places, refused_places, transmission_in}
 use Rattle.tracked.specs.Parts.{held_places, held_count, record_formed, Sound, fix_place, refused_place, held_place}
 
@@ -97,3 +101,47 @@ held-are b =
     go : (ps : List (List ℕ)) → map fix_in (map (take L.fix_size) ps) ≡ map fix_of (map refused_in ps)
     go [] = refl
     go (p ∷ ps) = ap₂ ◌∷◌ (fix-of-more p) (go ps)
+
+pub held-number : (b : List ℕ) → length (held_in (transmission_in b)) ≡ held_count b
+held-number b = ap length (sym (held-are b)) ∙ length-map (held_places b) fix_in ∙ held-length b
+
+-- ---- the held fix k, by the places of those that stand and of the refused
+
+pub stands-held : (ps : List (List ℕ)) (t : HeldTransmission) → map fix_in ps ≡ t.fixes → (k : ℕ) → k < length ps → fix_in (get_or ps k []) ≡ at (held_in t) k
+stands-held ps t e k h =
+    sym (S.get_or-map fix_in ps k [] no_fix h)
+    ∙ sym (get_or-append (map fix_in ps) (map fix_of t.refused) no_fix k (rw (length-map ps fix_in) h))
+    ∙ ap (λ (l : List Fix). at (l ++ map fix_of t.refused) k) e
+
+module _ (ps qs : List (List ℕ)) (t : HeldTransmission) (standing : map fix_in ps ≡ t.fixes) (refused : map refused_in qs ≡ t.refused) (k : ℕ) (past : length ps ≤ k) (within : k < length (held_in t)) where
+  abbrev j : ℕ
+  j = k - length ps
+
+  abbrev rs : List Fix
+  rs = map fix_of (map refused_in qs)
+
+  held-is : map fix_in ps ++ rs ≡ held_in t
+  held-is = ap₂ (λ (fs : List Fix) (xs : List RefusedFix). fs ++ map fix_of xs) standing refused
+
+  pub refused-within : j < length qs
+  refused-within =
+      let l = length-append (map fix_in ps) rs in
+      let m = length-map (map refused_in qs) fix_of in
+      omega (arith, l, ap length held-is, length-map ps fix_in, m, length-map qs refused_in, past, within)
+
+  pub refused-held : fix_in (get_or qs j []) ≡ at (held_in t) k
+  refused-held =
+      let z : length (map fix_in ps) + j ≡ k = omega (arith, length-map ps fix_in, past) in
+      sym (ap fix_of (get_or-map refused_in qs j []))
+      ∙ sym (S.get_or-map fix_of (map refused_in qs) j (refused_in []) no_fix (rw (length-map qs refused_in) refused-within))
+      ∙ sym (get_or-append-add (map fix_in ps) rs j no_fix)
+      ∙ ap (at (map fix_in ps ++ rs)) z
+      ∙ ap (λ (l : List Fix). at l k) held-is
+
+-- ---- what a place holds, of all that are read
+module _ {A : Type 0} (read : List ℕ → A) (ps : List (List ℕ)) (l : List A) (e : map read ps ≡ l) (k : ℕ) (h : k < length l) where
+  pub place-within : k < length ps
+  place-within = let m = length-map ps read in omega (arith, m, ap length e, h)
+
+  pub place-holds : (x : A) → x ≡ read (get_or ps k []) → slice_get l k ≡ Some x
+  place-holds x q = slice_get-get_or l k (read []) h ∙ ap Some (ap (λ (m : List A). get_or m k (read [])) (sym e) ∙ get_or-map read ps k [] ∙ sym q)

@@ -1,31 +1,33 @@
--- The places of a sound transmission are formed.
-use mathlib.Core.Path.{◌≡◌, refl}
+-- The places of a sound transmission are few and formed.
+use mathlib.Core.Path.{◌≡◌, refl, ap, ◌∙◌}
 use mathlib.Core.Bool.{true}
 use mathlib.Core.List.{List, [], ◌∷◌, ◌++◌, map}
-use Prim.Native.Nat.{ℕ}
+use Prim.Native.Nat.{ℕ, ◌≤◌}
 use native.Mathlib.Omega.{arith}
-use lib.ListN.{take}
+use lib.ListN.{length, take}
 use lib.Seq.{take-take}
 use Rattle.ranges.proofs.Bools.{and_both, and_left, and_right}
 use Rattle.places.specs.Places.{all_places}
+use Rattle.places.proofs.Tables.{length-places}
 use Rattle.record.specs.Layout.{record_size}
-use Rattle.tracked.specs.Layout.{fix_size}
-use Rattle.tracked.specs.Parts.{record_formed}
+use Rattle.tracked.specs.Layout.{max_standing, max_refused, fix_size, refused_size}
+use Rattle.tracked.specs.Bytes.{fix_count, refused_count, fix_table, refused_table, fix_places, refused_places}
+use Rattle.tracked.specs.Parts.{Sound, record_formed}
 
-pub formed-first : (ps qs : List (List ℕ)) → all_places record_formed (ps ++ qs) ≡ true → all_places record_formed ps ≡ true
+formed-first : (ps qs : List (List ℕ)) → all_places record_formed (ps ++ qs) ≡ true → all_places record_formed ps ≡ true
 unfolding all_places
 formed-first [] qs h = unfold all_places in refl
 formed-first (p ∷ ps) qs h =
     let rest = all_places record_formed (ps ++ qs) in
     and_both (record_formed p) (all_places record_formed ps) (and_left (record_formed p) rest h) (formed-first ps qs (and_right (record_formed p) rest h))
 
-pub formed-second : (ps qs : List (List ℕ)) → all_places record_formed (ps ++ qs) ≡ true → all_places record_formed qs ≡ true
+formed-second : (ps qs : List (List ℕ)) → all_places record_formed (ps ++ qs) ≡ true → all_places record_formed qs ≡ true
 unfolding all_places
 formed-second [] qs h = h
 formed-second (p ∷ ps) qs h = formed-second ps qs (and_right (record_formed p) (all_places record_formed (ps ++ qs)) h)
 
 -- of the refused the first bytes are a fix
-pub formed-refused : (qs : List (List ℕ)) → all_places record_formed (map (take fix_size) qs) ≡ true → all_places record_formed qs ≡ true
+formed-refused : (qs : List (List ℕ)) → all_places record_formed (map (take fix_size) qs) ≡ true → all_places record_formed qs ≡ true
 unfolding all_places
 formed-refused [] h = h
 formed-refused (q ∷ qs) h =
@@ -33,3 +35,19 @@ formed-refused (q ∷ qs) h =
     and_both (record_formed q) (all_places record_formed qs)
     (rw (take-take record_size fix_size q (omega arith)) at a)
     (formed-refused qs (and_right (record_formed (take fix_size q)) (all_places record_formed (map (take fix_size) qs)) h))
+
+-- ---- what is lent of a transmission
+
+module _ (b : List ℕ) (s : Sound b) (ps : List (List ℕ)) where
+  pub few-stand : ps ≡ fix_places b → length ps ≤ max_standing
+  few-stand e = omega (arith, ap length e, length-places fix_size (fix_count b) (fix_table b), s.few)
+
+  pub few-refused : ps ≡ refused_places b → length ps ≤ max_refused
+  few-refused e = omega (arith, ap length e, length-places refused_size (refused_count b) (refused_table b), s.few_refused)
+
+  pub standing-formed : ps ≡ fix_places b → all_places record_formed ps ≡ true
+  standing-formed e = ap (all_places record_formed) e ∙ formed-first (fix_places b) (map (take fix_size) (refused_places b)) s.formed
+
+  pub refused-formed : ps ≡ refused_places b → all_places record_formed ps ≡ true
+  refused-formed e =
+      ap (all_places record_formed) e ∙ formed-refused (refused_places b) (formed-second (fix_places b) (map (take fix_size) (refused_places b)) s.formed)

@@ -2,51 +2,38 @@
 //! back; what is asked of all transmissions of a track is read where it lies.
 #![tactic(auto)]
 
-ghost use Rattle.std.specs.Prelude.{◌≡◌, [], ◌+◌, ◌<◌, length, get_or};
+ghost use Rattle.std.specs.Prelude.{◌≡◌, ◌+◌, ◌<◌};
 ghost use Rattle.std.specs.Int.Bits.{bit_or};
 ghost use Rattle.octets.specs.Words.{word_at};
 ghost use Rattle.octets.specs.Writes.{put_word};
-ghost use Rattle.ranges.specs.Lists.{any_of};
 ghost use Rattle.tracked.specs.Layout as L;
 ghost use Rattle.tracked.specs.Bytes as B;
 ghost use Rattle.tracked.specs.Parts as P;
 
-use fixes::Fix;
-use record::Record;
+use layout::TRANSMISSION_SIZE;
 
+pub mod block;
 pub mod fixes;
 pub mod layout;
 pub mod refused;
 pub mod transmission;
 
 /// How many fixes stand.
-pub fn fix_count(b: &[u8]) -> u8
-    requires { length b.now ≡ L.transmission_size }
+pub fn fix_count(b: &[u8; TRANSMISSION_SIZE]) -> u8
     ensures { result ≡ B.fix_count b.now }
 {
     b[layout::FIX_COUNT_AT]
 }
 
 /// How many are refused.
-pub fn refused_count(b: &[u8]) -> u8
-    requires { length b.now ≡ L.transmission_size }
+pub fn refused_count(b: &[u8; TRANSMISSION_SIZE]) -> u8
     ensures { result ≡ B.refused_count b.now }
 {
     b[layout::REFUSED_COUNT_AT]
 }
 
-/// How many fixes are held: those that stand, and the refused.
-pub fn held_count(b: &[u8]) -> u8
-    requires { P.Sound b.now }
-    ensures { result ≡ P.held_count b.now }
-{
-    fix_count(b) + refused_count(b)
-}
-
 // Where the held fix k lies: those that stand come first, then the refused.
-fn place_of(b: &[u8], k: u8) -> usize
-    requires sound { P.Sound b.now }
-    requires k_bound { k < P.held_count b.now }
+fn place_of(b: &[u8; TRANSMISSION_SIZE], k: u8) -> usize
     ensures { result ≡ P.held_place b.now k }
 {
     let n = fix_count(b);
@@ -56,33 +43,8 @@ fn place_of(b: &[u8], k: u8) -> usize
     layout::REFUSED_AT + (k - n) as usize * layout::REFUSED_SIZE
 }
 
-/// The held fix k.
-pub fn held_fix(b: &[u8], k: u8) -> Fix<'_>
-    requires sound { P.Sound b.now }
-    requires k_bound { k < P.held_count b.now }
-    ensures { result ≡ B.fix_in (get_or (P.held_places b.now) k []) }
-{
-    let a = place_of(b, k);
-    let e = a + layout::FIX_SIZE;
-    Fix::read(&b[a..e])
-}
-
-/// Whether some fix that is held is tied to a record.
-pub fn ties(b: &[u8], r: Record) -> bool
-    requires { P.Sound b.now }
-    ensures { result ≡ any_of (P.ties_to r.entry.bytes.now) (P.held_places b.now) }
-{
-    let n = held_count(b);
-    for k in 0..n {
-        if held_fix(b, k).report.is_tied_to(r) {
-            return true;
-        }
-    }
-    false
-}
-
 /// Adds signers to the held fix k.
-pub fn sign(b: &mut [u8], k: u8, engines: u32)
+pub fn sign(b: &mut [u8; TRANSMISSION_SIZE], k: u8, engines: u32)
     requires sound { P.Sound b.old }
     requires k_bound { k < P.held_count b.old }
     ensures { b.new ≡ put_word 4 (P.held_place b.old k + L.signers_at) (bit_or (word_at 4 (P.held_place b.old k + L.signers_at) b.old) engines) b.old }

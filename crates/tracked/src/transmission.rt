@@ -1,14 +1,14 @@
 //! A transmission of a track as a value, read from its bytes and written back.
 
-ghost use Rattle.std.specs.Prelude.{◌≡◌, true, [], map, ◌≤◌, length};
-ghost use Rattle.places.specs.Places.{all_places, table_of};
+ghost use Rattle.std.specs.Prelude.{◌≡◌, map, ◌≤◌, length};
+ghost use Rattle.places.specs.Places.{table_of};
 ghost use Rattle.tracked.specs.Layout as L;
 ghost use Rattle.tracked.specs.Bytes as B;
-ghost use Rattle.tracked.specs.Parts.{Sound, record_formed};
 ghost use Rattle.tracked.specs.Values.{nothing_held};
 
+use crate::block::Block;
 use crate::fixes::Fix;
-use crate::layout::{FIX_SIZE, FIXES_AT, MAX_REFUSED, MAX_STANDING, REFUSED_AT, REFUSED_SIZE};
+use crate::layout::{FIXES_AT, MAX_REFUSED, MAX_STANDING, REFUSED_AT, TRANSMISSION_SIZE};
 use crate::refused::RefusedFix;
 use arrayvec::ArrayVec;
 use std::marker::Model;
@@ -28,53 +28,6 @@ impl<'a> Model for Transmission<'a> {
     ghost Value = { HeldTransmission };
 
     ghost view = { λ t. record { fixes = t.fixes.items; refused = t.refused.items } };
-}
-
-/// The bytes of each fix that stands.
-pub fn fix_places(b: &[u8]) -> &[[u8; FIX_SIZE]]
-    requires { Sound b.now }
-    ensures places { result.now ≡ B.fix_places b.now }
-    ensures few { length result.now ≤ L.max_standing }
-    ensures formed { all_places record_formed result.now ≡ true }
-{
-    places::table::places_of::<FIX_SIZE>(&b[FIXES_AT..REFUSED_AT], crate::fix_count(b) as usize)
-}
-
-/// The bytes of each refused fix.
-pub fn refused_places(b: &[u8]) -> &[[u8; REFUSED_SIZE]]
-    requires { Sound b.now }
-    ensures places { result.now ≡ B.refused_places b.now }
-    ensures few { length result.now ≤ L.max_refused }
-    ensures formed { all_places record_formed result.now ≡ true }
-{
-    places::table::places_of::<REFUSED_SIZE>(&b[REFUSED_AT..], crate::refused_count(b) as usize)
-}
-
-// Reads the fixes that stand.
-fn read_fixes<'a>(places: &'a [[u8; FIX_SIZE]], fixes: &mut ArrayVec<Fix<'a>, MAX_STANDING>)
-    requires few { length places.now ≤ L.max_standing }
-    requires formed { all_places record_formed places.now ≡ true }
-    requires none { fixes.old.items ≡ [] }
-    ensures { fixes.new.items ≡ map B.fix_in places.now }
-{
-    for place in places {
-        fixes.push(Fix::read(place));
-    }
-}
-
-// Reads the refused.
-fn read_refused<'a>(
-    places: &'a [[u8; REFUSED_SIZE]],
-    refused: &mut ArrayVec<RefusedFix<'a>, MAX_REFUSED>,
-)
-    requires few { length places.now ≤ L.max_refused }
-    requires formed { all_places record_formed places.now ≡ true }
-    requires none { refused.old.items ≡ [] }
-    ensures { refused.new.items ≡ map B.refused_in places.now }
-{
-    for place in places {
-        refused.push(RefusedFix::read(place));
-    }
 }
 
 // Writes a table of fixes.
@@ -123,13 +76,18 @@ impl<'a> Transmission<'a> {
     }
 
     /// The transmission that bytes hold.
-    pub fn read(b: &'a [u8]) -> Transmission<'a>
-        requires { Sound b.now }
-        ensures { result ≡ B.transmission_in b.now }
+    pub fn read(block: &Block<'a>) -> Transmission<'a>
+        ensures { result ≡ block.now }
     {
         let mut held = Transmission::new();
-        read_fixes(fix_places(b), &mut held.fixes);
-        read_refused(refused_places(b), &mut held.refused);
+        let standing = block.fix_places();
+        for fix in standing {
+            held.fixes.push(Fix::read(fix));
+        }
+        let refused = block.refused_places();
+        for refusal in refused {
+            held.refused.push(RefusedFix::read(refusal));
+        }
         held
     }
 
@@ -146,8 +104,7 @@ impl<'a> Transmission<'a> {
     }
 
     /// Writes its bytes.
-    pub fn write(&self, b: &mut [u8])
-        requires { length b.old ≡ L.transmission_size }
+    pub fn write(&self, b: &mut [u8; TRANSMISSION_SIZE])
         ensures { b.new ≡ B.transmission_bytes self.now }
     {
         let (counts, tables) = b.split_at_mut(FIXES_AT);

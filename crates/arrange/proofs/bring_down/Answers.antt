@@ -16,16 +16,16 @@ returns c =
     let p : ℕ = c.args.place * transmission_size in
     let written : Put (take p t) (i * transmission_size) (take transmission_size (drop p t)) c.put_bytes.result c.put_bytes.new.to = rw (c.split_at_mut-front.ensures.front, c.split_at_mut-front.ensures.back) at c.put_bytes.ensures in
     ap (λ (b : List ℕ). c.put_bytes.new.to ++ b) c.split_at_mut-front.ensures.back
-    ∙ put-front t (take transmission_size (drop p t)) i p written (taken transmission_size p t (omega (arith, c.requires.size, c.requires.among))) (omega (arith, c.requires.among)) (omega (arith, c.requires.size, c.requires.among))
+    ∙ put-front t (take transmission_size (drop p t)) i p written (taken transmission_size p t (omega (arith, c.requires))) (omega (arith, c.requires)) (omega (arith, c.requires))
 
 pub slice_bounds-put_bytes-end-2 : goal.slice_bounds-put_bytes-end-2
 slice_bounds-put_bytes-end-2 c =
     let b = c.split_at_mut-front.ensures.back_len in
     let l = length-take transmission_size c.split_at_mut-front.result.1.now in
-    omega (arith, b, l, c.requires.size, c.requires.among)
+    omega (arith, b, l, c.requires)
 
 pub put_bytes-requires : goal.put_bytes-requires
 put_bytes-requires c =
     let f = c.split_at_mut-front.ensures.front_len in
     let l = length-take transmission_size c.split_at_mut-front.result.1.now in
-    omega (arith, f, l, c.requires.among)
+    omega (arith, f, l, c.requires)

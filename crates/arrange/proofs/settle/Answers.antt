@@ -1,5 +1,5 @@
 use Prim.Native.Nat.{ℕ, ◌+◌, ◌*◌, ◌-◌, ◌≤◌, ◌<◌}
-use mathlib.Core.Path.{◌≡◌, sym, ap, ap₂, ◌∙◌}
+use mathlib.Core.Path.{◌≡◌, refl, ap, ap₂, ◌∙◌}
 use mathlib.Core.List.Memᴰ
 use mathlib.Core.List.{List, ◌++◌, map}
 use native.Mathlib.Omega.{arith}
@@ -9,6 +9,7 @@ use Rattle.ranges.proofs.Bools.{or}
 use Rattle.places.specs.Places.{flat}
 use Rattle.places.proofs.Tables.{wide}
 use Rattle.tracked.specs.Layout.{transmission_size}
+use Rattle.tracked.specs.Bytes.{transmission_in}
 use Rattle.arrange.specs.Blocks.{blocks, block_of, block_table, latest_blocks, AllSound, Filled}
 use Rattle.arrange.specs.Leads.{order_of}
 use Rattle.arrange.proofs.Tables.{count-is, all-wide, latest-in, latest-few}
@@ -16,7 +17,7 @@ use Rattle.arrange.proofs.Entering.{order-are, order-count, order-within}
 use Rattle.arrange.proofs.Placing.{left-more, left-fewer}
 use Rattle.arrange.proofs.settle.Goals as goal
 
-module _ (t₀ : List ℕ) (n : ℕ) (further : List (List ℕ)) (f : Filled t₀ n) (sound : AllSound further) (order : List ℕ) (order-is : order ≡ order_of (blocks n t₀ ++ further)) where
+module _ (t₀ : List ℕ) (n : ℕ) (further : List (List ℕ)) (f : Filled t₀ n) (sound : AllSound further) (order : List ℕ) (order-is : order ≡ order_of (map transmission_in (blocks n t₀ ++ further))) where
   abbrev latest : List (List ℕ)
   latest = latest_blocks (blocks n t₀ ++ further)
 
@@ -49,36 +50,27 @@ module _ (t₀ : List ℕ) (n : ℕ) (further : List (List ℕ)) (f : Filled t�
         let c : m ≡ length latest = q ∙ counted in
         rw c (left-fewer t₀ n f latest all-of-them (latest-few (blocks n t₀ ++ further)) t written-latest (rw c at h) y (rw c at e))
 
-pub order-order-requires-clause-few : goal.order-order-requires-clause-few
-order-order-requires-clause-few c =
-    let e = ap (λ bs. length bs) c.blocks-2.ensures ∙ count-is c.args.t.now c.args.n c.requires.filled in
-    omega (arith, e, c.requires.few, c.requires.filled.few)
+pub invariant_of-write-clause-few_left : goal.invariant_of-write-clause-few_left
+invariant_of-write-clause-few_left c =
+    let e = counted c.args.t.now c.args.n c.args.further.now c.requires.filled c.requires.sound c.args.order.now c.requires.order in
+    let f = latest-few (blocks c.args.n c.args.t.now ++ c.args.further.now) in
+    omega (arith, e, f)
 
-pub put_in_order-requires-clause-within : goal.put_in_order-requires-clause-within
-put_in_order-requires-clause-within c =
-    within c.args.t.now c.args.n c.args.further.now c.requires.filled c.requires.sound c.deref.result.now
-    (c.deref.ensures.0 ∙ c.order-order.ensures ∙ ap (λ bs. order_of (bs ++ c.args.further.now)) c.blocks-2.ensures)
+pub invariant_of-write-clause-within : goal.invariant_of-write-clause-within
+invariant_of-write-clause-within c = within c.args.t.now c.args.n c.args.further.now c.requires.filled c.requires.sound c.args.order.now c.requires.order
 
 pub returns-then-left-n-clause-value : goal.returns-then-left-n-clause-value
-returns-then-left-n-clause-value c =
-    c.len-left.ensures.value
-    ∙ counted c.args.t.now c.args.n c.args.further.now c.requires.filled c.requires.sound c.order-order.result.items
-    (c.order-order.ensures ∙ ap (λ bs. order_of (bs ++ c.args.further.now)) c.blocks-2.ensures)
+returns-then-left-n-clause-value c = counted c.args.t.now c.args.n c.args.further.now c.requires.filled c.requires.sound c.args.order.now c.requires.order
 
 pub returns-then-left-n-clause-t_after : goal.returns-then-left-n-clause-t_after
 returns-then-left-n-clause-t_after c =
-    fewer c.args.t.now c.args.n c.args.further.now c.requires.filled c.requires.sound c.deref.result.now
-    (c.deref.ensures.0 ∙ c.order-order.ensures ∙ ap (λ bs. order_of (bs ++ c.args.further.now)) c.blocks-2.ensures)
-    c.put_in_order.new.t c.put_in_order.ensures c.len-left.result (c.len-left.ensures.value ∙ ap length (sym c.deref.ensures.0)) c.if-left-n.true c.clear.new.s c.clear.ensures
+    fewer c.args.t.now c.args.n c.args.further.now c.requires.filled c.requires.sound c.args.order.now c.requires.order
+    c.write.new.t (rw c.in-Some.ensures.cases.same at c.write.ensures) _ refl c.if-left-n.true c.clear.new.s c.clear.ensures
 
 pub returns-else-left-n-clause-value : goal.returns-else-left-n-clause-value
-returns-else-left-n-clause-value c =
-    c.len-left.ensures.value
-    ∙ counted c.args.t.now c.args.n c.args.further.now c.requires.filled c.requires.sound c.order-order.result.items
-    (c.order-order.ensures ∙ ap (λ bs. order_of (bs ++ c.args.further.now)) c.blocks-2.ensures)
+returns-else-left-n-clause-value c = counted c.args.t.now c.args.n c.args.further.now c.requires.filled c.requires.sound c.args.order.now c.requires.order
 
 pub returns-else-left-n-clause-t_after : goal.returns-else-left-n-clause-t_after
 returns-else-left-n-clause-t_after c =
-    as-many c.args.t.now c.args.n c.args.further.now c.requires.filled c.requires.sound c.deref.result.now
-    (c.deref.ensures.0 ∙ c.order-order.ensures ∙ ap (λ bs. order_of (bs ++ c.args.further.now)) c.blocks-2.ensures)
-    c.put_in_order.new.t c.put_in_order.ensures (omega (arith, c.if-left-n.false, c.len-left.ensures.value, ap length c.deref.ensures.0))
+    as-many c.args.t.now c.args.n c.args.further.now c.requires.filled c.requires.sound c.args.order.now c.requires.order
+    c.write.new.t (rw c.in-Some.ensures.cases.same at c.write.ensures) c.if-left-n.false

@@ -1,16 +1,12 @@
-use Rattle.std.proofs.Common.{ap, ◌∙◌, ◌+◌, []}
+use Rattle.std.proofs.Common.{ap, ◌∙◌, ◌+◌}
 use Rattle.text.specs.Texts.{append}
-use Rattle.stored.proofs.Opened.{mem-at}
 use Rattle.listing.specs.Listing.{held_text}
 use Rattle.listing.proofs.Texts.{turn, end}
 use Rattle.listing.proofs.push_all.Goals as goal
 
-pub read-requires : goal.read-requires
-read-requires c = c.requires _ (mem-at c.args.blocks.now c.loop-i.i [] c.loop-i-test.true)
-
 pub loop-i-preserved : goal.loop-i-preserved
 loop-i-preserved c =
-    turn c.loop-i.out c.push_held.new.out c.args.blocks.now c.loop-i.i (c.push_held.ensures ∙ ap (λ t. append c.loop-i.out (held_text (c.loop-i.i + 1) t)) c.read.ensures) c.loop-i-test.true
+    turn c.loop-i.out c.push_held.new.out c.args.blocks.now c.loop-i.i c.index-blocks-i.result (c.push_held.ensures ∙ ap (λ t. append c.loop-i.out (held_text (c.loop-i.i + 1) t)) c.index-blocks-i.is) c.loop-i-test.true
     ∙ c.loop-i.invariant
 
 pub returns : goal.returns

@@ -13,4 +13,4 @@ pub returns : goal.returns
 unfolding listing_of decode
 returns c =
     append-then c.args.out.now _ _ _ _ (c.push_contested.ensures ∙ ap (λ (n : ℕ). append c.args.out.now (contested_line n)) c.u64_at.ensures)
-    (c.push_all.ensures ∙ ap (λ ts. append c.push_contested.new.out (held_from 1 ts)) c.transmissions.ensures.values)
+    (c.push_all.ensures ∙ ap (λ ts. append c.push_contested.new.out (held_from 1 ts)) (c.deref.ensures.0 ∙ c.transmissions.ensures))

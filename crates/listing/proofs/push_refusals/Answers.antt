@@ -1,13 +1,15 @@
-use Rattle.std.proofs.Common.{sym, ap, ◌∙◌}
+use Rattle.std.proofs.Common.{◌<◌, length, sym, ap, ◌∙◌, arith}
+use Rattle.std.proofs.lemmas.Option.{get_or_from_slice_get}
 use Rattle.text.specs.Texts.{append}
 use Rattle.text.proofs.Appending.{append-nil, append_more}
 use Rattle.listing.specs.Listing.{refused_text}
 use Rattle.listing.proofs.push_refusals.Goals as goal
 
-pub loop-refusal-init : goal.loop-refusal-init
-loop-refusal-init c = sym (append-nil c.args.out.now)
+pub loop-k-init : goal.loop-k-init
+loop-k-init c = sym (append-nil c.args.out.now)
 
-pub loop-refusal-preserved : goal.loop-refusal-preserved
-loop-refusal-preserved c =
-    append_more refused_text c.args.refused.now c.loop-refusal.refusal-index c.refusal-item.result _ _ _ c.loop-refusal-test.true c.loop-refusal.invariant
-    (c.push_refusal.ensures ∙ ap (λ x. append c.loop-refusal.out (refused_text x)) c.refusal-item.is)
+pub loop-k-preserved : goal.loop-k-preserved
+loop-k-preserved c =
+    let h : c.loop-k.k < length c.args.block.now.refused = omega (arith, c.loop-k-test.true, c.refused_count-n.ensures) in
+    append_more refused_text c.args.block.now.refused c.loop-k.k c.refusal.result _ _ _ h c.loop-k.invariant
+    (c.push_refusal.ensures ∙ ap (λ x. append c.loop-k.out (refused_text x)) (sym (get_or_from_slice_get c.args.block.now.refused c.loop-k.k c.refusal.result c.refusal.result c.refusal.ensures)))

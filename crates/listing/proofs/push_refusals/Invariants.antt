@@ -4,5 +4,5 @@ use Rattle.text.specs.Texts.{append}
 use Rattle.listing.specs.Listing.{refused_text}
 use Rattle.listing.proofs.push_refusals.Given as goal
 
-abbrev pub invariant-loop-refusal : goal.invariant-loop-refusal
-invariant-loop-refusal l = l.out ≡ append l.initial.out (flat_map refused_text (take l.refusal-index l.refused))
+abbrev pub invariant-loop-k : goal.invariant-loop-k
+invariant-loop-k l = l.out ≡ append l.initial.out (flat_map refused_text (take l.k l.block.refused))

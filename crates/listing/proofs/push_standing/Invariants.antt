@@ -4,5 +4,5 @@ use Rattle.text.specs.Texts.{append}
 use Rattle.drawing.specs.Text.{ranked_text}
 use Rattle.listing.proofs.push_standing.Given as goal
 
-abbrev pub invariant-loop-fix : goal.invariant-loop-fix
-invariant-loop-fix l = l.out ≡ append l.initial.out (flat_map ranked_text (take l.fix-index l.fixes))
+abbrev pub invariant-loop-k : goal.invariant-loop-k
+invariant-loop-k l = l.out ≡ append l.initial.out (flat_map ranked_text (take l.k l.block.fixes))

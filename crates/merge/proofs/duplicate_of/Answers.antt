@@ -1,12 +1,15 @@
-use Prim.Native.Nat.{◌<◌}
-use mathlib.Core.Path.{ap, ◌∙◌, sym}
+use mathlib.Core.Path.{sym, ap, ◌∙◌}
 use native.Mathlib.Omega.{arith}
-use Rattle.tracked.specs.Held.{is_of}
-use Rattle.tracked.specs.Parts.{held_count}
-use Rattle.merge.proofs.Identified.{held-fix}
+use Rattle.std.specs.Prelude.{Some}
+use Prim.Native.Nat.{ℕ}
+use Rattle.shown.specs.Items.{no_fix}
+use Rattle.tracked.specs.Held.{held_in, is_of}
+use Rattle.merge.proofs.Counting.{first-or}
 use Rattle.merge.proofs.duplicate_of.Goals as goal
 
-pub first_identified-requires-clause-here : goal.first_identified-requires-clause-here
-first_identified-requires-clause-here c =
-    let h : c.loop-k.k < held_count c.args.b.now = omega (arith, c.loop-k-test.true, c.held_count-k-end.ensures) in
-    ap (is_of c.args.fix.now) (held-fix c.args.b.now c.loop-k.k h ∙ sym c.held_fix.ensures) ∙ c.has_set.ensures c.if-has_set.true
+pub returns-then-has_set : goal.returns-then-has_set
+returns-then-has_set c =
+    let f = c.args.fix.now in
+    first-or (is_of f) (held_in c.args.block.now) c.loop-k.k no_fix (omega (arith, c.loop-k-test.true, c.held_count-k-end.ensures))
+    (ap (is_of f) (sym c.held_fix.ensures) ∙ c.has_set.ensures c.if-has_set.true) c.first_identified.result c.first_identified.ensures
+    ∙ ap (λ (k : ℕ). Some k) (sym c.unwrap_or.ensures)

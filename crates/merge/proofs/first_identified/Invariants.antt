@@ -1,8 +1,7 @@
-use Rattle.std.proofs.Common.{◌≡◌, ℕ, ◌<◌, get_or, false}
-use Rattle.shown.specs.Items.{no_fix}
+use Rattle.std.proofs.Common.{◌≡◌, ℕ, ◌<◌, false}
+use Rattle.shown.specs.Items.{at}
 use Rattle.tracked.specs.Held.{held_in, is_of}
-use Rattle.tracked.specs.Bytes.{transmission_in}
 use Rattle.merge.proofs.first_identified.Given as goal
 
 abbrev pub invariant-loop-i : goal.invariant-loop-i
-invariant-loop-i l = (k : ℕ) → k < l.i → is_of l.fix (get_or (held_in (transmission_in l.b)) k no_fix) ≡ false
+invariant-loop-i l = (k : ℕ) → k < l.i → is_of l.fn.fix (at (held_in l.block) k) ≡ false

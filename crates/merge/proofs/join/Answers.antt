@@ -11,12 +11,12 @@ use Rattle.octets.proofs.Numbers.{all-bytes}
 use Rattle.shown.specs.Fix.{Fix}
 use Rattle.shown.specs.Items.{no_fix}
 use Rattle.tracked.specs.Layout.{signers_at}
-use Rattle.tracked.specs.Held.{held_in, is_of}
+use Rattle.tracked.specs.Held.{HeldTransmission, held_in, is_of}
 use Rattle.tracked.specs.Bytes.{transmission_in, transmission_bytes}
 use Rattle.tracked.specs.Parts.{held_place}
 use Rattle.normalize.specs.declared.Joined.{Joined}
 use Rattle.normalize.proofs.Validity.{Holdable}
-use Rattle.std.specs.Prelude.{Option, Some, None, IfSome}
+use Rattle.std.specs.Prelude.{Option, Some, None, IfSome, position}
 use Rattle.normalize.specs.Taking.{taken_in, told_of}
 use Rattle.normalize.specs.Joining.{with_fix}
 use Rattle.merge.specs.Searching.{Steady}
@@ -28,25 +28,34 @@ use Rattle.merge.proofs.join.Goals as goal
 
 pub sign-requires-clause-k_bound : goal.sign-requires-clause-k_bound
 sign-requires-clause-k_bound c =
-    let b = c.args.b.now in
-    rw (sym (held-number b)) (first-at (is_of c.args.fix) (held_in (transmission_in b)) c.in-Some.k no_fix c.in-Some.ensures).there
+    let b = c.in-Some.b.now in
+    let first = ap (λ (t : HeldTransmission). position (is_of c.args.fix) (held_in t)) (sym c.of.ensures) ∙ c.in-Some-duplicate_of.ensures in
+    rw (sym (held-number b)) (first-at (is_of c.args.fix) (held_in (transmission_in b)) c.in-Some-duplicate_of.k no_fix first).there
 
-pub returns-in-Some-clause-left : goal.returns-in-Some-clause-left
-returns-in-Some-clause-left c =
-    let b = c.args.b.now in
+pub returns-in-Some-duplicate_of-clause-left : goal.returns-in-Some-duplicate_of-clause-left
+returns-in-Some-duplicate_of-clause-left c =
+    let b = c.in-Some.b.now in
     let f : Fix = c.args.fix in
-    let k = c.in-Some.k in
+    let k = c.in-Some-duplicate_of.k in
+    let first = ap (λ (t : HeldTransmission). position (is_of f) (held_in t)) (sym c.of.ensures) ∙ c.in-Some-duplicate_of.ensures in
     let at = held_place b k + signers_at in
-    let y : Bytes b = all-bytes b (search rules) in
+    let y : Bytes b = subst Bytes (sym c.in-Some.ensures.cases.same) (all-bytes c.args.b.now (λ i. (c.slice_known-1.given i).fits)) in
+    let s = subst Steady (sym c.in-Some.ensures.cases.same) c.requires in
     c.sign.ensures
     ∙ ap (λ (n : ℕ). put_word 4 at (bit_or (word_at 4 at b) n) b) (ap (λ (x : Fix). x.signers) c.fix.view_is)
-    ∙ signed-bytes b y c.requires f k c.in-Some.ensures
-    ∙ ap transmission_bytes (sym (taken-held f (transmission_in b) (some-held b y c.requires f k c.in-Some.ensures)))
+    ∙ signed-bytes b y s f k first
+    ∙ ap transmission_bytes (sym (taken-held f (transmission_in b) (some-held b y s f k first)))
+    ∙ ap (λ (x : List ℕ). transmission_bytes (taken_in f (transmission_in x))) c.in-Some.ensures.cases.same
 
-pub returns-in-Some-clause-told : goal.returns-in-Some-clause-told
-returns-in-Some-clause-told c =
-    let b = c.args.b.now in
-    told-held c.args.fix (transmission_in b) (some-held b (all-bytes b (search rules)) c.requires c.args.fix c.in-Some.k c.in-Some.ensures)
+pub returns-in-Some-duplicate_of-clause-told : goal.returns-in-Some-duplicate_of-clause-told
+returns-in-Some-duplicate_of-clause-told c =
+    let b = c.in-Some.b.now in
+    let f : Fix = c.args.fix in
+    let first = ap (λ (t : HeldTransmission). position (is_of f) (held_in t)) (sym c.of.ensures) ∙ c.in-Some-duplicate_of.ensures in
+    let s = subst Steady (sym c.in-Some.ensures.cases.same) c.requires in
+    let y : Bytes b = subst Bytes (sym c.in-Some.ensures.cases.same) (all-bytes c.args.b.now (λ i. (c.slice_known-1.given i).fits)) in
+    told-held f (transmission_in b) (some-held b y s f c.in-Some-duplicate_of.k first)
+    ∙ ap (λ (x : List ℕ). told_of f (transmission_in x)) c.in-Some.ensures.cases.same
 
 module _ (f : Fix) (b x : List ℕ) (y : Bytes b) (s : Steady b) (h : Holdable f) (left : x ≡ transmission_bytes (taken_in f (transmission_in b))) where
   decided : (o : Option Joined) → o ≡ told_of f (transmission_in b) → IfSome o (λ _. Steady x × (transmission_in x ≡ with_fix f (transmission_in b)))
@@ -59,6 +68,9 @@ module _ (f : Fix) (b x : List ℕ) (y : Bytes b) (s : Steady b) (h : Holdable f
 pub returns-clause-decided : goal.returns-clause-decided
 returns-clause-decided c =
     let f : Fix = c.args.fix in
-    let b = c.args.b.now in
+    let b = c.in-Some.b.now in
+    let same = c.in-Some.ensures.cases.same in
+    let y : Bytes b = subst Bytes (sym same) (all-bytes c.args.b.now (λ i. (c.slice_known-1.given i).fits)) in
     let h : Holdable f = holdable-of _ _ _ f c.fix.inside.report.formed c.fix.inside.report.size (omega arith) (omega arith) c.fix.view_is in
-    decided f b c.take_in.new.b (all-bytes b (search rules)) c.requires h c.take_in.ensures.left c.take_in.result c.take_in.ensures.told
+    subst (λ (x : List ℕ). IfSome c.take_in.result (λ _. Steady c.take_in.new.b × (transmission_in c.take_in.new.b ≡ with_fix f (transmission_in x)))) same
+    (decided f b c.take_in.new.b y (subst Steady (sym same) c.requires) h c.take_in.ensures.left c.take_in.result c.take_in.ensures.told)

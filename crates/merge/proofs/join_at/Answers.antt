@@ -10,6 +10,7 @@ use Rattle.merge.specs.declared.Merged.TheVariants.{Duplicate}
 use Rattle.items.proofs.Pairing.{width}
 use Rattle.shown.specs.Fix.{Fix}
 use Rattle.tracked.specs.Layout.{transmission_size}
+use Rattle.tracked.specs.Held.{tied_to}
 use Rattle.tracked.specs.Bytes.{transmission_in, transmission_bytes}
 use Rattle.normalize.specs.declared.Joined.{Joined}
 use Rattle.normalize.specs.Joining.{with_fix, sign_in}
@@ -18,7 +19,7 @@ use Rattle.arrange.specs.Arranged.{max_transmissions, arranged}
 use Rattle.arrange.specs.Blocks.{blocks, block_table, arranged_blocks, Filled}
 use Rattle.arrange.proofs.Tables.{all-wide, count-is, block_at, within, table_filled}
 use Rattle.merge.specs.Merged.{merged}
-use Rattle.merge.specs.Searching.{only, ties_block, answer_in, Ready, Steady, Leaves}
+use Rattle.merge.specs.Searching.{only, answer_in, Ready, Steady, Leaves}
 use Rattle.merge.proofs.Written.{all-sound}
 use Rattle.merge.proofs.Joining.{there, told-none, told-some, taken-held, duplicate, decided, b-steady, set-written, set-steady, decided-bytes, block-put}
 use Rattle.merge.proofs.join_at.Goals as goal
@@ -26,7 +27,7 @@ use Rattle.merge.proofs.join_at.Goals as goal
 abbrev s : ℕ
 s = transmission_size
 
-module _ (t : List ℕ) (n i : ℕ) (f : Fix) (ready : Ready t n) (one : only (ties_block f.record_bytes) (blocks n t) ≡ Some i) where
+module _ (t : List ℕ) (n i : ℕ) (f : Fix) (ready : Ready t n) (one : only (tied_to f) (map transmission_in (blocks n t)) ≡ Some i) where
   abbrev bs : List (List ℕ)
   bs = blocks n t
 

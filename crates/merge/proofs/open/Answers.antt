@@ -6,26 +6,25 @@ use Rattle.tracked.specs.Bytes.{transmission_in}
 use Rattle.arrange.specs.Blocks.{blocks, AllSound}
 use Rattle.merge.specs.Merged.{keeps}
 use Rattle.merge.specs.Searching.{single}
-use Rattle.merge.proofs.Opening.{left-sound, leaves}
+use Rattle.merge.proofs.Opening.{left-filled, leaves}
 use Rattle.merge.proofs.open.Goals as goal
 
-pub keeps-requires : goal.keeps-requires
-keeps-requires c =
+pub blocks-requires : goal.blocks-requires
+blocks-requires c =
     let a = c.admit-count.ensures in
     let held = c.alone.ensures.held ∙ ap single c.copied.ensures in
-    subst AllSound (sym c.blocks-2.ensures)
-    (left-sound c.args.fix (blocks c.args.n c.args.t.now) c.requires.steady c.alone.result c.alone.ensures.steady held c.admit-count.new.t c.admit-count.result a.value a.t_after)
+    left-filled c.args.fix (blocks c.args.n c.args.t.now) c.requires.steady c.alone.result c.alone.ensures.steady held c.admit-count.new.t c.admit-count.result a.value a.t_after
 
 pub returns-then-keeps : goal.returns-then-keeps
 returns-then-keeps c =
     let a = c.admit-count.ensures in
     let held = c.alone.ensures.held ∙ ap single c.copied.ensures in
-    let kept = sym c.if-keeps.true ∙ c.keeps.ensures ∙ ap (λ (l : List (List ℕ)). any_of (keeps c.args.fix) (map transmission_in l)) c.blocks-2.ensures in
+    let kept = sym c.if-keeps.true ∙ c.keeps.ensures ∙ ap (any_of (keeps c.args.fix)) (c.deref.ensures.0 ∙ c.blocks-2.ensures) in
     leaves c.args.fix (blocks c.args.n c.args.t.now) c.requires.steady c.alone.result c.alone.ensures.steady held c.admit-count.new.t c.admit-count.result a.value a.t_after _ kept
 
 pub returns-else-keeps : goal.returns-else-keeps
 returns-else-keeps c =
     let a = c.admit-count.ensures in
     let held = c.alone.ensures.held ∙ ap single c.copied.ensures in
-    let kept = sym c.if-keeps.false ∙ c.keeps.ensures ∙ ap (λ (l : List (List ℕ)). any_of (keeps c.args.fix) (map transmission_in l)) c.blocks-2.ensures in
+    let kept = sym c.if-keeps.false ∙ c.keeps.ensures ∙ ap (any_of (keeps c.args.fix)) (c.deref.ensures.0 ∙ c.blocks-2.ensures) in
     leaves c.args.fix (blocks c.args.n c.args.t.now) c.requires.steady c.alone.result c.alone.ensures.steady held c.admit-count.new.t c.admit-count.result a.value a.t_after _ kept

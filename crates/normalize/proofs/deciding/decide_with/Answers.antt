@@ -5,8 +5,9 @@ use lib.ListN.{length}
 use Rattle.tracked.specs.Held.{fix_of}
 use Rattle.normalize.specs.Normal.{gather_all}
 use Rattle.normalize.specs.Joining.{with_fix}
+use Rattle.normalize.specs.Deciding.{kept}
 use Rattle.normalize.proofs.Distinct.{all-few, gather-few}
-use Rattle.normalize.proofs.Gathered.{given-kept, gathered_with}
+use Rattle.normalize.proofs.Gathered.{kept_distinct, gathered_with}
 use Rattle.normalize.proofs.deciding.decide_with.Goals as goal
 
 pub gather-requires : goal.gather-requires
@@ -17,16 +18,17 @@ gather-requires c =
 pub gather_refused-requires : goal.gather_refused-requires
 gather_refused-requires c =
     let few = all-few c.new-gathered.result.items c.deref.result.now in
-    let more = gather-few c.args.fix c.gather_all.new.gathered.items in
+    let more = gather-few c.args.fix.now c.gather_all.new.gathered.items in
     omega (arith, few, more, ap length c.gather_all.ensures, ap length c.gather.ensures, ap length c.new-gathered.ensures, c.deref.ensures.1, c.deref-2.ensures.1)
 
 pub returns : goal.returns
 returns c =
-    let f = c.args.fix in
+    let f = c.args.fix.now in
     let fs = c.held.inside.fixes.items in
     let xs = c.held.inside.refused.items in
     let a = c.gather_all.ensures ∙ ap₂ gather_all c.new-gathered.ensures c.deref.ensures.0 in
     let b = c.gather_refused.ensures ∙ ap (λ l. gather_all c.gather.new.gathered.items (map fix_of l)) c.deref-2.ensures.0 in
     c.decide.ensures
-    ∙ given-kept (fs ++ (f ∷ map fix_of xs)) _ (gathered_with f fs xs _ _ _ _ a c.gather.ensures b c.deref-3.ensures.0)
+    ∙ ap kept (gathered_with f fs xs _ _ _ a c.gather.ensures b)
+    ∙ kept_distinct (fs ++ (f ∷ map fix_of xs))
     ∙ ap (λ t. with_fix f t) c.held.view_is

@@ -19,7 +19,7 @@ abbrev unread : Refusal
 unread = record { refused = 0; kept = 0; chi2 = Measured nan; superseded = false }
 
 pub loop-k-init : goal.loop-k-init
-loop-k-init c = c.requires.none ∙ lowest-none lower_held max_refused (refused_at c.args.fixes.now) c.args.refusals.now (length c.args.refusals.now) (omega arith)
+loop-k-init c = c.clear.ensures ∙ lowest-none lower_held max_refused (refused_at c.args.fixes.now) c.args.refusals.now (length c.args.refusals.now) (omega arith)
 
 pub loop-k-preserved : goal.loop-k-preserved
 loop-k-preserved c =
@@ -27,7 +27,7 @@ loop-k-preserved c =
     let xs = c.args.refusals.now in
     let k = c.loop-k.k in
     let x = get_or xs (k - 1) unread in
-    let named = c.requires.in_bounds (k - 1) unread (omega arith) in
+    let named = c.requires (k - 1) unread (omega arith) in
     let f = c.copied.ensures ∙ c.index-fixes-x.is ∙ get_or_default fs x.refused c.index-fixes-x.result no_fix named.0 in
     let a = c.identity.ensures ∙ ap (λ (g : Fix). g.identity) (c.index-fixes-x-in-loop-k.is ∙ get_or_default fs x.kept c.index-fixes-x-in-loop-k.result no_fix named.1) in
     let s = c.stored_bits.ensures in

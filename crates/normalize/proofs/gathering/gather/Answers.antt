@@ -1,5 +1,6 @@
 use mathlib.Core.Path.{refl, sym, ap, ◌∙◌}
 use Prim.Native.Nat.{ℕ}
+use mathlib.Core.List.{[], ◌∷◌, ◌++◌}
 use lib.Bits.{bit_or}
 use lib.ListN.{get_or}
 use Rattle.shown.specs.Fix.{Fix, with_signers}
@@ -10,7 +11,7 @@ use Rattle.normalize.proofs.gathering.gather.Goals as goal
 
 pub returns-in-Some : goal.returns-in-Some
 returns-in-Some c =
-    let f = c.args.fix in
+    let f = c.args.fix.now in
     let ks = c.args.gathered.now.items in
     let x = c.index-deref_mut-i.result in
     let there = ap (position (is_of f)) (sym c.deref.ensures.0) ∙ sym c.seat_of.ensures ∙ c.in-Some.is in
@@ -19,4 +20,4 @@ returns-in-Some c =
     signed-there f ks c.deref_mut.result.now _ c.in-Some.i x c.sign.new.self there c.deref_mut.ensures.value refl signed
 
 pub returns-in-None : goal.returns-in-None
-returns-in-None c = c.push.ensures.items ∙ put_last c.args.fix c.args.gathered.now.items (ap (position (is_of c.args.fix)) (sym c.deref.ensures.0) ∙ sym c.seat_of.ensures ∙ c.in-None.is)
+returns-in-None c = c.push.ensures.items ∙ ap (λ (f : Fix). c.args.gathered.now.items ++ (f ∷ [])) c.copied.ensures ∙ put_last c.args.fix.now c.args.gathered.now.items (ap (position (is_of c.args.fix.now)) (sym c.deref.ensures.0) ∙ sym c.seat_of.ensures ∙ c.in-None.is)

@@ -11,7 +11,7 @@ use Rattle.normalize.proofs.joining.join.Goals as goal
 
 pub returns-clause-told : goal.returns-clause-told
 returns-clause-told c =
-    let f = c.args.fix in
+    let f = c.args.fix.now in
     let r = c.has_refused.ensures ∙ any_held (is_of f) c.deref.result.now ∙ ap (λ l. any_of (is_of f) (map fix_of l)) c.deref.ensures.0 in
     let m = c.is_moved.ensures ∙ ap₂ moved c.deref-2.ensures.0 c.deref-3.ensures.0 ∙ ap (λ t. moved t.fixes c.into.inside.fixes.items) c.held.view_is in
     let u = c.has.ensures ∙ any_same (is_of f) c.deref-4.result.now ∙ ap (any_of (is_of f)) c.deref-4.ensures.0 in

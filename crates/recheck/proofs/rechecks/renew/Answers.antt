@@ -11,5 +11,5 @@ use Rattle.recheck.proofs.rechecks.renew.Goals as goal
 pub returns : goal.returns
 returns c =
     let test = stands (listed c.args.summaries) in
-    let left = c.learn.ensures ∙ c.drop_stale.ensures ∙ ap (passing test) (c.read-held.ensures ∙ ap transmission_in c.copy_from_slice.ensures.after) in
-    c.write.ensures ∙ ap transmission_bytes (c.decide_again.ensures ∙ ap (λ t. normalized (held_in t)) left ∙ ap normalized (passing-held test (transmission_in c.args.b.now)))
+    let left = c.learn.ensures ∙ c.drop_stale.ensures ∙ ap (passing test) (c.read-held.ensures ∙ c.of.ensures ∙ ap transmission_in c.in-Some.ensures.cases.same) in
+    c.write.ensures ∙ ap transmission_bytes (c.decide_again.ensures.again ∙ ap (λ t. normalized (held_in t)) left ∙ ap normalized (passing-held test (transmission_in c.args.b.now)))

@@ -12,5 +12,5 @@ use Rattle.recheck.proofs.strikes.strike_fixes.Goals as goal
 pub returns : goal.returns
 returns c =
     let f = unsigned c.args.engine.number in
-    let left = c.unsign_all.ensures ∙ ap (changing f) (c.read-held.ensures ∙ ap transmission_in c.copy_from_slice.ensures.after) in
-    c.write.ensures ∙ ap transmission_bytes (c.renew.ensures ∙ ap (λ t. normalized (filter is_signed (held_in t))) left ∙ ap (λ fs. normalized (filter is_signed fs)) (changing-held f (transmission_in c.args.b.now)))
+    let left = c.unsign_all.ensures ∙ ap (changing f) (c.read-held.ensures ∙ c.of.ensures ∙ ap transmission_in c.in-Some.ensures.cases.same) in
+    c.write.ensures ∙ ap transmission_bytes (c.renew.ensures.again ∙ ap (λ t. normalized (filter is_signed (held_in t))) left ∙ ap (λ fs. normalized (filter is_signed fs)) (changing-held f (transmission_in c.args.b.now)))

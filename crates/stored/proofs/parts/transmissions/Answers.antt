@@ -4,10 +4,10 @@ use Rattle.octets.proofs.Moves.{tail-lent}
 use Rattle.places.specs.Places.{places}
 use Rattle.tracked.specs.Layout.{transmission_size}
 use Rattle.tracked.specs.Bytes.{transmission_in}
-use Rattle.arrange.specs.Blocks.{AllSound}
+use Rattle.arrange.specs.Blocks.{Filled}
 use Rattle.stored.specs.Layout.{transmissions_at}
 use Rattle.stored.specs.Memory.{transmission_count, decode}
-use Rattle.stored.proofs.Opened.{opened, block-sound, transmission-bytes-length}
+use Rattle.stored.proofs.Opened.{opened, filled}
 use Rattle.stored.proofs.parts.transmissions.Goals as goal
 
 pub bounds-memory-6 : goal.bounds-memory-6
@@ -22,16 +22,10 @@ slice_bounds-blocks-start c = omega (arith, (opened c.args.memory.now c.requires
 pub blocks-requires : goal.blocks-requires
 blocks-requires c =
     let m : List ℕ = c.args.memory.now in
-    let o = opened m c.requires in
-    rw (tail-lent m transmissions_at) (rw (transmission-bytes-length m o) (omega (arith, o.few)))
+    subst (λ (t : List ℕ). Filled t (transmission_count m)) (sym (tail-lent m transmissions_at)) (filled m (opened m c.requires))
 
-pub returns-clause-values : goal.returns-clause-values
+pub returns : goal.returns
 unfolding decode
-returns-clause-values c =
+returns c =
     let m : List ℕ = c.args.memory.now in
-    ap (map transmission_in) (c.blocks-2.ensures ∙ ap (places transmission_size (transmission_count m)) (tail-lent m transmissions_at))
-
-pub returns-clause-sound : goal.returns-clause-sound
-returns-clause-sound c =
-    let m : List ℕ = c.args.memory.now in
-    subst AllSound (sym (c.blocks-2.ensures ∙ ap (places transmission_size (transmission_count m)) (tail-lent m transmissions_at))) (block-sound m (opened m c.requires))
+    c.blocks-2.ensures ∙ ap (λ (t : List ℕ). map transmission_in (places transmission_size (transmission_count m) t)) (tail-lent m transmissions_at)

@@ -1,11 +1,9 @@
-use mathlib.Core.Path.{ap, ◌∙◌}
-use mathlib.Core.List.{map}
-use Rattle.tracked.specs.Bytes.{fix_in, refused_in, transmission_in}
+use Rattle.tracked.specs.Parts.{record_formed}
+use Rattle.tracked.proofs.Holding.{all-at}
 use Rattle.tracked.proofs.transmission.Transmission.read.Goals as goal
 
-pub returns : goal.returns
-unfolding transmission_in
-returns c =
-    let f = c.read_fixes.ensures ∙ ap (map fix_in) c.fix_places.ensures.places in
-    let r = c.read_refused.ensures ∙ ap (map refused_in) c.refused_places.ensures.places in
-    λ t. record { fixes = f t; refused = r t }
+pub read-requires-clause-formed : goal.read-requires-clause-formed
+read-requires-clause-formed c = all-at record_formed c.fix_places-standing.result.now c.loop-fix.fix-index c.fix_places-standing.ensures.formed c.loop-fix-test.true
+
+pub read-requires-in-loop-refusal : goal.read-requires-in-loop-refusal
+read-requires-in-loop-refusal c = all-at record_formed c.refused_places-refused.result.now c.loop-refusal.refusal-index c.refused_places-refused.ensures.formed c.loop-refusal-test.true
