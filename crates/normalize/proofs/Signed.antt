@@ -16,7 +16,8 @@ module _ (test : Fix → Bool) where
   refused-pass [] = refl
   refused-pass (x ∷ xs) = by (test (fix_of x)) (λ t. rw t (ap (λ (l : List Fix). fix_of x ∷ l) (refused-pass xs))) (λ t. rw t (refused-pass xs))
 
-  all_pass : (fs : List Fix) (xs : List RefusedFix) → filter_of test fs ++ map fix_of (filter_of (λ x. test (fix_of x)) xs) ≡ filter test (fs ++ map fix_of xs)
+  -- those that pass a test, where they are held
+  pub all_pass : (fs : List Fix) (xs : List RefusedFix) → filter_of test fs ++ map fix_of (filter_of (λ x. test (fix_of x)) xs) ≡ filter test (fs ++ map fix_of xs)
   unfolding filter
   all_pass [] xs = refused-pass xs
   all_pass (f ∷ fs) xs = by (test f) (λ t. rw t (ap (λ (l : List Fix). f ∷ l) (all_pass fs xs))) (λ t. rw t (all_pass fs xs))

@@ -7,6 +7,8 @@ ghost use Rattle.tracked.specs.Held.{held_in};
 ghost use Rattle.tracked.specs.Bytes.{transmission_in, transmission_bytes};
 ghost use Rattle.tracked.specs.Parts.{Sound};
 ghost use Rattle.normalize.specs.Normal.{normalized};
+ghost use Rattle.normalize.specs.Joining.{with_fix};
+ghost use Rattle.normalize.specs.Did.{did};
 ghost use Rattle.normalize.specs.Signed.{is_signed};
 ghost use Rattle.normalize.specs.Taking.{Settled, signed_only, taken_in, told_of};
 
@@ -36,6 +38,21 @@ pub fn renew(held: &mut Transmission<'_>) -> bool
     decide_again(held)
 }
 
+// Decides the fixes of a transmission and a further one, writes what is kept, and tells what the fix did.
+fn write_joined<'a>(
+    held: &Transmission<'a>,
+    fix: &Fix<'a>,
+    b: &mut [u8; TRANSMISSION_SIZE],
+) -> Joined
+    ensures left { b.new ≡ transmission_bytes (with_fix fix.now held.now) }
+    ensures told { result ≡ did fix.now held.now (with_fix fix.now held.now) }
+{
+    let mut kept = Transmission::new();
+    let told = joining::join(held, fix, &mut kept);
+    kept.write(b);
+    told
+}
+
 /// Takes a further fix into a transmission, in its bytes: where its identity is held, the first fix that has it gains the signers, and
 /// nothing is told; otherwise all are decided again.
 pub fn take_in(b: &mut [u8; TRANSMISSION_SIZE], mut fix: Fix<'_>) -> Option<Joined>
@@ -51,8 +68,5 @@ pub fn take_in(b: &mut [u8; TRANSMISSION_SIZE], mut fix: Fix<'_>) -> Option<Join
         held.write(b);
         return None;
     }
-    let mut kept = Transmission::new();
-    let told = joining::join(&held, &fix, &mut kept);
-    kept.write(b);
-    Some(told)
+    Some(write_joined(&held, &fix, b))
 }

@@ -1,4 +1,5 @@
 pub mod Standing
+pub mod Settled
 pub mod Renewing
 pub mod Changing
 pub mod Rewriting

@@ -1,28 +1,27 @@
 -- What becomes of the fixes that a transmission holds, by where they are held.
-use Rattle.std.proofs.Common.{◌≡◌, Bool, List, [], ◌∷◌, ◌++◌, refl, ap}
-use Rattle.std.specs.Prelude.{map}
+use Rattle.std.proofs.Common.{◌≡◌, Bool, false, List, [], ◌∷◌, ◌++◌, refl, ap}
+use Rattle.std.specs.Prelude.{map, not}
+use mathlib.Core.Bool.{true≢false}
 use Rattle.std.specs.List.{filter as filter_of}
-use Rattle.ranges.specs.Lists.{filter}
+use Rattle.ranges.specs.Lists.{any_of, filter}
 use Rattle.ranges.proofs.Bools.{by}
 use Rattle.shown.specs.Fix.{Fix}
 use Rattle.tracked.specs.Held.{RefusedFix, HeldTransmission, fix_of, held_in}
+use Rattle.normalize.proofs.Signed.{all_pass}
 use Rattle.recheck.specs.Steps.{passing, refused_changing, changing}
 
 module _ (test : Fix → Bool) where
   -- ---- those that pass
 
-  refused-pass : (xs : List RefusedFix) → map fix_of (filter_of (λ x. test (fix_of x)) xs) ≡ filter test (map fix_of xs)
-  unfolding filter
-  refused-pass [] = refl
-  refused-pass (x ∷ xs) = by (test (fix_of x)) (λ t. rw t (ap (λ (l : List Fix). fix_of x ∷ l) (refused-pass xs))) (λ t. rw t (refused-pass xs))
-
-  all-pass : (fs : List Fix) (xs : List RefusedFix) → filter_of test fs ++ map fix_of (filter_of (λ x. test (fix_of x)) xs) ≡ filter test (fs ++ map fix_of xs)
-  unfolding filter
-  all-pass [] xs = refused-pass xs
-  all-pass (f ∷ fs) xs = by (test f) (λ t. rw t (ap (λ (l : List Fix). f ∷ l) (all-pass fs xs))) (λ t. rw t (all-pass fs xs))
+  -- all pass
+  pub filter_whole : (l : List Fix) → any_of (λ f. not (test f)) l ≡ false → filter test l ≡ l
+  unfolding any_of filter
+  filter_whole [] e = refl
+  filter_whole (f ∷ l) e =
+      by (test f) (λ t. rw t (ap (λ (k : List Fix). f ∷ k) (filter_whole l (rw t at e)))) (λ t. absurd (true≢false (rw t at e)))
 
   pub passing-held : (t : HeldTransmission) → held_in (passing test t) ≡ filter test (held_in t)
-  passing-held t = all-pass t.fixes t.refused
+  passing-held t = all_pass test t.fixes t.refused
 
 -- ---- all of them changed
 

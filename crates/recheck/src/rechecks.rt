@@ -1,6 +1,7 @@
 //! Which fixes a track's summaries still bear out, and those that they do not taken out.
 
-ghost use Rattle.std.specs.Prelude.{◌≡◌, true, map};
+ghost use Rattle.std.specs.Prelude.{◌≡◌, true, ℕ, List, IsTrue, map};
+ghost use mathlib.Core.List.{Memᴰ};
 ghost use Rattle.std.specs.List.{list_any};
 ghost use Rattle.models.specs.Answers.{listed};
 ghost use Rattle.tracked.specs.Parts.{Sound};
@@ -69,13 +70,10 @@ fn drop_stale(held: &mut Transmission<'_>, summaries: Summaries)
 }
 
 // Decides a transmission again, in its bytes, without the fixes that do not stand.
-fn renew(b: &mut [u8], summaries: Summaries)
+fn decide_standing(b: &mut [u8; TRANSMISSION_SIZE], summaries: Summaries)
     requires { Sound b.old }
     ensures { b.new ≡ S.standing_bytes (listed summaries.entry) b.old }
 {
-    let Some(b) = b.as_mut_array() else {
-        return;
-    };
     let was = *b;
     let mut held = Transmission::read(&Block::of(&was));
     drop_stale(&mut held, summaries);
@@ -84,20 +82,38 @@ fn renew(b: &mut [u8], summaries: Summaries)
     held.write(b);
 }
 
+// The same. Where the transmission is settled and all its fixes stand, it is only read.
+fn renew(b: &mut [u8], summaries: Summaries, settled: bool)
+    requires { S.Known settled b.old }
+    ensures { b.new ≡ S.standing_bytes (listed summaries.entry) b.old }
+{
+    let Some(b) = b.as_mut_array() else {
+        return;
+    };
+    if settled {
+        if !has_stale(summaries, &Block::of(b)) {
+            return;
+        }
+    }
+    decide_standing(b, summaries);
+}
+
 // Decides the first n transmissions of a table again, without the fixes that do not stand.
-fn renew_all(t: &mut [u8], n: usize, summaries: Summaries)
-    requires { Filled t.old n }
+fn renew_all(t: &mut [u8], n: usize, summaries: Summaries, settled: bool)
+    requires filled { Filled t.old n }
+    requires known { (b : List ℕ) → Memᴰ b (blocks n t.old) → S.Known settled b }
     ensures { t.new ≡ block_table (map (S.standing_bytes (listed summaries.entry)) (blocks n t.old)) }
 {
     for i in 0..n {
         let at = i * TRANSMISSION_SIZE;
-        renew(&mut t[at..at + TRANSMISSION_SIZE], summaries);
+        renew(&mut t[at..at + TRANSMISSION_SIZE], summaries, settled);
     }
 }
 
 // Takes the fixes that do not stand out of a track.
-fn take_out(memory: &mut [u8])
-    requires { well_formed memory.old ≡ true }
+fn take_out(memory: &mut [u8], settled: bool)
+    requires track { well_formed memory.old ≡ true }
+    requires settled { IsTrue settled → S.AllSettled (decode memory.old).transmissions }
     ensures { memory.new ≡ encode (with_transmissions (arranged (map (T.standing (decode memory.old).summaries) (decode memory.old).transmissions)) (decode memory.old)) }
 {
     let (head, transmissions) = memory.split_at_mut(layout::TRANSMISSIONS_AT);
@@ -107,9 +123,21 @@ fn take_out(memory: &mut [u8])
         table: &head[layout::SUMMARIES_AT..],
         count: n,
     };
-    renew_all(transmissions, count, summaries);
+    renew_all(transmissions, count, summaries, settled);
     let left = arrange::arrange(transmissions, count);
     head[layout::TRANSMISSION_COUNT_AT] = left as u8;
+}
+
+/// Takes the fixes that do not stand out of a track, of which it may be known that every transmission is settled: then those of which
+/// every fix stands are left alone.
+pub fn recheck_settled(memory: &mut [u8], settled: bool)
+    requires track { well_formed memory.old ≡ true }
+    requires settled { IsTrue settled → S.AllSettled (decode memory.old).transmissions }
+    ensures { memory.new ≡ encode (T.recheck (decode memory.old)) }
+{
+    if any_stale(memory) {
+        take_out(memory, settled);
+    }
 }
 
 /// Takes the fixes that do not stand out of a track. Where all stand it is only read.
@@ -117,7 +145,5 @@ pub fn recheck(memory: &mut [u8])
     requires { well_formed memory.old ≡ true }
     ensures { memory.new ≡ encode (T.recheck (decode memory.old)) }
 {
-    if any_stale(memory) {
-        take_out(memory);
-    }
+    recheck_settled(memory, false);
 }

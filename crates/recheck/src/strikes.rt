@@ -1,15 +1,17 @@
 //! An engine struck from a track: its signatures and its summaries.
 
-ghost use Rattle.std.specs.Prelude.{◌≡◌, true, map, ◌≤◌, length, set};
+ghost use Rattle.std.specs.Prelude.{◌≡◌, true, IsTrue, map, ◌≤◌, length, set};
 ghost use Rattle.octets.specs.Writes.{put_word};
+ghost use Rattle.tracked.specs.Bytes.{transmission_in};
 ghost use Rattle.tracked.specs.Parts.{Sound};
+ghost use Rattle.normalize.specs.Taking.{Settled};
 ghost use Rattle.arrange.specs.Blocks.{blocks, block_table, Filled};
 ghost use Rattle.stored.specs.Layout as L;
 ghost use Rattle.stored.specs.Memory.{well_formed, decode, encode};
-ghost use Rattle.recheck.specs.Recheck.{recheck, unsigned, strike_engine};
+ghost use Rattle.recheck.specs.Recheck.{recheck, unsigned, without_engine, strike_engine};
 ghost use Rattle.recheck.specs.Steps as S;
 
-use crate::rechecks::recheck;
+use crate::rechecks::recheck_settled;
 use held::engines::{Engine, Signers};
 use held::strikes::strike_summaries;
 use normalize::blocks::renew;
@@ -39,30 +41,45 @@ fn unsign_all(held: &mut Transmission<'_>, engine: Engine)
     }
 }
 
-// Decides a transmission again, in its bytes, without an engine.
-fn strike_fixes(b: &mut [u8], engine: Engine)
+// Decides a transmission again, in its bytes, without an engine, and tells whether it is settled then.
+fn strike_fixes(b: &mut [u8; TRANSMISSION_SIZE], engine: Engine) -> bool
     requires { Sound b.old }
-    ensures { b.new ≡ S.without_bytes engine.number b.old }
+    ensures left { b.new ≡ S.without_bytes engine.number b.old }
+    ensures settled { IsTrue result → Settled (without_engine engine.number (transmission_in b.old)) }
 {
-    let Some(b) = b.as_mut_array() else {
-        return;
-    };
     let was = *b;
     let mut held = Transmission::read(&Block::of(&was));
     unsign_all(&mut held, engine);
-    renew(&mut held);
+    let settled = renew(&mut held);
     held.write(b);
+    settled
 }
 
-// Decides the first n transmissions of a table again, without an engine.
-fn strike_all(t: &mut [u8], n: usize, engine: Engine)
-    requires { Filled t.old n }
-    ensures { t.new ≡ block_table (map (S.without_bytes engine.number) (blocks n t.old)) }
+// The same, of bytes that are as many.
+fn strike_bytes(b: &mut [u8], engine: Engine) -> bool
+    requires { Sound b.old }
+    ensures left { b.new ≡ S.without_bytes engine.number b.old }
+    ensures settled { IsTrue result → Settled (without_engine engine.number (transmission_in b.old)) }
 {
+    match b.as_mut_array() {
+        Some(b) => strike_fixes(b, engine),
+        None => false,
+    }
+}
+
+// Decides the first n transmissions of a table again, without an engine, and tells whether all are settled then.
+fn strike_all(t: &mut [u8], n: usize, engine: Engine) -> bool
+    requires { Filled t.old n }
+    ensures left { t.new ≡ block_table (map (S.without_bytes engine.number) (blocks n t.old)) }
+    ensures settled { IsTrue result → S.AllSettled (map (without_engine engine.number) (map transmission_in (blocks n t.old))) }
+{
+    let mut settled = true;
     for i in 0..n {
         let at = i * TRANSMISSION_SIZE;
-        strike_fixes(&mut t[at..at + TRANSMISSION_SIZE], engine);
+        let one = strike_bytes(&mut t[at..at + TRANSMISSION_SIZE], engine);
+        settled = settled & one;
     }
+    settled
 }
 
 // Writes the convicted engines and both counts.
@@ -75,19 +92,21 @@ fn put_header(head: &mut [u8], convicted: Signers, summaries: u16, transmissions
     head[layout::TRANSMISSION_COUNT_AT] = transmissions;
 }
 
-// Strikes an engine from a track.
-fn strike(memory: &mut [u8], engine: Engine)
+// Strikes an engine from a track, and tells whether all transmissions are settled then.
+fn strike(memory: &mut [u8], engine: Engine) -> bool
     requires { well_formed memory.old ≡ true }
-    ensures { memory.new ≡ encode (strike_engine engine.number (decode memory.old)) }
+    ensures left { memory.new ≡ encode (strike_engine engine.number (decode memory.old)) }
+    ensures settled { IsTrue result → S.AllSettled (strike_engine engine.number (decode memory.old)).transmissions }
 {
     let (head, transmissions) = memory.split_at_mut(layout::TRANSMISSIONS_AT);
     let convicted = Signers(u32_at(head, layout::CONVICTED_AT));
     let n = u16_at(head, layout::SUMMARY_COUNT_AT) as usize;
     let count = head[layout::TRANSMISSION_COUNT_AT] as usize;
-    strike_all(transmissions, count, engine);
+    let settled = strike_all(transmissions, count, engine);
     let left = arrange::arrange(transmissions, count);
     let summaries = strike_summaries(&mut head[layout::SUMMARIES_AT..], n, engine);
     put_header(head, convicted.with(engine), summaries as u16, left as u8);
+    settled
 }
 
 /// Strikes an engine from a track, and checks the fixes again.
@@ -95,6 +114,6 @@ pub fn convict(memory: &mut [u8], engine: Engine)
     requires { well_formed memory.old ≡ true }
     ensures { memory.new ≡ encode (recheck (strike_engine engine.number (decode memory.old))) }
 {
-    strike(memory, engine);
-    recheck(memory);
+    let settled = strike(memory, engine);
+    recheck_settled(memory, settled);
 }

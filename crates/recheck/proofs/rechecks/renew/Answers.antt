@@ -1,15 +1,16 @@
-use Rattle.std.proofs.Common.{ap, ◌∙◌}
+use Rattle.std.proofs.Common.{sym, ap, ◌∙◌}
 use Rattle.models.specs.Answers.{listed}
-use Rattle.tracked.specs.Held.{held_in}
-use Rattle.tracked.specs.Bytes.{transmission_in, transmission_bytes}
-use Rattle.normalize.specs.Normal.{normalized}
-use Rattle.recheck.specs.Recheck.{stands}
-use Rattle.recheck.specs.Steps.{passing}
-use Rattle.recheck.proofs.Standing.{passing-held}
+use Rattle.tracked.specs.Bytes.{transmission_in}
+use Rattle.recheck.specs.Recheck.{has_stale}
+use Rattle.recheck.specs.Steps.{standing_bytes}
+use Rattle.recheck.proofs.Settled.{left-alone}
 use Rattle.recheck.proofs.rechecks.renew.Goals as goal
 
+pub returns-then-not-has_stale : goal.returns-then-not-has_stale
+returns-then-not-has_stale c =
+    let ss = listed c.args.summaries in
+    let same = c.in-Some.ensures.cases.same in
+    same ∙ left-alone ss c.args.settled c.args.b.now c.requires c.if-settled.true (sym (c.has_stale.ensures ∙ ap (has_stale ss) (c.of.ensures ∙ ap transmission_in same)) ∙ c.if-not-has_stale.true)
+
 pub returns : goal.returns
-returns c =
-    let test = stands (listed c.args.summaries) in
-    let left = c.learn.ensures ∙ c.drop_stale.ensures ∙ ap (passing test) (c.read-held.ensures ∙ c.of.ensures ∙ ap transmission_in c.in-Some.ensures.cases.same) in
-    c.write.ensures ∙ ap transmission_bytes (c.decide_again.ensures.again ∙ ap (λ t. normalized (held_in t)) left ∙ ap normalized (passing-held test (transmission_in c.args.b.now)))
+returns c = c.decide_standing.ensures ∙ ap (standing_bytes (listed c.args.summaries)) c.in-Some.ensures.cases.same

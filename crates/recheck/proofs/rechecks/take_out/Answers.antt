@@ -14,6 +14,7 @@ use Rattle.recheck.proofs.Renewing.{arranged-at-most}
 use Rattle.recheck.proofs.Heads.{summaries-read, count-read, table-read, head-counted, with-table}
 use Rattle.recheck.proofs.Arranging.{bytes-filled, count-left, table-left}
 use Rattle.recheck.proofs.Rechecked.{us, us-kept, us-count, us-few, us-bytes, encoded}
+use Rattle.recheck.proofs.Settled.{known}
 use Rattle.recheck.proofs.rechecks.take_out.Goals as goal
 
 -- the bytes of the transmissions that are decided again
@@ -23,26 +24,32 @@ renewed m o y n k s t r n-is s-is bs-are e =
     e ∙ ap₂ (λ (ss bs : List (List ℕ)). block_table (map (standing_bytes ss) bs)) (ap₂ (places summary_size) n-is s-is) bs-are ∙ ap block_table (us-bytes m o y)
 
 pub split_at_mut-head-requires : goal.split_at_mut-head-requires
-split_at_mut-head-requires c = omega (arith, (opened c.args.memory.now c.requires).size)
+split_at_mut-head-requires c = omega (arith, (opened c.args.memory.now c.requires.track).size)
 
 pub invariant_of-summaries : goal.invariant_of-summaries
 invariant_of-summaries c =
     let m = c.args.memory.now in
-    let o = opened m c.requires in
+    let o = opened m c.requires.track in
     let h = c.split_at_mut-head.result.0.now in
     let e = c.split_at_mut-head.ensures.front in
     let n = c.u16_at-n.ensures ∙ summaries-read m h e in
     record { within = rw (table-read m h e, summary-bytes-length m o) (omega (arith, o.few_summaries, n)) }
 
-pub renew_all-requires : goal.renew_all-requires
-renew_all-requires c =
+pub renew_all-requires-clause-known : goal.renew_all-requires-clause-known
+renew_all-requires-clause-known c =
     let m = c.args.memory.now in
-    rw (c.split_at_mut-head.ensures.back, count-read m c.split_at_mut-head.result.0.now c.split_at_mut-head.ensures.front) (filled m (opened m c.requires))
+    let y : Bytes m = all-bytes m (search rules) in
+    rw (c.split_at_mut-head.ensures.back, count-read m c.split_at_mut-head.result.0.now c.split_at_mut-head.ensures.front) (known m (opened m c.requires.track) y c.args.settled c.requires.settled)
+
+pub renew_all-requires-clause-filled : goal.renew_all-requires-clause-filled
+renew_all-requires-clause-filled c =
+    let m = c.args.memory.now in
+    rw (c.split_at_mut-head.ensures.back, count-read m c.split_at_mut-head.result.0.now c.split_at_mut-head.ensures.front) (filled m (opened m c.requires.track))
 
 pub arrange-left-requires : goal.arrange-left-requires
 arrange-left-requires c =
     let m = c.args.memory.now in
-    let o = opened m c.requires in
+    let o = opened m c.requires.track in
     let y : Bytes m = all-bytes m (search rules) in
     let h = c.split_at_mut-head.result.0.now in
     let e = c.split_at_mut-head.ensures.front in
@@ -53,7 +60,7 @@ arrange-left-requires c =
 pub overflow_cast-head : goal.overflow_cast-head
 overflow_cast-head c =
     let m = c.args.memory.now in
-    let o = opened m c.requires in
+    let o = opened m c.requires.track in
     let y : Bytes m = all-bytes m (search rules) in
     let h = c.split_at_mut-head.result.0.now in
     let e = c.split_at_mut-head.ensures.front in
@@ -66,7 +73,7 @@ pub returns : goal.returns
 unfolding decode
 returns c =
     let m = c.args.memory.now in
-    let o = opened m c.requires in
+    let o = opened m c.requires.track in
     let y : Bytes m = all-bytes m (search rules) in
     let h = c.split_at_mut-head.result.0.now in
     let e = c.split_at_mut-head.ensures.front in

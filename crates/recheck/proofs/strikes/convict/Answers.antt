@@ -1,5 +1,5 @@
 use Prim.Native.Nat.{ℕ}
-use mathlib.Core.Path.{ap, ◌∙◌}
+use mathlib.Core.Path.{sym, ap, ◌∙◌, subst}
 use mathlib.Core.List.{List}
 use native.Mathlib.Omega.{arith}
 use borrow.Author.Rules.{rules}
@@ -10,16 +10,25 @@ use Rattle.stored.specs.Memory.{decode, encode}
 use Rattle.stored.proofs.Opened.{opened}
 use Rattle.stored.proofs.Valid.{Valid, decode-valid, formed-encode, decode-encode}
 use Rattle.recheck.specs.Recheck.{recheck, strike_engine}
+use Rattle.recheck.specs.Steps.{AllSettled}
 use Rattle.recheck.proofs.Renewing.{strike-valid}
 use Rattle.recheck.proofs.strikes.convict.Goals as goal
 
-pub recheck-requires : goal.recheck-requires
-recheck-requires c =
+pub recheck_settled-requires-clause-track : goal.recheck_settled-requires-clause-track
+recheck_settled-requires-clause-track c =
     let m : List ℕ = c.args.memory.now in
     let bytes : Bytes m = all-bytes m (search rules) in
     let struck : Track = strike_engine c.args.engine.number (decode m) in
     let valid : Valid struck = strike-valid (decode m) (decode-valid m (opened m c.requires) bytes) c.args.engine.number (omega (arith, c.args.engine.small)) in
-    rw c.strike.ensures (formed-encode struck valid)
+    rw c.strike-settled.ensures.left (formed-encode struck valid)
+
+pub recheck_settled-requires-clause-settled : goal.recheck_settled-requires-clause-settled
+recheck_settled-requires-clause-settled c h =
+    let m : List ℕ = c.args.memory.now in
+    let bytes : Bytes m = all-bytes m (search rules) in
+    let struck : Track = strike_engine c.args.engine.number (decode m) in
+    let valid : Valid struck = strike-valid (decode m) (decode-valid m (opened m c.requires) bytes) c.args.engine.number (omega (arith, c.args.engine.small)) in
+    subst (λ (x : Track). AllSettled x.transmissions) (sym (ap decode c.strike-settled.ensures.left ∙ decode-encode struck valid)) (c.strike-settled.ensures.settled h)
 
 pub returns : goal.returns
 returns c =
@@ -27,4 +36,4 @@ returns c =
     let bytes : Bytes m = all-bytes m (search rules) in
     let struck : Track = strike_engine c.args.engine.number (decode m) in
     let valid : Valid struck = strike-valid (decode m) (decode-valid m (opened m c.requires) bytes) c.args.engine.number (omega (arith, c.args.engine.small)) in
-    c.recheck.ensures ∙ ap (λ (l : List ℕ). encode (recheck (decode l))) c.strike.ensures ∙ ap (λ (x : Track). encode (recheck x)) (decode-encode struck valid)
+    c.recheck_settled.ensures ∙ ap (λ (l : List ℕ). encode (recheck (decode l))) c.strike-settled.ensures.left ∙ ap (λ (x : Track). encode (recheck x)) (decode-encode struck valid)
