@@ -29,6 +29,7 @@ use Rattle.arrange.specs.Blocks.{has_fix_in, older_block, arranged_blocks, lates
 use Rattle.arrange.specs.declared.leads.Lead.{Lead}
 use Rattle.arrange.specs.Leads.{put_behind, entered, kept_of, before, place_of, lead_of, leads_from, order_of}
 use Rattle.arrange.proofs.Stable.{insert-none, insert-yes, insert-no, Weak}
+use Rattle.arrange.proofs.Tables.{drop-in}
 use Rattle.arrange.proofs.Values.{map-drop}
 
 -- ---- a sort from the first to the last
@@ -230,13 +231,8 @@ module _ (bs : List (List ℕ)) where
   order-count = sym (length-map (order_of (map transmission_in bs)) (block_in bs)) ∙ ap length order-are
 
   pub order-within : (i : ℕ) → i < length (order_of (map transmission_in bs)) → get_or (order_of (map transmission_in bs)) i 0 < length bs
-  order-within i h = go (last_of max_transmissions sorted) (λ x m. leads-named bs [] x (sort-in before (leads_in 0 bs) x (dropped sorted (length sorted - max_transmissions) x m))) i h
+  order-within i h = go (last_of max_transmissions sorted) (λ x m. leads-named bs [] x (sort-in before (leads_in 0 bs) x (drop-in sorted (length sorted - max_transmissions) x m))) i h
     where
-      dropped : (l : List Lead) (k : ℕ) (x : Lead) → Memᴰ x (drop k l) → Memᴰ x l
-      dropped l zero x m = m
-      dropped [] (suc k) x m = m
-      dropped (y ∷ l) (suc k) x m = Memᴰ.tail (dropped l k x m)
-
       go : (l : List Lead) → ((x : Lead) → Memᴰ x l → Names bs x) → (i : ℕ) → i < length (map place_of l) → get_or (map place_of l) i 0 < length bs
       go [] n i h = absurd (omega arith)
       go (x ∷ l) n zero h = (n x (Memᴰ.head refl)).among

@@ -19,7 +19,7 @@ use Rattle.octets.proofs.Numbers.{bytes_take, bytes_drop, length-word-bytes}
 use Rattle.octets.proofs.Zeros.{run-zero}
 use Rattle.places.specs.Places.{flat, table_of, all_places}
 use Rattle.places.proofs.Walks.{part_in}
-use Rattle.places.proofs.Tables.{wide, flat-length, places-flat, length-places, places-wide, table-length}
+use Rattle.places.proofs.Tables.{wide, flat-length, places-flat, length-places, places-wide}
 use Rattle.record.specs.Layout.{record_size}
 use Rattle.record.specs.Formed as R
 use Rattle.items.specs.Layout.{hash_size}
@@ -35,7 +35,7 @@ use Rattle.tracked.specs.Layout as L
 use Rattle.tracked.specs.Held.{HeldTransmission, fix_of, held_in}
 use Rattle.tracked.specs.Bytes.{record_in, signers_in, fix_in, fix_bytes, refused_in, refused_bytes, fix_count, refused_count, fix_table, refused_table, fix_places, refused_places, filled_by, transmission_formed, transmission_in, transmission_bytes}
 use Rattle.tracked.specs.Parts.{record_formed, Sound}
-use Rattle.tracked.proofs.Encoding.{ValidFix, ValidRefused, Valid, Bounded, Canonical, fix-length, refused-length, fix-count-back, refused-count-back, bytes-of-places, wide-in}
+use Rattle.tracked.proofs.Encoding.{ValidFix, ValidRefused, Valid, Bounded, Canonical, wide-fixes, wide-refused, fix-table, refused-table, fix-count-back, refused-count-back, bytes-of-places, wide-in}
 
 -- ---- places that all pass a test
 
@@ -73,10 +73,6 @@ of_map g P (x ∷ l) f y m = or (Memᴰ.cases_cons m) (λ e. rw e (f x (Memᴰ.h
 pub mem-map : {A B : Type 0} (g : A → B) {x : A} (l : List A) → Memᴰ x l → Memᴰ (g x) (map g l)
 mem-map g [] i = absurd (Memᴰ.not-nil i)
 mem-map g (y ∷ l) i = or (Memᴰ.cases_cons i) (λ e. Memᴰ.head (ap g e)) (λ k. Memᴰ.tail (mem-map g l k))
-
-pub wide-map : {A : Type 0} (w : ℕ) (to : A → List ℕ) (l : List A) → ((x : A) → Memᴰ x l → length (to x) ≡ w) → wide w (map to l)
-wide-map w to [] e = tt
-wide-map w to (x ∷ l) e = (e x (Memᴰ.head refl), wide-map w to l (λ y m. e y (Memᴰ.tail m)))
 
 -- ---- a fix that a track may hold where the engines c are convicted
 
@@ -248,43 +244,29 @@ module _ (c : ℕ) (t : HeldTransmission) (h : Held c t) where
   abbrev rs : List (List ℕ)
   rs = map refused_bytes t.refused
 
-  wide-fs : wide L.fix_size fs
-  wide-fs = wide-map L.fix_size fix_bytes t.fixes (λ f m. fix-length f (h.kept.valid.fixes f m))
-
-  wide-rs : wide L.refused_size rs
-  wide-rs = wide-map L.refused_size refused_bytes t.refused (λ x m. refused-length x (h.kept.valid.refused x m))
-
-  fs-length : length (table_of L.fix_size L.max_standing fs) ≡ L.fixes_size
-  fs-length = table-length L.fix_size L.max_standing fs wide-fs (rw (length-map t.fixes fix_bytes) h.kept.valid.few)
+  abbrev v : Valid t
+  v = h.kept.valid
 
   fs-begin : all_places (begin_formed c) fs ≡ true
-  fs-begin = all_pass (begin_formed c) fs (of_map fix_bytes (λ p. begin_formed c p ≡ true) t.fixes (λ f m. ap (begin_formed c) (sym (append-nil (fix_bytes f))) ∙ begins-with c f (h.kept.valid.fixes f m) (h.kept.held f (Memᴰ.append_left (map fix_of t.refused) m)) []))
+  fs-begin = all_pass (begin_formed c) fs (of_map fix_bytes (λ p. begin_formed c p ≡ true) t.fixes (λ f m. ap (begin_formed c) (sym (append-nil (fix_bytes f))) ∙ begins-with c f (v.fixes f m) (h.kept.held f (Memᴰ.append_left (map fix_of t.refused) m)) []))
 
   rs-begin : all_places (begin_formed c) rs ≡ true
-  rs-begin = all_pass (begin_formed c) rs (of_map refused_bytes (λ p. begin_formed c p ≡ true) t.refused (λ x m. begins-with c x.fix (h.kept.valid.refused x m).fix (h.kept.held x.fix (Memᴰ.append_right t.fixes (mem-map fix_of t.refused m))) (x.against ++ word_bytes 8 x.chi2)))
-
-  fix-table : fix_table (transmission_bytes t) ≡ table_of L.fix_size L.max_standing fs
-  unfolding transmission_bytes
-  fix-table = take_at (table_of L.fix_size L.max_standing fs) (table_of L.refused_size L.max_refused rs) L.fixes_size fs-length
-
-  refused-table : refused_table (transmission_bytes t) ≡ table_of L.refused_size L.max_refused rs
-  unfolding transmission_bytes
-  refused-table = drop_at (table_of L.fix_size L.max_standing fs) (table_of L.refused_size L.max_refused rs) L.fixes_size fs-length
+  rs-begin = all_pass (begin_formed c) rs (of_map refused_bytes (λ p. begin_formed c p ≡ true) t.refused (λ x m. begins-with c x.fix (v.refused x m).fix (h.kept.held x.fix (Memᴰ.append_right t.fixes (mem-map fix_of t.refused m))) (x.against ++ word_bytes 8 x.chi2)))
 
   abbrev b : List ℕ
   b = transmission_bytes t
 
   count : fix_count b ≡ length fs
-  count = fix-count-back t h.kept.valid ∙ sym (length-map t.fixes fix_bytes)
+  count = fix-count-back t v ∙ sym (length-map t.fixes fix_bytes)
 
   count-refused : refused_count b ≡ length rs
-  count-refused = refused-count-back t h.kept.valid ∙ sym (length-map t.refused refused_bytes)
+  count-refused = refused-count-back t v ∙ sym (length-map t.refused refused_bytes)
 
   fixes-filled : filled_by (begin_formed c) L.fix_size (fix_count b) (fix_table b) ≡ true
-  fixes-filled = ap₂ (λ (n : ℕ) (l : List ℕ). filled_by (begin_formed c) L.fix_size n l) count fix-table ∙ filled_of (begin_formed c) L.fix_size L.max_standing fs wide-fs fs-begin
+  fixes-filled = ap₂ (λ (n : ℕ) (l : List ℕ). filled_by (begin_formed c) L.fix_size n l) count (fix-table t v) ∙ filled_of (begin_formed c) L.fix_size L.max_standing fs (wide-fixes t v) fs-begin
 
   refused-filled : filled_by (begin_formed c) L.refused_size (refused_count b) (refused_table b) ≡ true
-  refused-filled = ap₂ (λ (n : ℕ) (l : List ℕ). filled_by (begin_formed c) L.refused_size n l) count-refused refused-table ∙ filled_of (begin_formed c) L.refused_size L.max_refused rs wide-rs rs-begin
+  refused-filled = ap₂ (λ (n : ℕ) (l : List ℕ). filled_by (begin_formed c) L.refused_size n l) count-refused (refused-table t v) ∙ filled_of (begin_formed c) L.refused_size L.max_refused rs (wide-refused t v) rs-begin
 
   pub block-formed : transmission_formed (begin_formed c) (transmission_bytes t) ≡ true
   unfolding transmission_formed
@@ -294,8 +276,8 @@ module _ (c : ℕ) (t : HeldTransmission) (h : Held c t) where
       let a₃ = leb (refused_count b) L.max_refused in
       let a₄ = filled_by (begin_formed c) L.fix_size (fix_count b) (fix_table b) in
       let a₅ = filled_by (begin_formed c) L.refused_size (refused_count b) (refused_table b) in
-      let n = fix-count-back t h.kept.valid in
-      let k = refused-count-back t h.kept.valid in
+      let n = fix-count-back t v in
+      let k = refused-count-back t v in
       and_both a₁ (a₂ && (a₃ && (a₄ && a₅))) (le-leb 1 (fix_count b) (rw n h.some))
-      (and_both a₂ (a₃ && (a₄ && a₅)) (le-leb (fix_count b) L.max_standing (rw n h.kept.valid.few))
-      (and_both a₃ (a₄ && a₅) (le-leb (refused_count b) L.max_refused (rw k h.kept.valid.few_refused)) (and_both a₄ a₅ fixes-filled refused-filled)))
+      (and_both a₂ (a₃ && (a₄ && a₅)) (le-leb (fix_count b) L.max_standing (rw n v.few))
+      (and_both a₃ (a₄ && a₅) (le-leb (refused_count b) L.max_refused (rw k v.few_refused)) (and_both a₄ a₅ fixes-filled refused-filled)))

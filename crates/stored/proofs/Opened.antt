@@ -1,5 +1,5 @@
 -- What bytes that are a track show: its parts, its transmissions, and that they are the bytes of what they hold.
-use Prim.Native.Nat.{ℕ, zero, suc, ◌+◌, ◌*◌, ◌≤◌, ◌<◌}
+use Prim.Native.Nat.{ℕ, ◌+◌, ◌*◌, ◌≤◌}
 use mathlib.Core.Path.{◌≡◌, refl, sym, ap, ap₂, ◌∙◌}
 use mathlib.Core.Bool.{true, ◌&&◌}
 use mathlib.Core.List.{List, [], ◌∷◌, ◌++◌, map, Memᴰ}
@@ -160,9 +160,3 @@ module _ (m : List ℕ) (o : Opened m) where
         let k : length (map transmission_in (transmission_places m)) ≡ transmission_count m = length-map (transmission_places m) transmission_in ∙ transmissions-length in
         let t : table_of transmission_size max_transmissions (map transmission_bytes (map transmission_in (transmission_places m))) ≡ transmission_table m = ap (table_of transmission_size max_transmissions) blocks-back ∙ sym transmissions-are in
         frame_same (convicted_in m) (contested_in m) summaries-length k (sym summaries-are) t ∙ sym framed
-
--- a member by its place
-pub mem-at : {A : Type 0} (l : List A) (i : ℕ) (d : A) → i < length l → Memᴰ (get_or l i d) l
-mem-at [] i d h = absurd (omega arith)
-mem-at (x ∷ l) zero d h = Memᴰ.head refl
-mem-at (x ∷ l) (suc i) d h = Memᴰ.tail (mem-at l i d (omega arith))

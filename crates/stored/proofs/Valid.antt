@@ -25,7 +25,7 @@ use Rattle.stored.specs.Layout.{pair_size, zero_at, contested_at, transmissions_
 use Rattle.stored.specs.Track.{Track, Outcome}
 use Rattle.stored.specs.Memory.{convicted_in, summary_count, transmission_count, contested_in, summary_table, transmission_table, summaries_in, transmission_places, well_formed, decode, encode, commit, on_memory}
 use Rattle.stored.proofs.Frames.{frame-length, read-convicted, read-summary-count, read-transmission-count, read-zero, read-contested, frame-summaries, frame-transmissions}
-use Rattle.stored.proofs.Blocks.{all_pass, of_map, wide-map, filled_of, Held, block-formed}
+use Rattle.stored.proofs.Blocks.{all_pass, of_map, filled_of, Held, block-formed}
 use Rattle.stored.proofs.Opened.{Opened, summaries-length, summaries-wide, summaries-ascend, transmissions-length, all_held}
 
 pub record Valid (s : Track) : Type 0 where
@@ -58,7 +58,7 @@ module _ (s : Track) (v : Valid s) where
   t₂ = table_of transmission_size max_transmissions bs
 
   bs-wide : wide transmission_size bs
-  bs-wide = wide-map transmission_size transmission_bytes s.transmissions (λ t i. E.bytes-length t (v.held t i).kept.valid)
+  bs-wide = E.map-wide transmission_size transmission_bytes s.transmissions (λ t i. E.bytes-length t (v.held t i).kept.valid)
 
   bs-length : length bs ≡ nt
   bs-length = length-map s.transmissions transmission_bytes

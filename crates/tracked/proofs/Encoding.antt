@@ -146,11 +146,11 @@ module _ (t : HeldTransmission) (v : Valid t) where
   unfolding transmission_bytes
   bytes-length = rw length-append (omega (arith, fixes-length, refused-table-length))
 
-  fix-table : fix_table (transmission_bytes t) ≡ table_of L.fix_size L.max_standing fs
+  pub fix-table : fix_table (transmission_bytes t) ≡ table_of L.fix_size L.max_standing fs
   unfolding transmission_bytes
   fix-table = take_at (table_of L.fix_size L.max_standing fs) (table_of L.refused_size L.max_refused rs) L.fixes_size fixes-length
 
-  refused-table : refused_table (transmission_bytes t) ≡ table_of L.refused_size L.max_refused rs
+  pub refused-table : refused_table (transmission_bytes t) ≡ table_of L.refused_size L.max_refused rs
   unfolding transmission_bytes
   refused-table = drop_at (table_of L.fix_size L.max_standing fs) (table_of L.refused_size L.max_refused rs) L.fixes_size fixes-length
 

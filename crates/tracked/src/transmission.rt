@@ -31,27 +31,27 @@ impl<'a> Model for Transmission<'a> {
 }
 
 // Writes a table of fixes.
-fn write_fixes(out: &mut [u8], fixes: &[Fix<'_>])
-    requires size { length out.old ≡ L.fixes_size }
-    requires few { length fixes.now ≤ L.max_standing }
-    ensures { out.new ≡ table_of L.fix_size L.max_standing (map B.fix_bytes fixes.now) }
+fn write_fixes(out: &mut [u8], fixes: &ArrayVec<Fix<'_>, MAX_STANDING>)
+    requires { length out.old ≡ L.fixes_size }
+    ensures { out.new ≡ table_of L.fix_size L.max_standing (map B.fix_bytes fixes.now.items) }
 {
     octets::runs::clear(out);
     let mut at = 0;
-    for fix in fixes {
+    let all = fixes.as_slice();
+    for fix in all {
         at = fix.put(out, at);
     }
 }
 
 // Writes a table of refused fixes.
-fn write_refused(out: &mut [u8], refused: &[RefusedFix<'_>])
-    requires size { length out.old ≡ L.refused_table_size }
-    requires few { length refused.now ≤ L.max_refused }
-    ensures { out.new ≡ table_of L.refused_size L.max_refused (map B.refused_bytes refused.now) }
+fn write_refused(out: &mut [u8], refused: &ArrayVec<RefusedFix<'_>, MAX_REFUSED>)
+    requires { length out.old ≡ L.refused_table_size }
+    ensures { out.new ≡ table_of L.refused_size L.max_refused (map B.refused_bytes refused.now.items) }
 {
     octets::runs::clear(out);
     let mut at = 0;
-    for refusal in refused {
+    let all = refused.as_slice();
+    for refusal in all {
         at = refusal.put(out, at);
     }
 }
