@@ -1,7 +1,7 @@
-//! What the programs ask of std's readers: a buffer that is read full, and buffers to read into.
+//! What the programs read and print: so many bytes, or as many as are left; buffers to read into; and a hash in hex.
 #![tactic(auto)]
 
-ghost use Rattle.std.specs.Prelude.{◌≡◌, ◌<◌, length, take, replicate, IfOk};
+ghost use Rattle.std.specs.Prelude.{◌≡◌, ◌<◌, length, take, replicate, IfOk, IfSome};
 ghost use Rattle.std.specs.Io.{ReadsAtMost};
 ghost use Rattle.std.specs.Io.KnownBytes.{Consumes, IsAtEnd};
 
@@ -48,4 +48,43 @@ pub fn fill<R: Read>(reader: &mut R, buf: &mut [u8]) -> io::Result<usize>
         done += n;
     }
     Ok(done)
+}
+
+/// The next N bytes of standard input; none where it ends before.
+pub fn array<const N: usize>(rt: &impl Input) -> io::Result<Option<[u8; N]>> {
+    let mut bytes = [0; N];
+    let n = read_full(rt, &mut bytes)?;
+    if n < N {
+        return Ok(None);
+    }
+    Ok(Some(bytes))
+}
+
+/// The next n bytes of standard input, into the front of buf; none where the input ends before, or buf is shorter.
+pub fn part<'a>(rt: &impl Input, buf: &'a mut [u8], n: usize) -> io::Result<Option<&'a [u8]>>
+    ensures { IfOk result (λ o. IfSome o (λ bytes. length bytes.now ≡ n)) }
+{
+    let Some(part) = buf.get_mut(..n) else {
+        return Ok(None);
+    };
+    if read_full(rt, part)? < n {
+        return Ok(None);
+    }
+    Ok(Some(part))
+}
+
+/// As many bytes of standard input as two bytes before them say, the low one first, into the front of buf; none where the input ends
+/// before, or buf is shorter.
+pub fn counted<'a>(rt: &impl Input, buf: &'a mut [u8]) -> io::Result<Option<&'a [u8]>> {
+    let Some(head) = array(rt)? else {
+        return Ok(None);
+    };
+    part(rt, buf, u16::from_le_bytes(head) as usize)
+}
+
+/// Prints a hash in hex.
+pub fn print_hash(rt: &impl Print, hash: [u8; 32]) -> io::Result<()> {
+    let mut text = [0; 64];
+    hex::encode_to_slice(hash, &mut text).unwrap();
+    rt.write_all(&text)
 }

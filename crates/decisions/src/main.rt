@@ -3,17 +3,11 @@
 //! from the rules and the Rust's text.
 #![tactic(auto)]
 
-ghost use Rattle.std.specs.Prelude.{◌<◌};
-
 use arithmetic::standing::ChiSquare;
 use decision::{Decision, Refusal};
 use items::layout::MAX_ITEMS;
 use std::io;
 use verdict::{Comparison, SupersetVerdict};
-
-fn word(rt: &impl Print, text: &[u8]) -> io::Result<()> {
-    rt.write_all(text)
-}
 
 fn show(rt: &impl Print, n: u64) -> io::Result<()> {
     print!(rt; " {n}")
@@ -28,29 +22,25 @@ fn show_bits(rt: &impl Print, x: f64) -> io::Result<()> {
 fn show_chi_square(rt: &impl Print, c: ChiSquare) -> io::Result<()> {
     match c {
         ChiSquare::Measured(x) => show_bits(rt, x),
-        ChiSquare::Unmeasured => word(rt, b" none"),
+        ChiSquare::Unmeasured => print!(rt; " none"),
     }
-}
-
-fn wide(x: u8) -> u64 {
-    x as u64
 }
 
 fn show_places(rt: &impl Print, list: &[u8]) -> io::Result<()> {
     for place in list {
-        show(rt, wide(*place))?;
+        show(rt, *place as u64)?;
     }
     Ok(())
 }
 
 fn show_refusal(rt: &impl Print, r: Refusal) -> io::Result<()> {
     if r.superseded {
-        word(rt, b" superseded")?;
+        print!(rt; " superseded")?;
     } else {
-        word(rt, b" contested")?;
+        print!(rt; " contested")?;
     }
-    show(rt, wide(r.refused))?;
-    show(rt, wide(r.kept))?;
+    show(rt, r.refused as u64)?;
+    show(rt, r.kept as u64)?;
     let chi2 = r.chi2;
     show_chi_square(rt, chi2)
 }
@@ -64,25 +54,24 @@ fn show_refusals(rt: &impl Print, list: &[Refusal]) -> io::Result<()> {
 
 fn show_lists(
     rt: &impl Print,
-    answer: &[u8],
+    answer: u32,
     ranked: &[u8],
     dominated: &[u8],
     refusals: &[Refusal],
 ) -> io::Result<()> {
-    word(rt, answer)?;
-    word(rt, b" ranked")?;
+    print!(rt; "answer {answer} ranked")?;
     show_places(rt, ranked)?;
-    word(rt, b" dominated")?;
+    print!(rt; " dominated")?;
     show_places(rt, dominated)?;
-    word(rt, b" refused")?;
+    print!(rt; " refused")?;
     show_refusals(rt, refusals)?;
-    word(rt, b"\n")
+    println!(rt;)
 }
 
 fn show_decision(rt: &impl Print, decided: Option<Decision<MAX_ITEMS>>) -> io::Result<()> {
     match decided {
-        Some(d) => show_lists(rt, b"answer 0", &d.ranked, &d.dominated, &d.refusals),
-        None => show_lists(rt, b"answer 8", &[], &[], &[]),
+        Some(d) => show_lists(rt, 0, &d.ranked, &d.dominated, &d.refusals),
+        None => show_lists(rt, 8, &[], &[], &[]),
     }
 }
 
@@ -95,22 +84,22 @@ fn show_tags(rt: &impl Print, tags: &[u64]) -> io::Result<()> {
 
 fn show_verdict(rt: &impl Print, v: SupersetVerdict) -> io::Result<()> {
     match v {
-        SupersetVerdict::Malformed => word(rt, b"malformed"),
-        SupersetVerdict::Agrees => word(rt, b"agrees"),
+        SupersetVerdict::Malformed => print!(rt; "malformed"),
+        SupersetVerdict::Agrees => print!(rt; "agrees"),
         SupersetVerdict::Contested(chi2) => show_contested(rt, chi2),
     }
 }
 
 fn show_contested(rt: &impl Print, chi2: ChiSquare) -> io::Result<()> {
-    word(rt, b"contested")?;
+    print!(rt; "contested")?;
     show_chi_square(rt, chi2)
 }
 
 fn show_comparison(rt: &impl Print, comparison: Comparison) -> io::Result<()> {
     show_verdict(rt, comparison.verdict)?;
-    word(rt, b" added")?;
+    print!(rt; " added")?;
     show_tags(rt, &comparison.added)?;
-    word(rt, b"\n")
+    println!(rt;)
 }
 
 // The bytes of a list of items, and of the records of its first two.
@@ -122,34 +111,12 @@ fn run(rt: &impl Print, s: &[u8]) -> io::Result<()> {
     show_comparison(rt, verdict::superset_verdict(&s[0..222], &s[297..519]))
 }
 
-fn size(x: u8) -> usize
-    ensures { result < 256 }
-{
-    x as usize
-}
-
-// Two bytes as a number.
-fn length_of(head: [u8; 2]) -> usize {
-    size(head[0]) + size(head[1]) * 256
-}
-
 // Reads a list and runs it; false at the end of the input.
 fn step(rt: &(impl Input + Print), buffer: &mut [u8]) -> io::Result<bool> {
-    let mut head = [0u8; 2];
-    let got = console::read_full(rt, &mut head)?;
-    if got < 2 {
+    let Some(list) = console::counted(rt, buffer)? else {
         return Ok(false);
-    }
-    let n = length_of(head);
-    if buffer.len() < n {
-        return Ok(false);
-    }
-    let part = &mut buffer[0..n];
-    let read = console::read_full(rt, part)?;
-    if read < n {
-        return Ok(false);
-    }
-    run(rt, &buffer[0..n])?;
+    };
+    run(rt, list)?;
     Ok(true)
 }
 

@@ -7,25 +7,9 @@ ghost use Rattle.std.specs.Prelude.{◌≡◌, ◌≤◌, length};
 
 use std::io;
 
-// The digit of the lower half of a byte.
-fn digit(x: u8) -> u8 {
-    let d = x % 16;
-    if d < 10 { 48 + d } else { 87 + d }
-}
-
-// The digits of a digest, and a line's end.
-fn hex_line(d: [u8; 32]) -> [u8; 65] {
-    let mut line = [b'\n'; 65];
-    for i in 0..32 {
-        line[i * 2] = digit(d[i] / 16);
-        line[i * 2 + 1] = digit(d[i]);
-    }
-    line
-}
-
 fn print_digest(rt: &impl Print, input: &[u8]) -> io::Result<()> {
-    let line = hex_line(hashing::blake2s256(input));
-    rt.write_all(&line)
+    console::print_hash(rt, hashing::blake2s256(input))?;
+    println!(rt;)
 }
 
 fn fill(s: &mut [u8])

@@ -32,12 +32,9 @@ fn show_states(rt: &impl Print, all: Summaries) -> io::Result<()> {
     Ok(())
 }
 
-fn show_hash(rt: &impl Print, hash: &[u8]) -> io::Result<()> {
+fn show_hash(rt: &impl Print, hash: [u8; 32]) -> io::Result<()> {
     print!(rt; " ")?;
-    for x in hash {
-        print!(rt; "{x:02x}")?;
-    }
-    Ok(())
+    console::print_hash(rt, hash)
 }
 
 // What a record is known by.
@@ -45,9 +42,9 @@ fn show_hashes(rt: &impl Print, all: Summaries, r: Record) -> io::Result<()> {
     let inputs = models::citations::cited_inputs(all, r);
     let set = models::identities::set_hash(r);
     let identity = models::identities::identity(&set, &inputs);
-    show_hash(rt, &inputs.0)?;
-    show_hash(rt, &set.0)?;
-    show_hash(rt, &identity.0)
+    show_hash(rt, inputs.0)?;
+    show_hash(rt, set.0)?;
+    show_hash(rt, identity.0)
 }
 
 fn yes_or_no(b: bool) -> &'static str {
@@ -75,25 +72,15 @@ fn run(rt: &impl Print, all: Summaries, bytes: &[u8]) -> io::Result<()> {
 
 // Reads a case and runs it; false at the end of the input.
 fn step(rt: &(impl Input + Print), buffer: &mut [u8]) -> io::Result<bool> {
-    let mut head = [0u8; 2];
-    let got = console::read_full(rt, &mut head)?;
-    if got < 2 {
+    let Some(head) = console::array(rt)? else {
         return Ok(false);
-    }
-    let count = u16::from_le_bytes(head) as usize;
-    let n = RECORD_SIZE + count * SUMMARY_SIZE;
-    if buffer.len() < n {
-        return Ok(false);
-    }
-    let read = console::read_full(rt, &mut buffer[0..n])?;
-    if read < n {
-        return Ok(false);
-    }
-    let all = Summaries {
-        table: &buffer[RECORD_SIZE..n],
-        count,
     };
-    run(rt, all, &buffer[0..RECORD_SIZE])?;
+    let count = u16::from_le_bytes(head) as usize;
+    let Some(case) = console::part(rt, buffer, RECORD_SIZE + count * SUMMARY_SIZE)? else {
+        return Ok(false);
+    };
+    let (record, table) = case.split_at(RECORD_SIZE);
+    run(rt, Summaries { table, count }, record)?;
     Ok(true)
 }
 

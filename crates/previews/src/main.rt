@@ -17,10 +17,6 @@ const NUMBERS: u32 = 33;
 // The greatest number that a preview is refused with.
 const GREATEST_REFUSAL: u32 = 10;
 
-fn word(rt: &impl Print, text: &[u8]) -> io::Result<()> {
-    rt.write_all(text)
-}
-
 fn show_answer(rt: &impl Print, engine: u32, answer: u32) -> io::Result<()> {
     println!(rt; "engine={engine} answer={answer}")
 }
@@ -33,10 +29,6 @@ fn small_buffer() -> [u8; BOARD_SIZE - 1] {
     [0; BOARD_SIZE - 1]
 }
 
-fn register_buffer() -> [u8; REGISTER_SIZE] {
-    [0; REGISTER_SIZE]
-}
-
 // What a preview is answered, and its text.
 fn show_preview(rt: &impl Print, memory: &[u8], engine: u32) -> io::Result<()> {
     let mut out = output_buffer();
@@ -46,7 +38,7 @@ fn show_preview(rt: &impl Print, memory: &[u8], engine: u32) -> io::Result<()> {
         return Ok(());
     }
     let n = answer as usize;
-    word(rt, &out[..n])
+    rt.write_all(&out[..n])
 }
 
 // What it is answered where the output has a byte too few.
@@ -66,13 +58,11 @@ fn show_all(rt: &impl Print, memory: &[u8]) -> io::Result<()> {
 
 // One register; false at the end of the input.
 fn step(rt: &(impl Input + Print)) -> io::Result<bool> {
-    let mut memory = register_buffer();
-    let got = console::read_full(rt, &mut memory)?;
-    if got < REGISTER_SIZE {
+    let Some(memory) = console::array::<REGISTER_SIZE>(rt)? else {
         return Ok(false);
-    }
+    };
     show_all(rt, &memory)?;
-    word(rt, b"\n")?;
+    println!(rt;)?;
     Ok(true)
 }
 

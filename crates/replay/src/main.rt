@@ -17,20 +17,12 @@ const CLAIM_SIZE: usize = 61;
 
 const CLAIMS_SIZE: usize = CLAIM_SIZE + CLAIM_SIZE;
 
-fn word(rt: &impl Print, text: &[u8]) -> io::Result<()> {
-    rt.write_all(text)
-}
-
 fn show(rt: &impl Print, n: u64) -> io::Result<()> {
     print!(rt; " {n}")
 }
 
 fn show_bits(rt: &impl Print, n: u64) -> io::Result<()> {
     print!(rt; " {n:016x}")
-}
-
-fn wide(x: u8) -> u64 {
-    x as u64
 }
 
 fn size(x: u8) -> usize
@@ -90,7 +82,7 @@ fn show_agreement(rt: &impl Print, a: Agreement) -> io::Result<()> {
     match a {
         Agreement::Inside(m) => show_measure(rt, m),
         Agreement::Outside(m) => show_measure(rt, m),
-        Agreement::Unmeasurable => word(rt, b" none none"),
+        Agreement::Unmeasurable => print!(rt; " none none"),
     }
 }
 
@@ -100,9 +92,9 @@ fn agreement(rt: &impl Print, s: &[u8]) -> io::Result<()>
     let smaller = claim(s, 0);
     let larger = claim(s, CLAIM_SIZE);
     let a = arithmetic::agreement(smaller, larger);
-    word(rt, b"agreement")?;
+    print!(rt; "agreement")?;
     show_agreement(rt, a)?;
-    word(rt, b"\n")
+    println!(rt;)
 }
 
 fn show_indices(rt: &impl Print, s: &[u8], at: usize) -> io::Result<()>
@@ -113,7 +105,7 @@ fn show_indices(rt: &impl Print, s: &[u8], at: usize) -> io::Result<()>
         if count <= i {
             return Ok(());
         }
-        show(rt, wide(s[at + 1 + i]))?;
+        show(rt, s[at + 1 + i] as u64)?;
     }
     Ok(())
 }
@@ -123,7 +115,7 @@ fn show_chi_square(rt: &impl Print, s: &[u8], at: usize) -> io::Result<()>
     requires { at + chi_square_size ≤ length s.now }
 {
     if s[at] == 0 {
-        return word(rt, b" none");
+        return print!(rt; " none");
     }
     show_bits(rt, octets::words::u64_at(s, at + 1))
 }
@@ -132,12 +124,12 @@ fn show_refusal(rt: &impl Print, s: &[u8], at: usize) -> io::Result<()>
     requires { at + refusal_size ≤ length s.now }
 {
     if s[at + 2] == 0 {
-        word(rt, b" contested")?;
+        print!(rt; " contested")?;
     } else {
-        word(rt, b" superseded")?;
+        print!(rt; " superseded")?;
     }
-    show(rt, wide(s[at]))?;
-    show(rt, wide(s[at + 1]))?;
+    show(rt, s[at] as u64)?;
+    show(rt, s[at + 1] as u64)?;
     show_chi_square(rt, s, at + 3)
 }
 
@@ -155,61 +147,46 @@ fn show_refusals(rt: &impl Print, s: &[u8], at: usize) -> io::Result<()>
 }
 
 fn show_answer(rt: &impl Print, answer: [u8; ANSWER_SIZE]) -> io::Result<()> {
-    word(rt, b" ranked")?;
+    print!(rt; " ranked")?;
     show_indices(rt, &answer, 0)?;
-    word(rt, b" dominated")?;
+    print!(rt; " dominated")?;
     show_indices(rt, &answer, INDICES_SIZE)?;
-    word(rt, b" refused")?;
+    print!(rt; " refused")?;
     show_refusals(rt, &answer, INDICES_SIZE + INDICES_SIZE)
 }
 
 fn decide(rt: &impl Print, items: &[u8]) -> io::Result<()> {
     let mut answer = [0u8; ANSWER_SIZE];
     let number = answers::decide(items, &mut answer);
-    word(rt, b"answer")?;
+    print!(rt; "answer")?;
     show(rt, number as u64)?;
     show_answer(rt, answer)?;
-    word(rt, b"\n")
+    println!(rt;)
 }
 
 // Two claims; false where they are cut short.
 fn agreement_case(rt: &(impl Input + Print)) -> io::Result<bool> {
-    let mut claims = [0u8; CLAIMS_SIZE];
-    let got = console::read_full(rt, &mut claims)?;
-    if got < CLAIMS_SIZE {
+    let Some(claims) = console::array::<CLAIMS_SIZE>(rt)? else {
         return Ok(false);
-    }
+    };
     agreement(rt, &claims)?;
     Ok(true)
 }
 
 // A length and so many bytes; false where they are cut short.
 fn decide_case(rt: &(impl Input + Print), buffer: &mut [u8]) -> io::Result<bool> {
-    let mut head = [0u8; 2];
-    let got = console::read_full(rt, &mut head)?;
-    if got < 2 {
+    let Some(items) = console::counted(rt, buffer)? else {
         return Ok(false);
-    }
-    let n = size(head[0]) + size(head[1]) * 256;
-    if buffer.len() < n {
-        return Ok(false);
-    }
-    let part = &mut buffer[0..n];
-    let read = console::read_full(rt, part)?;
-    if read < n {
-        return Ok(false);
-    }
-    decide(rt, &buffer[0..n])?;
+    };
+    decide(rt, items)?;
     Ok(true)
 }
 
 // One case; false at the end of the input.
 fn step(rt: &(impl Input + Print), buffer: &mut [u8]) -> io::Result<bool> {
-    let mut kind = [0u8; 1];
-    let got = console::read_full(rt, &mut kind)?;
-    if got < 1 {
+    let Some(kind) = console::array::<1>(rt)? else {
         return Ok(false);
-    }
+    };
     if kind[0] == b'a' {
         return agreement_case(rt);
     }

@@ -23,66 +23,30 @@ const LISTING_SIZE: usize = 16384;
 
 const GREATEST_REFUSAL: u32 = 10;
 
-fn word(rt: &impl Print, text: &[u8]) -> io::Result<()> {
-    rt.write_all(text)
-}
-
-fn wide(x: u8) -> u32 {
-    x as u32
-}
-
-// The digits of a byte, the higher and the lower.
-fn high(x: u8) -> u8 {
-    text::hex_digit(x / 16)
-}
-
-fn low(x: u8) -> u8 {
-    text::hex_digit(x % 16)
-}
-
-// The digits of a hash.
-fn hex(hash: [u8; 32]) -> [u8; 64] {
-    let mut text = [0u8; 64];
-    for i in 0..32 {
-        text[i * 2] = high(hash[i]);
-        text[i * 2 + 1] = low(hash[i]);
-    }
-    text
-}
-
-fn show_answer(rt: &impl Print, answer: u32) -> io::Result<()> {
-    print!(rt; "answer={answer}")
-}
-
-// An answer, and the track that it leaves.
+// An answer, and the hash of the track that it leaves.
 fn show(rt: &impl Print, answer: u32, memory: &[u8]) -> io::Result<()> {
-    show_answer(rt, answer)?;
-    word(rt, b" hash=")?;
-    word(rt, &hex(hashing::blake2s256(memory)))?;
-    word(rt, b"\n")
+    print!(rt; "answer={answer} hash=")?;
+    console::print_hash(rt, hashing::blake2s256(memory))?;
+    println!(rt;)
 }
 
 // A report; false where it is cut short.
 fn report(rt: &(impl Input + Print), memory: &mut [u8]) -> io::Result<bool> {
-    let mut fields = [0u8; REPORT_SIZE];
-    let got = console::read_full(rt, &mut fields)?;
-    if got < REPORT_SIZE {
+    let Some(fields) = console::array::<REPORT_SIZE>(rt)? else {
         return Ok(false);
-    }
-    let answer = track::reports::report(memory, wide(fields[0]), &fields[1..]);
+    };
+    let answer = track::reports::report(memory, fields[0] as u32, &fields[1..]);
     show(rt, answer, memory)?;
     Ok(true)
 }
 
 // A summary; false where it is cut short.
 fn summary(rt: &(impl Input + Print), memory: &mut [u8]) -> io::Result<bool> {
-    let mut fields = [0u8; SUMMARY_SIZE];
-    let got = console::read_full(rt, &mut fields)?;
-    if got < SUMMARY_SIZE {
+    let Some(fields) = console::array::<SUMMARY_SIZE>(rt)? else {
         return Ok(false);
-    }
-    let engine = wide(fields[ENGINE_AT]);
-    let model = wide(fields[MODEL_AT]);
+    };
+    let engine = fields[ENGINE_AT] as u32;
+    let model = fields[MODEL_AT] as u32;
     let spec = octets::words::u16_at(&fields, SPEC_AT);
     let answer = track::summaries::summary(memory, engine, model, spec, &fields[INPUTS_AT..]);
     show(rt, answer, memory)?;
@@ -91,12 +55,10 @@ fn summary(rt: &(impl Input + Print), memory: &mut [u8]) -> io::Result<bool> {
 
 // A conviction; false where it is cut short.
 fn conviction(rt: &(impl Input + Print), memory: &mut [u8]) -> io::Result<bool> {
-    let mut fields = [0u8; 1];
-    let got = console::read_full(rt, &mut fields)?;
-    if got < 1 {
+    let Some(fields) = console::array::<1>(rt)? else {
         return Ok(false);
-    }
-    let answer = track::convictions::conviction(memory, wide(fields[0]));
+    };
+    let answer = track::convictions::conviction(memory, fields[0] as u32);
     show(rt, answer, memory)?;
     Ok(true)
 }
@@ -110,22 +72,18 @@ fn show_listing(rt: &impl Print, memory: &[u8]) -> io::Result<()> {
     let mut out = output_buffer();
     let answer = listing::listing(memory, &mut out);
     if answer <= GREATEST_REFUSAL {
-        show_answer(rt, answer)?;
-        return word(rt, b"\n");
+        return println!(rt; "answer={answer}");
     }
     let n = answer as usize;
-    word(rt, &out[..n])
+    rt.write_all(&out[..n])
 }
 
 // One call; false where it is cut short, or is of no kind.
 fn call(rt: &(impl Input + Print), memory: &mut [u8]) -> io::Result<bool> {
-    let mut kind = [0u8; 1];
-    let got = console::read_full(rt, &mut kind)?;
-    if got < 1 {
+    let Some(kind) = console::array::<1>(rt)? else {
         return Ok(false);
-    }
-    let k = kind[0];
-    match k {
+    };
+    match kind[0] {
         0 => report(rt, memory),
         1 => summary(rt, memory),
         2 => conviction(rt, memory),
@@ -154,15 +112,13 @@ fn run(rt: &(impl Input + Print), count: u16) -> io::Result<bool> {
 
 // One list; false at the end of the input, and where the list is cut short.
 fn replay(rt: &(impl Input + Print)) -> io::Result<bool> {
-    let mut head = [0u8; 2];
-    let got = console::read_full(rt, &mut head)?;
-    if got < 2 {
+    let Some(head) = console::array(rt)? else {
+        return Ok(false);
+    };
+    if !run(rt, u16::from_le_bytes(head))? {
         return Ok(false);
     }
-    if !run(rt, octets::words::u16_at(&head, 0))? {
-        return Ok(false);
-    }
-    word(rt, b"\n")?;
+    println!(rt;)?;
     Ok(true)
 }
 

@@ -19,8 +19,8 @@ slice_bounds-out-end g c =
     c.preview-answer.auto.out
     (ap (λ x. x.answer) c.preview-answer.ensures)
 
-pub slice_bounds-word-end : goal.slice_bounds-word-end
-slice_bounds-word-end g c =
+pub slice_bounds-write_all-end : goal.slice_bounds-write_all-end
+slice_bounds-write_all-end g c =
     let fits =
     within c.args.engine _ c.args.memory.now c.output_buffer-out.result _ (λ i. (c.type_inv.memory i).fits)
     (search rules)

@@ -12,8 +12,8 @@ slice_bounds-out-end g c =
     let f = listed-fits o c.listing-answer.new.out c.listing-answer.result (omega (arith, l)) k _ c.listing-answer.ensures in
     omega (arith, f, k)
 
-pub slice_bounds-word-end-2 : goal.slice_bounds-word-end-2
-slice_bounds-word-end-2 g c =
+pub slice_bounds-write_all-end : goal.slice_bounds-write_all-end
+slice_bounds-write_all-end g c =
     let o = c.output_buffer-out.result in
     let l : board_size ≡ length o = search rules in
     let k = c.listing-answer.auto.out in
