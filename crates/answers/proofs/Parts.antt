@@ -8,12 +8,12 @@ use native.Mathlib.Omega.{arith}
 use mir.Val.{bool_byte}
 use lib.Ieee.{Float, binary64, to_bits}
 use lib.ListN.{length, get_or, take, drop, set, length-set, length-append, length-replicate, length-take, replicate}
-use lib.Seq.{sets-eq, take_at, drop_at}
+use lib.Seq.{take_at, drop_at}
 use Rattle.octets.specs.Words.{word_bytes}
 use Rattle.octets.specs.Writes.{put_word}
 use Rattle.octets.proofs.Numbers.{length-word-bytes}
 use Rattle.octets.specs.Put.{Put}
-use Rattle.octets.proofs.Puts.{put-put, put_one, put_as, put_whole}
+use Rattle.octets.proofs.Puts.{put-put, put_one, put_as, put_whole, word-put}
 use Rattle.arithmetic.specs.declared.standing.ChiSquare.{ChiSquare}
 use Rattle.arithmetic.specs.declared.standing.ChiSquare.TheVariants.{Measured, Unmeasured}
 use Rattle.items.specs.Layout.{max_items}
@@ -25,15 +25,6 @@ use Rattle.decision.specs.Working.{plainly}
 use Rattle.answers.specs.Layout.{chi_square_size, refusal_size}
 use Rattle.answers.specs.Offsets.{indices_size, refusals_size, ranked_at, dominated_at, refusals_at, answer_size, list_bytes}
 use Rattle.answers.specs.Answer.{indices_bytes, chi_square_bytes, refusal_bytes, each_bytes, counted_bytes, refusals_bytes, answer_bytes}
-
--- a number put at a place is a text of its bytes
-pub word-put : (n at x : ℕ) (s : List ℕ) → at + n ≤ length s → Put s at (word_bytes n x) (at + n) (put_word n at x s)
-word-put n at x s h =
-    let l = length-word-bytes n x in
-    record {
-      next = rw l refl;
-      bytes = sym (sets-eq (word_bytes n x) s at (rw l h) ∙ rw l (append_assoc (take at s) (word_bytes n x) (drop (at + n) s)));
-    }
 
 -- three bytes stored one after another
 three-put : (l : List ℕ) (at x y z : ℕ) → Put l at (x ∷ y ∷ z ∷ []) (at + 3) (set (set (set l at x) (at + 1) y) (at + 2) z)
@@ -51,7 +42,7 @@ flag false = refl
 pub measured-put : (l : List ℕ) (at b x : ℕ) → at + chi_square_size ≤ length l → Put l at (b ∷ word_bytes 8 x) (at + chi_square_size) (put_word 8 (at + 1) x (set l at b))
 measured-put l at b x h =
     let n = length-word-bytes 8 x in
-    let p = put-put (put_one l at b) (word-put 8 (at + 1) x (set l at b) (simp length-set (omega arith))) in
+    let p = put-put (put_one l at b) (word-put 8 (at + 1) x (set l at b) refl (simp length-set (omega arith))) in
     record { next = omega arith; bytes = p.bytes }
 
 -- a byte and bits that were written are those of a chi-square, a number or none

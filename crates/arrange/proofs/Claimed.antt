@@ -6,7 +6,8 @@ use mathlib.Core.List.Memᴰ
 use mathlib.Core.List.{List, [], ◌∷◌, ◌++◌, Memᴰ}
 use native.Mathlib.Omega.{arith}
 use lib.ListN.{length, take, drop, length-drop, take-append-drop}
-use Rattle.ranges.specs.Lists.{filter, sort}
+use Rattle.std.specs.List.{filter}
+use Rattle.ranges.specs.Lists.{sort}
 use Rattle.ranges.proofs.Bools.{by, or}
 use Rattle.ranges.proofs.Lists.{filter-in, filter_same, sort-in, sort-perm}
 use Rattle.ranges.proofs.Orders.{perm-length}
@@ -110,7 +111,6 @@ module _ (ts : List HeldTransmission) where
   alike_is t l h f = filter_same (alike t) (equal kept_older weak t) l (λ u m. rw (agree t u h (f u m), agree u t (f u m) h) refl)
 
   alike-none : (t : HeldTransmission) (l : List HeldTransmission) → has_fix t ≡ false → filter (alike t) l ≡ []
-  unfolding filter
   alike-none t [] h = refl
   alike-none t (u ∷ l) h = rw (nobody t.fixes u.fixes h) (alike-none t l h)
     where
@@ -163,7 +163,6 @@ few-all-left ts h = rw (few-sorted ts h) (sort-perm older_than (fixed ts))
 -- ---- what is in order
 
 order-fixed : (l : List HeldTransmission) → InOrder l → filter has_fix l ≡ l
-unfolding filter
 order-fixed [] none = refl
 order-fixed (t ∷ l) (next p f w) = rw p (ap (λ (k : List HeldTransmission). t ∷ k) (order-fixed l w))
 

@@ -12,11 +12,11 @@ use lib.Seq.{take-suc, length-take-le, get_or-append-add}
 use lib.Dec.{ltb}
 use borrow.Author.Tests.{ltb-false}
 use Rattle.std.specs.List as S
-use Rattle.std.specs.List.{position, position_or_len}
+use Rattle.std.specs.List.{position, position_or_len, filter}
 use Rattle.std.specs.Option.{unwrap_or}
 use Rattle.std.proofs.lemmas.List.Sums.{prefix_len-le-length}
 use Rattle.std.specs.Prelude.{Option, Some, None}
-use Rattle.ranges.specs.Lists.{filter, insert, sort, last_of}
+use Rattle.ranges.specs.Lists.{insert, sort, last_of}
 use Rattle.ranges.proofs.Bools.{by, or, clash, no_true}
 use Rattle.ranges.proofs.Lists.{sort-map, sort-in}
 use Rattle.shown.specs.Fix.{Fix}
@@ -182,7 +182,7 @@ module _ (b : List ℕ) (bs pre : List (List ℕ)) where
   name x = block_in (pre ++ (b ∷ bs)) (place_of x)
 
   named-more : map name (leads_in (suc (length pre)) bs) ≡ filter has_fix_in bs → map name (leads_in (length pre) (b ∷ bs)) ≡ filter has_fix_in (b ∷ bs)
-  unfolding leads_from filter
+  unfolding leads_from
   named-more rest = go (transmission_in b).fixes refl
     where
       go : (fs : List Fix) → (transmission_in b).fixes ≡ fs → map name (leads_in (length pre) (b ∷ bs)) ≡ filter has_fix_in (b ∷ bs)
@@ -190,7 +190,7 @@ module _ (b : List ℕ) (bs pre : List (List ℕ)) where
       go (f ∷ fs) e = rw e (ap₂ ◌∷◌ (first-behind pre b bs) rest)
 
 named-kept : (bs pre : List (List ℕ)) → map (λ x. block_in (pre ++ bs) (place_of x)) (leads_in (length pre) bs) ≡ filter has_fix_in bs
-unfolding leads_from filter
+unfolding leads_from
 named-kept [] pre = refl
 named-kept (b ∷ bs) pre =
     named-more b bs pre

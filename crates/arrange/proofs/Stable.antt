@@ -3,7 +3,8 @@ use mathlib.Core.Path.{◌≡◌, refl, ap, ◌∙◌}
 use mathlib.Core.Bool.{Bool, true, false, not, ◌&&◌}
 use mathlib.Core.List.Memᴰ
 use mathlib.Core.List.{List, [], ◌∷◌, Memᴰ}
-use Rattle.ranges.specs.Lists.{filter, insert, sort}
+use Rattle.std.specs.List.{filter}
+use Rattle.ranges.specs.Lists.{insert, sort}
 use Rattle.ranges.proofs.Bools.{by, or, clash, no_true, and_left, not_t}
 use Rattle.ranges.proofs.Lists.{sort-in}
 use Rattle.ranges.proofs.Sorting.{insert-first}
@@ -92,7 +93,6 @@ module _ {A : Type 0} (before : A → A → Bool) (o : Weak before) where
   not_equal t x y e b = let c = o.past y x t b (not_t (before t x) (and_left (not (before t x)) (not (before x t)) e)) in rw (asym y t c, c) refl
 
   insert-equal : (t x : A) (l : List A) → filter (equal t) (insert before x l) ≡ filter (equal t) (x ∷ l)
-  unfolding filter
   insert-equal t x [] = ap (filter (equal t)) (insert-none before x)
   insert-equal t x (y ∷ l) =
       by (before y x)
@@ -108,7 +108,7 @@ module _ {A : Type 0} (before : A → A → Bool) (o : Weak before) where
       passed e = rw e refl
 
   pub sort-stable : (t : A) (l : List A) → filter (equal t) (sort before l) ≡ filter (equal t) l
-  unfolding filter sort
+  unfolding sort
   sort-stable t [] = refl
   sort-stable t (x ∷ l) =
       insert-equal t x (sort before l)

@@ -5,7 +5,7 @@ use mathlib.Core.Bool.{true}
 use mathlib.Core.List.{List, [], ◌∷◌, Memᴰ}
 use native.Mathlib.Omega.{arith}
 use lib.ListN.{length, get_or, take, drop, length-drop}
-use Rattle.ranges.specs.Lists.{filter}
+use Rattle.std.specs.List.{filter}
 use Rattle.ranges.proofs.Lists.{filter-in, filter-few, sort-in, sort-perm}
 use Rattle.ranges.proofs.Orders.{perm-length}
 use Rattle.places.proofs.Tables.{wide, length-places, places-of-table, table-length}

@@ -3,7 +3,8 @@ use Prim.Native.Nat.{ℕ, zero, suc, ◌-◌, ◌≤◌}
 use mathlib.Core.Path.{◌≡◌, refl, sym, ap, ap₂, ◌∙◌}
 use mathlib.Core.List.{List, [], ◌∷◌, map}
 use lib.ListN.{length, drop, length-map}
-use Rattle.ranges.specs.Lists.{filter, sort}
+use Rattle.std.specs.List.{filter}
+use Rattle.ranges.specs.Lists.{sort}
 use Rattle.ranges.proofs.Lists.{filter_map, sort-map}
 use Rattle.tracked.specs.Held.{HeldTransmission}
 use Rattle.tracked.specs.Bytes.{transmission_in}

@@ -1,7 +1,8 @@
 -- The order of a track's transmissions (docs/REFERENCE.md, 'Track and listing'; the Rust's `arrange`): those that have a fix, the oldest first by time and then
 -- identity of the fix kept, equal ones in the order they had; beyond eight the oldest are forgotten.
 use Rattle.std.specs.Prelude.{ℕ, Bool, true, false, List, [], ◌∷◌}
-use Rattle.ranges.specs.Lists.{filter, sort, last_of}
+use Rattle.std.specs.List.{filter}
+use Rattle.ranges.specs.Lists.{sort, last_of}
 use Rattle.shown.specs.Ages.{older_first}
 use Rattle.tracked.specs.Held.{HeldTransmission}
 

@@ -1,7 +1,8 @@
 -- No claim rests on these definitions: they say what the code does to a table of transmissions, each in its bytes.
 use Rattle.std.specs.Prelude.{ℕ, ◌+◌, ◌*◌, ◌≤◌, ◌≡◌, Bool, length, get_or, take, drop}
 use mathlib.Core.List.{List, [], ◌∷◌, ◌++◌, map, Memᴰ}
-use Rattle.ranges.specs.Lists.{filter, sort, last_of}
+use Rattle.std.specs.List.{filter}
+use Rattle.ranges.specs.Lists.{sort, last_of}
 use Rattle.places.specs.Places.{places, flat, table_of}
 use Rattle.tracked.specs.Layout.{transmission_size}
 use Rattle.tracked.specs.Bytes.{transmission_in}

@@ -2,7 +2,7 @@
 -- theorem of each of these types.
 use Rattle.std.specs.Prelude.{◌≤◌, min, ◌≡◌, Bool, true, false, not, ◌&&◌, length}
 use mathlib.Core.List.{List, [], ◌∷◌, ◌++◌, Memᴰ, Permᴰ}
-use Rattle.ranges.specs.Lists.{filter}
+use Rattle.std.specs.List.{filter}
 use Rattle.tracked.specs.Held.{HeldTransmission}
 use Rattle.arrange.specs.Arranged.{max_transmissions, has_fix, older_than, arranged}
 

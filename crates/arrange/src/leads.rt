@@ -10,7 +10,7 @@ ghost use Rattle.arrange.specs.Leads.{before, put_behind, entered, leads_from, o
 use crate::{MAX_LEADS, MAX_TRANSMISSIONS};
 use arrayvec::ArrayVec;
 use tracked::block::Block;
-use tracked::fixes::Fix;
+use tracked::fix::Fix;
 
 /// A transmission by its place, and the fix that is kept of it.
 #[derive(Default, Drop)]

@@ -2,7 +2,8 @@
 use Rattle.std.proofs.Common.{ℕ, zero, suc, ◌+◌, ◌-◌, ◌≤◌, ◌<◌, ◌≡◌, refl, sym, ap, ap₂, ◌∙◌, subst, Bool, true, not, ◌&&◌, ◌⊎◌, inl, inr, ⊎_elim, List, [], ◌∷◌, ◌++◌, map, arith, eqb, length, drop, length-append, length-drop, eqb-true, eq-eqb, lt-ltb}
 use mathlib.Core.List.{Memᴰ, Permᴰ}
 use lib.ListN.{length-map}
-use Rattle.ranges.specs.Lists.{filter, sort, up_to}
+use Rattle.std.specs.List.{filter}
+use Rattle.ranges.specs.Lists.{sort, up_to}
 use Rattle.ranges.proofs.Lists.{sort-perm, count-length}
 use Rattle.ranges.proofs.Orders.{perm-length}
 use Rattle.ranges.proofs.Searches.{filter_range}
@@ -75,12 +76,10 @@ module _ (lab : ℕ → ℕ) where
   others s xs = filter (λ j. not (has s j)) xs
 
   split : (s : ℕ) (xs : List ℕ) → length (filter (has s) xs) + length (others s xs) ≡ length xs
-  unfolding filter
   split s [] = refl
   split s (x ∷ xs) = let r = split s xs in by (has s x) (λ t. rw t (omega arith)) (λ t. rw t (omega arith))
 
   among-others : (s r : ℕ) (xs : List ℕ) → (s ≡ r → ⊥) → filter (has s) xs ≡ filter (has s) (others r xs)
-  unfolding filter
   among-others s r [] d = refl
   among-others s r (x ∷ xs) d =
       let go = among-others s r xs d in

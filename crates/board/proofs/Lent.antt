@@ -1,8 +1,9 @@
 -- What a well-formed register lends to the board: its summaries and records, as they lie in its bytes.
 use Rattle.std.proofs.Common.{ℕ, ◌*◌, ◌-◌, ◌≤◌, ◌≡◌, refl, sym, ap, ap₂, subst, ◌∙◌, true, List, arith, length, take, drop}
+use Rattle.std.specs.List.{list_all}
 use Rattle.ranges.proofs.Bools.{and_left}
 use Rattle.octets.proofs.Moves.{tail-lent}
-use Rattle.places.specs.Places.{places, all_places}
+use Rattle.places.specs.Places.{places}
 use Rattle.record.specs.Layout.{record_size}
 use Rattle.record.specs.Formed as R
 use Rattle.models.specs.Summary.{summary_size}
@@ -35,14 +36,14 @@ module _ (m : List ℕ) (w : well_formed m ≡ true) where
   tail-is : tail ≡ record_table m
   tail-is = tail-lent m records_at
 
-  pub formed-places : all_places slot_formed (records_in m) ≡ true
+  pub formed-places : list_all slot_formed (records_in m) ≡ true
   formed-places = all-weaken (place_formed (convicted_in m)) slot_formed (λ p h. and_left (R.well_formed (take record_size p)) _ h) (records_in m) o.records_formed
 
   pub record Lends (a b : ℕ) : Type 0 where
     pub summaries_lie : a * summary_size ≤ length (summary_table m)
     pub records_lie : b * place_size ≤ length tail
     pub few : b ≤ max_fixes
-    pub formed : all_places slot_formed (places place_size b tail) ≡ true
+    pub formed : list_all slot_formed (places place_size b tail) ≡ true
     pub summaries_are : places summary_size a (summary_table m) ≡ (decode m).summaries
     pub records_are : places place_size b tail ≡ (decode m).records
 
@@ -66,7 +67,7 @@ module _ (m : List ℕ) (w : well_formed m ≡ true) where
   unfolding decode
   few-held = rw (records-length m o) o.few_records
 
-  pub formed-held : all_places slot_formed (decode m).records ≡ true
+  pub formed-held : list_all slot_formed (decode m).records ≡ true
   unfolding decode
   formed-held = formed-places
 

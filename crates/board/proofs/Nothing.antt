@@ -2,7 +2,8 @@
 use Rattle.std.proofs.Common.{ℕ, ◌-◌, ◌<◌, ◌≡◌, refl, Bool, true, false, not, List, [], ◌∷◌, map, arith, eqb, length, length-drop, ne_eqb}
 use mathlib.Core.List.Memᴰ
 use mathlib.Core.List.{Memᴰ}
-use Rattle.ranges.specs.Lists.{any_of, filter, sort}
+use Rattle.std.specs.List.{list_any}
+use Rattle.ranges.specs.Lists.{sort}
 use Rattle.ranges.proofs.Bools.{by}
 use Rattle.ranges.proofs.Lists.{filter_none, filter-some, sort-perm}
 use Rattle.ranges.proofs.Orders.{perm-mem}
@@ -33,12 +34,12 @@ module _ (ss ps : List (List ℕ)) where
   abbrev counted : List ℕ → Bool
   counted p = counts ss (record_in p)
 
-  no-fixes : any_of counted ps ≡ false → fixes_of ss ps ≡ []
+  no-fixes : list_any counted ps ≡ false → fixes_of ss ps ≡ []
   unfolding fixes_of enter_all
   no-fixes h = rw (filter_none counted ps h) refl
 
-  pub no_bytes : any_of counted ps ≡ false → board_of ss ps ≡ []
-  unfolding board_of picture transmissions_of filter sort text_from
+  pub no_bytes : list_any counted ps ≡ false → board_of ss ps ≡ []
+  unfolding board_of picture transmissions_of sort text_from
   no_bytes h = rw (no-fixes h) refl
 
 -- ---- something counts
@@ -63,7 +64,7 @@ unfolding enter_all
 enter-all-some fs [] s = s
 enter-all-some fs (f ∷ more) s = enter-all-some (enter f fs) more (enter-some f fs)
 
-fixes-some : (ss ps : List (List ℕ)) → any_of (counted ss ps) ps ≡ true → Some (fixes_of ss ps)
+fixes-some : (ss ps : List (List ℕ)) → list_any (counted ss ps) ps ≡ true → Some (fixes_of ss ps)
 unfolding fixes_of enter_all
 fixes-some ss ps h =
     let r = filter-some (counted ss ps) ps h in

@@ -5,7 +5,7 @@ use Rattle.text.proofs.Readback.{height-texts}
 use Rattle.geometry.proofs.Positions.{position-4}
 use Rattle.arithmetic.proofs.Positions.{position-1, position-2}
 use Rattle.decision.proofs.Positions.{position-3, ends-only}
-use Rattle.ranges.specs.Lists.{filter, sort}
+use Rattle.ranges.specs.Lists.{sort}
 use Rattle.fixes.specs.Fixes.{enter_all, fixes_of}
 use Rattle.links.specs.Transmissions.{transmissions_of}
 use Rattle.links.proofs.Positions.{position-6}
@@ -15,7 +15,7 @@ use Rattle.board.specs.Board.{board_of}
 use Rattle.board.specs.Positions.{Positions}
 
 no_bytes : (ss : List (List ℕ)) → board_of ss [] ≡ []
-unfolding board_of picture fixes_of enter_all transmissions_of filter sort text_from
+unfolding board_of picture fixes_of enter_all transmissions_of sort text_from
 no_bytes ss = refl
 
 pub positions : Positions

@@ -9,7 +9,8 @@ use Rattle.octets.proofs.Comparison.{same-eq}
 use Rattle.record.specs.Fields.{tag_count}
 use Rattle.record.proofs.Laws.{subset-fewer}
 use Rattle.arithmetic.specs.Agree.{agrees_of}
-use Rattle.ranges.specs.Lists.{filter, sort, Ascending}
+use Rattle.std.specs.List.{filter}
+use Rattle.ranges.specs.Lists.{sort, Ascending}
 use Rattle.ranges.proofs.Lists.{filter-in, sort-perm}
 use Rattle.ranges.proofs.Orders.{perm-mem}
 use Rattle.ranges.proofs.Sorting as S
@@ -83,7 +84,6 @@ all-differ (f ∷ fs) d =
     (all-differ fs (λ i j p q e. let z = d (suc i) (suc j) (omega arith) (omega arith) e in omega arith))
 
 filter-differ : (test : Fix → Bool) (fs : List Fix) → Differ fs → Differ (filter test fs)
-unfolding filter
 filter-differ test [] none = none
 filter-differ test (f ∷ fs) (next d w) =
     by (test f)

@@ -1,7 +1,7 @@
 -- When a board has no bytes: exactly where no record of the register counts (docs/REFERENCE.md, 'Models and identity'), whether none was reported, none is held
 -- any more or none may be shown. The theorem is `no-bytes-exactly-when` in proofs/Nothing.
 use Rattle.std.specs.Prelude.{ℕ, ◌≡◌, Bool, true, not, List, eqb, length}
-use Rattle.ranges.specs.Lists.{any_of}
+use Rattle.std.specs.List.{list_any}
 use Rattle.octets.specs.Bytes.{Bytes}
 use Rattle.models.specs.Models.{counts}
 use Rattle.fixes.specs.Fixes.{record_in}
@@ -11,7 +11,7 @@ use Rattle.board.specs.Board.{board_in}
 
 -- some record counts
 abbrev pub any_counts : Register → Bool
-any_counts s = any_of (λ p. counts s.summaries (record_in p)) s.records
+any_counts s = list_any (λ p. counts s.summaries (record_in p)) s.records
 
 abbrev pub NoBytesExactlyWhen : Type 0
 NoBytesExactlyWhen = (m : List ℕ) → Bytes m → well_formed m ≡ true → eqb (length (board_in (decode m))) 0 ≡ not (any_counts (decode m))

@@ -4,8 +4,9 @@ use mathlib.Core.Bool.{true, false, true≢false}
 use mathlib.Core.List.{List, [], ◌∷◌, ◌++◌, map, flat_map, append-nil}
 use Prim.Native.Nat.{ℕ, ◌+◌, ◌≤◌}
 use native.Mathlib.Omega.{arith}
+use Rattle.std.specs.List.{filter}
 use Rattle.ranges.proofs.Bools.{by}
-use Rattle.ranges.specs.Lists.{filter, foremost, count_from, up_to}
+use Rattle.ranges.specs.Lists.{foremost, count_from, up_to}
 use Rattle.ranges.proofs.Searches.{flat-more}
 use Rattle.std.specs.Prelude.{Option, None, Some, is_some, unwrap_or}
 use Rattle.rule.specs.Outcome as O

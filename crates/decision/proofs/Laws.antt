@@ -11,8 +11,9 @@ use native.Mathlib.Omega.{arith}
 use native.Mathlib.Nat.{le_trans, le_of_lt}
 use lib.Dec.{leb}
 use borrow.Author.Tests.{leb-true, leb-false}
+use Rattle.std.specs.List.{filter, list_any}
 use Rattle.ranges.proofs.Bools.{clash, no_true, and_both, and_left, and_right, not_t, not_f, by, or}
-use Rattle.ranges.specs.Lists.{any_of, filter, foremost}
+use Rattle.ranges.specs.Lists.{foremost}
 use Rattle.ranges.proofs.Orders.{perm-mem}
 use Rattle.ranges.proofs.Lists.{any-in, any-of, any-perm, any_same, filter-in, filter-of, filter-some, filter_same, filter-perm, sort-perm, foremost-in, flat_in, flat-same, flat-perm}
 use Rattle.ranges.proofs.Sorting.{Strict, strict-sub, foremost-perm, sort-same}
@@ -25,11 +26,10 @@ total a b = by (leb a b) (λ p. inl (leb-true a b p)) (λ p. inr (le_of_lt (leb-
 
 -- of the members that pass a test one that is best by a relation that is total and transitive
 module _ {A : Type 0} (R : A → A → Type 0) (tot : (a b : A) → R a b ⊎ R b a) (trans : (a b c : A) → R a b → R b c → R a c) (test : A → Bool) where
-  best_of : (l : List A) → any_of test l ≡ true → (x : A) × Memᴰ x l × (test x ≡ true) × ((y : A) → Memᴰ y l → test y ≡ true → R x y)
-  unfolding any_of
+  best_of : (l : List A) → list_any test l ≡ true → (x : A) × Memᴰ x l × (test x ≡ true) × ((y : A) → Memᴰ y l → test y ≡ true → R x y)
   best_of [] e = clash {b = true} refl (sym e)
   best_of (x ∷ l) e =
-      by (any_of test l)
+      by (list_any test l)
       (λ p. let r = best_of l p in
       by (test x)
       (λ q. or (tot x r.0)
@@ -53,12 +53,12 @@ module _ {A C : Type 0} (r : Relations A C) (all : List A) where
   pub refused-one : (f : A) → is_refused r all f ≡ true → (x : Refused A C) × (refusal_of r all f ≡ x ∷ []) × (x.item ≡ f)
   unfolding is_refused is_contested is_superseded refusal_of
   refused-one f e =
-      by (any_of (replaces r all f) all)
+      by (list_any (replaces r all f) all)
       (λ p. let w = filter-some (replaces r all f) all p in
       let k = foremost r.lower w.0 w.1 in
       (record { item = f; against = k; chi2 = r.chi_square k f; superseded = true }, rw (p, w.2) refl, refl))
       (λ p. let c = rw p at e in
-      let o = and_right (not (supersedes r all f)) (any_of (opposes r all f) all) c in
+      let o = and_right (not (supersedes r all f)) (list_any (opposes r all f) all) c in
       let w = filter-some (opposes r all f) all o in
       let k = foremost r.lower w.0 w.1 in
       (record { item = f; against = k; chi2 = r.chi_square f k; superseded = false }, rw (p, c, w.2) refl, refl))
@@ -73,7 +73,7 @@ module _ {A C : Type 0} (r : Relations A C) (all : List A) where
   -- those of a list, in their three lists, are those of the list
   three : (l : List A)
       → Permᴰ (filter (λ f. not (is_refused r all f) && not (is_covered r all f)) l ++ (filter (λ f. not (is_refused r all f) && is_covered r all f) l ++ map (λ x. x.item) (flat_map (refusal_of r all) l))) l
-  unfolding filter flat_map
+  unfolding flat_map
   three [] = Permᴰ.nil
   three (f ∷ l) =
       let a = filter (λ f. not (is_refused r all f) && not (is_covered r all f)) l in
@@ -110,11 +110,11 @@ module _ {A C : Type 0} (r : Relations A C) (all : List A) where
   supersedes-over f g m s d =
       by (r.outstands f g) (λ p. p)
       (λ p. clash (any-of (λ h. r.disagrees f h && not (r.outstands f h)) all g m (and_both _ _ d (not_f _ p)))
-      (not_t _ (and_right (any_of (r.disagrees f) all) _ (and_right (r.passed f) _ s))))
+      (not_t _ (and_right (list_any (r.disagrees f) all) _ (and_right (r.passed f) _ s))))
 
   passed-of : (f : A) → supersedes r all f ≡ true → r.passed f ≡ true
   unfolding supersedes
-  passed-of f s = and_left (r.passed f) (any_of (r.disagrees f) all && not (any_of (λ g. r.disagrees f g && not (r.outstands f g)) all)) s
+  passed-of f s = and_left (r.passed f) (list_any (r.disagrees f) all && not (list_any (λ g. r.disagrees f g && not (r.outstands f g)) all)) s
 
   -- one that opposes it, or one that takes its place
   pub data Named (x : Refused A C) : Type 0 where
@@ -168,7 +168,7 @@ pub record Sound {A C : Type 0} (r : Relations A C) : Type 0 where
 
 module _ {A C : Type 0} (r : Relations A C) (all : List A) (w : Sound r) where
   -- the highest standing is not superseded
-  one_free : any_of (λ f. true) all ≡ true → any_of (λ f. not (is_superseded r all f)) all ≡ true
+  one_free : list_any (λ f. true) all ≡ true → list_any (λ f. not (is_superseded r all f)) all ≡ true
   one_free some =
       let st = w.standing in
       let b = best_of (λ f g. st g ≤ st f) (λ f g. total (st g) (st f)) (λ f g h p q. le_trans q p) (λ f. true) all some in
@@ -182,7 +182,7 @@ module _ {A C : Type 0} (r : Relations A C) (all : List A) (w : Sound r) where
       omega arith)))
 
   -- of those the one with the fewest tags is not refused
-  one-unrefused : any_of (λ f. true) all ≡ true → any_of (λ f. not (is_refused r all f)) all ≡ true
+  one-unrefused : list_any (λ f. true) all ≡ true → list_any (λ f. not (is_refused r all f)) all ≡ true
   unfolding is_refused
   one-unrefused some =
       let sz = w.size in
@@ -195,7 +195,7 @@ module _ {A C : Type 0} (r : Relations A C) (all : List A) (w : Sound r) where
       omega arith))))
 
   -- of those the one with the most tags is covered by none
-  one-stands : any_of (λ f. true) all ≡ true → any_of (λ f. not (is_refused r all f) && not (is_covered r all f)) all ≡ true
+  one-stands : list_any (λ f. true) all ≡ true → list_any (λ f. not (is_refused r all f) && not (is_covered r all f)) all ≡ true
   unfolding is_covered
   one-stands some =
       let sz = w.size in

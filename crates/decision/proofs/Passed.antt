@@ -7,8 +7,9 @@ use native.Mathlib.Omega.{arith}
 use lib.Dec.{ltb, eqb}
 use lib.ListN.{length}
 use borrow.Author.Tests.{eqb-true, ltb-false}
+use Rattle.std.specs.List.{list_any}
 use Rattle.ranges.proofs.Bools.{not-false-t, neither_left, neither_right}
-use Rattle.ranges.specs.Lists.{any_of, up_to}
+use Rattle.ranges.specs.Lists.{up_to}
 use Rattle.ranges.proofs.Lists.{any-no, up_of}
 use Rattle.record.specs.Formed.{well_formed}
 use Rattle.items.specs.Layout.{max_items, item_size}
@@ -23,21 +24,21 @@ pub few-items : (s : List ℕ) → bad s ≡ false → length s / item_size ≤ 
 unfolding bad
 few-items s e = let l = ltb-false (max_items * item_size) (length s) (neither_left (ltb (max_items * item_size) (length s)) _ e) in omega arith
 
-pub whole_of : (s : List ℕ) (n : ℕ) → n ≤ max_items → length s ≡ n * item_size → any_of (bad_at s) (up_to n) ≡ false → Whole s n
+pub whole_of : (s : List ℕ) (n : ℕ) → n ≤ max_items → length s ≡ n * item_size → list_any (bad_at s) (up_to n) ≡ false → Whole s n
 unfolding bad_at
 whole_of s n h l e = record {
   few = h;
   long = l;
-  formed = λ i p. not-false-t (well_formed (item_record s i)) (neither_left (not (well_formed (item_record s i))) (any_of (same_identity s i) (up_to i)) (any-no (bad_at s) (up_to n) i e (up_of n i p)));
+  formed = λ i p. not-false-t (well_formed (item_record s i)) (neither_left (not (well_formed (item_record s i))) (list_any (same_identity s i) (up_to i)) (any-no (bad_at s) (up_to n) i e (up_of n i p)));
 }
 
 -- and none of them is bad
-pub good-items : (s : List ℕ) → bad s ≡ false → any_of (bad_at s) (up_to (length s / item_size)) ≡ false
+pub good-items : (s : List ℕ) → bad s ≡ false → list_any (bad_at s) (up_to (length s / item_size)) ≡ false
 unfolding bad
 good-items s e =
     let a = ltb (max_items * item_size) (length s) in
     let b = not (eqb (length s % item_size) 0) in
-    let r = any_of (bad_at s) (up_to (length s / item_size)) in
+    let r = list_any (bad_at s) (up_to (length s / item_size)) in
     neither_right b r (neither_right a (b || r) e)
 
 -- they fill the bytes
@@ -46,7 +47,7 @@ unfolding bad
 long-items s e =
     let a = ltb (max_items * item_size) (length s) in
     let b = eqb (length s % item_size) 0 in
-    let r = any_of (bad_at s) (up_to (length s / item_size)) in
+    let r = list_any (bad_at s) (up_to (length s / item_size)) in
     let z = eqb-true (length s % item_size) 0 (not-false-t b (neither_left (not b) r (neither_right a (not b || r) e))) in
     omega arith
 
@@ -56,8 +57,8 @@ module _ (s : List ℕ) (n : ℕ) (long : length s ≡ n * item_size) where
   count-is : length s / item_size ≡ n
   count-is = omega arith
 
-  pub good_of : bad s ≡ false → any_of (bad_at s) (up_to n) ≡ false
-  good_of e = ap (λ (k : ℕ). any_of (bad_at s) (up_to k)) (sym count-is) ∙ good-items s e
+  pub good_of : bad s ≡ false → list_any (bad_at s) (up_to n) ≡ false
+  good_of e = ap (λ (k : ℕ). list_any (bad_at s) (up_to k)) (sym count-is) ∙ good-items s e
 
   pub whole-items : bad s ≡ false → Whole s n
   whole-items e = let f = few-items s e in whole_of s n (omega arith) long (good_of e)

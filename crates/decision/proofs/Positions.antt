@@ -16,7 +16,7 @@ use Rattle.octets.specs.Order.{same, is_before}
 use Rattle.octets.specs.Masks.{bits}
 use Rattle.octets.specs.Runs.{all_zero}
 use Rattle.record.specs.Relations.{subset, all_in, member}
-use Rattle.ranges.specs.Lists.{any_of, filter, insert, sort, foremost, count_from}
+use Rattle.ranges.specs.Lists.{insert, sort, foremost, count_from}
 use Rattle.items.specs.Items.{disagrees_at, within_at, subset_at, agreement_at, ahead_at, ahead_by_standing, ahead_by_weight}
 use Rattle.items.specs.Claimed.{claim_of}
 use Rattle.rule.specs.Standing.{supersedes, is_superseded, is_contested, is_refused, is_covered, refusal_of, decide}
@@ -29,5 +29,5 @@ unfolding claim_of word_bytes word limit_of geodetic_of matrix_of sum_under fini
 ends-only = (refl, refl, refl)
 
 pub position-3 : Position3
-unfolding decided decision bad bad_at indices refusals any_of filter insert sort foremost count_from flat_map decide is_superseded is_contested is_refused is_covered refusal_of supersedes disagrees_at within_at subset_at agreement_at ahead_at ahead_by_standing ahead_by_weight subset all_in member same is_before bits all_zero well_formed ascends ascends_from all_up_to tags_from claim_of word_bytes word limit_of geodetic_of matrix_of sum_under finitely length_under chi_square_of difference_of outcome_of agreement_of agrees_of chi_square_in degree radians_of factorial coefficient sine_series cosine_series sincos_of flattening eccentricity2 to_ecef enu_basis sub_of dot_of less rows_below columns cholesky_of forwards forward backwards backward solve_of plus from_decimal isqrt digits_of root_of root_finite root_bits root count_leading_zeros of_bits to_bits round le lt eq of_int div mul add sub neg is_nan
+unfolding decided decision bad bad_at indices refusals insert sort foremost count_from flat_map decide is_superseded is_contested is_refused is_covered refusal_of supersedes disagrees_at within_at subset_at agreement_at ahead_at ahead_by_standing ahead_by_weight subset all_in member same is_before bits all_zero well_formed ascends ascends_from all_up_to tags_from claim_of word_bytes word limit_of geodetic_of matrix_of sum_under finitely length_under chi_square_of difference_of outcome_of agreement_of agrees_of chi_square_in degree radians_of factorial coefficient sine_series cosine_series sincos_of flattening eccentricity2 to_ecef enu_basis sub_of dot_of less rows_below columns cholesky_of forwards forward backwards backward solve_of plus from_decimal isqrt digits_of root_of root_finite root_bits root count_leading_zeros of_bits to_bits round le lt eq of_int div mul add sub neg is_nan
 position-3 = refl

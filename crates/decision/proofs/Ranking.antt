@@ -2,8 +2,8 @@
 use Rattle.std.proofs.Common.{◌≡◌, ℕ, zero, suc, ◌+◌, ◌-◌, ◌≤◌, ◌<◌, Bool, true, false, length, get_or, refl, ap, ◌∙◌, arith}
 use mathlib.Core.List.{List, [], ◌∷◌, Memᴰ}
 use Rattle.std.specs.List as L
-use Rattle.std.specs.List.{prefix_len}
-use Rattle.ranges.specs.Lists.{insert, sort, filter, count_from}
+use Rattle.std.specs.List.{prefix_len, filter}
+use Rattle.ranges.specs.Lists.{insert, sort, count_from}
 use Rattle.ranges.proofs.Bools.{by}
 use Rattle.ranges.proofs.Lists.{filter-in, filter-few, count-in, count-length, sort-in, sort-perm}
 use Rattle.ranges.proofs.Orders.{perm-length}
@@ -32,18 +32,17 @@ module _ (before : ℕ → ℕ → Bool) (test : ℕ → Bool) (n : ℕ) where
   sorted_from i = sort before (filter test (count_from i (n - i)))
 
   pub sorted-none : [] ≡ sorted_from n
-  unfolding sort filter count_from
+  unfolding sort count_from
   sorted-none = let z : n - n ≡ 0 = omega arith in rw z refl
 
   pub sorted-hit : (i : ℕ) → 0 < i → i ≤ n → test (i - 1) ≡ true → insert before (i - 1) (sorted_from i) ≡ sorted_from (i - 1)
-  unfolding sort filter
+  unfolding sort
   sorted-hit i h k e =
       let z : i - 1 + 1 ≡ i = omega arith in
       let c : count_from (i - 1) (n - (i - 1)) ≡ (i - 1) ∷ count_from i (n - i) = count_turn (i - 1) n (omega arith) ∙ ap (λ (j : ℕ). (i - 1) ∷ count_from j (n - j)) z in
       rw (c, e) refl
 
   pub sorted-miss : (i : ℕ) → 0 < i → i ≤ n → test (i - 1) ≡ false → sorted_from i ≡ sorted_from (i - 1)
-  unfolding filter
   sorted-miss i h k e =
       let z : i - 1 + 1 ≡ i = omega arith in
       let c : count_from (i - 1) (n - (i - 1)) ≡ (i - 1) ∷ count_from i (n - i) = count_turn (i - 1) n (omega arith) ∙ ap (λ (j : ℕ). (i - 1) ∷ count_from j (n - j)) z in

@@ -14,8 +14,9 @@ use Rattle.octets.proofs.Comparison.{before-trans, before-irrefl, tri, same_refl
 use Rattle.record.specs.Fields.{tag_count}
 use Rattle.record.specs.Formed.{well_formed}
 use Rattle.record.proofs.Laws.{subset-fewer}
+use Rattle.std.specs.List.{filter, list_any}
 use Rattle.ranges.proofs.Bools.{by, or, and_left, and_right, not_t, neither_right}
-use Rattle.ranges.specs.Lists.{any_of, filter, count_from, up_to}
+use Rattle.ranges.specs.Lists.{count_from, up_to}
 use Rattle.ranges.proofs.Lists.{any-no, filter-in, count-in, up_in, up_of}
 use Rattle.ranges.proofs.Sorting.{Strict, Apart, single, also}
 use Rattle.arithmetic.specs.Agree.{agrees_of}
@@ -129,11 +130,11 @@ module _ (s : List ℕ) where
       (λ a. by (item_preferred s j) (λ b. inr (rw (b, a) refl)) (λ b. or t (λ u. inl (rw (a, b) u)) (λ u. inr (rw (b, a) u))))
 
   -- two items with one identity are refused
-  module _ (n : ℕ) (good : any_of (bad_at s) (up_to n) ≡ false) where
+  module _ (n : ℕ) (good : list_any (bad_at s) (up_to n) ≡ false) where
     apart : (i j : ℕ) → i < n → j < i → item_identity s i ≡ item_identity s j → ⊥
     unfolding bad_at
     apart i j h l q =
-        let b = neither_right (not (well_formed (item_record s i))) (any_of (same_identity s i) (up_to i)) (any-no (bad_at s) (up_to n) i good (up_of n i h)) in
+        let b = neither_right (not (well_formed (item_record s i))) (list_any (same_identity s i) (up_to i)) (any-no (bad_at s) (up_to n) i good (up_of n i h)) in
         let c = any-no (same_identity s i) (up_to i) j b (up_of i j l) in
         true≢false (sym (same_refl (item_identity s i)) ∙ ap (same (item_identity s i)) q ∙ c)
 
@@ -163,7 +164,7 @@ module _ (s : List ℕ) where
 
     -- and any two of those that pass a test rank one before the other
     pub rank-apart : (test : ℕ → Bool) → Apart (ahead_at s) (filter test (up_to n))
-    unfolding count_from filter
+    unfolding count_from
     rank-apart test = go 0 n (omega arith)
       where
         go : (k f : ℕ) → k + f ≤ n → Apart (ahead_at s) (filter test (count_from k f))

@@ -1,7 +1,8 @@
 -- The whole answer of `decide` (docs/REFERENCE.md, 'Operations'): 8 for over 96 items, a malformed item, or two with one identity;
 -- else 0 with what is decided, in arrays with counts whose unused places are fixed.
 use Rattle.std.specs.Prelude.{Bool, false, not, cond, ◌||◌, List, [], ◌++◌, map, ℕ, ◌-◌, ◌*◌, ◌/◌, ◌%◌, ltb, eqb, length, replicate}
-use Rattle.ranges.specs.Lists.{any_of, up_to}
+use Rattle.std.specs.List.{list_any}
+use Rattle.ranges.specs.Lists.{up_to}
 use Rattle.record.specs.Formed.{well_formed}
 use Rattle.items.specs.Layout.{max_items, item_size}
 use Rattle.items.specs.Items.{item_record, same_identity}
@@ -15,13 +16,13 @@ use Rattle.arithmetic.specs.declared.standing.ChiSquare.TheVariants.{Unmeasured}
 
 -- item i is malformed, or has the identity of one before it
 unfoldable pub bad_at : List ℕ → ℕ → Bool
-bad_at s i = not (well_formed (item_record s i)) || any_of (same_identity s i) (up_to i)
+bad_at s i = not (well_formed (item_record s i)) || list_any (same_identity s i) (up_to i)
 
 -- over 96 items, no whole number of items, a malformed one, or two with one identity
 unfoldable pub bad : List ℕ → Bool
 bad s =
     ltb (max_items * item_size) (length s)
-    || (not (eqb (length s % item_size) 0) || any_of (bad_at s) (up_to (length s / item_size)))
+    || (not (eqb (length s % item_size) 0) || list_any (bad_at s) (up_to (length s / item_size)))
 
 -- what is decided of the items in s, by their indices
 abbrev pub outcome : List ℕ → Outcome ℕ ChiSquare

@@ -4,7 +4,7 @@ use mathlib.Core.List.{List, [], ◌∷◌, Memᴰ}
 use Rattle.items.specs.Layout.{max_items}
 use Rattle.items.specs.declared.item.Item.{Item}
 use Rattle.rule.specs.Outcome as O
-use Rattle.ranges.specs.Lists.{filter}
+use Rattle.std.specs.List.{filter}
 use Rattle.rule.specs.Standing as S
 use Rattle.rule.specs.Standing.{decide}
 use Rattle.rule.specs.Listed.{relations}

@@ -5,7 +5,8 @@
 #![tactic(auto)]
 
 ghost use Rattle.std.specs.Prelude.{◌≡◌, ℕ, false, [], ◌+◌, ◌*◌, ◌≤◌, ◌<◌, length};
-ghost use Rattle.ranges.specs.Lists.{any_of, up_to};
+ghost use Rattle.std.specs.List.{list_any};
+ghost use Rattle.ranges.specs.Lists.{up_to};
 ghost use Rattle.items.specs.Layout.{item_size, max_items};
 ghost use Rattle.items.specs.Items.{same_identity};
 ghost use Rattle.decision.specs.Answer.{bad_at, bad, outcome, decided};
@@ -69,7 +70,7 @@ pub struct Decision<const N: usize> {
 // Whether item i has the identity of one before it.
 fn repeated(s: &[u8], i: u8) -> bool
     requires { i * item_size + item_size ≤ length s.now }
-    ensures { result ≡ any_of (same_identity s.now i) (up_to i) }
+    ensures { result ≡ list_any (same_identity s.now i) (up_to i) }
 {
     for j in 0..i {
         if items::same_identity(s, i, j) {
@@ -89,7 +90,7 @@ fn bad_at(s: &[u8], i: u8) -> bool
 
 fn any_bad(s: &[u8], n: u8) -> bool
     requires { n * item_size ≤ length s.now }
-    ensures { result ≡ any_of (bad_at s.now) (up_to n) }
+    ensures { result ≡ list_any (bad_at s.now) (up_to n) }
 {
     for i in 0..n {
         if bad_at(s, i) {

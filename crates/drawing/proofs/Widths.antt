@@ -1,7 +1,6 @@
 -- How long lines are: what a buffer must have room for, and that no board is so short that its length could be a refusal's number.
 use Rattle.std.proofs.Common.{◌≡◌, refl, ap, Option, Some, None, List, ℕ, suc, ◌≤◌, arith, ℤ, pos, negsuc, length, length-append}
 use lib.Ieee.{binary64, to_bits}
-use Rattle.ranges.proofs.Bools.{by}
 use Rattle.text.specs.Numbers.{signed, hex}
 use Rattle.text.specs.Heights.{metres}
 use Rattle.text.proofs.Readback.{digits-width, hex-width}

@@ -4,9 +4,8 @@ use mathlib.Core.List.Memᴰ
 use mathlib.Core.List.{Memᴰ}
 use Rattle.octets.specs.Order.{is_before}
 use Rattle.octets.proofs.Comparison.{before-irrefl}
-use Rattle.ranges.specs.Lists.{filter}
+use Rattle.std.specs.List.{list_all}
 use Rattle.ranges.proofs.Bools.{by, or, clash, and_left, and_right}
-use Rattle.places.specs.Places.{all_places}
 use Rattle.models.specs.Models.{counts}
 use Rattle.models.specs.Identity.{set_hash, cited_inputs}
 use Rattle.models.proofs.Sets.{cited-length, identity-length}
@@ -62,12 +61,12 @@ record Kept (fs : List Fix) (n : ℕ) : Type 0 where
   formed : AllFormed fs
   few : length fs ≤ n
 
-all-kept : (ss ps : List (List ℕ)) (fs : List Fix) (n : ℕ) → all_places slot_formed ps ≡ true → Kept fs n → Kept (enter_all fs (counted ss [] 0 ps)) (n + length ps)
-unfolding all_places enter_all filter
+all-kept : (ss ps : List (List ℕ)) (fs : List Fix) (n : ℕ) → list_all slot_formed ps ≡ true → Kept fs n → Kept (enter_all fs (counted ss [] 0 ps)) (n + length ps)
+unfolding enter_all
 all-kept ss [] fs n h k = record { in_order = k.in_order; formed = k.formed; few = let x = k.few in omega arith }
 all-kept ss (p ∷ ps) fs n h k =
-    let one : slot_formed p ≡ true = and_left (slot_formed p) (all_places slot_formed ps) h in
-    let others : all_places slot_formed ps ≡ true = and_right (slot_formed p) (all_places slot_formed ps) h in
+    let one : slot_formed p ≡ true = and_left (slot_formed p) (list_all slot_formed ps) h in
+    let others : list_all slot_formed ps ≡ true = and_right (slot_formed p) (list_all slot_formed ps) h in
     let f = fix_of_place ss p in
     let x = k.few in
     let z : suc n + length ps ≡ n + suc (length ps) = omega arith in
@@ -79,7 +78,7 @@ all-kept ss (p ∷ ps) fs n h k =
     })))
     (λ c. rw (c, ← z) (all-kept ss ps fs (suc n) others (record { in_order = k.in_order; formed = k.formed; few = omega arith })))
 
-module _ (ss ps : List (List ℕ)) (h : all_places slot_formed ps ≡ true) where
+module _ (ss ps : List (List ℕ)) (h : list_all slot_formed ps ≡ true) where
   all : Kept (fixes_of ss ps) (0 + length ps)
   unfolding fixes_of ascends
   all = all-kept ss ps [] 0 h (record { in_order = refl; formed = λ y m. absurd (Memᴰ.not-nil m); few = omega arith })

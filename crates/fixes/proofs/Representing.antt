@@ -2,9 +2,9 @@
 use Rattle.std.proofs.Common.{ℕ, ◌+◌, ◌*◌, ◌-◌, ◌≤◌, ◌<◌, ◌≡◌, refl, sym, ap, ap₂, ◌∙◌, Bool, true, false, ◌&&◌, List, [], ◌∷◌, map, arith, length, take, drop, length-drop, length-take-le, take_all}
 use native.Mathlib.Nat.{sub-zero}
 use Rattle.octets.specs.Words.{word, word_at}
-use Rattle.ranges.specs.Lists.{filter}
+use Rattle.std.specs.List.{filter, list_all}
 use Rattle.ranges.proofs.Bools.{and_left, and_right}
-use Rattle.places.specs.Places.{places, all_places}
+use Rattle.places.specs.Places.{places}
 use Rattle.places.proofs.Walks.{places-next, places-end, step-at, room}
 use Rattle.record.specs.Layout.{record_size}
 use Rattle.models.specs.Models.{counts}
@@ -26,10 +26,10 @@ module _ (ss : List (List ℕ)) (recs : List ℕ) (nr : ℕ) where
   pub record Walked (i : ℕ) (fs : List Fix) : Type 0 where
     pub few : length fs ≤ i
     pub in_order : ascends fs ≡ true
-    pub formed : all_places slot_formed (left i) ≡ true
+    pub formed : list_all slot_formed (left i) ≡ true
     pub whole : enter_all fs (counted (left i)) ≡ fixes_of ss (places (record_size + 4) nr recs)
 
-  pub walked-start : (fs : List Fix) → fs ≡ [] → all_places slot_formed (places (record_size + 4) nr recs) ≡ true → Walked 0 fs
+  pub walked-start : (fs : List Fix) → fs ≡ [] → list_all slot_formed (places (record_size + 4) nr recs) ≡ true → Walked 0 fs
   unfolding ascends fixes_of
   walked-start fs e h = record { few = rw e (omega arith); in_order = rw e refl; formed = rw sub-zero h; whole = rw (sub-zero, e) refl }
 
@@ -45,15 +45,14 @@ module _ (ss : List (List ℕ)) (recs : List ℕ) (nr : ℕ) where
         let z : w ≡ at + w - at = omega arith in
         places-next w nr i at recs l ∙ ap₂ (λ (v u : ℕ). take v (drop at recs) ∷ places w (nr - (i + 1)) (drop u recs)) z (step-at i w at refl)
 
-    both : (slot_formed next && all_places slot_formed (left (i + 1))) ≡ true
-    unfolding all_places
+    both : (slot_formed next && list_all slot_formed (left (i + 1))) ≡ true
     both = rw next-is at k.formed
 
     pub next-formed : slot_formed next ≡ true
-    next-formed = and_left (slot_formed next) (all_places slot_formed (left (i + 1))) both
+    next-formed = and_left (slot_formed next) (list_all slot_formed (left (i + 1))) both
 
-    rest-formed : all_places slot_formed (left (i + 1)) ≡ true
-    rest-formed = and_right (slot_formed next) (all_places slot_formed (left (i + 1))) both
+    rest-formed : list_all slot_formed (left (i + 1)) ≡ true
+    rest-formed = and_right (slot_formed next) (list_all slot_formed (left (i + 1))) both
 
     whole-next : enter_all fs (counted (next ∷ left (i + 1))) ≡ fixes_of ss (places (record_size + 4) nr recs)
     whole-next = rw next-is at k.whole
@@ -76,7 +75,7 @@ module _ (ss : List (List ℕ)) (recs : List ℕ) (nr : ℕ) where
         e ∙ rw (p, q ∙ ap word (take_all 4 (drop record_size next) few)) refl
 
     pub walked-in : (b : Bool) (f : Fix) (gs : List Fix) → b ≡ counts ss (record_in next) → b ≡ true → f ≡ fix_of_place ss next → gs ≡ enter f fs → Walked (i + 1) gs
-    unfolding filter enter_all
+    unfolding enter_all
     walked-in b f gs e t p q =
         let c : counts ss (record_in next) ≡ true = sym e ∙ t in
         record {
@@ -87,11 +86,10 @@ module _ (ss : List (List ℕ)) (recs : List ℕ) (nr : ℕ) where
         }
 
     pub walked-by : (b : Bool) → b ≡ counts ss (record_in next) → b ≡ false → Walked (i + 1) fs
-    unfolding filter
     walked-by b e t =
         let c : counts ss (record_in next) ≡ false = sym e ∙ t in
         record { few = let y = k.few in omega arith; in_order = k.in_order; formed = rest-formed; whole = rw c at whole-next }
 
   pub walked-end : (i : ℕ) (fs : List Fix) → Walked i fs → nr ≤ i → fs ≡ fixes_of ss (places (record_size + 4) nr recs)
-  unfolding filter enter_all
+  unfolding enter_all
   walked-end i fs k l = rw (places-end (record_size + 4) nr i (i * (record_size + 4)) recs l) at k.whole

@@ -5,7 +5,7 @@ use Rattle.std.specs.Int.Bits.{bit_or}
 use Rattle.octets.specs.Order.{is_before}
 use Rattle.octets.specs.Words.{word}
 use Rattle.record.specs.Layout.{record_size}
-use Rattle.ranges.specs.Lists.{filter}
+use Rattle.std.specs.List.{filter}
 use Rattle.shown.specs.Fix.{Fix, with_signers}
 use Rattle.models.specs.Models.{counts}
 use Rattle.models.specs.Identity as I

@@ -3,7 +3,8 @@
 
 ghost use Rattle.std.specs.Prelude.{◌≡◌, true, [], ◌+◌, ◌*◌, ◌<◌, ◌≤◌, length};
 ghost use Rattle.arrayvec.specs.ArrayVec.{array_vec_len};
-ghost use Rattle.places.specs.Places.{places, all_places};
+ghost use Rattle.std.specs.List.{list_all};
+ghost use Rattle.places.specs.Places.{places};
 ghost use Rattle.record.specs.Layout.{record_size};
 ghost use Rattle.models.specs.Answers.{listed};
 ghost use Rattle.fixes.specs.Slots.{slot_formed};
@@ -45,7 +46,7 @@ fn enter<'a>(fixes: &mut Fixes<'a>, fix: Fix<'a>)
 pub fn represent<'a>(all: Summaries, recs: &'a [u8], nr: usize, fixes: &mut Fixes<'a>)
     requires recs_len { nr * (record_size + 4) ≤ length recs.now }
     requires few { nr ≤ MAX_FIXES }
-    requires recs_formed { all_places slot_formed (places (record_size + 4) nr recs.now) ≡ true }
+    requires recs_formed { list_all slot_formed (places (record_size + 4) nr recs.now) ≡ true }
     requires none { fixes.old.items ≡ [] }
     ensures { fixes.new.items ≡ F.fixes_of (listed all.entry) (places (record_size + 4) nr recs.now) }
 {

@@ -2,6 +2,7 @@
 use Rattle.std.proofs.Common.{ℕ, zero, suc, ◌+◌, ◌*◌, ◌^◌, ◌≤◌, ◌<◌, ◌≡◌, refl, sym, ap, subst, ◌∙◌, Bool, true, false, not, ◌&&◌, ◌||◌, true≢false, List, [], ◌++◌, arith, lt_of_le_of_lt, eqb, length, take, drop, length-take, length-drop, take_at, drop_at, take_all, drop-drop, take-add, length-take-le, eq-eqb, ne_eqb, eqb-true}
 use lib.Bits.{bit_and, bit_or}
 use borrow.Author.Tests.{not-true}
+use Rattle.std.specs.List.{list_all}
 use Rattle.ranges.proofs.Bools.{and_left, and_right, and_both}
 use Rattle.octets.specs.Bytes.{Bytes}
 use Rattle.octets.specs.Masks.{bit, with_bit, without_bit}
@@ -10,7 +11,7 @@ use Rattle.octets.specs.Words.{word, word_bytes, word_at}
 use Rattle.octets.proofs.Comparison.{same_refl, same-eq}
 use Rattle.octets.proofs.Lookup.{bit-set, bit-clear, bit-zero, bit-and, bit-ext, with-lt, without-le, bit-or}
 use Rattle.octets.proofs.Numbers.{length-word-bytes, word-of-bytes, bytes-word-bytes, bytes-of-word, bytes_take, bytes_drop, word_lt}
-use Rattle.places.specs.Places.{places, all_places}
+use Rattle.places.specs.Places.{places}
 use Rattle.places.proofs.Keeping.{changed}
 use Rattle.record.specs.Layout.{record_size}
 use Rattle.record.specs.Formed as R
@@ -162,13 +163,13 @@ signers-bytes t b l =
     let n : length d ≡ 4 = simp (length-drop, length-take) (omega arith) in
     ap (λ (x : ℕ). word_bytes x (word d)) (sym n) ∙ bytes-of-word d (bytes_drop record_size (take place_size t) (bytes_take place_size t b))
 
-pub all_held : (c n : ℕ) (t : List ℕ) → Bytes t → n * place_size ≤ length t → all_places (place_formed c) (places place_size n t) ≡ true → all_places (place_held c) (places place_size n t) ≡ true
-unfolding all_places places
+pub all_held : (c n : ℕ) (t : List ℕ) → Bytes t → n * place_size ≤ length t → list_all (place_formed c) (places place_size n t) ≡ true → list_all (place_held c) (places place_size n t) ≡ true
+unfolding places
 all_held c zero t b l a = refl
 all_held c (suc n) t b l a =
     let p = take place_size t in
     let rest = places place_size n (drop place_size t) in
-    and_both (place_held c p) (all_places (place_held c) rest)
-    (and_both (place_formed c p) (same (word_bytes 4 (signers_in p)) (drop record_size p)) (and_left (place_formed c p) (all_places (place_formed c) rest) a)
+    and_both (place_held c p) (list_all (place_held c) rest)
+    (and_both (place_formed c p) (same (word_bytes 4 (signers_in p)) (drop record_size p)) (and_left (place_formed c p) (list_all (place_formed c) rest) a)
     (rw (signers-bytes t b (omega arith)) (same_refl (drop record_size p))))
-    (all_held c n (drop place_size t) (bytes_drop place_size t b) (rw length-drop (omega arith)) (and_right (place_formed c p) (all_places (place_formed c) rest) a))
+    (all_held c n (drop place_size t) (bytes_drop place_size t b) (rw length-drop (omega arith)) (and_right (place_formed c p) (list_all (place_formed c) rest) a))

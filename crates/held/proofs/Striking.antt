@@ -1,5 +1,5 @@
 -- The loop of a conviction over a table, for every width, test and change: the places that stay are moved down over those that go, and the rest is cleared.
-use Rattle.std.proofs.Common.{ℕ, ◌+◌, ◌*◌, ◌-◌, ◌≤◌, ◌<◌, ◌≡◌, sym, ap, ap₂, ◌∙◌, Bool, true, false, List, [], ◌++◌, arith, mul-le-mul_right, mul_comm, length, get_or, take, drop, replicate, length-drop, take_all, length-take-le}
+use Rattle.std.proofs.Common.{ℕ, ◌+◌, ◌*◌, ◌-◌, ◌≤◌, ◌<◌, ◌≡◌, sym, ap, ap₂, ◌∙◌, Bool, true, false, List, [], ◌++◌, arith, mul_comm, length, get_or, take, drop, replicate, length-drop, take_all, length-take-le}
 use native.Mathlib.Nat.{mul-sub}
 use Rattle.places.specs.Places.{places, flat, table_of, keep_places}
 use Rattle.places.proofs.Walks.{room, next-room, place_of}

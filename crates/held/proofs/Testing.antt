@@ -2,29 +2,30 @@
 use Rattle.std.proofs.Common.{ℕ, zero, suc, ◌+◌, ◌*◌, ◌-◌, ◌≤◌, ◌<◌, ◌≡◌, refl, sym, ap, ap₂, ◌∙◌, Bool, true, false, not, ◌&&◌, List, [], ◌∷◌, arith, zero-mul, take, drop, take-take}
 use native.Mathlib.Nat.{sub-zero}
 use borrow.Author.Tests.{not-true, not-false}
+use Rattle.std.specs.List.{list_all}
 use Rattle.ranges.proofs.Bools.{and_left, and_right, and_both}
-use Rattle.places.specs.Places.{places, all_places}
-use Rattle.places.proofs.Walks.{room, step-at, all-next, all_end}
+use Rattle.places.specs.Places.{places}
+use Rattle.places.proofs.Walks.{step-at, all-next, all_end}
 
 pub record Passed (test : List ℕ → Bool) (w n : ℕ) (t : List ℕ) (i at : ℕ) : Type 0 where
   pub few : i ≤ n
   pub begins : at ≡ i * w
-  pub rest : all_places test (places w n t) ≡ all_places test (places w (n - i) (drop at t))
+  pub rest : list_all test (places w n t) ≡ list_all test (places w (n - i) (drop at t))
 
 pub passed_none : {test : List ℕ → Bool} {w n : ℕ} {t : List ℕ} → Passed test w n t 0 0
 passed_none {w = w} = record { few = omega arith; begins = sym (zero-mul w); rest = rw sub-zero refl }
 
 module _ {test : List ℕ → Bool} {w n : ℕ} {t : List ℕ} {i at : ℕ} (p : Passed test w n t i at) where
   -- all have passed
-  pub passed-all : n ≤ i → true ≡ all_places test (places w n t)
+  pub passed-all : n ≤ i → true ≡ list_all test (places w n t)
   passed-all h = sym (p.rest ∙ all_end test w n i at t h)
 
   -- the next is tested
   module _ (h : i < n) (b : Bool) (e : b ≡ test (take (at + w - at) (drop at t))) where
-    turned : all_places test (places w n t) ≡ (b && all_places test (places w (n - (i + 1)) (drop (at + w) t)))
-    turned = p.rest ∙ all-next test w n i at t h ∙ ap (λ (x : Bool). x && all_places test (places w (n - (i + 1)) (drop (at + w) t))) (sym e)
+    turned : list_all test (places w n t) ≡ (b && list_all test (places w (n - (i + 1)) (drop (at + w) t)))
+    turned = p.rest ∙ all-next test w n i at t h ∙ ap (λ (x : Bool). x && list_all test (places w (n - (i + 1)) (drop (at + w) t))) (sym e)
 
-    pub passed-not : not b ≡ true → false ≡ all_places test (places w n t)
+    pub passed-not : not b ≡ true → false ≡ list_all test (places w n t)
     passed-not z = sym (turned ∙ rw (not-true b z) refl)
 
     pub passed-next : not b ≡ false → Passed test w n t (i + 1) (at + w)
@@ -38,13 +39,12 @@ begin-lent k w at t h =
     rw (e, f) (sym (take-take k w (drop at t) h))
 
 -- a test of the first w bytes of places of w bytes is the test of the places
-pub whole-places : (test : List ℕ → Bool) (w n : ℕ) (t : List ℕ) → all_places (λ p. test (take w p)) (places w n t) ≡ all_places test (places w n t)
-unfolding all_places places
+pub whole-places : (test : List ℕ → Bool) (w n : ℕ) (t : List ℕ) → list_all (λ p. test (take w p)) (places w n t) ≡ list_all test (places w n t)
+unfolding places
 whole-places test w zero t = refl
 whole-places test w (suc n) t = ap₂ (λ (a b : Bool). a && b) (ap test (take-take w w t (omega arith))) (whole-places test w n (drop w t))
 
 -- places that pass a test pass a weaker one
-pub all-weaken : (a b : List ℕ → Bool) → ((p : List ℕ) → a p ≡ true → b p ≡ true) → (ps : List (List ℕ)) → all_places a ps ≡ true → all_places b ps ≡ true
-unfolding all_places
+pub all-weaken : (a b : List ℕ → Bool) → ((p : List ℕ) → a p ≡ true → b p ≡ true) → (ps : List (List ℕ)) → list_all a ps ≡ true → list_all b ps ≡ true
 all-weaken a b f [] h = refl
-all-weaken a b f (p ∷ ps) h = and_both (b p) (all_places b ps) (f p (and_left (a p) (all_places a ps) h)) (all-weaken a b f ps (and_right (a p) (all_places a ps) h))
+all-weaken a b f (p ∷ ps) h = and_both (b p) (list_all b ps) (f p (and_left (a p) (list_all a ps) h)) (all-weaken a b f ps (and_right (a p) (list_all a ps) h))

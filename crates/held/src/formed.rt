@@ -1,7 +1,8 @@
 //! Which bytes are summaries and records with signers.
 
 ghost use Rattle.std.specs.Prelude.{◌≡◌, ◌&&◌, ◌*◌, ◌≤◌, length};
-ghost use Rattle.places.specs.Places.{places, is_table, all_places};
+ghost use Rattle.std.specs.List.{list_all};
+ghost use Rattle.places.specs.Places.{places, is_table};
 ghost use Rattle.models.specs.Answers.{listed};
 ghost use Rattle.models.specs.Summary.{summary_size};
 ghost use Rattle.held.specs.Limits.{place_size};
@@ -27,14 +28,14 @@ fn summary_formed(s: Summary, convicted: Signers) -> bool
 
 // Whether all of these summaries are.
 fn summaries_formed(mut all: Summaries, convicted: Signers) -> bool
-    ensures { result ≡ all_places (summary_formed convicted.0) (listed all.entry) }
+    ensures { result ≡ list_all (summary_formed convicted.0) (listed all.entry) }
 {
     all.all(|s| summary_formed(s, convicted))
 }
 
 /// Whether these summaries are, they are ordered by their first KEY bytes, and the rest of their table is zero.
 pub fn summary_table_formed<const KEY: usize>(all: Summaries, convicted: Signers) -> bool
-    ensures { result ≡ (is_table KEY summary_size all.entry.count all.entry.table.now && all_places (summary_formed convicted.0) (listed all.entry)) }
+    ensures { result ≡ (is_table KEY summary_size all.entry.count all.entry.table.now && list_all (summary_formed convicted.0) (listed all.entry)) }
 {
     is_table::<SUMMARY_SIZE, KEY>(all.table, all.count) && summaries_formed(all, convicted)
 }
@@ -56,7 +57,7 @@ fn place_formed(p: &[u8], convicted: Signers) -> bool
 pub fn places_formed(t: &[u8], n: usize, w: usize, convicted: Signers) -> bool
     requires w_in_bounds { n * w ≤ length t.now }
     requires place_size_le_w { place_size ≤ w }
-    ensures { result ≡ all_places (begin_formed convicted.0) (places w n t.now) }
+    ensures { result ≡ list_all (begin_formed convicted.0) (places w n t.now) }
 {
     for i in 0..n {
         let at = i * w;

@@ -1,19 +1,18 @@
 -- Bursts with a pause between them: no chain leads from one to the other, and each has the transmissions that it has alone.
-use Rattle.std.proofs.Common.{ℕ, zero, suc, ◌≤◌, ◌≡◌, refl, sym, ap, ◌∙◌, subst, Bool, true, ◌&&◌, List, [], ◌∷◌, arith, ltb, leb, length, leb-true, le-leb, ltb-true, lt-ltb}
+use Rattle.std.proofs.Common.{ℕ, ◌≡◌, refl, sym, ap, ◌∙◌, Bool, true, ◌&&◌, List, [], ◌∷◌, arith, ltb, leb, leb-true, le-leb, ltb-true, lt-ltb}
 use mathlib.Core.List.{Memᴰ}
-use Rattle.ranges.specs.Lists.{any_of, filter}
+use Rattle.std.specs.List.{filter}
 use Rattle.ranges.proofs.Lists.{filter-in, filter-of, filter_same}
 use Rattle.ranges.proofs.Bools.{by, or, and_left, and_right, and_both, same_test}
 use Rattle.shown.specs.Fix.{Fix}
 use Rattle.shown.specs.Ages.{time_of}
-use Rattle.links.specs.Transmissions.{linked, Chain, here, more, reach, transmission_of}
+use Rattle.links.specs.Transmissions.{linked, Chain, here, more, transmission_of}
 use Rattle.links.specs.Bursts.{Pause, BurstsStayApart}
 use Rattle.links.proofs.Reaching.{SelfLinked, chain-in, together, together-is, transmission-tested}
 use Rattle.links.proofs.Fitness.{self-linked}
 use Rattle.links.proofs.Limits.{link-exactly-when}
 
 twice : {A : Type 0} (p q : A → Bool) (l : List A) → filter q (filter p l) ≡ filter (λ x. p x && q x) l
-unfolding filter
 twice p q [] = refl
 twice {A = A} p q (x ∷ l) =
     by (p x)

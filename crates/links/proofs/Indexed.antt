@@ -1,9 +1,8 @@
 -- The transmissions of fixes, by the indices of the fixes in their list.
 use Rattle.std.proofs.Common.{ℕ, zero, suc, ◌↔◌, ◌+◌, ◌≤◌, ◌<◌, ◌≡◌, refl, sym, ap, ap₂, ◌∙◌, Bool, true, List, [], ◌∷◌, map, arith, length, get_or}
-use mathlib.Core.List.Memᴰ
 use mathlib.Core.List.{Memᴰ}
 use Rattle.octets.specs.Order.{same}
-use Rattle.ranges.specs.Lists.{filter}
+use Rattle.std.specs.List.{filter}
 use Rattle.ranges.specs.Range.{filt}
 use Rattle.ranges.proofs.Range.{filt-at}
 use Rattle.ranges.proofs.Bools.{by}
@@ -17,7 +16,7 @@ use Rattle.links.proofs.Reaching.{SelfLinked, together, together-is, transmissio
 
 module _ {A : Type 0} (d : A) where
   from_place : (p : A → Bool) (h : ℕ → A) (l : List A) (k : ℕ) → ((i : ℕ) → i < length l → h (k + i) ≡ get_or l i d) → filter p l ≡ map h (filt (λ i. p (h i)) k (length l))
-  unfolding filter filt
+  unfolding filt
   from_place p h [] k e = refl
   from_place p h (x ∷ l) k e =
       let z : k ≡ k + 0 = omega arith in
@@ -32,7 +31,6 @@ module _ {A : Type 0} (d : A) where
 
   -- the first that passes a test is no later than another that does
   pub first-place : (p : A → Bool) (l : List A) (k : ℕ) → k < length l → p (get_or l k d) ≡ true → (i : ℕ) × (i ≤ k) × (p (get_or l i d) ≡ true) × ((rest : List A) × (filter p l ≡ get_or l i d ∷ rest))
-  unfolding filter
   first-place p [] k h e = absurd (omega arith)
   first-place p (x ∷ l) zero h e = (0, omega arith, e, (filter p l, rw e refl))
   first-place p (x ∷ l) (suc k) h e =

@@ -8,7 +8,8 @@ use Rattle.octets.proofs.Comparison.{same_refl}
 use Rattle.record.specs.Fields.{time, tags_from}
 use Rattle.record.specs.Relations.{shares_tag, any_in, member, tied}
 use Rattle.record.proofs.Laws.{subset-irrefl}
-use Rattle.ranges.specs.Lists.{any_of, filter, insert, sort}
+use Rattle.std.specs.List.{filter, list_any}
+use Rattle.ranges.specs.Lists.{insert, sort}
 use Rattle.ranges.proofs.Bools.{by, and_left, and_right, and_both}
 use Rattle.shown.specs.Fix.{Fix}
 use Rattle.shown.specs.Ages.{time_of}
@@ -54,7 +55,7 @@ limit = record {
 }
 
 pub chains-join : ChainsJoin
-unfolding transmissions_of reach filter any_of records_link tied shares_tag any_in member same is_before tags_from word word_bytes
+unfolding transmissions_of reach records_link tied shares_tag any_in member same is_before tags_from word word_bytes
 chains-join = record { by_tags = record { all = refl; ends = refl }; by_times = record { all = refl; ends = refl } }
 
 -- ---- further apart
@@ -67,7 +68,7 @@ far-unlinked f g h = by (tied f.record_bytes g.record_bytes) (λ p. rw (p, far) 
     far = lt-leb (difference (time_of f) (time_of g)) link_span h
 
 alone : (f : Fix) → shown (f ∷ []) ≡ ranks_alone f
-unfolding shown any_of filter sort insert flat_map
+unfolding shown sort insert flat_map
 alone f = rw (subset-irrefl f.record_bytes) refl
 
 module _ (f g : Fix) (ff : linked f f ≡ true) (gg : linked g g ≡ true) (fg : linked f g ≡ false) (gf : linked g f ≡ false) where
@@ -76,26 +77,23 @@ module _ (f g : Fix) (ff : linked f f ≡ true) (gg : linked g g ≡ true) (fg :
 
   -- one link leads from each to itself
   abbrev links-of : Fix → List Fix
-  links-of h = filter (λ x. any_of (linked x) (h ∷ [])) both
+  links-of h = filter (λ x. list_any (linked x) (h ∷ [])) both
 
   first-link : links-of f ≡ f ∷ []
-  unfolding filter any_of
   first-link = rw (ff, gf) refl
 
   second-link : links-of g ≡ g ∷ []
-  unfolding filter any_of
   second-link = rw (fg, gg) refl
 
   -- and so do two
   two-links : (h : Fix) → links-of h ≡ h ∷ [] → transmission_of both h ≡ h ∷ []
   unfolding reach
-  two-links h e = ap (λ (l : List Fix). filter (λ x. any_of (linked x) l) both) e ∙ e
+  two-links h e = ap (λ (l : List Fix). filter (λ x. list_any (linked x) l) both) e ∙ e
 
   is-first : (h : Fix) → links-of h ≡ h ∷ [] → is_first both h ≡ true
   is-first h e = ap (leads h) (two-links h e) ∙ same_refl h.identity
 
   both_first : filter (is_first both) both ≡ both
-  unfolding filter
   both_first = rw (is-first f first-link, is-first g second-link) refl
 
   two-alone : transmissions_of both ≡ (f ∷ []) ∷ (g ∷ []) ∷ []

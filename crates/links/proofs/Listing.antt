@@ -3,14 +3,13 @@ use Rattle.std.proofs.Common.{◌≤◌, ◌≡◌, refl, ap, ◌∙◌, Bool, t
 use mathlib.Core.List.Memᴰ
 use mathlib.Core.List.{Memᴰ}
 use Rattle.ranges.proofs.Bools.{by, or}
-use Rattle.ranges.specs.Lists.{filter}
+use Rattle.std.specs.List.{filter}
 use Rattle.ranges.proofs.Lists.{filter-few}
 
 module _ {A : Type 0} where
   -- a wider test passes as many, and where no more, the same
   module _ (p q : A → Bool) where
     pub filter-wider : (l : List A) → ((x : A) → Memᴰ x l → p x ≡ true → q x ≡ true) → length (filter p l) ≤ length (filter q l)
-    unfolding filter
     filter-wider [] w = omega arith
     filter-wider (y ∷ l) w =
         let r = filter-wider l (λ x m. w x (Memᴰ.tail m)) in
@@ -19,7 +18,6 @@ module _ {A : Type 0} where
         (λ u. by (q y) (λ v. rw (u, v) (omega arith)) (λ v. rw (u, v) (omega arith)))
 
     pub filter-no-wider : (l : List A) → ((x : A) → Memᴰ x l → p x ≡ true → q x ≡ true) → length (filter q l) ≤ length (filter p l) → filter q l ≡ filter p l
-    unfolding filter
     filter-no-wider [] w h = refl
     filter-no-wider (y ∷ l) w h =
         let v : (x : A) → Memᴰ x l → p x ≡ true → q x ≡ true = λ x m. w x (Memᴰ.tail m) in
@@ -33,7 +31,6 @@ module _ {A : Type 0} where
 
   -- a test that as many pass as there are is passed by all
   pub filter-all : (p : A → Bool) (l : List A) → length l ≤ length (filter p l) → (x : A) → Memᴰ x l → p x ≡ true
-  unfolding filter
   filter-all p [] h x m = absurd (Memᴰ.not-nil m)
   filter-all p (y ∷ l) h x m =
       by (p y)

@@ -1,6 +1,5 @@
 -- Fixes by their labels are the transmissions of fixes.
 use Rattle.std.proofs.Common.{ℕ, zero, suc, ◌+◌, ◌≤◌, ◌<◌, ◌≡◌, refl, sym, ap, subst, ◌∙◌, Bool, true, false, cond, List, [], ◌∷◌, ◌++◌, map, arith, length, get_or, replicate, eqb-true, eq-eqb, eq-or-lt_of_le}
-use mathlib.Core.List.{Memᴰ}
 use Rattle.octets.proofs.Comparison.{same-eq, same_refl}
 use Rattle.ranges.specs.Tables.{marked}
 use Rattle.ranges.specs.Range.{filt}

@@ -4,7 +4,7 @@ use mathlib.Core.List.Memᴰ
 use mathlib.Core.List.{Memᴰ}
 use Rattle.octets.proofs.Comparison.{same_refl}
 use Rattle.ranges.proofs.Bools.{or}
-use Rattle.ranges.specs.Lists.{filter}
+use Rattle.std.specs.List.{filter}
 use Rattle.ranges.proofs.Lists.{filter-in, filter-of}
 use Rattle.shown.specs.Fix.{Fix}
 use Rattle.links.specs.Transmissions.{Chain, here, transmission_of, leads, is_first, transmissions_of}

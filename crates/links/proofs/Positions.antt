@@ -6,7 +6,6 @@ use Rattle.octets.specs.Runs.{all_zero}
 use Rattle.record.specs.Fields.{tags_from}
 use Rattle.record.specs.Formed.{well_formed, ascends, ascends_from, all_up_to}
 use Rattle.record.specs.Relations.{shares_tag, any_in, member, tied}
-use Rattle.ranges.specs.Lists.{any_of, filter}
 use Rattle.links.specs.Transmissions.{records_link, reach, transmissions_of}
 use Rattle.links.specs.Positions.{one, two, both, other}
 use Rattle.links.specs.Claims.{Position6}
@@ -16,9 +15,9 @@ unfolding well_formed ascends ascends_from all_up_to all_zero tags_from word wor
 records-formed = (refl, refl, refl, refl)
 
 pub position-6 : Position6
-unfolding transmissions_of reach filter any_of records_link tied shares_tag any_in member same is_before tags_from word word_bytes
+unfolding transmissions_of reach records_link tied shares_tag any_in member same is_before tags_from word word_bytes
 position-6 = refl
 
 pub apart : transmissions_of (one ∷ two ∷ other ∷ []) ≡ (one ∷ []) ∷ (two ∷ []) ∷ (other ∷ []) ∷ []
-unfolding transmissions_of reach filter any_of records_link tied shares_tag any_in member same is_before tags_from word word_bytes
+unfolding transmissions_of reach records_link tied shares_tag any_in member same is_before tags_from word word_bytes
 apart = refl

@@ -3,7 +3,7 @@ use Rattle.std.proofs.Common.{ℕ, zero, suc, ◌-◌, ◌∙◌, ◌≤◌, ◌
 use mathlib.Core.List.Memᴰ
 use mathlib.Core.List.{Memᴰ}
 use Rattle.ranges.proofs.Bools.{by, or, same_test}
-use Rattle.ranges.specs.Lists.{any_of, filter}
+use Rattle.std.specs.List.{filter, list_any}
 use Rattle.shown.specs.Fix.{Fix}
 use Rattle.links.specs.Transmissions.{linked, Chain, here, more, reach, transmission_of}
 use Rattle.ranges.proofs.Lists.{any-in, any-of, filter-in, filter-of, filter_same}
@@ -40,7 +40,7 @@ module _ {fs : List Fix} where
 module _ (fs : List Fix) (a : Fix) (a_in : Memᴰ a fs) (self : SelfLinked fs) where
   -- g links to one that n links lead to
   abbrev near : ℕ → Fix → Bool
-  near n g = any_of (linked g) (reach fs n a)
+  near n g = list_any (linked g) (reach fs n a)
 
   -- ---- a chain leads to each
 
@@ -67,7 +67,7 @@ module _ (fs : List Fix) (a : Fix) (a_in : Memᴰ a fs) (self : SelfLinked fs) w
   -- where one link gains none, a further one gains none; else each has gained one
   next : (k : ℕ) → reach fs (suc (suc k)) a ≡ reach fs (suc k) a → reach fs (suc (suc (suc k))) a ≡ reach fs (suc (suc k)) a
   unfolding reach
-  next k e = ap (λ (l : List Fix). filter (λ (g : Fix). any_of (linked g) l) fs) e
+  next k e = ap (λ (l : List Fix). filter (λ (g : Fix). list_any (linked g) l) fs) e
 
   still : (k : ℕ) → length (reach fs (suc (suc k)) a) ≤ length (reach fs (suc k) a) → reach fs (suc (suc k)) a ≡ reach fs (suc k) a
   unfolding reach
@@ -110,7 +110,7 @@ module _ (fs : List Fix) (a : Fix) (a_in : Memᴰ a fs) (self : SelfLinked fs) w
 
 -- a chain leads from a to x
 abbrev pub together : List Fix → Fix → Fix → Bool
-together fs a x = any_of (linked x) (reach fs (length fs - 1) a)
+together fs a x = list_any (linked x) (reach fs (length fs - 1) a)
 
 pub transmission-tested : (fs : List Fix) (a : Fix) → Memᴰ a fs → transmission_of fs a ≡ filter (together fs a) fs
 unfolding reach

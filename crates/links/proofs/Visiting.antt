@@ -1,7 +1,6 @@
 -- What a visit marks: all that a chain of links leads to from it, where these have no mark.
 use Rattle.std.proofs.Common.{◌≡◌, sym, ap, ap₂, ◌∙◌, subst, Bool, true, false, ◌⊎◌, inl, inr, List, ℕ, zero, suc, ◌+◌, ◌≤◌, ◌<◌, arith, eqb, length, set, length-set, get_or-set_same, eqb-true}
 use borrow.Author.Tests.{eqb-false}
-use mathlib.Core.List.{Memᴰ}
 use Rattle.ranges.proofs.Bools.{by, or, clash}
 use Rattle.ranges.specs.Tables.{marked}
 use Rattle.shown.specs.Fix.{Fix}

@@ -5,7 +5,7 @@ use mathlib.Core.List.{List, [], ◌∷◌, map, Memᴰ}
 use Rattle.record.specs.Fields.{time}
 use Rattle.record.specs.Formed.{well_formed}
 use Rattle.record.specs.Relations.{tied}
-use Rattle.ranges.specs.Lists.{filter}
+use Rattle.std.specs.List.{filter}
 use Rattle.shown.specs.Fix.{Fix}
 use Rattle.shown.specs.Ages.{time_of}
 use Rattle.shown.specs.Shown.{Transmission, shown}

@@ -5,7 +5,7 @@ use mathlib.Core.List.{List, [], ◌∷◌, Memᴰ, map}
 use Rattle.octets.specs.Order.{same}
 use Rattle.record.specs.Fields.{time}
 use Rattle.record.specs.Relations.{tied}
-use Rattle.ranges.specs.Lists.{any_of, filter}
+use Rattle.std.specs.List.{filter, list_any}
 use Rattle.shown.specs.Fix.{Fix}
 
 -- how much the times of two that link may differ, in nanoseconds
@@ -35,7 +35,7 @@ pub data Chain (fs : List Fix) (a : Fix) : Fix → Type 0 where
 -- The fixes that a chain of n links leads to from a. A fix has a tag, so it links to itself: they are those of at most n links.
 unfoldable pub reach : List Fix → ℕ → Fix → List Fix
 reach fs zero a = a ∷ []
-reach fs (suc n) a = let nearer = reach fs n a in filter (λ g. any_of (linked g) nearer) fs
+reach fs (suc n) a = let nearer = reach fs n a in filter (λ g. list_any (linked g) nearer) fs
 
 -- the transmission of a fix: no chain need be longer than there are fixes
 abbrev pub transmission_of : List Fix → Fix → List Fix

@@ -6,7 +6,7 @@ use mathlib.Core.List.Memᴰ
 use mathlib.Core.List.{List, [], ◌∷◌, ◌++◌, map, Memᴰ}
 use native.Mathlib.Omega.{arith}
 use lib.ListN.{length-map}
-use Rattle.ranges.specs.Lists.{any_of, filter}
+use Rattle.std.specs.List.{filter, list_any}
 use Rattle.ranges.proofs.Bools.{by}
 use Rattle.ranges.proofs.Lists.{filter-of, filter-few}
 use Rattle.shown.specs.Fix.{Fix, with_signers}
@@ -29,11 +29,11 @@ unfolding opened
 opened-none f ts = refl
 
 module _ (f : Fix) (t : HeldTransmission) (ts : List HeldTransmission) where
-  joined-new : any_of (is_of f) (held_in t) ≡ false → (joined f t ts).entered ≡ entered t (with_fix f t)
+  joined-new : list_any (is_of f) (held_in t) ≡ false → (joined f t ts).entered ≡ entered t (with_fix f t)
   unfolding joined
   joined-new e = rw e refl
 
-  joined-held : any_of (is_of f) (held_in t) ≡ true → (joined f t ts).entered ≡ 0
+  joined-held : list_any (is_of f) (held_in t) ≡ true → (joined f t ts).entered ≡ 0
   unfolding joined
   joined-held e = rw e refl
 
@@ -53,13 +53,13 @@ joining-enters f t ts j = ap (λ (l : List HeldTransmission). (merged_into f ts 
 module _ (f : Fix) (ts : List HeldTransmission) where
   others-none : ((t : HeldTransmission) → Joins f t ts → ⊥) → (l : List HeldTransmission) → filter (tied_to f) ts ≡ l → (merged_into f ts l).entered ≡ 0
   others-none n [] e = opened-none f ts
-  others-none n (t ∷ []) e = by (any_of (is_of f) (held_in t)) (λ h. joined-held f t ts h) (λ h. absurd (n t (record { alone = e; new = h })))
+  others-none n (t ∷ []) e = by (list_any (is_of f) (held_in t)) (λ h. joined-held f t ts h) (λ h. absurd (n t (record { alone = e; new = h })))
   others-none n (t ∷ (u ∷ us)) e = opened-none f ts
 
   few : (l : List HeldTransmission) → (merged_into f ts l).entered ≤ max_refused
   few [] = rw (opened-none f ts) (omega arith)
   few (t ∷ []) =
-      by (any_of (is_of f) (held_in t))
+      by (list_any (is_of f) (held_in t))
       (λ h. rw (joined-held f t ts h) (omega arith))
       (λ h. rw (joined-new f t ts h) (entered-few f t ts))
   few (t ∷ (u ∷ us)) = rw (opened-none f ts) (omega arith)
@@ -127,7 +127,7 @@ opened-order f ts = arranged-in-order _
 
 joined-order : (f : Fix) (t : HeldTransmission) (ts : List HeldTransmission) → filter (tied_to f) ts ≡ t ∷ [] → InOrder ts → InOrder (joined f t ts).left
 unfolding joined
-joined-order f t ts e w = by (any_of (is_of f) (held_in t)) (λ h. rw h (signed-order f t ts e w)) (λ h. rw h (arranged-in-order (in_place f (with_fix f t) ts)))
+joined-order f t ts e w = by (list_any (is_of f) (held_in t)) (λ h. rw h (signed-order f t ts e w)) (λ h. rw h (arranged-in-order (in_place f (with_fix f t) ts)))
 
 into-order : (f : Fix) (ts l : List HeldTransmission) → filter (tied_to f) ts ≡ l → InOrder ts → InOrder (merged_into f ts l).left
 into-order f ts [] e w = opened-order f ts

@@ -15,7 +15,7 @@ use Rattle.shown.proofs.Indexed.{at_in}
 use Rattle.std.specs.Prelude.{Option, Some, None, position}
 use Rattle.std.proofs.lemmas.List.Sums.{position_or_len_is}
 use Rattle.std.proofs.lemmas.List.Quantifiers.{position-Some}
-use Rattle.ranges.specs.Lists.{any_of, filter}
+use Rattle.std.specs.List.{filter, list_any}
 use Rattle.ranges.proofs.Bools.{by, clash}
 use Rattle.ranges.proofs.Lists.{any-no, filter_none}
 use Rattle.normalize.proofs.Gathered.{none-of}
@@ -23,9 +23,8 @@ use Rattle.merge.specs.Searching.{only}
 
 module _ {A : Type 0} (test : A → Bool) where
   -- that at one place alone
-  pub filter-one : (l : List A) (i : ℕ) (d : A) → i < length l → any_of test (take i l) ≡ false → test (get_or l i d) ≡ true → any_of test (drop (suc i) l) ≡ false
+  pub filter-one : (l : List A) (i : ℕ) (d : A) → i < length l → list_any test (take i l) ≡ false → test (get_or l i d) ≡ true → list_any test (drop (suc i) l) ≡ false
       → filter test l ≡ get_or l i d ∷ []
-  unfolding filter any_of
   filter-one [] i d h a e b = absurd (omega arith)
   filter-one (x ∷ l) zero d h a e b = rw (e, filter_none test l b) refl
   filter-one (x ∷ l) (suc i) d h a e b =
@@ -34,17 +33,15 @@ module _ {A : Type 0} (test : A → Bool) where
       (λ t. rw t (filter-one l i d (omega arith) (rw t at a) e b))
 
   -- y in the place of what passes
-  pub replace-none : (y : A) (l : List A) → any_of test l ≡ false → map (λ x. cond (test x) y x) l ≡ l
-  unfolding any_of
+  pub replace-none : (y : A) (l : List A) → list_any test l ≡ false → map (λ x. cond (test x) y x) l ≡ l
   replace-none y [] a = refl
   replace-none y (x ∷ l) a =
       by (test x)
       (λ t. clash refl (rw t at a))
       (λ t. rw t (ap (λ (k : List A). x ∷ k) (replace-none y l (rw t at a))))
 
-  pub replace-one : (y : A) (l : List A) (i : ℕ) (d : A) → i < length l → any_of test (take i l) ≡ false → test (get_or l i d) ≡ true → any_of test (drop (suc i) l) ≡ false
+  pub replace-one : (y : A) (l : List A) (i : ℕ) (d : A) → i < length l → list_any test (take i l) ≡ false → test (get_or l i d) ≡ true → list_any test (drop (suc i) l) ≡ false
       → map (λ x. cond (test x) y x) l ≡ set l i y
-  unfolding any_of
   replace-one y [] i d h a e b = absurd (omega arith)
   replace-one y (x ∷ l) zero d h a e b = rw e (ap (λ (k : List A). y ∷ k) (replace-none y l b))
   replace-one y (x ∷ l) (suc i) d h a e b =
@@ -54,7 +51,6 @@ module _ {A : Type 0} (test : A → Bool) where
 
   -- several
   filter-some-at : (l : List A) (j : ℕ) (d : A) → j < length l → test (get_or l j d) ≡ true → (x : A) × (rest : List A) × (filter test l ≡ x ∷ rest)
-  unfolding filter
   filter-some-at [] j d h e = absurd (omega arith)
   filter-some-at (x ∷ l) zero d h e = (x, filter test l, rw e refl)
   filter-some-at (x ∷ l) (suc j) d h e =
@@ -64,7 +60,6 @@ module _ {A : Type 0} (test : A → Bool) where
 
   pub filter-several : (l : List A) (i j : ℕ) (d : A) → i < j → j < length l → test (get_or l i d) ≡ true → test (get_or l j d) ≡ true
       → (x : A) × (y : A) × (rest : List A) × (filter test l ≡ x ∷ (y ∷ rest))
-  unfolding filter
   filter-several [] i j d g h e f = absurd (omega arith)
   filter-several (x ∷ l) i zero d g h e f = absurd (omega arith)
   filter-several (x ∷ l) zero (suc j) d g h e f = let r = filter-some-at l j d (omega arith) f in (x, r.0, r.1, rw e (ap (λ (k : List A). x ∷ k) r.2))
@@ -103,8 +98,7 @@ module _ {A : Type 0} (test : A → Bool) where
       place-is l k d h e
       (λ j m. ap test (sym (get_or-take k l j d m)) ∙ any-no test (take k l) (get_or (take k l) j d) (none-of test (take k l) (sym q)) (at_in d (take k l) j (omega (arith, n))))
 
-  none-front : (l : List A) (i : ℕ) (d : A) → i ≤ length l → ((k : ℕ) → k < i → test (get_or l k d) ≡ false) → any_of test (take i l) ≡ false
-  unfolding any_of
+  none-front : (l : List A) (i : ℕ) (d : A) → i ≤ length l → ((k : ℕ) → k < i → test (get_or l k d) ≡ false) → list_any test (take i l) ≡ false
   none-front l zero d h p = refl
   none-front [] (suc i) d h p = absurd (omega arith)
   none-front (x ∷ l) (suc i) d h p = rw (p 0 (omega arith)) (none-front l i d (omega arith) (λ k m. p (suc k) (omega arith)))
@@ -112,7 +106,7 @@ module _ {A : Type 0} (test : A → Bool) where
   -- at this place is the first that passes
   pub record First (l : List A) (i : ℕ) (d : A) : Type 0 where
     pub there : i < length l
-    pub before : any_of test (take i l) ≡ false
+    pub before : list_any test (take i l) ≡ false
     pub here : test (get_or l i d) ≡ true
 
   pub first-at : (l : List A) (i : ℕ) (d : A) → position test l ≡ Some i → First l i d
@@ -121,7 +115,7 @@ module _ {A : Type 0} (test : A → Bool) where
   -- and none behind it does
   pub record Alone (l : List A) (i : ℕ) (d : A) : Type 0 where
     pub first : First l i d
-    pub behind : any_of test (drop (suc i) l) ≡ false
+    pub behind : list_any test (drop (suc i) l) ≡ false
 
   pub alone-at : (l : List A) (i : ℕ) (d : A) → only test l ≡ Some i → Alone l i d
   alone-at l i d e = go (position test l) refl
@@ -129,7 +123,7 @@ module _ {A : Type 0} (test : A → Bool) where
       last : (j : ℕ) → position test l ≡ Some j → (o : Option ℕ) → position test (drop (j + 1) l) ≡ o → Alone l i d
       last j p None q =
           let z : j ≡ i = let r = rw (p, q) at e in cc in
-          record { first = first-at l i d (p ∙ ap Some z); behind = ap (λ (k : ℕ). any_of test (drop k l)) (sym (add-one i)) ∙ none-of test (drop (i + 1) l) (ap (λ (k : ℕ). position test (drop (k + 1) l)) (sym z) ∙ q) }
+          record { first = first-at l i d (p ∙ ap Some z); behind = ap (λ (k : ℕ). list_any test (drop k l)) (sym (add-one i)) ∙ none-of test (drop (i + 1) l) (ap (λ (k : ℕ). position test (drop (k + 1) l)) (sym z) ∙ q) }
       last j p (Some k) q = absurd (let r = rw (p, q) at e in cc)
 
       go : (o : Option ℕ) → position test l ≡ o → Alone l i d

@@ -3,19 +3,20 @@ use Prim.Native.Nat.{ℕ, zero, suc, ◌+◌, ◌-◌, ◌^◌, ◌≤◌, ◌<�
 use mathlib.Core.Path.{◌≡◌, refl, sym, ap, ap₂, ◌∙◌, subst}
 use mathlib.Core.Bool.{Bool, true, false, cond, ◌||◌}
 use mathlib.Core.List.Memᴰ
-use mathlib.Core.List.{List, [], ◌∷◌, ◌++◌, map}
+use mathlib.Core.List.{List, [], ◌∷◌, map}
 use native.Mathlib.Omega.{arith}
 use lib.Bits.{bit_or}
 use lib.Dec.{ltb}
 use lib.ListN.{length, get_or, take, drop, set, length-map, length-drop, get_or-append}
 use lib.Seq.{length-take-le, take-append-le, take-append-add, get_or-append-add}
 use borrow.Author.Tests.{ltb-true, ltb-false}
+use Rattle.std.proofs.lemmas.List.Folds.{list_any-append}
 use Rattle.octets.specs.Bytes.{Bytes}
 use Rattle.octets.specs.Words.{word, word_at}
 use Rattle.octets.specs.Writes.{put_word}
 use Rattle.octets.proofs.Numbers.{bytes_take, bytes_drop, word_lt}
 use Rattle.std.specs.Prelude.{Some, position}
-use Rattle.ranges.specs.Lists.{any_of}
+use Rattle.std.specs.List.{list_any}
 use Rattle.ranges.proofs.Bools.{by, neither_left, neither_right}
 use Rattle.ranges.proofs.Lists.{any-map, any-of}
 use Rattle.places.proofs.Tables.{length-places, places-wide}
@@ -89,11 +90,6 @@ valid-held b y s =
     rest : (c : List ℕ) → length c ≡ L.transmission_size → length (refused_table c) ≡ L.refused_table_size
     rest c e = rw length-drop (omega (arith, e))
 
-any_append : {A : Type 0} (test : A → Bool) (l r : List A) → any_of test (l ++ r) ≡ (any_of test l || any_of test r)
-unfolding any_of
-any_append test [] r = refl
-any_append test (x ∷ l) r = by (test x) (λ w. rw w refl) (λ w. rw w (any_append test l r))
-
 -- ---- the signature of the held fix k, the first of its identity
 
 module _ (b : List ℕ) (y : Bytes b) (st : Steady b) (g : Fix) (k : ℕ) (first : position (is_of g) (held_in (transmission_in b)) ≡ Some k) where
@@ -124,7 +120,7 @@ module _ (b : List ℕ) (y : Bytes b) (st : Steady b) (g : Fix) (k : ℕ) (first
   abbrev s : ℕ
   s = bit_or (get_or (held_in t) k no_fix).signers g.signers
 
-  none : any_of (is_of g) (take k (held_in t)) ≡ false
+  none : list_any (is_of g) (take k (held_in t)) ≡ false
   none = (first-at (is_of g) (held_in t) k no_fix first).before
 
   here : is_of g (get_or (held_in t) k no_fix) ≡ true
@@ -134,7 +130,7 @@ module _ (b : List ℕ) (y : Bytes b) (st : Steady b) (g : Fix) (k : ℕ) (first
   stands : k < length t.fixes → put_word 4 (fix_place k + L.signers_at) s (transmission_bytes t) ≡ transmission_bytes (sign_in g t)
   stands l =
       let e : get_or (held_in t) k no_fix ≡ get_or t.fixes k no_fix = get_or-append t.fixes (map fix_of t.refused) no_fix k l in
-      let n : any_of (is_of g) (take k t.fixes) ≡ false = ap (any_of (is_of g)) (sym (take-append-le k t.fixes (map fix_of t.refused) (omega (arith, l)))) ∙ none in
+      let n : list_any (is_of g) (take k t.fixes) ≡ false = ap (list_any (is_of g)) (sym (take-append-le k t.fixes (map fix_of t.refused) (omega (arith, l)))) ∙ none in
       let m : is_of g (get_or t.fixes k no_fix) ≡ true = ap (is_of g) (sym e) ∙ here in
       let u : upholds t g ≡ true = any-of (is_of g) t.fixes (get_or t.fixes k no_fix) (at_in no_fix t.fixes k l) m in
       sign-standing t v k s l
@@ -150,9 +146,9 @@ module _ (b : List ℕ) (y : Bytes b) (st : Steady b) (g : Fix) (k : ℕ) (first
       let z : length t.fixes + j ≡ k = omega (arith, l) in
       let q : j < length rs = omega (arith, l, h, fixes-count, refused-count) in
       let e : get_or (held_in t) k no_fix ≡ (get_or rs j no_refused).fix = ap (λ (i : ℕ). get_or (held_in t) i no_fix) (sym z) ∙ get_or-append-add t.fixes (map fix_of rs) j no_fix ∙ at-fix rs j q in
-      let p : (any_of (is_of g) t.fixes || any_of (is_of g) (take j (map fix_of rs))) ≡ false = sym (any_append (is_of g) t.fixes (take j (map fix_of rs))) ∙ ap (any_of (is_of g)) (sym (take-append-add t.fixes (map fix_of rs) j) ∙ ap (λ (i : ℕ). take i (held_in t)) z) ∙ none in
-      let u : upholds t g ≡ false = neither_left (upholds t g) (any_of (is_of g) (take j (map fix_of rs))) p in
-      let n : any_of (λ x. is_of g x.fix) (take j rs) ≡ false = sym (any-map fix_of (λ x. is_of g x.fix) (is_of g) (take j rs) (λ x i. refl)) ∙ ap (any_of (is_of g)) (take-fix rs j) ∙ neither_right (upholds t g) (any_of (is_of g) (take j (map fix_of rs))) p in
+      let p : (list_any (is_of g) t.fixes || list_any (is_of g) (take j (map fix_of rs))) ≡ false = sym (list_any-append (is_of g) t.fixes (take j (map fix_of rs))) ∙ ap (list_any (is_of g)) (sym (take-append-add t.fixes (map fix_of rs) j) ∙ ap (λ (i : ℕ). take i (held_in t)) z) ∙ none in
+      let u : upholds t g ≡ false = neither_left (upholds t g) (list_any (is_of g) (take j (map fix_of rs))) p in
+      let n : list_any (λ x. is_of g x.fix) (take j rs) ≡ false = sym (any-map fix_of (λ x. is_of g x.fix) (is_of g) (take j rs) (λ x i. refl)) ∙ ap (list_any (is_of g)) (take-fix rs j) ∙ neither_right (upholds t g) (list_any (is_of g) (take j (map fix_of rs))) p in
       let m : is_of g (get_or rs j no_refused).fix ≡ true = ap (is_of g) (sym e) ∙ here in
       sign-refused t v j s q
       ∙ sym (ap (λ (c : Bool). transmission_bytes (cond c (record { fixes = sign_first g t.fixes; refused = rs }) (record { fixes = t.fixes; refused = sign_refused g rs }))) u
@@ -176,5 +172,5 @@ module _ (b : List ℕ) (y : Bytes b) (st : Steady b) (g : Fix) (k : ℕ) (first
       (λ w. let e : held_place b k ≡ fix_place k = rw w refl in ap (λ (x : ℕ). put_word 4 (x + L.signers_at) s (transmission_bytes t)) e ∙ stands (rw fixes-count (ltb-true k (fix_count b) w)))
       (λ w. let e : held_place b k ≡ refused_place (k - length t.fixes) = rw (w, fixes-count) refl in ap (λ (x : ℕ). put_word 4 (x + L.signers_at) s (transmission_bytes t)) e ∙ is-refused (rw fixes-count (ltb-false k (fix_count b) w)))
 
-  pub some-held : any_of (is_of g) (held_in t) ≡ true
+  pub some-held : list_any (is_of g) (held_in t) ≡ true
   some-held = any-of (is_of g) (held_in t) (get_or (held_in t) k no_fix) (at_in no_fix (held_in t) k (rw (held-number b) h)) here

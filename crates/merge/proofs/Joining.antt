@@ -1,26 +1,24 @@
 -- A fix that is tied to one transmission: the bytes that are left are those of what is left.
 use Prim.Native.Nat.{ℕ, zero, suc, ◌+◌, ◌*◌, ◌-◌, ◌≤◌, ◌<◌}
 use mathlib.Core.Path.{◌≡◌, refl, sym, ap, ap₂, ◌∙◌, subst}
-use mathlib.Core.Bool.{Bool, true, false}
+use mathlib.Core.Bool.{true, false}
 use mathlib.Core.List.Memᴰ
 use mathlib.Core.List.{List, [], ◌∷◌, ◌++◌, map, Memᴰ}
 use mathlib.Core.Logic.{◌⊎◌, inl, inr}
-use lib.ListN.{length, get_or, take, drop, set, length-map, get_or-map}
+use lib.ListN.{length, get_or, set, length-map, get_or-map}
 use Rattle.octets.specs.Bytes.{Bytes}
 use borrow.Rule.Slice.PartMut.{put_mid}
 use Rattle.std.specs.Prelude.{Option, Some, None}
 use Rattle.places.proofs.Tables.{wide, replace-table}
 use Rattle.items.proofs.Pairing.{width}
-use Rattle.ranges.specs.Lists.{any_of, filter}
+use Rattle.std.specs.List.{list_any}
 use Rattle.ranges.proofs.Bools.{by, or}
-use Rattle.ranges.proofs.Lists.{any-map, filter_map}
 use Rattle.shown.specs.Fix.{Fix}
 use Rattle.shown.proofs.Indexed.{at_in}
 use Rattle.tracked.specs.Layout as L
 use Rattle.tracked.specs.Held.{HeldTransmission, fix_of, held_in, is_of, tied_to}
 use Rattle.tracked.specs.Bytes.{transmission_in, transmission_bytes}
-use Rattle.tracked.specs.Parts.{held_places, ties_to, Sound}
-use Rattle.tracked.proofs.Holding.{held-are}
+use Rattle.tracked.specs.Parts.{Sound}
 use Rattle.normalize.specs.declared.Joined.{Joined}
 use Rattle.normalize.specs.Joining.{with_fix, entered, sign_in}
 use Rattle.normalize.specs.Taking.{taken_in, told_of}
@@ -37,19 +35,19 @@ use Rattle.merge.proofs.Written.{AllSteady, written, arranged-written, normal-re
 -- ---- what is told of it
 
 module _ (f : Fix) (t : HeldTransmission) where
-  pub told-none : ◌≡◌ {A = Option Joined} None (told_of f t) → any_of (is_of f) (held_in t) ≡ true
-  told-none e = by (any_of (is_of f) (held_in t)) (λ h. h) (λ h. absurd (let d = rw h at e in cc))
+  pub told-none : ◌≡◌ {A = Option Joined} None (told_of f t) → list_any (is_of f) (held_in t) ≡ true
+  told-none e = by (list_any (is_of f) (held_in t)) (λ h. h) (λ h. absurd (let d = rw h at e in cc))
 
-  pub told-some : (j : Joined) → Some j ≡ told_of f t → (any_of (is_of f) (held_in t) ≡ false) × (j ≡ did f t (with_fix f t))
-  told-some j e = by (any_of (is_of f) (held_in t)) (λ h. absurd (let d = rw h at e in cc)) (λ h. (h, let d = rw h at e in cc))
+  pub told-some : (j : Joined) → Some j ≡ told_of f t → (list_any (is_of f) (held_in t) ≡ false) × (j ≡ did f t (with_fix f t))
+  told-some j e = by (list_any (is_of f) (held_in t)) (λ h. absurd (let d = rw h at e in cc)) (λ h. (h, let d = rw h at e in cc))
 
-  pub told-held : any_of (is_of f) (held_in t) ≡ true → ◌≡◌ {A = Option Joined} None (told_of f t)
+  pub told-held : list_any (is_of f) (held_in t) ≡ true → ◌≡◌ {A = Option Joined} None (told_of f t)
   told-held h = rw h refl
 
-  pub taken-held : any_of (is_of f) (held_in t) ≡ true → taken_in f t ≡ sign_in f t
+  pub taken-held : list_any (is_of f) (held_in t) ≡ true → taken_in f t ≡ sign_in f t
   taken-held h = rw h refl
 
-  pub taken-new : any_of (is_of f) (held_in t) ≡ false → taken_in f t ≡ with_fix f t
+  pub taken-new : list_any (is_of f) (held_in t) ≡ false → taken_in f t ≡ with_fix f t
   taken-new h = rw h refl
 
 -- all is decided again
@@ -101,7 +99,7 @@ module _ (f : Fix) (bs : List (List ℕ)) where
     placed u = replace-one (tied_to f) u hs i (transmission_in []) alone.first.there alone.first.before alone.first.here alone.behind
 
     -- f is held: it gains a signer
-    pub duplicate : any_of (is_of f) (held_in t) ≡ true → merged f hs ≡ record { answer = Duplicate; entered = 0; left = set hs i (sign_in f t) }
+    pub duplicate : list_any (is_of f) (held_in t) ≡ true → merged f hs ≡ record { answer = Duplicate; entered = 0; left = set hs i (sign_in f t) }
     unfolding joined
     duplicate a = merged-one ∙ rw a (ap (λ (l : List HeldTransmission). record { answer = Duplicate; entered = 0; left = l }) (placed (sign_in f t)))
 
@@ -109,7 +107,7 @@ module _ (f : Fix) (bs : List (List ℕ)) where
     abbrev u : HeldTransmission
     u = with_fix f t
 
-    pub decided : any_of (is_of f) (held_in t) ≡ false → merged f hs ≡ record { answer = answer_of f t u; entered = entered t u; left = arranged (set hs i u) }
+    pub decided : list_any (is_of f) (held_in t) ≡ false → merged f hs ≡ record { answer = answer_of f t u; entered = entered t u; left = arranged (set hs i u) }
     unfolding joined
     decided a = merged-one ∙ rw a (ap (λ (l : List HeldTransmission). record { answer = answer_of f t u; entered = entered t u; left = arranged l }) (placed u))
 

@@ -5,7 +5,7 @@ use mathlib.Core.Bool.{Bool, cond}
 use mathlib.Core.List.Memᴰ
 use mathlib.Core.List.{List, [], ◌∷◌, ◌++◌, map, map-append, Memᴰ}
 use lib.ListN.{length, length-map}
-use Rattle.ranges.specs.Lists.{any_of}
+use Rattle.std.specs.List.{list_any}
 use Rattle.ranges.proofs.Bools.{or}
 use Rattle.shown.specs.Fix.{Fix}
 use Rattle.tracked.specs.Held.{HeldTransmission}
@@ -55,9 +55,9 @@ module _ (f : Fix) (bs : List (List ℕ)) (s : AllSteady bs) (b : List ℕ) (w :
   unfolding opened
   opened-bytes = latest-written (bs ++ (b ∷ [])) both-steady ∙ ap (λ (l : List HeldTransmission). map transmission_bytes (arranged l)) both-values
 
-  opened-answer : (k : Bool) → k ≡ any_of (keeps f) (map transmission_in (admitted bs b)) → cond {A = Merged} k Changed Dropped ≡ (opened f ts).answer
+  opened-answer : (k : Bool) → k ≡ list_any (keeps f) (map transmission_in (admitted bs b)) → cond {A = Merged} k Changed Dropped ≡ (opened f ts).answer
   unfolding opened
-  opened-answer k e = ap (λ (c : Bool). cond c Changed Dropped) (e ∙ ap (any_of (keeps f)) admitted-values)
+  opened-answer k e = ap (λ (c : Bool). cond c Changed Dropped) (e ∙ ap (list_any (keeps f)) admitted-values)
 
   opened-entered : 0 ≡ (opened f ts).entered
   unfolding opened
@@ -71,9 +71,9 @@ module _ (f : Fix) (bs : List (List ℕ)) (s : AllSteady bs) (b : List ℕ) (w :
     pub left-filled : Filled t n
     left-filled = left.1
 
-    pub leaves : (k : Bool) → k ≡ any_of (keeps f) (map transmission_in (blocks n t)) → Leaves (opened f ts) (record { answer = cond k Changed Dropped; entered = 0; count = n }) t
+    pub leaves : (k : Bool) → k ≡ list_any (keeps f) (map transmission_in (blocks n t)) → Leaves (opened f ts) (record { answer = cond k Changed Dropped; entered = 0; count = n }) t
     leaves k e = record {
-      answer = opened-answer k (e ∙ ap (λ (l : List (List ℕ)). any_of (keeps f) (map transmission_in l)) left.0);
+      answer = opened-answer k (e ∙ ap (λ (l : List (List ℕ)). list_any (keeps f) (map transmission_in l)) left.0);
       entered = opened-entered;
       count = count ∙ ap length opened-bytes ∙ length-map (opened f ts).left transmission_bytes;
       bytes = bytes ∙ ap block_table opened-bytes;

@@ -8,7 +8,7 @@ use lib.Bits.{bit_or}
 use lib.ListN.{length, get_or, take, set, length-set, length-map}
 use Rattle.octets.specs.Words.{word_bytes}
 use Rattle.octets.specs.Writes.{put_word}
-use Rattle.ranges.specs.Lists.{any_of}
+use Rattle.std.specs.List.{list_any}
 use Rattle.ranges.proofs.Bools.{by, clash}
 use Rattle.places.specs.Places.{table_of}
 use Rattle.shown.specs.Fix.{Fix, with_signers}
@@ -97,8 +97,8 @@ module _ (t : HeldTransmission) (v : Valid t) (k s : ℕ) where
 -- ---- the first of an identity
 
 module _ (f : Fix) where
-  pub sign-first-at : (l : List Fix) (k : ℕ) → k < length l → any_of (is_of f) (take k l) ≡ false → is_of f (get_or l k no_fix) ≡ true → sign_first f l ≡ set l k (signed_by f (get_or l k no_fix))
-  unfolding sign_first any_of
+  pub sign-first-at : (l : List Fix) (k : ℕ) → k < length l → list_any (is_of f) (take k l) ≡ false → is_of f (get_or l k no_fix) ≡ true → sign_first f l ≡ set l k (signed_by f (get_or l k no_fix))
+  unfolding sign_first
   sign-first-at [] k h a e = absurd (omega arith)
   sign-first-at (g ∷ l) zero h a e = rw e refl
   sign-first-at (g ∷ l) (suc k) h a e =
@@ -106,9 +106,9 @@ module _ (f : Fix) where
       (λ t. clash refl (rw t at a))
       (λ t. rw t (ap (λ (r : List Fix). g ∷ r) (sign-first-at l k (omega arith) (rw t at a) e)))
 
-  pub sign-refused-at : (l : List RefusedFix) (k : ℕ) → k < length l → any_of (λ x. is_of f x.fix) (take k l) ≡ false → is_of f (get_or l k no_refused).fix ≡ true
+  pub sign-refused-at : (l : List RefusedFix) (k : ℕ) → k < length l → list_any (λ x. is_of f x.fix) (take k l) ≡ false → is_of f (get_or l k no_refused).fix ≡ true
       → sign_refused f l ≡ set l k (resigned (bit_or (get_or l k no_refused).fix.signers f.signers) (get_or l k no_refused))
-  unfolding sign_refused any_of
+  unfolding sign_refused
   sign-refused-at [] k h a e = absurd (omega arith)
   sign-refused-at (x ∷ l) zero h a e = rw e refl
   sign-refused-at (x ∷ l) (suc k) h a e =

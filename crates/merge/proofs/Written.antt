@@ -1,13 +1,12 @@
 -- Transmissions of a table whose bytes are those of what they hold.
 use Prim.Native.Nat.{ℕ, ◌^◌, ◌≤◌, ◌<◌}
 use mathlib.Core.Path.{◌≡◌, refl, sym, ap, ap₂, ◌∙◌, subst}
-use mathlib.Core.Bool.{Bool, true, false, ◌||◌}
+use mathlib.Core.Bool.{true, false}
 use Rattle.std.specs.List.{list_any}
 use mathlib.Core.List.{List, [], ◌∷◌, map, Memᴰ}
 use lib.ListN.{length, get_or}
 use Rattle.std.specs.Prelude.{Some, None, slice_get}
-use Rattle.ranges.specs.Lists.{any_of}
-use Rattle.ranges.proofs.Lists.{any-map, any-of}
+use Rattle.ranges.proofs.Lists.{any-of}
 use Rattle.shown.proofs.Indexed.{at_in}
 use Rattle.normalize.specs.Joining.{leads}
 use Rattle.arrange.specs.Leads.{kept_of}
@@ -82,10 +81,5 @@ none-kept f t e = go t.fixes e
     go (h ∷ fs) q = absurd (cc)
 
 pub one-keeps : (f g : Fix) (ts : List HeldTransmission) (t : HeldTransmission) (i : ℕ) → i < length ts → t ≡ get_or ts i t → kept_of t ≡ Some g → is_of f g ≡ true
-    → any_of (keeps f) ts ≡ true
+    → list_any (keeps f) ts ≡ true
 one-keeps f g ts t i h e k q = any-of (keeps f) ts (get_or ts i t) (at_in t ts i h) (ap (keeps f) (sym e) ∙ kept-is f g t k ∙ q)
-
-pub any-listed : {A : Type 0} (test : A → Bool) (l : List A) → list_any test l ≡ any_of test l
-unfolding any_of
-any-listed test [] = refl
-any-listed test (x ∷ l) = ap (λ (b : Bool). test x || b) (any-listed test l)

@@ -1,7 +1,7 @@
 -- What is claimed of what a track does with a further fix (docs/REFERENCE.md, 'Track and listing'), whatever transmissions it holds. proofs/Claimed has a
 -- theorem of each of these types.
 use Rattle.std.specs.Prelude.{◌≤◌, ◌≡◌, false, List, [], ◌∷◌}
-use Rattle.ranges.specs.Lists.{any_of, filter}
+use Rattle.std.specs.List.{filter, list_any}
 use Rattle.shown.specs.Fix.{Fix}
 use Rattle.tracked.specs.Layout.{max_refused}
 use Rattle.tracked.specs.Held.{HeldTransmission, held_in, is_of, tied_to}
@@ -14,7 +14,7 @@ use Rattle.merge.specs.Merged.{merged}
 -- f is tied to t alone of the transmissions ts, and its identity is not held in t
 pub record Joins (f : Fix) (t : HeldTransmission) (ts : List HeldTransmission) : Type 0 where
   pub alone : filter (tied_to f) ts ≡ t ∷ []
-  pub new : any_of (is_of f) (held_in t) ≡ false
+  pub new : list_any (is_of f) (held_in t) ≡ false
 
 -- those refused of t with f that were not refused of t
 abbrev pub JoiningEnters : Type 0

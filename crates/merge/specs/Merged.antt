@@ -1,6 +1,6 @@
 -- What a track does with a further fix (docs/REFERENCE.md, 'Track and listing'; the Rust's `merge`).
 use Rattle.std.specs.Prelude.{ℕ, Bool, cond, ◌||◌, List, [], ◌∷◌, ◌++◌, map}
-use Rattle.ranges.specs.Lists.{any_of, filter}
+use Rattle.std.specs.List.{filter, list_any}
 use Rattle.shown.specs.Fix.{Fix}
 use Rattle.tracked.specs.Held.{HeldTransmission, held_in, is_of, tied_to}
 use Rattle.normalize.specs.Normal.{normalized}
@@ -34,7 +34,7 @@ keeps f t = leads f t.fixes
 unfoldable pub opened : Fix → List HeldTransmission → Step
 opened f ts =
     let us = arranged (ts ++ (normalized (f ∷ []) ∷ [])) in
-    record { answer = cond (any_of (keeps f) us) Changed Dropped; entered = 0; left = us }
+    record { answer = cond (list_any (keeps f) us) Changed Dropped; entered = 0; left = us }
 
 -- ---- a fix that is tied to one
 
@@ -50,7 +50,7 @@ answer_of f t u =
 unfoldable pub joined : Fix → HeldTransmission → List HeldTransmission → Step
 joined f t ts =
     let u = with_fix f t in
-    cond (any_of (is_of f) (held_in t))
+    cond (list_any (is_of f) (held_in t))
     (record { answer = Duplicate; entered = 0; left = in_place f (sign_in f t) ts })
     (record { answer = answer_of f t u; entered = entered t u; left = arranged (in_place f u ts) })
 

@@ -1,7 +1,7 @@
 -- No claim rests on these definitions: they say what the code finds in a table of transmissions, and what it leaves.
 use Rattle.std.specs.Prelude.{ℕ, ◌+◌, ◌≡◌, Bool, cond, ◌||◌, length, drop, Option, Some, None, is_some, option_and_then, position}
 use mathlib.Core.List.{List, [], ◌∷◌, map, Memᴰ}
-use Rattle.ranges.specs.Lists.{any_of}
+use Rattle.std.specs.List.{list_any}
 use Rattle.record.specs.Relations.{tied}
 use Rattle.shown.specs.Fix.{Fix}
 use Rattle.tracked.specs.Held.{HeldTransmission, held_in}
@@ -25,7 +25,7 @@ module _ {A : Type 0} (test : A → Bool) (l : List A) where
 
 -- some fix that a transmission holds is tied to a record
 abbrev pub ties : List ℕ → HeldTransmission → Bool
-ties r t = any_of (λ g. tied g.record_bytes r) (held_in t)
+ties r t = list_any (λ g. tied g.record_bytes r) (held_in t)
 
 abbrev pub single : Fix → HeldTransmission
 single f = record { fixes = f ∷ []; refused = [] }

@@ -3,7 +3,6 @@
 
 ghost use Rattle.std.specs.Prelude.{◌≡◌, true, map, ◌≤◌, Some, IfSome, length, take, position};
 ghost use Rattle.std.specs.List.{list_any};
-ghost use Rattle.ranges.specs.Lists.{any_of};
 ghost use Rattle.tracked.specs.Held.{held_in, is_of, tied_to};
 ghost use Rattle.tracked.specs.Bytes.{transmission_in, transmission_bytes};
 ghost use Rattle.normalize.specs.Joining.{with_fix};
@@ -16,7 +15,7 @@ use normalize::Joined;
 use normalize::blocks::take_in;
 use record::Record;
 use tracked::block::Block;
-use tracked::fixes::Fix;
+use tracked::fix::Fix;
 use tracked::layout::{FIX_COUNT_AT, FIXES_AT, TRANSMISSION_SIZE};
 
 pub mod claims;
@@ -85,7 +84,7 @@ fn has_set(held: &Fix<'_>, fix: &Fix<'_>) -> bool
 
 // Whether the fix kept of some transmission has the message, tags and inputs of a fix.
 fn keeps_set(blocks: &[Block<'_>], fix: &Fix<'_>) -> bool
-    ensures { result ≡ true → any_of (M.keeps fix.now) blocks.now ≡ true }
+    ensures { result ≡ true → list_any (M.keeps fix.now) blocks.now ≡ true }
 {
     for block in blocks {
         if let Some(kept) = block.kept() {
@@ -116,7 +115,7 @@ fn keeps_identity(blocks: &[Block<'_>], fix: &Fix<'_>) -> bool
 
 // The same. Mostly that is the fix itself, and nothing is hashed.
 fn keeps(blocks: &[Block<'_>], mut fix: Fix<'_>) -> bool
-    ensures { result ≡ any_of (M.keeps fix.entry) blocks.now }
+    ensures { result ≡ list_any (M.keeps fix.entry) blocks.now }
 {
     if keeps_set(blocks, &fix) {
         return true;

@@ -6,7 +6,6 @@ use Rattle.std.specs.Fn.{CalledAt}
 use Rattle.std.specs.Iterator.{YieldsFirstBy, Yields, FindsItem}
 use Rattle.std.specs.List.{FoldsTo, list_all}
 use Rattle.ranges.proofs.Bools.{by}
-use Rattle.places.specs.Places.{all_places}
 use Rattle.models.specs.Summary.{model_of, spec_of, summary_inputs}
 use Rattle.models.specs.Models.{summaries_for, claims, state_of, state_from, agreed, disputed}
 use Rattle.models.specs.Answers.{listed, concurs}
@@ -14,13 +13,12 @@ use Rattle.models.specs.declared.summaries.Summary.{Summary}
 use Rattle.models.specs.declared.summaries.Summaries.{Summaries}
 
 -- what a model's summaries have in common, looked for among all
-pub concur-all : (m s : ℕ) (h : List ℕ) (ps : List (List ℕ)) → all_places (claims s h) (summaries_for m ps) ≡ all_places (concurs m s h) ps
-unfolding all_places summaries_for
+pub concur-all : (m s : ℕ) (h : List ℕ) (ps : List (List ℕ)) → list_all (claims s h) (summaries_for m ps) ≡ list_all (concurs m s h) ps
+unfolding summaries_for
 concur-all m s h [] = refl
 concur-all m s h (p ∷ ps) = by (eqb (model_of p) m) (λ e. rw e (ap (λ (b : Bool). claims s h p && b) (concur-all m s h ps))) (λ e. rw e (concur-all m s h ps))
 
-pub as-places : (test : List ℕ → Bool) (ps : List (List ℕ)) → list_all test ps ≡ all_places test ps
-unfolding all_places
+pub as-places : (test : List ℕ → Bool) (ps : List (List ℕ)) → list_all test ps ≡ list_all test ps
 as-places test [] = refl
 as-places test (p ∷ ps) = ap (λ (b : Bool). test p && b) (as-places test ps)
 

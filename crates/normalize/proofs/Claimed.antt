@@ -7,7 +7,7 @@ use mathlib.Core.List.Permᴰ
 use mathlib.Core.List.{List, [], ◌∷◌, ◌++◌, map, map-append, map-map, flat_map, Memᴰ, Permᴰ}
 use native.Mathlib.Omega.{arith}
 use lib.ListN.{length, take, length-map, length-take}
-use Rattle.ranges.specs.Lists.{any_of, filter, insert, sort}
+use Rattle.ranges.specs.Lists.{insert, sort}
 use Rattle.ranges.proofs.Bools.{or, no_true, and_left}
 use Rattle.ranges.proofs.Lists.{any-in, sort-perm, sort-in}
 use Rattle.ranges.proofs.Orders.{perm-map, perm-mem}
@@ -153,11 +153,11 @@ self-subset : (r : List ℕ) → subset r r ≡ false
 self-subset r = no_true (subset r r) (λ e. let h = subset-fewer r r e in omega arith)
 
 shown-alone : (f : Fix) → ((shown (f ∷ [])).ranked ≡ f ∷ []) × ((shown (f ∷ [])).refused ≡ [])
-unfolding shown any_of filter sort insert flat_map
+unfolding shown sort insert flat_map
 shown-alone f = (rw (self-subset f.record_bytes) refl, rw (self-subset f.record_bytes) refl)
 
 pub alone-stands : AloneStands
-unfolding normalized gather_all any_of sort
+unfolding normalized gather_all sort
 alone-stands f =
     let e = shown-alone f in
     λ i. record { fixes = take max_standing (e.0 i); refused = map refused_fix (take max_refused (sort lower_refused (e.1 i))) }

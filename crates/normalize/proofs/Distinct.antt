@@ -5,7 +5,7 @@ use mathlib.Core.Bool.{true, false}
 use mathlib.Core.List.{List, [], ◌∷◌, ◌++◌, map}
 use native.Mathlib.Omega.{arith}
 use lib.ListN.{length, length-append}
-use Rattle.ranges.specs.Lists.{any_of}
+use Rattle.std.specs.List.{list_any}
 use Rattle.ranges.proofs.Bools.{by}
 use Rattle.shown.specs.Fix.{Fix}
 use Rattle.tracked.specs.Held.{is_of}
@@ -33,15 +33,15 @@ module _ (f : Fix) where
 
   -- ---- one or the other
 
-  pub gather-held : (ks : List Fix) → any_of (is_of f) ks ≡ true → gather ks f ≡ sign_first f ks
+  pub gather-held : (ks : List Fix) → list_any (is_of f) ks ≡ true → gather ks f ≡ sign_first f ks
   gather-held ks e = rw e refl
 
-  pub gather-new : (ks : List Fix) → any_of (is_of f) ks ≡ false → gather ks f ≡ ks ++ (f ∷ [])
+  pub gather-new : (ks : List Fix) → list_any (is_of f) ks ≡ false → gather ks f ≡ ks ++ (f ∷ [])
   gather-new ks e = rw e refl
 
   pub gather-few : (ks : List Fix) → length (gather ks f) ≤ length ks + 1
   gather-few ks =
-      by (any_of (is_of f) ks)
+      by (list_any (is_of f) ks)
       (λ t. rw t (let e = sign-length ks in omega arith))
       (λ t. rw t (let e = length-append ks (f ∷ []) in omega arith))
 

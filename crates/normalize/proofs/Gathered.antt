@@ -12,8 +12,7 @@ use borrow.Author.Tests.{ltb-false}
 use Rattle.std.proofs.lemmas.List.{take-append-le, take-map}
 use Rattle.std.proofs.lemmas.List.Quantifiers.{position-Some}
 use Rattle.std.specs.Prelude.{Some, None, position}
-use Rattle.std.specs.List.{refill, position_or_len}
-use Rattle.ranges.specs.Lists.{any_of}
+use Rattle.std.specs.List.{refill, position_or_len, list_any}
 use Rattle.ranges.proofs.Bools.{by}
 use Rattle.ranges.proofs.Lists.{any-of}
 use Rattle.shown.specs.Fix.{Fix}
@@ -33,11 +32,10 @@ sign-set f (g ∷ ks) zero d h e p = rw e refl
 sign-set f (g ∷ ks) (suc i) d h e p = rw (p 0 (omega arith)) (ap (λ (l : List Fix). g ∷ l) (sign-set f ks i d (omega arith) e (λ j k. p (suc j) (omega arith))))
 
 -- none has it
-pub none-of : {A : Type 0} (p : A → Bool) (l : List A) → position p l ≡ None → any_of p l ≡ false
-unfolding any_of
+pub none-of : {A : Type 0} (p : A → Bool) (l : List A) → position p l ≡ None → list_any p l ≡ false
 none-of {A} p l e = go l (by (ltb (position_or_len p l) (length l)) (λ t. let z = rw t at e in cc) (λ t. ltb-false (position_or_len p l) (length l) t))
   where
-    go : (l : List A) → length l ≤ position_or_len p l → any_of p l ≡ false
+    go : (l : List A) → length l ≤ position_or_len p l → list_any p l ≡ false
     go [] h = refl
     go (x ∷ l) h = by (p x) (λ t. let z = rw t at h in absurd (omega (arith, z))) (λ t. let z = rw t at h in rw (t, go l (omega (arith, z))) refl)
 

@@ -8,7 +8,7 @@ use mathlib.Core.List.{List, [], ◌∷◌, ◌++◌, map, map-append, append_as
 use native.Mathlib.Omega.{arith}
 use lib.ListN.{length, take, length-append, length-map}
 use Rattle.octets.proofs.Comparison.{before-irrefl, before-trans, tri, same-eq}
-use Rattle.ranges.specs.Lists.{filter}
+use Rattle.std.specs.List.{filter}
 use Rattle.ranges.proofs.Bools.{or, no_true}
 use Rattle.ranges.proofs.Lists.{any_none, flat_in}
 use Rattle.ranges.proofs.Orders.{perm-length}

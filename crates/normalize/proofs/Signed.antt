@@ -2,8 +2,7 @@
 use mathlib.Core.Path.{◌≡◌, refl, ap}
 use mathlib.Core.Bool.{Bool}
 use mathlib.Core.List.{List, [], ◌∷◌, ◌++◌, map}
-use Rattle.std.specs.List.{filter as filter_of}
-use Rattle.ranges.specs.Lists.{filter}
+use Rattle.std.specs.List.{filter}
 use Rattle.ranges.proofs.Bools.{by}
 use Rattle.shown.specs.Fix.{Fix}
 use Rattle.tracked.specs.Held.{RefusedFix, HeldTransmission, fix_of, held_in}
@@ -11,14 +10,12 @@ use Rattle.normalize.specs.Signed.{is_signed}
 use Rattle.normalize.specs.Taking.{signed_only}
 
 module _ (test : Fix → Bool) where
-  refused-pass : (xs : List RefusedFix) → map fix_of (filter_of (λ x. test (fix_of x)) xs) ≡ filter test (map fix_of xs)
-  unfolding filter
+  refused-pass : (xs : List RefusedFix) → map fix_of (filter (λ x. test (fix_of x)) xs) ≡ filter test (map fix_of xs)
   refused-pass [] = refl
   refused-pass (x ∷ xs) = by (test (fix_of x)) (λ t. rw t (ap (λ (l : List Fix). fix_of x ∷ l) (refused-pass xs))) (λ t. rw t (refused-pass xs))
 
   -- those that pass a test, where they are held
-  pub all_pass : (fs : List Fix) (xs : List RefusedFix) → filter_of test fs ++ map fix_of (filter_of (λ x. test (fix_of x)) xs) ≡ filter test (fs ++ map fix_of xs)
-  unfolding filter
+  pub all_pass : (fs : List Fix) (xs : List RefusedFix) → filter test fs ++ map fix_of (filter (λ x. test (fix_of x)) xs) ≡ filter test (fs ++ map fix_of xs)
   all_pass [] xs = refused-pass xs
   all_pass (f ∷ fs) xs = by (test f) (λ t. rw t (ap (λ (l : List Fix). f ∷ l) (all_pass fs xs))) (λ t. rw t (all_pass fs xs))
 

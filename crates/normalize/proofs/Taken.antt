@@ -2,13 +2,13 @@
 use Prim.Native.Nat.{ℕ, zero, suc, ◌<◌}
 use mathlib.Core.Path.{◌≡◌, refl, sym, ap, ◌∙◌}
 use mathlib.Core.Bool.{Bool, true, false, ◌||◌}
-use mathlib.Core.List.{List, [], ◌∷◌, ◌++◌, map}
+use mathlib.Core.List.{List, [], ◌∷◌, map}
 use native.Mathlib.Omega.{arith}
 use lib.ListN.{length, get_or, set}
+use Rattle.std.proofs.lemmas.List.Folds.{list_any-append}
 use Rattle.std.proofs.lemmas.List.Quantifiers.{position-Some}
 use Rattle.std.specs.Prelude.{Some, None, position}
-use Rattle.ranges.specs.Lists.{any_of}
-use Rattle.ranges.proofs.Bools.{by}
+use Rattle.std.specs.List.{list_any}
 use Rattle.ranges.proofs.Lists.{any-of}
 use Rattle.shown.specs.Fix.{Fix}
 use Rattle.shown.proofs.Indexed.{at_in}
@@ -18,13 +18,7 @@ use Rattle.normalize.specs.Normal.{signed_by}
 use Rattle.normalize.specs.Joining.{sign_refused, sign_in}
 use Rattle.normalize.proofs.Gathered.{none-of, sign-set}
 
-any_append : (test : Fix → Bool) (l r : List Fix) → any_of test (l ++ r) ≡ (any_of test l || any_of test r)
-unfolding any_of
-any_append test [] r = refl
-any_append test (x ∷ l) r = by (test x) (λ w. rw w refl) (λ w. rw w (any_append test l r))
-
-none_held : (test : Fix → Bool) (xs : List RefusedFix) → any_of (λ x. test (fix_of x)) xs ≡ any_of test (map fix_of xs)
-unfolding any_of
+none_held : (test : Fix → Bool) (xs : List RefusedFix) → list_any (λ x. test (fix_of x)) xs ≡ list_any test (map fix_of xs)
 none_held test [] = refl
 none_held test (x ∷ xs) = ap (λ (b : Bool). test (fix_of x) || b) (none_held test xs)
 
@@ -39,25 +33,25 @@ sign-refused f (x ∷ xs) (suc i) d h e p = rw (p 0 (omega arith)) (ap (λ (l : 
 module _ (f : Fix) (t : HeldTransmission) where
   -- among those that stand
   module _ (i : ℕ) (d : Fix) (e : position (is_of f) t.fixes ≡ Some i) where
-    stands : any_of (is_of f) t.fixes ≡ true
+    stands : list_any (is_of f) t.fixes ≡ true
     stands = let s = position-Some (is_of f) t.fixes i d e in any-of (is_of f) t.fixes (get_or t.fixes i d) (at_in d t.fixes i s.0) s.1
 
-    pub held-standing : any_of (is_of f) (held_in t) ≡ true
-    held-standing = any_append (is_of f) t.fixes (map fix_of t.refused) ∙ rw stands refl
+    pub held-standing : list_any (is_of f) (held_in t) ≡ true
+    held-standing = list_any-append (is_of f) t.fixes (map fix_of t.refused) ∙ rw stands refl
 
     pub left-standing : (fs : List Fix) → fs ≡ set t.fixes i (signed_by f (get_or t.fixes i d)) → (record { fixes = fs; refused = t.refused }) ≡ sign_in f t
     left-standing fs g = let s = position-Some (is_of f) t.fixes i d e in rw (stands, g, sign-set f t.fixes i d s.0 s.1 s.2) refl
 
   module _ (e : position (is_of f) t.fixes ≡ None) where
-    none-stands : any_of (is_of f) t.fixes ≡ false
+    none-stands : list_any (is_of f) t.fixes ≡ false
     none-stands = none-of (is_of f) t.fixes e
 
-    pub held-behind : any_of (is_of f) (held_in t) ≡ any_of (λ x. is_of f (fix_of x)) t.refused
-    held-behind = any_append (is_of f) t.fixes (map fix_of t.refused) ∙ rw none-stands (sym (none_held (is_of f) t.refused))
+    pub held-behind : list_any (is_of f) (held_in t) ≡ list_any (λ x. is_of f (fix_of x)) t.refused
+    held-behind = list_any-append (is_of f) t.fixes (map fix_of t.refused) ∙ rw none-stands (sym (none_held (is_of f) t.refused))
 
     -- among the refused
     module _ (i : ℕ) (d : RefusedFix) (q : position (λ x. is_of f (fix_of x)) t.refused ≡ Some i) where
-      pub held-refused : any_of (is_of f) (held_in t) ≡ true
+      pub held-refused : list_any (is_of f) (held_in t) ≡ true
       held-refused =
           let s = position-Some (λ x. is_of f (fix_of x)) t.refused i d q in
           held-behind ∙ any-of (λ x. is_of f (fix_of x)) t.refused (get_or t.refused i d) (at_in d t.refused i s.0) s.1
@@ -68,5 +62,5 @@ module _ (f : Fix) (t : HeldTransmission) where
           rw (none-stands, g, sign-refused f t.refused i d s.0 s.1 s.2) refl
 
     -- nowhere
-    pub held-none : position (λ x. is_of f (fix_of x)) t.refused ≡ None → any_of (is_of f) (held_in t) ≡ false
+    pub held-none : position (λ x. is_of f (fix_of x)) t.refused ≡ None → list_any (is_of f) (held_in t) ≡ false
     held-none q = held-behind ∙ none-of (λ x. is_of f (fix_of x)) t.refused q

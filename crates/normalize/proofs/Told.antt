@@ -4,25 +4,17 @@ use mathlib.Core.Path.{◌≡◌, refl, sym, ap, ◌∙◌}
 use mathlib.Core.Bool.{Bool, not, ◌||◌}
 use mathlib.Core.List.{List, [], ◌∷◌, map}
 use lib.ListN.{length}
-use Rattle.std.specs.List.{list_any, count_by, filter as filter_by}
+use Rattle.std.specs.List.{list_any, count_by, filter}
 use Rattle.std.proofs.lemmas.List.Sums.{length-filter}
-use Rattle.ranges.specs.Lists.{any_of, filter}
 use Rattle.ranges.proofs.Bools.{by}
 use Rattle.shown.specs.Fix.{Fix}
 use Rattle.tracked.specs.Held.{RefusedFix, fix_of, is_of}
 
-pub any_same : (test : Fix → Bool) (l : List Fix) → list_any test l ≡ any_of test l
-unfolding any_of
-any_same test [] = refl
-any_same test (x ∷ l) = ap (λ (b : Bool). test x || b) (any_same test l)
-
-pub any_held : (test : Fix → Bool) (l : List RefusedFix) → list_any (λ x. test (fix_of x)) l ≡ any_of test (map fix_of l)
-unfolding any_of
+pub any_held : (test : Fix → Bool) (l : List RefusedFix) → list_any (λ x. test (fix_of x)) l ≡ list_any test (map fix_of l)
 any_held test [] = refl
 any_held test (x ∷ l) = ap (λ (b : Bool). test (fix_of x) || b) (any_held test l)
 
-filter_held : (test : Fix → Bool) (l : List RefusedFix) → length (filter_by (λ x. test (fix_of x)) l) ≡ length (filter test (map fix_of l))
-unfolding filter
+filter_held : (test : Fix → Bool) (l : List RefusedFix) → length (filter (λ x. test (fix_of x)) l) ≡ length (filter test (map fix_of l))
 filter_held test [] = refl
 filter_held test (x ∷ l) = by (test (fix_of x)) (λ t. rw t (ap (λ (n : ℕ). suc n) (filter_held test l))) (λ t. rw t (filter_held test l))
 
@@ -30,5 +22,5 @@ pub count_held : (test : Fix → Bool) (l : List RefusedFix) → count_by (λ x.
 count_held test l = sym (length-filter (λ x. test (fix_of x)) l) ∙ filter_held test l
 
 -- how many were not refused before
-pub count_new : (b a : List RefusedFix) → count_by (λ x. not (list_any (λ y. is_of (fix_of x) (fix_of y)) b)) a ≡ length (filter (λ g. not (any_of (is_of g) (map fix_of b))) (map fix_of a))
-count_new b a = (λ t. count_by (λ x. not (any_held (is_of (fix_of x)) b t)) a) ∙ count_held (λ g. not (any_of (is_of g) (map fix_of b))) a
+pub count_new : (b a : List RefusedFix) → count_by (λ x. not (list_any (λ y. is_of (fix_of x) (fix_of y)) b)) a ≡ length (filter (λ g. not (list_any (is_of g) (map fix_of b))) (map fix_of a))
+count_new b a = (λ t. count_by (λ x. not (any_held (is_of (fix_of x)) b t)) a) ∙ count_held (λ g. not (list_any (is_of g) (map fix_of b))) a

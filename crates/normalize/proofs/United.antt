@@ -9,7 +9,7 @@ use Rattle.octets.specs.Order.{same}
 use Rattle.octets.specs.Masks.{bit}
 use Rattle.octets.proofs.Lookup.{bit-or}
 use Rattle.octets.proofs.Comparison.{same_refl, same-eq, not_same}
-use Rattle.ranges.specs.Lists.{any_of}
+use Rattle.std.specs.List.{list_any}
 use Rattle.ranges.proofs.Bools.{by, or, clash, no_true, and_left, or_left, or_right}
 use Rattle.ranges.proofs.Lists.{any-no, any_none, any-map}
 use Rattle.shown.specs.Fix.{Fix}
@@ -28,13 +28,12 @@ is_turned f g =
     (λ t. t ∙ sym (ap (same f.identity) (same-eq g.identity f.identity t) ∙ same_refl f.identity))
     (λ t. t ∙ sym (no_true (is_of g f) (λ u. clash (ap (same g.identity) (same-eq f.identity g.identity u) ∙ same_refl g.identity) t)))
 
-any_append : {A : Type 0} (test : A → Bool) (l : List A) (x : A) → any_of test (l ++ (x ∷ [])) ≡ (any_of test l || test x)
-unfolding any_of
+any_append : {A : Type 0} (test : A → Bool) (l : List A) (x : A) → list_any test (l ++ (x ∷ [])) ≡ (list_any test l || test x)
 any_append test [] x = by (test x) (λ t. rw t refl) (λ t. rw t refl)
 any_append test (y ∷ l) x = by (test y) (λ t. rw t refl) (λ t. rw t (any_append test l x))
 
 -- whether an identity is held depends on the identities alone
-any_identity : (f : Fix) (ks : List Fix) → any_of (is_of f) ks ≡ any_of (λ i. same i f.identity) (map identity_of ks)
+any_identity : (f : Fix) (ks : List Fix) → list_any (is_of f) ks ≡ list_any (λ i. same i f.identity) (map identity_of ks)
 any_identity f ks = sym (any-map identity_of (is_of f) (λ i. same i f.identity) ks (λ g m. refl))
 
 -- ---- who is changed where the first of an identity is signed
@@ -62,24 +61,24 @@ signed_in g n f = is_of g f && bit f.signers n
 
 pub record Gathered (ps ks : List Fix) : Type 0 where
   pub differ : Differ (map identity_of ks)
-  pub united : (g : Fix) → Memᴰ g ks → (n : ℕ) → bit g.signers n ≡ any_of (signed_in g n) ps
-  pub covered : (f : Fix) → Memᴰ f ps → any_of (is_of f) ks ≡ true
+  pub united : (g : Fix) → Memᴰ g ks → (n : ℕ) → bit g.signers n ≡ list_any (signed_in g n) ps
+  pub covered : (f : Fix) → Memᴰ f ps → list_any (is_of f) ks ≡ true
 
 module _ (ps ks : List Fix) (f : Fix) (w : Gathered ps ks) where
   -- one that has another identity
-  other : (g : Fix) → Memᴰ g ks → is_of f g ≡ false → (n : ℕ) → bit g.signers n ≡ any_of (signed_in g n) (ps ++ (f ∷ []))
+  other : (g : Fix) → Memᴰ g ks → is_of f g ≡ false → (n : ℕ) → bit g.signers n ≡ list_any (signed_in g n) (ps ++ (f ∷ []))
   other g m e n =
-      w.united g m n ∙ sym (any_append (signed_in g n) ps f ∙ rw (sym (is_turned f g) ∙ e) (by (any_of (signed_in g n) ps) (λ t. rw t refl) (λ t. rw t refl)))
+      w.united g m n ∙ sym (any_append (signed_in g n) ps f ∙ rw (sym (is_turned f g) ∙ e) (by (list_any (signed_in g n) ps) (λ t. rw t refl) (λ t. rw t refl)))
 
-  module _ (held : any_of (is_of f) ks ≡ true) where
-    held-united : (g : Fix) → Memᴰ g (sign_first f ks) → (n : ℕ) → bit g.signers n ≡ any_of (signed_in g n) (ps ++ (f ∷ []))
+  module _ (held : list_any (is_of f) ks ≡ true) where
+    held-united : (g : Fix) → Memᴰ g (sign_first f ks) → (n : ℕ) → bit g.signers n ≡ list_any (signed_in g n) (ps ++ (f ∷ []))
     held-united g m n =
         or (sign-in f ks w.differ g m)
         (λ r. let h = r.0 in
         ap (λ (x : Fix). bit x.signers n) r.2
         ∙ bit-or h.signers f.signers n
         ∙ ap (λ (b : Bool). b || bit f.signers n) (w.united h r.1 n)
-        ∙ sym (ap (λ (x : Fix). any_of (signed_in x n) (ps ++ (f ∷ []))) r.2 ∙ any_append (signed_in h n) ps f ∙ rw (sym (is_turned f h) ∙ r.3) refl))
+        ∙ sym (ap (λ (x : Fix). list_any (signed_in x n) (ps ++ (f ∷ []))) r.2 ∙ any_append (signed_in h n) ps f ∙ rw (sym (is_turned f h) ∙ r.3) refl))
         (λ r. other g r.0 r.1 n)
 
     held-gathered : Gathered (ps ++ (f ∷ [])) (sign_first f ks)
@@ -87,26 +86,26 @@ module _ (ps ks : List Fix) (f : Fix) (w : Gathered ps ks) where
       differ = subst Differ (sym (sign-keeps f identity_of (λ g. refl) ks)) w.differ;
       united = held-united;
       covered = λ x m.
-          any_identity x (sign_first f ks) ∙ ap (any_of (λ i. same i x.identity)) (sign-keeps f identity_of (λ g. refl) ks) ∙ sym (any_identity x ks)
-          ∙ or (Memᴰ.append_cases ps m) (λ k. w.covered x k) (λ k. ap (λ (y : Fix). any_of (is_of y) ks) (Memᴰ.eq_of_singleton k) ∙ held);
+          any_identity x (sign_first f ks) ∙ ap (list_any (λ i. same i x.identity)) (sign-keeps f identity_of (λ g. refl) ks) ∙ sym (any_identity x ks)
+          ∙ or (Memᴰ.append_cases ps m) (λ k. w.covered x k) (λ k. ap (λ (y : Fix). list_any (is_of y) ks) (Memᴰ.eq_of_singleton k) ∙ held);
     }
 
-  module _ (new : any_of (is_of f) ks ≡ false) where
+  module _ (new : list_any (is_of f) ks ≡ false) where
     -- none of its identity came before
-    unheard : (n : ℕ) → any_of (signed_in f n) ps ≡ false
+    unheard : (n : ℕ) → list_any (signed_in f n) ps ≡ false
     unheard n =
         any_none (signed_in f n) ps
         (λ x m. no_true (signed_in f n x) (λ t.
         let e = same-eq x.identity f.identity (and_left (is_of f x) (bit x.signers n) t) in
-        clash (ap (λ (i : List ℕ). any_of (λ g. same g.identity i) ks) (sym e) ∙ w.covered x m) new))
+        clash (ap (λ (i : List ℕ). list_any (λ g. same g.identity i) ks) (sym e) ∙ w.covered x m) new))
 
-    new-united : (g : Fix) → Memᴰ g (ks ++ (f ∷ [])) → (n : ℕ) → bit g.signers n ≡ any_of (signed_in g n) (ps ++ (f ∷ []))
+    new-united : (g : Fix) → Memᴰ g (ks ++ (f ∷ [])) → (n : ℕ) → bit g.signers n ≡ list_any (signed_in g n) (ps ++ (f ∷ []))
     new-united g m n =
         or (Memᴰ.append_cases ks m)
         (λ k. other g k (any-no (is_of f) ks g new k) n)
         (λ k. let e = Memᴰ.eq_of_singleton k in
         ap (λ (x : Fix). bit x.signers n) e
-        ∙ sym (ap (λ (x : Fix). any_of (signed_in x n) (ps ++ (f ∷ []))) e ∙ any_append (signed_in f n) ps f ∙ rw (unheard n, same_refl f.identity) refl))
+        ∙ sym (ap (λ (x : Fix). list_any (signed_in x n) (ps ++ (f ∷ []))) e ∙ any_append (signed_in f n) ps f ∙ rw (unheard n, same_refl f.identity) refl))
 
     new-gathered : Gathered (ps ++ (f ∷ [])) (ks ++ (f ∷ []))
     new-gathered = record {
@@ -121,13 +120,13 @@ module _ (ps ks : List Fix) (f : Fix) (w : Gathered ps ks) where
       covered = λ x m.
           any_append (is_of x) ks f
           ∙ or (Memᴰ.append_cases ps m)
-          (λ k. or_left (any_of (is_of x) ks) (is_of x f) (w.covered x k))
-          (λ k. or_right (any_of (is_of x) ks) (is_of x f) (ap (λ (y : Fix). is_of y f) (Memᴰ.eq_of_singleton k) ∙ same_refl f.identity));
+          (λ k. or_left (list_any (is_of x) ks) (is_of x f) (w.covered x k))
+          (λ k. or_right (list_any (is_of x) ks) (is_of x f) (ap (λ (y : Fix). is_of y f) (Memᴰ.eq_of_singleton k) ∙ same_refl f.identity));
     }
 
   gathered-more : Gathered (ps ++ (f ∷ [])) (gather ks f)
   gathered-more =
-      by (any_of (is_of f) ks)
+      by (list_any (is_of f) ks)
       (λ t. subst (Gathered (ps ++ (f ∷ []))) (sym (gather-held f ks t)) (held-gathered t))
       (λ t. subst (Gathered (ps ++ (f ∷ []))) (sym (gather-new f ks t)) (new-gathered t))
 
@@ -139,5 +138,4 @@ gathered-all ps ks (f ∷ fs) w =
     (gathered-all (ps ++ (f ∷ [])) (gather ks f) fs (gathered-more ps ks f w))
 
 pub gathered_none : Gathered [] []
-unfolding any_of
 gathered_none = record { differ = none; united = λ g m. absurd (Memᴰ.not-nil m); covered = λ f m. absurd (Memᴰ.not-nil m) }

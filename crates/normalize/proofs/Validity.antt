@@ -11,8 +11,7 @@ use lib.Seq.{take_at, length-take-le}
 use Rattle.octets.specs.Bytes.{Bytes}
 use Rattle.octets.specs.Words.{word}
 use Rattle.octets.proofs.Numbers.{word_lt, bytes_take, bytes_drop}
-use Rattle.places.specs.Places.{all_places}
-use Rattle.ranges.specs.Lists.{any_of}
+use Rattle.std.specs.List.{list_all, list_any}
 use Rattle.ranges.proofs.Bools.{by, or, and_both}
 use Rattle.arithmetic.specs.Bits.{stored_bits}
 use Rattle.arithmetic.proofs.Outcomes.{stored-bounded}
@@ -63,7 +62,7 @@ module _ (P : Fix → Type 0) (join : (f g : Fix) → P f → P g → P (signed_
 
   gather-all : (f : Fix) → P f → (ks : List Fix) → All ks → All (gather ks f)
   gather-all f p ks v =
-      by (any_of (is_of f) ks)
+      by (list_any (is_of f) ks)
       (λ t. subst All (sym (gather-held f ks t)) (sign-all f p ks v))
       (λ t. subst All (sym (gather-new f ks t)) (λ x m. or (Memᴰ.append_cases ks m) (λ k. v x k) (λ k. subst P (sym (Memᴰ.eq_of_singleton k)) p)))
 
@@ -159,10 +158,9 @@ module _ (fs : List Fix) where
 
 -- ---- the places in its bytes
 
-all-places : (test : List ℕ → Bool) (l : List Fix) → ((f : Fix) → Memᴰ f l → test (fix_bytes f) ≡ true) → all_places test (map fix_bytes l) ≡ true
-unfolding all_places
+all-places : (test : List ℕ → Bool) (l : List Fix) → ((f : Fix) → Memᴰ f l → test (fix_bytes f) ≡ true) → list_all test (map fix_bytes l) ≡ true
 all-places test [] e = refl
-all-places test (f ∷ l) e = and_both (test (fix_bytes f)) (all_places test (map fix_bytes l)) (e f (Memᴰ.head refl)) (all-places test l (λ x m. e x (Memᴰ.tail m)))
+all-places test (f ∷ l) e = and_both (test (fix_bytes f)) (list_all test (map fix_bytes l)) (e f (Memᴰ.head refl)) (all-places test l (λ x m. e x (Memᴰ.tail m)))
 
 module _ (u : HeldTransmission) (v : Valid u) where
   held_back : held_places (transmission_bytes u) ≡ map fix_bytes (held_in u)
@@ -182,9 +180,9 @@ module _ (u : HeldTransmission) (v : Valid u) where
       (λ k. let r = Memᴰ.of_map fix_of u.refused k in subst ValidFix r.2 (v.refused r.0 r.1).fix)
 
   -- a test of what the places hold
-  pub held-pass : (test : Fix → Bool) → ((f : Fix) → Memᴰ f (held_in u) → test f ≡ true) → all_places (λ p. test (fix_in p)) (held_places (transmission_bytes u)) ≡ true
+  pub held-pass : (test : Fix → Bool) → ((f : Fix) → Memᴰ f (held_in u) → test f ≡ true) → list_all (λ p. test (fix_in p)) (held_places (transmission_bytes u)) ≡ true
   held-pass test e =
-      ap (all_places (λ p. test (fix_in p))) held_back
+      ap (list_all (λ p. test (fix_in p))) held_back
       ∙ all-places (λ p. test (fix_in p)) (held_in u)
       (λ f m. ap test (ap fix_in (sym (append-nil (fix_bytes f))) ∙ fix-back f (held-valid f m) []) ∙ e f m)
 

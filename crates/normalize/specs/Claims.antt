@@ -3,7 +3,8 @@
 use Rattle.std.specs.Prelude.{ℕ, ◌≤◌, ◌≡◌, true, ◌&&◌, length, drop}
 use mathlib.Core.List.{List, [], ◌∷◌, ◌++◌, map, Memᴰ, Permᴰ}
 use Rattle.octets.specs.Masks.{bit}
-use Rattle.ranges.specs.Lists.{any_of, sort}
+use Rattle.std.specs.List.{list_any}
+use Rattle.ranges.specs.Lists.{sort}
 use Rattle.shown.specs.Fix.{Fix, with_signers}
 use Rattle.arithmetic.specs.Agree.{chi_square_in}
 use Rattle.arithmetic.specs.Bits.{stored_bits}
@@ -32,7 +33,7 @@ IdentitiesDiffer = (fs : List Fix) → Differ (map identity_of (held_in (normali
 
 -- an engine signed a fix that is kept exactly where it signed one of those given that have its identity
 abbrev pub SignersUnited : Type 0
-SignersUnited = (fs : List Fix) (g : Fix) → Memᴰ g (held_in (normalized fs)) → (engine : ℕ) → bit g.signers engine ≡ any_of (λ f. is_of g f && bit f.signers engine) fs
+SignersUnited = (fs : List Fix) (g : Fix) → Memᴰ g (held_in (normalized fs)) → (engine : ℕ) → bit g.signers engine ≡ list_any (λ f. is_of g f && bit f.signers engine) fs
 
 -- a fix alone stands
 abbrev pub AloneStands : Type 0
@@ -42,7 +43,7 @@ AloneStands = (f : Fix) → normalized (f ∷ []) ≡ record { fixes = f ∷ [];
 
 -- of the fixes that are given `distinct` has one of every identity
 abbrev pub OneOfEach : Type 0
-OneOfEach = (fs : List Fix) → Differ (map identity_of (distinct fs)) × ((f : Fix) → Memᴰ f fs → any_of (is_of f) (distinct fs) ≡ true)
+OneOfEach = (fs : List Fix) → Differ (map identity_of (distinct fs)) × ((f : Fix) → Memᴰ f fs → list_any (is_of f) (distinct fs) ≡ true)
 
 -- which are forgotten: those ranked behind the best five, the dominated, and those refused behind the four of lowest identity
 abbrev pub forgotten_of : List Fix → List Fix

@@ -1,6 +1,6 @@
 -- A further fix among those of a transmission (docs/REFERENCE.md, 'Track and listing'; the Rust's `merge`, where a fix is tied to one transmission).
 use Rattle.std.specs.Prelude.{ℕ, Bool, true, false, not, cond, List, [], ◌∷◌, ◌++◌, map, length}
-use Rattle.ranges.specs.Lists.{any_of, filter}
+use Rattle.std.specs.List.{filter, list_any}
 use Rattle.shown.specs.Fix.{Fix}
 use Rattle.tracked.specs.Held.{RefusedFix, HeldTransmission, fix_of, is_of}
 use Rattle.normalize.specs.Normal.{signed_by, sign_first, normalized}
@@ -11,11 +11,11 @@ with_fix f t = normalized (t.fixes ++ (f ∷ map fix_of t.refused))
 
 -- some refused fix has the identity of f
 abbrev pub refuses : HeldTransmission → Fix → Bool
-refuses t f = any_of (is_of f) (map fix_of t.refused)
+refuses t f = list_any (is_of f) (map fix_of t.refused)
 
 -- some fix that stands has it
 abbrev pub upholds : HeldTransmission → Fix → Bool
-upholds t f = any_of (is_of f) t.fixes
+upholds t f = list_any (is_of f) t.fixes
 
 -- how many of the refused of u were not refused in t
 abbrev pub entered : HeldTransmission → HeldTransmission → ℕ

@@ -2,7 +2,8 @@
 -- of those that stand, and of the refused the four of lowest identity. The dominated are forgotten.
 use Rattle.std.specs.Prelude.{Bool, cond, List, [], ◌∷◌, ◌++◌, map, take}
 use Rattle.std.specs.Int.Bits.{bit_or}
-use Rattle.ranges.specs.Lists.{any_of, sort}
+use Rattle.std.specs.List.{list_any}
+use Rattle.ranges.specs.Lists.{sort}
 use Rattle.rule.specs.Outcome.{Refused}
 use Rattle.shown.specs.Fix.{Fix, with_signers}
 use Rattle.shown.specs.Shown.{lower, shown}
@@ -22,7 +23,7 @@ sign_first f (g ∷ gs) = let rest = sign_first f gs in cond (is_of f g) (signed
 
 -- a further fix: its identity is held, and gains its signers, or it comes last
 abbrev pub gather : List Fix → Fix → List Fix
-gather ks f = cond (any_of (is_of f) ks) (sign_first f ks) (ks ++ (f ∷ []))
+gather ks f = cond (list_any (is_of f) ks) (sign_first f ks) (ks ++ (f ∷ []))
 
 unfoldable pub gather_all : List Fix → List Fix → List Fix
 gather_all ks [] = ks

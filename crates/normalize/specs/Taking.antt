@@ -1,7 +1,6 @@
 -- No claim rests on these definitions: they say what becomes of a transmission that loses fixes, or that a further fix is tied to, and what is told of that fix.
 use Rattle.std.specs.Prelude.{◌≡◌, cond, Option, Some, None}
-use Rattle.std.specs.List.{filter}
-use Rattle.ranges.specs.Lists.{any_of}
+use Rattle.std.specs.List.{filter, list_any}
 use Rattle.shown.specs.Fix.{Fix}
 use Rattle.tracked.specs.Held.{HeldTransmission, fix_of, held_in, is_of}
 use Rattle.normalize.specs.Normal.{normalized}
@@ -16,11 +15,11 @@ signed_only t = record { fixes = filter is_signed t.fixes; refused = filter (λ 
 
 -- its identity is held and gains signers, or all is decided again
 abbrev pub taken_in : Fix → HeldTransmission → HeldTransmission
-taken_in f t = cond (any_of (is_of f) (held_in t)) (sign_in f t) (with_fix f t)
+taken_in f t = cond (list_any (is_of f) (held_in t)) (sign_in f t) (with_fix f t)
 
 -- nothing is told of a fix whose identity was held
 abbrev pub told_of : Fix → HeldTransmission → Option Joined
-told_of f t = cond (any_of (is_of f) (held_in t)) None (Some (did f t (with_fix f t)))
+told_of f t = cond (list_any (is_of f) (held_in t)) None (Some (did f t (with_fix f t)))
 
 -- its fixes decided again, it is as it was
 abbrev pub Settled : HeldTransmission → Type 0

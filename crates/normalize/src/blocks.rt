@@ -2,7 +2,7 @@
 //! decided as values, and written once.
 
 ghost use Rattle.std.specs.Prelude.{◌≡◌, IsTrue};
-ghost use Rattle.ranges.specs.Lists.{filter};
+ghost use Rattle.std.specs.List.{filter};
 ghost use Rattle.tracked.specs.Held.{held_in};
 ghost use Rattle.tracked.specs.Bytes.{transmission_in, transmission_bytes};
 ghost use Rattle.tracked.specs.Parts.{Sound};
@@ -15,7 +15,7 @@ ghost use Rattle.normalize.specs.Taking.{Settled, signed_only, taken_in, told_of
 use crate::deciding::decide_again;
 use crate::{Joined, joining};
 use tracked::block::Block;
-use tracked::fixes::Fix;
+use tracked::fix::Fix;
 use tracked::layout::TRANSMISSION_SIZE;
 use tracked::transmission::Transmission;
 

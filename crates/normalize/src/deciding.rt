@@ -15,7 +15,7 @@ use crate::gathering::{Gathered, gather, gather_all, gather_refused};
 use crate::outcome::outcome;
 use arrayvec::ArrayVec;
 use decision::Refusal;
-use tracked::fixes::Fix;
+use tracked::fix::Fix;
 use tracked::layout::{MAX_REFUSED, MAX_STANDING};
 use tracked::refused::RefusedFix;
 use tracked::transmission::Transmission;

@@ -6,7 +6,7 @@ ghost use Rattle.tracked.specs.Held.{is_of, fix_of};
 ghost use Rattle.normalize.specs.Normal as N;
 
 use arrayvec::ArrayVec;
-use tracked::fixes::Fix;
+use tracked::fix::Fix;
 use tracked::layout::{MAX_REFUSED, MAX_STANDING};
 use tracked::refused::RefusedFix;
 

@@ -3,14 +3,13 @@
 ghost use Rattle.std.specs.Prelude.{◌≡◌, cond, count_by, position, not};
 ghost use Rattle.std.specs.List.{list_any};
 ghost use Rattle.tracked.specs.Held.{fix_of, held_in, is_of};
-ghost use Rattle.ranges.specs.Lists.{any_of};
 ghost use Rattle.normalize.specs.Joining as J;
 ghost use Rattle.normalize.specs.Did.{did};
 
 use crate::Joined;
 use crate::deciding::decide_with;
 use crate::gathering::seat_of;
-use tracked::fixes::Fix;
+use tracked::fix::Fix;
 use tracked::refused::RefusedFix;
 use tracked::transmission::Transmission;
 
@@ -74,7 +73,7 @@ pub fn join<'a>(held: &Transmission<'a>, fix: &Fix<'a>, into: &mut Transmission<
 
 /// Adds the signers of a further fix to those of the first fix that has its identity, and tells whether one has.
 pub fn sign(held: &mut Transmission<'_>, fix: &Fix<'_>) -> bool
-    ensures held { result ≡ any_of (is_of fix.now) (held_in held.old) }
+    ensures held { result ≡ list_any (is_of fix.now) (held_in held.old) }
     ensures left { held.new ≡ cond result (J.sign_in fix.now held.old) held.old }
 {
     if let Some(i) = seat_of(&held.fixes, fix) {

@@ -11,7 +11,7 @@ use arrayvec::ArrayVec;
 use decision::{Decision, decide_alone, decide_few};
 use items::Item;
 use models::hashes::Identity;
-use tracked::fixes::Fix;
+use tracked::fix::Fix;
 
 // The identities of fixes, in their order.
 fn identities(fixes: &[Fix<'_>]) -> ArrayVec<Identity, MAX_GATHERED>

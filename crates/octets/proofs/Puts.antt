@@ -5,7 +5,11 @@ use Prim.Native.Nat.{ℕ, suc, ◌+◌, ◌≤◌}
 use native.Mathlib.Nat.{suc-add, add-suc, add-zero, add_assoc}
 use lib.ListN.{length, take, drop, set, length-append}
 use lib.Seq.{sets, sets-eq, length-sets}
+use native.Mathlib.Omega.{arith}
+use Rattle.octets.specs.Words.{word_bytes}
+use Rattle.octets.specs.Writes.{put_word}
 use Rattle.octets.specs.Put.{Put}
+use Rattle.octets.proofs.Numbers.{length-word-bytes}
 
 -- one run of stores after another is one run
 pub sets-append : (l : List ℕ) (i : ℕ) (vs us : List ℕ) → sets (sets l i vs) (i + length vs) us ≡ sets l i (vs ++ us)
@@ -36,3 +40,14 @@ put-length {l} {l'} {at} {r} {t} p = ap length p.bytes ∙ length-sets l at t
 -- a text that fits: the buffer is as before but for the text
 pub put_whole : {l l' : List ℕ} {at r : ℕ} {t : List ℕ} → Put l at t r l' → at + length t ≤ length l → l' ≡ take at l ++ (t ++ drop (at + length t) l)
 put_whole {l} {l'} {at} {r} {t} p h = p.bytes ∙ sets-eq t l at h ∙ append_assoc (take at l) t (drop (at + length t) l)
+
+-- a number that is written is its bytes
+pub word-put : (n at x : ℕ) (l : List ℕ) {m : List ℕ} → m ≡ put_word n at x l → at + n ≤ length l → Put l at (word_bytes n x) (at + n) m
+word-put n at x l q h =
+    let e = length-word-bytes n x in
+    record {
+      next = ap (λ (k : ℕ). at + k) (sym e);
+      bytes =
+          q ∙ sym (sets-eq (word_bytes n x) l at (omega arith) ∙ append_assoc (take at l) (word_bytes n x) (drop (at + length (word_bytes n x)) l)
+          ∙ ap (λ (k : ℕ). take at l ++ (word_bytes n x ++ drop (at + k) l)) e);
+    }

@@ -11,7 +11,8 @@ use Rattle.octets.specs.Runs.{all_zero}
 use Rattle.record.specs.Formed.{well_formed, ascends, ascends_from, all_up_to}
 use Rattle.record.specs.Fields.{models, spec, tags_from}
 use Rattle.hashing.specs.Blake2s.{blake2s256}
-use Rattle.places.specs.Places.{flat, ascending, all_places}
+use Rattle.std.specs.List.{list_all}
+use Rattle.places.specs.Places.{flat, ascending}
 use Rattle.models.specs.Models.{all_agreed, counts}
 use Rattle.models.specs.Missing.{any_missing, cites_missing}
 use Rattle.models.specs.Identity.{cited_domain, cited_inputs, inputs_in_order, identity_of}

@@ -8,7 +8,7 @@ use lib.ListN.{length}
 use borrow.Author.Tests.{le-leb}
 use lib.Dec.{leb, eqb}
 use Rattle.octets.specs.Order.{same}
-use Rattle.ranges.specs.Lists.{any_of, filter}
+use Rattle.std.specs.List.{filter, list_any}
 use Rattle.ranges.proofs.Bools.{by, and_both}
 use Rattle.ranges.proofs.Lists.{any-perm, filter-perm, filter-few}
 use Rattle.models.specs.Summary.{summary_of}
@@ -39,29 +39,29 @@ summary_one p (conviction k) = false
 abbrev keeps_one : (ℕ → Bool) → Call → Bool
 keeps_one struck c = is_sound c && not (struck (call_engine c))
 
-convicts-any : (cs : List Call) (e : ℕ) → convicts cs e ≡ any_of (convicts_one e) cs
-unfolding convicts any_of
+convicts-any : (cs : List Call) (e : ℕ) → convicts cs e ≡ list_any (convicts_one e) cs
+unfolding convicts
 convicts-any [] e = refl
 convicts-any (report k r ∷ cs) e = convicts-any cs e
 convicts-any (summary k model spec inputs ∷ cs) e = convicts-any cs e
 convicts-any (conviction k ∷ cs) e = ap (λ (b : Bool). leb k max_engine && eqb k e || b) (convicts-any cs e)
 
-reports-any : (cs : List Call) (e : ℕ) (r : List ℕ) → reports cs e r ≡ any_of (reports_one e r) cs
-unfolding reports any_of
+reports-any : (cs : List Call) (e : ℕ) (r : List ℕ) → reports cs e r ≡ list_any (reports_one e r) cs
+unfolding reports
 reports-any [] e r = refl
 reports-any (report k q ∷ cs) e r = ap (λ (b : Bool). eqb k e && same q r || b) (reports-any cs e r)
 reports-any (summary k model spec inputs ∷ cs) e r = reports-any cs e r
 reports-any (conviction k ∷ cs) e r = reports-any cs e r
 
-summaries-any : (cs : List Call) (p : List ℕ) → elem p (summaries_of cs) ≡ any_of (summary_one p) cs
-unfolding elem summaries_of any_of
+summaries-any : (cs : List Call) (p : List ℕ) → elem p (summaries_of cs) ≡ list_any (summary_one p) cs
+unfolding elem summaries_of
 summaries-any [] p = refl
 summaries-any (report k r ∷ cs) p = summaries-any cs p
 summaries-any (summary k model spec inputs ∷ cs) p = ap (λ (b : Bool). same (summary_of k model spec inputs) p || b) (summaries-any cs p)
 summaries-any (conviction k ∷ cs) p = summaries-any cs p
 
 keep-filter : (struck : ℕ → Bool) (cs : List Call) → keep struck cs ≡ filter (keeps_one struck) cs
-unfolding keep filter
+unfolding keep
 keep-filter struck [] = refl
 keep-filter struck (c ∷ cs) = ap (λ (l : List Call). cond (keeps_one struck c) (c ∷ l) l) (keep-filter struck cs)
 
@@ -78,8 +78,8 @@ module _ {cs ds : List Call} (p : Permᴰ cs ds) where
   remaining-of = keep-filter (convicts ds) ds ∙ ap (λ (f : ℕ → Bool). filter (keeps_one f) ds) (sym convicts-same)
 
   -- a test of the calls that remain
-  same_test : (test : Call → Bool) → any_of test (remaining cs) ≡ any_of test (remaining ds)
-  same_test test = ap (any_of test) (keep-filter (convicts cs) cs) ∙ any-perm test kept ∙ ap (any_of test) (sym remaining-of)
+  same_test : (test : Call → Bool) → list_any test (remaining cs) ≡ list_any test (remaining ds)
+  same_test test = ap (list_any test) (keep-filter (convicts cs) cs) ∙ any-perm test kept ∙ ap (list_any test) (sym remaining-of)
 
   pub same-remains : SameRemains cs ds
   same-remains = record {

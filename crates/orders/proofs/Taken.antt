@@ -9,7 +9,8 @@ use Rattle.octets.specs.Words.{word_bytes, word}
 use Rattle.octets.specs.Order.{same, is_before}
 use Rattle.octets.specs.Masks.{bits}
 use Rattle.arithmetic.specs.Bits.{stored_bits}
-use Rattle.ranges.specs.Lists.{any_of, filter, insert, sort, foremost}
+use Rattle.std.specs.List.{filter, list_any}
+use Rattle.ranges.specs.Lists.{insert, sort, foremost}
 use Rattle.hashing.specs.Blake2s as B
 use Rattle.record.specs.Fields.{tags_from}
 use Rattle.record.specs.Relations.{subset, all_in, any_in, member, shares_tag, tied}
@@ -37,7 +38,7 @@ unfolding ascii inputs_in_order cited_inputs set_hash identity_from word_bytes B
 of-hash = tt
 
 of-step : Unit {0}
-unfolding opened joined merged gather_all sign_first normalized arranged shown any_of filter insert sort foremost flat_map tied shares_tag any_in subset all_in member same is_before bits tags_from claim_of word_bytes word limit_of geodetic_of matrix_of sum_under finitely length_under chi_square_of difference_of outcome_of agreement_of agrees_of chi_square_in stored_bits degree radians_of factorial coefficient sine_series cosine_series sincos_of flattening eccentricity2 to_ecef enu_basis sub_of dot_of less rows_below columns cholesky_of forwards forward backwards backward solve_of plus from_decimal isqrt digits_of root_of root_finite root_bits root count_leading_zeros of_bits to_bits round le lt eq of_int div mul add sub neg is_nan
+unfolding opened joined merged gather_all sign_first normalized arranged shown insert sort foremost flat_map tied shares_tag any_in subset all_in member same is_before bits tags_from claim_of word_bytes word limit_of geodetic_of matrix_of sum_under finitely length_under chi_square_of difference_of outcome_of agreement_of agrees_of chi_square_in stored_bits degree radians_of factorial coefficient sine_series cosine_series sincos_of flattening eccentricity2 to_ecef enu_basis sub_of dot_of less rows_below columns cholesky_of forwards forward backwards backward solve_of plus from_decimal isqrt digits_of root_of root_finite root_bits root count_leading_zeros of_bits to_bits round le lt eq of_int div mul add sub neg is_nan
 of-step = tt
 
 -- ---- the three fixes

@@ -1,10 +1,11 @@
 -- Laws of kept_places, for every key width: what is held and what follows each key afterwards, and the loop that moves the places that stay down over
 -- those that go.
-use Rattle.std.proofs.Common.{ℕ, ◌+◌, ◌*◌, ◌-◌, ◌≤◌, ◌<◌, ◌≡◌, refl, sym, ap, ap₂, ◌∙◌, Bool, true, false, cond, ◌&&◌, List, [], ◌∷◌, ◌++◌, append-nil, append_assoc, arith, mul-le-mul_right, add-mul, add-one, length, get_or, take, drop, replicate, take-append-drop, length-append, length-drop, take_at, drop_at, take_all, take-suc, drop-drop, length-take-le}
+use Rattle.std.proofs.Common.{ℕ, ◌+◌, ◌*◌, ◌-◌, ◌≤◌, ◌<◌, ◌≡◌, refl, sym, ap, ap₂, ◌∙◌, Bool, true, false, cond, ◌&&◌, List, [], ◌∷◌, ◌++◌, append-nil, append_assoc, arith, mul-le-mul_right, add-mul, add-one, length, get_or, take, drop, take-append-drop, length-append, length-drop, take_at, drop_at, take-suc, drop-drop, length-take-le}
 use Rattle.octets.specs.Order.{same}
+use Rattle.std.specs.List.{list_all}
 use Rattle.ranges.proofs.Bools.{by, and_left, and_right, and_both}
 use Rattle.octets.proofs.Comparison.{before-irrefl, same-eq}
-use Rattle.places.specs.Places.{flat, table_of, ascending_from, ascending, holds, lookup, keep_places, all_places}
+use Rattle.places.specs.Places.{flat, ascending_from, ascending, holds, lookup, keep_places}
 use Rattle.places.proofs.Tables.{wide, flat_append}
 use Rattle.places.proofs.Keys.{holds-none, holds-here, holds_later, lookup-here, lookup-later, from-head, from_tail, from_cons, from-weaken, ascending-from, from-ascending, none_below, absent}
 
@@ -41,15 +42,14 @@ module _ (k : ℕ) (test : List ℕ → Bool) (f : List ℕ → List ℕ) where
 
   -- a test that each changed place passes is passed by all that stay
   pub kept-all : (before after : List ℕ → Bool) → ((p : List ℕ) → before p ≡ true → test p ≡ true → after (changed p) ≡ true)
-      → (ps : List (List ℕ)) → all_places before ps ≡ true → all_places after (keep_places k test f ps) ≡ true
-  unfolding all_places
-  kept-all before after g [] a = ap (all_places after) kept-none
+      → (ps : List (List ℕ)) → list_all before ps ≡ true → list_all after (keep_places k test f ps) ≡ true
+  kept-all before after g [] a = ap (list_all after) kept-none
   kept-all before after g (p ∷ ps) a =
-      let ih = kept-all before after g ps (and_right (before p) (all_places before ps) a) in
-      let x = and_left (before p) (all_places before ps) a in
+      let ih = kept-all before after g ps (and_right (before p) (list_all before ps) a) in
+      let x = and_left (before p) (list_all before ps) a in
       by (test p)
-      (λ b. ap (all_places after) (kept-stays p ps b) ∙ and_both (after (changed p)) (all_places after (keep_places k test f ps)) (g p x b) ih)
-      (λ b. ap (all_places after) (kept-gone p ps b) ∙ ih)
+      (λ b. ap (list_all after) (kept-stays p ps b) ∙ and_both (after (changed p)) (list_all after (keep_places k test f ps)) (g p x b) ih)
+      (λ b. ap (list_all after) (kept-gone p ps b) ∙ ih)
 
   module _ (w : ℕ) (m : k ≤ w) (g : (v : List ℕ) → k + length v ≡ w → k + length (f v) ≡ w) where
     key-length : (p : List ℕ) → length p ≡ w → length (take k p) ≡ k

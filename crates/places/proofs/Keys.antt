@@ -7,7 +7,7 @@ use Rattle.octets.specs.Order.{is_before, same}
 use Rattle.ranges.proofs.Bools.{by, and_left, and_right, and_both}
 use Rattle.octets.proofs.Comparison.{before-trans, before-irrefl, before-asym, before-le, tri, same_refl, less-same, more_same, same-eq}
 use Rattle.places.specs.Places.{ascending_from, ascending, holds, lookup}
-use Rattle.places.specs.Positions.{rank, with_place}
+use Rattle.places.specs.Positions.{rank}
 
 or-false : (b : Bool) → (b || false) ≡ b
 or-false true = refl

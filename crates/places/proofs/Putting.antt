@@ -2,9 +2,10 @@
 use Rattle.std.proofs.Common.{ℕ, suc, ◌+◌, ◌≤◌, ◌<◌, ◌≡◌, refl, sym, ap, ◌∙◌, Bool, true, false, ◌||◌, ⊎_elim, List, [], ◌∷◌, ◌++◌, arith, ltb, length, get_or, take, drop, set, take-append-drop, length-append, length-take, length-drop, ltb-true, take_at, drop_at, length-take-le}
 use mathlib.Core.Bool.{false≢true}
 use Rattle.octets.specs.Order.{is_before, same}
+use Rattle.std.specs.List.{list_all}
 use Rattle.ranges.proofs.Bools.{by, and_left, and_right, and_both}
 use Rattle.octets.proofs.Comparison.{before-irrefl, before-asym, tri, same_refl, less-same, more_same, same-eq}
-use Rattle.places.specs.Places.{ascending_from, ascending, holds, lookup, put_place, all_places}
+use Rattle.places.specs.Places.{ascending_from, ascending, holds, lookup, put_place}
 use Rattle.places.specs.Positions.{rank, with_place}
 use Rattle.places.proofs.Tables.{wide}
 use Rattle.places.proofs.Keys.{has_key, rank-le, holds-at-rank, holds-none, holds-here, holds_later, lookup-here, lookup-later, rank-more, rank-here, from-head, from_tail, from_cons, ascending-from, from-ascending, none_below, absent, comes-after}
@@ -186,31 +187,16 @@ module _ (k : ℕ) (f : List ℕ → List ℕ) (key : List ℕ) (l : length key 
 
 -- a test that the new place and each changed place pass is passed by all
 pub put_all : (k : ℕ) (f : List ℕ → List ℕ) (key : List ℕ) (test : List ℕ → Bool) (ps : List (List ℕ)) → test (key ++ f []) ≡ true
-    → ((p : List ℕ) → take k p ≡ key → test p ≡ true → test (take k p ++ f (drop k p)) ≡ true) → all_places test ps ≡ true → all_places test (put_place k f key ps) ≡ true
-put_all k f key test [] g h a = ap (all_places test) (put-none k f key) ∙ all_cons test (key ++ f []) [] g (all_none test)
-  where
-    all_none : (test : List ℕ → Bool) → all_places test [] ≡ true
-    all_none test = unfold all_places in refl
-
-    all_cons : (test : List ℕ → Bool) (p : List ℕ) (ps : List (List ℕ)) → test p ≡ true → all_places test ps ≡ true → all_places test (p ∷ ps) ≡ true
-    all_cons test p ps x y = unfold all_places in and_both (test p) (all_places test ps) x y
+    → ((p : List ℕ) → take k p ≡ key → test p ≡ true → test (take k p ++ f (drop k p)) ≡ true) → list_all test ps ≡ true → list_all test (put_place k f key ps) ≡ true
+put_all k f key test [] g h a = ap (list_all test) (put-none k f key) ∙ and_both (test (key ++ f [])) true g refl
 put_all k f key test (p ∷ ps) g h a =
-    let x = all_head test p ps a in
-    let y = all_tail test p ps a in
+    let x = and_left (test p) (list_all test ps) a in
+    let y = and_right (test p) (list_all test ps) a in
     let ih = put_all k f key test ps g h y in
-    ⊎_elim (λ b. ap (all_places test) (put-past k f key p ps b) ∙ all_cons test p (put_place k f key ps) x ih)
-    (⊎_elim (λ e. ap (all_places test) (put-again k f key p ps e) ∙ all_cons test (take k p ++ f (drop k p)) ps (h p e x) y)
-    (λ b. ap (all_places test) (put-here k f key p ps b) ∙ all_cons test (key ++ f []) (p ∷ ps) g a))
+    ⊎_elim (λ b. ap (list_all test) (put-past k f key p ps b) ∙ and_both (test p) (list_all test (put_place k f key ps)) x ih)
+    (⊎_elim (λ e. ap (list_all test) (put-again k f key p ps e) ∙ and_both (test (take k p ++ f (drop k p))) (list_all test ps) (h p e x) y)
+    (λ b. ap (list_all test) (put-here k f key p ps b) ∙ and_both (test (key ++ f [])) (list_all test (p ∷ ps)) g a))
     (tri (take k p) key)
-  where
-    all_cons : (test : List ℕ → Bool) (p : List ℕ) (ps : List (List ℕ)) → test p ≡ true → all_places test ps ≡ true → all_places test (p ∷ ps) ≡ true
-    all_cons test p ps x y = unfold all_places in and_both (test p) (all_places test ps) x y
-
-    all_head : (test : List ℕ → Bool) (p : List ℕ) (ps : List (List ℕ)) → all_places test (p ∷ ps) ≡ true → test p ≡ true
-    all_head test p ps a = and_left (test p) (all_places test ps) (unfold all_places in a)
-
-    all_tail : (test : List ℕ → Bool) (p : List ℕ) (ps : List (List ℕ)) → all_places test (p ∷ ps) ≡ true → all_places test ps ≡ true
-    all_tail test p ps a = and_right (test p) (all_places test ps) (unfold all_places in a)
 
 -- ---- where a key stands, and how many places there are
 

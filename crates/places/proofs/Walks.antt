@@ -1,6 +1,7 @@
 -- A walk over the places of a table, for every width: where a place ends, what stands at it, one step, and the end.
 use Rattle.std.proofs.Common.{ℕ, zero, suc, ◌+◌, ◌*◌, ◌-◌, ◌≤◌, ◌<◌, ◌≡◌, refl, sym, ap, ◌∙◌, Bool, true, ◌&&◌, List, [], ◌∷◌, arith, suc-mul, zero-mul, mul-le-mul_right, le_trans, le_of_eq, not-suc-le-zero, le_of_suc-le-suc, add-one, get_or, take, drop, drop-drop, take-take}
-use Rattle.places.specs.Places.{places, all_places}
+use Rattle.std.specs.List.{list_all}
+use Rattle.places.specs.Places.{places}
 
 -- ---- where a place ends
 
@@ -48,10 +49,8 @@ module _ (w n i at : ℕ) (t : List ℕ) where
 
 -- every place passes a test
 module _ (test : List ℕ → Bool) (w n i at : ℕ) (t : List ℕ) where
-  pub all-next : i < n → all_places test (places w (n - i) (drop at t)) ≡ (test (take (at + w - at) (drop at t)) && all_places test (places w (n - (i + 1)) (drop (at + w) t)))
-  unfolding all_places
+  pub all-next : i < n → list_all test (places w (n - i) (drop at t)) ≡ (test (take (at + w - at) (drop at t)) && list_all test (places w (n - (i + 1)) (drop (at + w) t)))
   all-next h = let z : at + w - at ≡ w = omega arith in rw (places-next w n i at t h, z) refl
 
-  pub all_end : n ≤ i → all_places test (places w (n - i) (drop at t)) ≡ true
-  unfolding all_places
+  pub all_end : n ≤ i → list_all test (places w (n - i) (drop at t)) ≡ true
   all_end h = rw (places-end w n i at t h) refl

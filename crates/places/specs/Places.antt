@@ -59,8 +59,3 @@ put_place k f key (p ∷ ps) =
 unfoldable pub keep_places : ℕ → (List ℕ → Bool) → (List ℕ → List ℕ) → List (List ℕ) → List (List ℕ)
 keep_places k test f [] = []
 keep_places k test f (p ∷ ps) = cond (test p) ((take k p ++ f (drop k p)) ∷ keep_places k test f ps) (keep_places k test f ps)
-
--- every place passes a test
-unfoldable pub all_places : (List ℕ → Bool) → List (List ℕ) → Bool
-all_places test [] = true
-all_places test (p ∷ ps) = test p && all_places test ps

@@ -8,39 +8,37 @@ use mathlib.Core.List.{List, [], ◌∷◌, ◌++◌, map, flat_map, Memᴰ, Per
 use native.Mathlib.Omega.{arith}
 use native.Mathlib.Nat.{zero-add}
 use lib.ListN.{length, get_or}
-use Rattle.ranges.specs.Lists.{any_of, filter, insert, sort, foremost, count_from, up_to}
+use Rattle.std.specs.List.{filter, list_any}
+use Rattle.ranges.specs.Lists.{insert, sort, foremost, count_from, up_to}
 use Rattle.ranges.proofs.Bools.{by, or, clash, no_true, or_left, or_right}
 use Rattle.ranges.proofs.Orders.{perm-mem}
 
 module _ {A : Type 0} where
   -- ---- tests
 
-  pub any-in : (test : A → Bool) (l : List A) → any_of test l ≡ true → (x : A) × Memᴰ x l × (test x ≡ true)
-  unfolding any_of
+  pub any-in : (test : A → Bool) (l : List A) → list_any test l ≡ true → (x : A) × Memᴰ x l × (test x ≡ true)
   any-in test [] e = absurd (false≢true e)
   any-in test (x ∷ l) e =
       by (test x)
       (λ t. (x, Memᴰ.head refl, t))
       (λ t. let r = any-in test l (rw t at e) in (r.0, Memᴰ.tail r.1, r.2))
 
-  pub any-of : (test : A → Bool) (l : List A) (x : A) → Memᴰ x l → test x ≡ true → any_of test l ≡ true
-  unfolding any_of
+  pub any-of : (test : A → Bool) (l : List A) (x : A) → Memᴰ x l → test x ≡ true → list_any test l ≡ true
   any-of test [] x m t = absurd (Memᴰ.not-nil m)
   any-of test (y ∷ l) x m t =
       or (Memᴰ.cases_cons m)
-      (λ e. or_left (test y) (any_of test l) (ap test (sym e) ∙ t))
-      (λ k. or_right (test y) (any_of test l) (any-of test l x k t))
+      (λ e. or_left (test y) (list_any test l) (ap test (sym e) ∙ t))
+      (λ k. or_right (test y) (list_any test l) (any-of test l x k t))
 
-  pub any-no : (test : A → Bool) (l : List A) (x : A) → any_of test l ≡ false → Memᴰ x l → test x ≡ false
+  pub any-no : (test : A → Bool) (l : List A) (x : A) → list_any test l ≡ false → Memᴰ x l → test x ≡ false
   any-no test l x e m = no_true (test x) (λ t. true≢false (sym (any-of test l x m t) ∙ e))
 
-  pub any_none : (test : A → Bool) (l : List A) → ((x : A) → Memᴰ x l → test x ≡ false) → any_of test l ≡ false
-  any_none test l e = no_true (any_of test l) (λ t. let r = any-in test l t in clash r.2 (e r.0 r.1))
+  pub any_none : (test : A → Bool) (l : List A) → ((x : A) → Memᴰ x l → test x ≡ false) → list_any test l ≡ false
+  any_none test l e = no_true (list_any test l) (λ t. let r = any-in test l t in clash r.2 (e r.0 r.1))
 
   -- ---- filters
 
   pub filter-in : (test : A → Bool) (l : List A) (x : A) → Memᴰ x (filter test l) → Memᴰ x l × (test x ≡ true)
-  unfolding filter
   filter-in test [] x m = absurd (Memᴰ.not-nil m)
   filter-in test (y ∷ l) x m =
       by (test y)
@@ -50,7 +48,6 @@ module _ {A : Type 0} where
       (λ t. let r = filter-in test l x (rw t at m) in (Memᴰ.tail r.0, r.1))
 
   pub filter-of : (test : A → Bool) (l : List A) (x : A) → Memᴰ x l → test x ≡ true → Memᴰ x (filter test l)
-  unfolding filter
   filter-of test [] x m t = absurd (Memᴰ.not-nil m)
   filter-of test (y ∷ l) x m t =
       or (Memᴰ.cases_cons m)
@@ -58,20 +55,17 @@ module _ {A : Type 0} where
       (λ k. by (test y) (λ u. rw u (Memᴰ.tail (filter-of test l x k t))) (λ u. rw u (filter-of test l x k t)))
 
   pub filter-few : (test : A → Bool) (l : List A) → length (filter test l) ≤ length l
-  unfolding filter
   filter-few test [] = omega arith
   filter-few test (y ∷ l) = let r = filter-few test l in by (test y) (λ u. rw u (omega arith)) (λ u. rw u (omega arith))
 
-  pub filter_none : (test : A → Bool) (l : List A) → any_of test l ≡ false → filter test l ≡ []
-  unfolding any_of filter
+  pub filter_none : (test : A → Bool) (l : List A) → list_any test l ≡ false → filter test l ≡ []
   filter_none test [] e = refl
   filter_none test (x ∷ l) e =
       by (test x)
       (λ t. clash {b = true} refl (rw t at e))
       (λ t. rw t (filter_none test l (rw t at e)))
 
-  pub filter-some : (test : A → Bool) (l : List A) → any_of test l ≡ true → (x : A) × (rest : List A) × (filter test l ≡ x ∷ rest)
-  unfolding any_of filter
+  pub filter-some : (test : A → Bool) (l : List A) → list_any test l ≡ true → (x : A) × (rest : List A) × (filter test l ≡ x ∷ rest)
   filter-some test [] e = absurd (false≢true e)
   filter-some test (x ∷ l) e =
       by (test x)
@@ -80,12 +74,11 @@ module _ {A : Type 0} where
 
   -- ---- the order of the members makes no difference to a test
 
-  pub any-perm : (test : A → Bool) {l m : List A} → Permᴰ l m → any_of test l ≡ any_of test m
-  unfolding any_of
+  pub any-perm : (test : A → Bool) {l m : List A} → Permᴰ l m → list_any test l ≡ list_any test m
   any-perm test Permᴰ.nil = refl
   any-perm test (Permᴰ.cons e p) = ap₂ ◌||◌ (ap test e) (any-perm test p)
   any-perm test (Permᴰ.swap {a = x} {b = y} {l = l} d e) =
-      swapped (test x) (test y) (any_of test l) ∙ ap₂ (λ (p q : Bool). p || (q || any_of test l)) (ap test e) (ap test d)
+      swapped (test x) (test y) (list_any test l) ∙ ap₂ (λ (p q : Bool). p || (q || list_any test l)) (ap test e) (ap test d)
     where
       swapped : (p q r : Bool) → (p || (q || r)) ≡ (q || (p || r))
       swapped true true r = refl
@@ -94,7 +87,6 @@ module _ {A : Type 0} where
   any-perm test (Permᴰ.trans p q) = any-perm test p ∙ any-perm test q
 
   pub filter-perm : (test : A → Bool) {l m : List A} → Permᴰ l m → Permᴰ (filter test l) (filter test m)
-  unfolding filter
   filter-perm test Permᴰ.nil = Permᴰ.nil
   filter-perm test (Permᴰ.cons {a = x} {b = y} e p) =
       let t = ap test (sym e) in
@@ -146,13 +138,11 @@ module _ {A : Type 0} where
 -- ---- members mapped
 
 module _ {A B : Type 0} (h : A → B) where
-  pub any-map : (p : A → Bool) (q : B → Bool) (l : List A) → ((x : A) → Memᴰ x l → q (h x) ≡ p x) → any_of q (map h l) ≡ any_of p l
-  unfolding any_of
+  pub any-map : (p : A → Bool) (q : B → Bool) (l : List A) → ((x : A) → Memᴰ x l → q (h x) ≡ p x) → list_any q (map h l) ≡ list_any p l
   any-map p q [] e = refl
   any-map p q (x ∷ l) e = ap₂ ◌||◌ (e x (Memᴰ.head refl)) (any-map p q l (λ y m. e y (Memᴰ.tail m)))
 
   pub filter_map : (p : A → Bool) (q : B → Bool) (l : List A) → ((x : A) → Memᴰ x l → q (h x) ≡ p x) → filter q (map h l) ≡ map h (filter p l)
-  unfolding filter
   filter_map p q [] e = refl
   filter_map p q (x ∷ l) e =
       let r = filter_map p q l (λ y m. e y (Memᴰ.tail m)) in
@@ -221,13 +211,11 @@ module _ {A B : Type 0} where
   flat-perm f (Permᴰ.trans p q) = Permᴰ.trans (flat-perm f p) (flat-perm f q)
 
 -- two tests that agree on the members
-pub any_same : {A : Type 0} (p q : A → Bool) (l : List A) → ((x : A) → Memᴰ x l → p x ≡ q x) → any_of p l ≡ any_of q l
-unfolding any_of
+pub any_same : {A : Type 0} (p q : A → Bool) (l : List A) → ((x : A) → Memᴰ x l → p x ≡ q x) → list_any p l ≡ list_any q l
 any_same p q [] e = refl
 any_same p q (x ∷ l) e = ap₂ ◌||◌ (e x (Memᴰ.head refl)) (any_same p q l (λ y m. e y (Memᴰ.tail m)))
 
 pub filter_same : {A : Type 0} (p q : A → Bool) (l : List A) → ((x : A) → Memᴰ x l → p x ≡ q x) → filter p l ≡ filter q l
-unfolding filter
 filter_same p q [] e = refl
 filter_same p q (y ∷ l) e = rw (e y (Memᴰ.head refl), filter_same p q l (λ x m. e x (Memᴰ.tail m))) refl
 

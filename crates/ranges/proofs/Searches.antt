@@ -7,7 +7,8 @@ use native.Mathlib.Omega.{arith}
 use native.Mathlib.Nat.{sub-zero, add-zero, zero-add}
 use native.Mathlib.Numerals.{add-one}
 use lib.ListN.{length}
-use Rattle.ranges.specs.Lists.{any_of, filter, count_from, up_to}
+use Rattle.std.specs.List.{filter, list_any}
+use Rattle.ranges.specs.Lists.{count_from, up_to}
 use Rattle.ranges.specs.Range.{filt}
 use Rattle.ranges.proofs.Bools.{by}
 use Rattle.ranges.proofs.Lists.{filter-few, count-length}
@@ -27,20 +28,17 @@ count-end i n h = let z : n - i ≡ 0 = omega arith in rw z refl
 
 -- ---- a loop that returns where a test holds: t is what is computed, r what the called test gave
 
-pub any-start : (g : ℕ → Bool) (n : ℕ) → any_of g (count_from 0 n) ≡ any_of g (count_from 0 (n - 0))
-any-start g n = ap (any_of g) (count-start n)
+pub any-start : (g : ℕ → Bool) (n : ℕ) → list_any g (count_from 0 n) ≡ list_any g (count_from 0 (n - 0))
+any-start g n = ap (list_any g) (count-start n)
 
-pub any-ret : (t : Bool) (g : ℕ → Bool) (i n : ℕ) (r : Bool) → t ≡ any_of g (count_from i (n - i)) → i < n → r ≡ g i → r ≡ true → true ≡ t
-unfolding any_of
-any-ret t g i n r e h p q = sym (e ∙ ap (any_of g) (count_turn i n h) ∙ rw (sym p ∙ q) refl)
+pub any-ret : (t : Bool) (g : ℕ → Bool) (i n : ℕ) (r : Bool) → t ≡ list_any g (count_from i (n - i)) → i < n → r ≡ g i → r ≡ true → true ≡ t
+any-ret t g i n r e h p q = sym (e ∙ ap (list_any g) (count_turn i n h) ∙ rw (sym p ∙ q) refl)
 
-pub any-go : (t : Bool) (g : ℕ → Bool) (i n : ℕ) (r : Bool) → t ≡ any_of g (count_from i (n - i)) → i < n → r ≡ g i → r ≡ false → t ≡ any_of g (count_from (i + 1) (n - (i + 1)))
-unfolding any_of
-any-go t g i n r e h p q = e ∙ ap (any_of g) (count_turn i n h) ∙ rw (sym p ∙ q) refl
+pub any-go : (t : Bool) (g : ℕ → Bool) (i n : ℕ) (r : Bool) → t ≡ list_any g (count_from i (n - i)) → i < n → r ≡ g i → r ≡ false → t ≡ list_any g (count_from (i + 1) (n - (i + 1)))
+any-go t g i n r e h p q = e ∙ ap (list_any g) (count_turn i n h) ∙ rw (sym p ∙ q) refl
 
-pub any_out : (t : Bool) (g : ℕ → Bool) (i n : ℕ) → t ≡ any_of g (count_from i (n - i)) → n ≤ i → false ≡ t
-unfolding any_of
-any_out t g i n e h = sym (e ∙ ap (any_of g) (count-end i n h))
+pub any_out : (t : Bool) (g : ℕ → Bool) (i n : ℕ) → t ≡ list_any g (count_from i (n - i)) → n ≤ i → false ≡ t
+any_out t g i n e h = sym (e ∙ ap (list_any g) (count-end i n h))
 
 pub ruleset searches = (any-start, any-ret, any-go, any_out)
 
@@ -56,7 +54,6 @@ pub up_more : (i : ℕ) → up_to (i + 1) ≡ up_to i ++ (i ∷ [])
 up_more i = rw add-one (rw (zero-add i) at (count-snoc 0 i))
 
 filter-append : {A : Type 0} (g : A → Bool) (l m : List A) → filter g (l ++ m) ≡ filter g l ++ filter g m
-unfolding filter
 filter-append g [] m = refl
 filter-append g (x ∷ l) m = by (g x) (λ t. rw t (ap (λ k. x ∷ k) (filter-append g l m))) (λ t. rw t (filter-append g l m))
 
@@ -66,11 +63,9 @@ flat_append f [] m = refl
 flat_append f (x ∷ l) m = ap (λ k. f x ++ k) (flat_append f l m) ∙ sym (append_assoc (f x) (flat_map f l) (flat_map f m))
 
 pub filter-hit : (g : ℕ → Bool) (i : ℕ) → g i ≡ true → filter g (up_to (i + 1)) ≡ filter g (up_to i) ++ (i ∷ [])
-unfolding filter
 filter-hit g i e = ap (filter g) (up_more i) ∙ filter-append g (up_to i) (i ∷ []) ∙ rw e refl
 
 pub filter-miss : (g : ℕ → Bool) (i : ℕ) → g i ≡ false → filter g (up_to (i + 1)) ≡ filter g (up_to i)
-unfolding filter
 filter-miss g i e = ap (filter g) (up_more i) ∙ filter-append g (up_to i) (i ∷ []) ∙ rw e (append-nil (filter g (up_to i)))
 
 pub flat-more : {B : Type 0} (f : ℕ → List B) (i : ℕ) → flat_map f (up_to (i + 1)) ≡ flat_map f (up_to i) ++ f i
@@ -84,6 +79,6 @@ filter-up g i = let r = filter-few g (up_to i) in let e = count-length 0 i in om
 -- ---- the same by a range of indices
 
 pub filter_range : (g : ℕ → Bool) (k n : ℕ) → filter g (count_from k n) ≡ filt g k n
-unfolding filter count_from filt
+unfolding count_from filt
 filter_range g k zero = refl
 filter_range g k (suc n) = rw (filter_range g (suc k) n) refl

@@ -1,18 +1,8 @@
 -- What is said of a list by a test of its members or by an order between them.
-use Rattle.std.specs.Prelude.{ℕ, zero, suc, ◌-◌, ◌≡◌, Bool, true, false, cond, ◌||◌, length, drop}
+use Rattle.std.specs.Prelude.{ℕ, zero, suc, ◌-◌, ◌≡◌, Bool, true, cond, length, drop}
 use mathlib.Core.List.{List, [], ◌∷◌, Memᴰ}
 
 module _ {A : Type 0} where
-  -- some member passes the test
-  unfoldable pub any_of : (A → Bool) → List A → Bool
-  any_of test [] = false
-  any_of test (x ∷ l) = test x || any_of test l
-
-  -- the members that pass the test, in their order
-  unfoldable pub filter : (A → Bool) → List A → List A
-  filter test [] = []
-  filter test (x ∷ l) = let rest = filter test l in cond (test x) (x ∷ rest) rest
-
   -- x put in behind those that come before it
   unfoldable pub insert : (A → A → Bool) → A → List A → List A
   insert before x [] = x ∷ []

@@ -1,11 +1,10 @@
 -- What a recheck leaves of a track's bytes: the bytes of the track without the fixes that do not stand.
 use Prim.Native.Nat.{ℕ, ◌≤◌}
 use mathlib.Core.Path.{◌≡◌, refl, sym, ap, ◌∙◌}
-use mathlib.Core.Bool.{Bool, true, false, ◌||◌}
+use mathlib.Core.Bool.{true, false}
 use Rattle.std.specs.List.{list_any}
 use mathlib.Core.List.{List, [], ◌∷◌, map, Memᴰ}
 use lib.ListN.{length, length-map}
-use Rattle.ranges.specs.Lists.{any_of}
 use Rattle.octets.specs.Bytes.{Bytes}
 use Rattle.tracked.specs.Held.{HeldTransmission}
 use Rattle.tracked.specs.Bytes.{transmission_in, transmission_bytes}
@@ -53,15 +52,10 @@ module _ (m : List ℕ) (o : Opened m) (b : Bytes m) where
 -- ---- what a recheck leaves of a track
 
 module _ (s : Track) where
-  listed : {A : Type 0} (test : A → Bool) (l : List A) → list_any test l ≡ any_of test l
-  unfolding any_of
-  listed test [] = refl
-  listed test (x ∷ l) = ap (λ (b : Bool). test x || b) (listed test l)
-
   pub all-stand : list_any (has_stale s.summaries) s.transmissions ≡ false → s ≡ recheck s
   unfolding recheck
-  all-stand h = rw (sym (listed (has_stale s.summaries) s.transmissions) ∙ h) refl
+  all-stand h = rw h refl
 
   pub some-stale : list_any (has_stale s.summaries) s.transmissions ≡ true → with_transmissions (arranged (map (standing s.summaries) s.transmissions)) s ≡ recheck s
   unfolding recheck
-  some-stale h = rw (sym (listed (has_stale s.summaries) s.transmissions) ∙ h) refl
+  some-stale h = rw h refl

@@ -9,7 +9,8 @@ use lib.Dec.{eqb}
 use lib.ListN.{length, take, drop, length-drop, take-append-drop}
 use lib.Seq.{take_all}
 use borrow.Author.Tests.{not-true}
-use Rattle.ranges.specs.Lists.{any_of, filter, sort}
+use Rattle.std.specs.List.{filter, list_any}
+use Rattle.ranges.specs.Lists.{sort}
 use Rattle.ranges.proofs.Bools.{by, or, and_right}
 use Rattle.ranges.proofs.Lists.{any-in, filter-in, sort-in}
 use Rattle.octets.specs.Masks.{bit, with_bit, without_bit}
@@ -147,7 +148,7 @@ kept_whole test (p ∷ ps) w =
 pub recheck-valid : (s : Track) → Valid s → Valid (recheck s)
 unfolding recheck
 recheck-valid s v =
-    by (any_of (has_stale s.summaries) s.transmissions)
+    by (list_any (has_stale s.summaries) s.transmissions)
     (λ t. rw t (record {
       small = v.small;
       counted = v.counted;

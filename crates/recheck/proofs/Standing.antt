@@ -2,8 +2,7 @@
 use Rattle.std.proofs.Common.{◌≡◌, Bool, false, List, [], ◌∷◌, ◌++◌, refl, ap}
 use Rattle.std.specs.Prelude.{map, not}
 use mathlib.Core.Bool.{true≢false}
-use Rattle.std.specs.List.{filter as filter_of}
-use Rattle.ranges.specs.Lists.{any_of, filter}
+use Rattle.std.specs.List.{filter, list_any}
 use Rattle.ranges.proofs.Bools.{by}
 use Rattle.shown.specs.Fix.{Fix}
 use Rattle.tracked.specs.Held.{RefusedFix, HeldTransmission, fix_of, held_in}
@@ -14,8 +13,7 @@ module _ (test : Fix → Bool) where
   -- ---- those that pass
 
   -- all pass
-  pub filter_whole : (l : List Fix) → any_of (λ f. not (test f)) l ≡ false → filter test l ≡ l
-  unfolding any_of filter
+  pub filter_whole : (l : List Fix) → list_any (λ f. not (test f)) l ≡ false → filter test l ≡ l
   filter_whole [] e = refl
   filter_whole (f ∷ l) e =
       by (test f) (λ t. rw t (ap (λ (k : List Fix). f ∷ k) (filter_whole l (rw t at e)))) (λ t. absurd (true≢false (rw t at e)))

@@ -3,7 +3,7 @@
 use Rattle.std.specs.Prelude.{ℕ, Bool, cond, not, ◌&&◌, List, map}
 use Rattle.octets.specs.Masks.{with_bit, without_bit}
 use Rattle.octets.specs.Order.{same}
-use Rattle.ranges.specs.Lists.{any_of, filter}
+use Rattle.std.specs.List.{filter, list_any}
 use Rattle.places.specs.Places.{keep_places}
 use Rattle.models.specs.Summary.{summary_size}
 use Rattle.models.specs.Models.{counts}
@@ -24,7 +24,7 @@ stands ss f = counts ss f.record_bytes && same (cited_inputs ss f.record_bytes) 
 
 -- some held fix does not stand
 abbrev pub has_stale : List (List ℕ) → HeldTransmission → Bool
-has_stale ss t = any_of (λ f. not (stands ss f)) (held_in t)
+has_stale ss t = list_any (λ f. not (stands ss f)) (held_in t)
 
 -- the fixes that stand, decided again
 abbrev pub standing : List (List ℕ) → HeldTransmission → HeldTransmission
@@ -33,7 +33,7 @@ standing ss t = normalized (filter (stands ss) (held_in t))
 -- where some fix of the track does not stand, every transmission is decided again without those
 unfoldable pub recheck : Track → Track
 recheck s =
-    cond (any_of (has_stale s.summaries) s.transmissions)
+    cond (list_any (has_stale s.summaries) s.transmissions)
     (with_transmissions (arranged (map (standing s.summaries) s.transmissions)) s)
     s
 

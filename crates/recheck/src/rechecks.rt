@@ -18,7 +18,7 @@ use normalize::deciding::decide_again;
 use octets::words::u16_at;
 use stored::{layout, parts};
 use tracked::block::Block;
-use tracked::fixes::Fix;
+use tracked::fix::Fix;
 use tracked::layout::TRANSMISSION_SIZE;
 use tracked::transmission::Transmission;
 

@@ -18,7 +18,7 @@ use normalize::blocks::renew;
 use octets::words::{put_u16, put_u32, u16_at, u32_at};
 use stored::layout;
 use tracked::block::Block;
-use tracked::fixes::Fix;
+use tracked::fix::Fix;
 use tracked::layout::TRANSMISSION_SIZE;
 use tracked::transmission::Transmission;
 

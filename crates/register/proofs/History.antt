@@ -8,7 +8,7 @@ use Rattle.octets.specs.Words.{word}
 use Rattle.ranges.proofs.Bools.{by, and_left, and_right, and_both}
 use Rattle.octets.proofs.Comparison.{same-eq}
 use Rattle.octets.proofs.Lookup.{bit-set, bit-clear, bit-zero}
-use Rattle.places.specs.Places.{ascending, all_places, holds, lookup, put_place}
+use Rattle.places.specs.Places.{ascending, holds, lookup, put_place}
 use Rattle.places.proofs.Putting.{holds-put}
 use Rattle.record.specs.Formed as R
 use Rattle.models.specs.Summary.{engine_of, model_of, summary_of, summary_size, inputs_size}
@@ -261,8 +261,8 @@ start-valid = record {
   records_wide = tt;
   summaries_ascend = unfold ascending in refl;
   records_ascend = unfold ascending in refl;
-  summaries_formed = unfold all_places in refl;
-  records_held = unfold all_places in refl;
+  summaries_formed = refl;
+  records_held = refl;
 }
 
 pub history : (h : List Call) → roomy h ≡ true → Sum h (run h)

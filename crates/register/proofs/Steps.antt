@@ -4,11 +4,12 @@ use mathlib.Core.Bool.{false≢true, and-true}
 use Rattle.octets.specs.Masks.{bit, with_bit, without_bit}
 use Rattle.octets.specs.Order.{same}
 use Rattle.octets.specs.Words.{word, word_bytes}
+use Rattle.std.specs.List.{list_all}
 use Rattle.ranges.proofs.Bools.{by, and_left, and_right}
 use Rattle.octets.proofs.Comparison.{same-eq}
 use Rattle.octets.proofs.Lookup.{clear-unset, bit-zero, bit_below, without-le}
 use Rattle.octets.proofs.Numbers.{word-of-bytes}
-use Rattle.places.specs.Places.{all_places, holds, lookup, put_place}
+use Rattle.places.specs.Places.{holds, lookup, put_place}
 use Rattle.places.proofs.Tables.{wide}
 use Rattle.places.proofs.Keys.{holds-none, holds_later, lookup-here, lookup-later, absent, ascending-ext}
 use Rattle.places.proofs.Putting.{lookup-put, lookup-put-other, put-ascending, put-length, put-length-held, put-wide, put_all}
@@ -28,17 +29,15 @@ use Rattle.register.proofs.Valid.{Valid}
 
 -- ---- what is looked up
 
-module _ (test : List ℕ → Bool) (p : List ℕ) (ps : List (List ℕ)) (a : all_places test (p ∷ ps) ≡ true) where
+module _ (test : List ℕ → Bool) (p : List ℕ) (ps : List (List ℕ)) (a : list_all test (p ∷ ps) ≡ true) where
   all_head : test p ≡ true
-  unfolding all_places
-  all_head = and_left (test p) (all_places test ps) a
+  all_head = and_left (test p) (list_all test ps) a
 
-  all_tail : all_places test ps ≡ true
-  unfolding all_places
-  all_tail = and_right (test p) (all_places test ps) a
+  all_tail : list_all test ps ≡ true
+  all_tail = and_right (test p) (list_all test ps) a
 
 -- a place that is held passes the test that all pass
-held-passes : (k : ℕ) (key : List ℕ) (test : List ℕ → Bool) (ps : List (List ℕ)) → all_places test ps ≡ true → holds k key ps ≡ true → test (key ++ lookup k key ps) ≡ true
+held-passes : (k : ℕ) (key : List ℕ) (test : List ℕ → Bool) (ps : List (List ℕ)) → list_all test ps ≡ true → holds k key ps ≡ true → test (key ++ lookup k key ps) ≡ true
 held-passes k key test [] a h = absurd (false≢true (sym (holds-none k key) ∙ h))
 held-passes k key test (p ∷ ps) a h =
     by (same (take k p) key)

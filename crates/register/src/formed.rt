@@ -1,7 +1,8 @@
 //! Which bytes are a register.
 
 ghost use Rattle.std.specs.Prelude.{◌≡◌, ◌&&◌, ◌*◌, ◌≤◌, length};
-ghost use Rattle.places.specs.Places.{places, is_table, all_places};
+ghost use Rattle.std.specs.List.{list_all};
+ghost use Rattle.places.specs.Places.{places, is_table};
 ghost use Rattle.record.specs.Layout.{record_size};
 ghost use Rattle.held.specs.Limits.{place_size};
 ghost use Rattle.held.specs.Signed.{place_formed};
@@ -18,7 +19,7 @@ use record::layout::RECORD_SIZE;
 // Whether t holds a table of n records with signers, none of them convicted.
 fn place_table_formed(t: &[u8], n: usize, convicted: Signers) -> bool
     requires { n * place_size ≤ length t.now }
-    ensures { result ≡ (is_table record_size place_size n t.now && all_places (place_formed convicted.0) (places place_size n t.now)) }
+    ensures { result ≡ (is_table record_size place_size n t.now && list_all (place_formed convicted.0) (places place_size n t.now)) }
 {
     is_table::<PLACE_SIZE, RECORD_SIZE>(t, n)
         && held::formed::places_formed(t, n, PLACE_SIZE, convicted)

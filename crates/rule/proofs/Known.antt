@@ -5,7 +5,8 @@ use Rattle.std.proofs.lemmas.Option.{slice_get_read, slice_get_cases}
 use mathlib.Core.Logic.{inl, inr}
 use mathlib.Core.Bool.{true≢false}
 use Rattle.items.specs.Values as V
-use Rattle.ranges.specs.Lists.{filter, foremost, up_to, count_from}
+use Rattle.std.specs.List.{filter}
+use Rattle.ranges.specs.Lists.{foremost, up_to, count_from}
 use Rattle.ranges.proofs.Bools.{by}
 use Rattle.ranges.proofs.Searches.{filter-hit, filter-miss}
 use Rattle.rule.specs.First as F
@@ -110,7 +111,7 @@ pub first-miss : {b : Option ℕ} (before : ℕ → ℕ → Bool) (test : ℕ �
 first-miss before test i e t = e ∙ ap (F.first_of before) (sym (filter-miss test i t))
 
 pub first-none : (before : ℕ → ℕ → Bool) (test : ℕ → Bool) → None ≡ F.first_of before (filter test (up_to 0))
-unfolding filter count_from
+unfolding count_from
 first-none before test = refl
 
 pub better-within : (before : ℕ → ℕ → Bool) (b : Option ℕ) (i n : ℕ) → i < n → IfSome b (λ k. k < n) → IfSome (F.better before b i) (λ k. k < n)
@@ -119,7 +120,7 @@ better-within before (Some b) i n h w = by (before i b) (λ t. rw t h) (λ t. rw
 
 -- ---- what a search in a set of places found
 filter-ext : (p q : ℕ → Bool) (k n : ℕ) → ((i : ℕ) → i < k + n → p i ≡ q i) → filter p (count_from k n) ≡ filter q (count_from k n)
-unfolding filter count_from
+unfolding count_from
 filter-ext p q k zero e = refl
 filter-ext p q k (suc n) e = rw (e k (omega arith), filter-ext p q (suc k) n (λ i h. e i (omega arith))) refl
 

@@ -9,7 +9,8 @@ use borrow.Author.Tests.{ltb-true, ltb-false, eqb-true, eqb-false}
 use mathlib.Core.Bool.{true≢false}
 use lib.Dec.{eqb, ltb}
 use lib.Lanes.{mask_l}
-use Rattle.ranges.specs.Lists.{any_of, count_from, up_to}
+use Rattle.std.specs.List.{list_any}
+use Rattle.ranges.specs.Lists.{count_from, up_to}
 use Rattle.ranges.proofs.Bools.{by}
 use Rattle.ranges.proofs.Searches.{up_more}
 use Rattle.std.specs.Prelude.{nat_lt}
@@ -99,13 +100,12 @@ double m =
     by (eqb m 0) (λ t. let e = eqb-true _ _ t in rw e refl)
     (λ t. rw t (by (eqb (0 + 2 * m) 0) (λ u. let e = eqb-true _ _ u in absurd (eqb-false _ _ t (omega (arith, e)))) (λ u. u)))
 
-none-of : (p : ℕ → Bool) (l : List ℕ) → nat_eq (mask_l (map p l)) 0 ≡ not (any_of p l)
-unfolding any_of
+none-of : (p : ℕ → Bool) (l : List ℕ) → nat_eq (mask_l (map p l)) 0 ≡ not (list_any p l)
 none-of p [] = refl
 none-of p (x ∷ l) =
     by (p x) (λ t. rw t (some-odd (mask_l (map p l)))) (λ t. rw t (double (mask_l (map p l)) ∙ none-of p l))
 
-pub empty-set : (p : ℕ → Bool) (n : ℕ) → nat_eq (set p n) 0 ≡ not (any_of p (up_to n))
+pub empty-set : (p : ℕ → Bool) (n : ℕ) → nat_eq (set p n) 0 ≡ not (list_any p (up_to n))
 empty-set p n = none-of p (up_to n)
 
 -- ---- a turn of a loop that puts in those that pass
@@ -151,30 +151,29 @@ pub miss : {w : ℕ} {b : Bool} (p : ℕ → Bool) (i : ℕ) → w ≡ set p i �
 miss p i e a t = e ∙ set-miss p i (sym a ∙ t)
 
 -- ---- a union, a member at a time
-any-snoc : (f : ℕ → Bool) (l : List ℕ) (i : ℕ) → any_of f (l ++ (i ∷ [])) ≡ (any_of f l || f i)
-unfolding any_of
+any-snoc : (f : ℕ → Bool) (l : List ℕ) (i : ℕ) → list_any f (l ++ (i ∷ [])) ≡ (list_any f l || f i)
 any-snoc f [] i = by (f i) (λ t. rw t refl) (λ t. rw t refl)
 any-snoc f (x ∷ l) i = by (f x) (λ t. rw t refl) (λ t. rw t (any-snoc f l i))
 
 module _ (s : ℕ → Bool) (d : ℕ → ℕ → Bool) (n : ℕ) where
   -- what the first i of s have in d
   abbrev pub gathered : ℕ → ℕ
-  gathered i = set (λ j. any_of (λ g. s g && d g j) (up_to i)) n
+  gathered i = set (λ j. list_any (λ g. s g && d g j) (up_to i)) n
 
   pub gathered-none : 0 ≡ gathered 0
-  unfolding any_of count_from
+  unfolding count_from
   gathered-none = empty-all n
     where
       empty-all : (n : ℕ) → 0 ≡ set (λ j. false) n
       empty-all n = same_from_bits _ _ (λ i. bit_at-zero i ∙ (by (ltb i n) (λ t. rw t refl) (λ t. rw t refl)) ∙ sym (bit-set (λ j. false) n i))
 
-  more : (i j : ℕ) → any_of (λ g. s g && d g j) (up_to (i + 1)) ≡ (any_of (λ g. s g && d g j) (up_to i) || (s i && d i j))
-  more i j = ap (any_of (λ g. s g && d g j)) (up_more i) ∙ any-snoc (λ g. s g && d g j) (up_to i) i
+  more : (i j : ℕ) → list_any (λ g. s g && d g j) (up_to (i + 1)) ≡ (list_any (λ g. s g && d g j) (up_to i) || (s i && d i j))
+  more i j = ap (list_any (λ g. s g && d g j)) (up_more i) ∙ any-snoc (λ g. s g && d g j) (up_to i) i
 
   pub gathered-hit : {w : ℕ} (i : ℕ) → w ≡ gathered i → s i ≡ true → bit_or w (set (d i) n) ≡ gathered (i + 1)
   gathered-hit i e t =
       ap (λ k. bit_or k (set (d i) n)) e
-      ∙ union-set (λ j. any_of (λ g. s g && d g j) (up_to i)) (d i) n
+      ∙ union-set (λ j. list_any (λ g. s g && d g j) (up_to i)) (d i) n
       ∙ set-ext _ _ n (λ j h. sym (more i j ∙ rw t refl))
 
   or-none : (b : Bool) → b ≡ (b || false)
@@ -196,20 +195,20 @@ part-none false true q e = absurd (true≢false e)
 part-none false false q e = refl
 
 module _ (s : ℕ → Bool) (d : ℕ → ℕ → Bool) (n : ℕ) (few : n ≤ 96) (sub q : ℕ → Bool) (i : ℕ) (same : (j : ℕ) → j < n → d i j ≡ (sub j && q j)) where
-  untried : {w m : ℕ} → w ≡ gathered s d n i → m ≡ bit_and (set sub n) (bit_not w128 w) → m ≡ set (λ j. sub j && not (any_of (λ g. s g && d g j) (up_to i))) n
-  untried e f = f ∙ ap (λ k. bit_and (set sub n) (bit_not w128 k)) e ∙ without-set sub (λ j. any_of (λ g. s g && d g j) (up_to i)) n few
+  untried : {w m : ℕ} → w ≡ gathered s d n i → m ≡ bit_and (set sub n) (bit_not w128 w) → m ≡ set (λ j. sub j && not (list_any (λ g. s g && d g j) (up_to i))) n
+  untried e f = f ∙ ap (λ k. bit_and (set sub n) (bit_not w128 k)) e ∙ without-set sub (λ j. list_any (λ g. s g && d g j) (up_to i)) n few
 
   pub gathered-part : {w m a : ℕ} → w ≡ gathered s d n i → s i ≡ true → m ≡ bit_and (set sub n) (bit_not w128 w) → a ≡ set (λ j. has m j && q j) n → bit_or w a ≡ gathered s d n (i + 1)
   gathered-part {w} {m} {a} e t f g =
       ap (λ k. bit_or k a) e
       ∙ ap (λ k. bit_or (gathered s d n i) k) g
-      ∙ union-set (λ j. any_of (λ h. s h && d h j) (up_to i)) (λ j. has m j && q j) n
+      ∙ union-set (λ j. list_any (λ h. s h && d h j) (up_to i)) (λ j. has m j && q j) n
       ∙ set-ext _ _ n
       (λ j lt.
-      ap (λ b. any_of (λ h. s h && d h j) (up_to i) || (b && q j)) (ap (λ k. has k j) (untried e f) ∙ has-set _ n j lt)
-      ∙ part (any_of (λ h. s h && d h j) (up_to i)) (sub j) (q j)
-      ∙ ap (λ b. any_of (λ h. s h && d h j) (up_to i) || b) (sym (same j lt)))
-      ∙ sym (union-set (λ j. any_of (λ h. s h && d h j) (up_to i)) (d i) n)
+      ap (λ b. list_any (λ h. s h && d h j) (up_to i) || (b && q j)) (ap (λ k. has k j) (untried e f) ∙ has-set _ n j lt)
+      ∙ part (list_any (λ h. s h && d h j) (up_to i)) (sub j) (q j)
+      ∙ ap (λ b. list_any (λ h. s h && d h j) (up_to i) || b) (sym (same j lt)))
+      ∙ sym (union-set (λ j. list_any (λ h. s h && d h j) (up_to i)) (d i) n)
       ∙ gathered-hit s d n i refl t
 
   pub gathered-empty : {w m : ℕ} → w ≡ gathered s d n i → s i ≡ true → m ≡ bit_and (set sub n) (bit_not w128 w) → nat_eq m 0 ≡ true → w ≡ gathered s d n (i + 1)
@@ -217,11 +216,11 @@ module _ (s : ℕ → Bool) (d : ℕ → ℕ → Bool) (n : ℕ) (few : n ≤ 96
       e
       ∙ set-ext _ _ n
       (λ j lt.
-      part-none (any_of (λ h. s h && d h j) (up_to i)) (sub j) (q j)
-      (sym (has-set (λ k. sub k && not (any_of (λ h. s h && d h k) (up_to i))) n j lt)
+      part-none (list_any (λ h. s h && d h j) (up_to i)) (sub j) (q j)
+      (sym (has-set (λ k. sub k && not (list_any (λ h. s h && d h k) (up_to i))) n j lt)
       ∙ ap (λ k. has k j) (sym (untried e f) ∙ eqb-true m 0 z)
       ∙ ap (λ k. nat_eq k 1) (bit_at-zero j))
-      ∙ ap (λ b. any_of (λ h. s h && d h j) (up_to i) || b) (sym (same j lt))
+      ∙ ap (λ b. list_any (λ h. s h && d h j) (up_to i) || b) (sym (same j lt))
       ∙ sym (more s d n i j ∙ rw t refl))
 
 -- ---- a set that is shifted
@@ -241,7 +240,7 @@ first-of v j e = ap (λ k. nat_eq (k % 2) 1) (ap (λ k. k / 2 ^ 0) e ∙ shr-shr
 pub asked : {w : ℕ} (p : ℕ → Bool) (n i : ℕ) → w ≡ set p n → i < n → n ≤ 96 → (nat_lt i 96 && has w i) ≡ p i
 asked p n i e h few = rw (e, lt-ltb i 96 (omega arith)) (has-set p n i h)
 
-pub none-left : {w : ℕ} (p : ℕ → Bool) (n : ℕ) → w ≡ set p n → nat_eq w 0 ≡ not (any_of p (up_to n))
+pub none-left : {w : ℕ} (p : ℕ → Bool) (n : ℕ) → w ≡ set p n → nat_eq w 0 ≡ not (list_any p (up_to n))
 none-left p n e = ap (λ k. nat_eq k 0) e ∙ empty-set p n
 
 -- what the front of a set answers that was shifted

@@ -1,6 +1,7 @@
 -- No claim rests on these definitions: they say what is known of each of the items of a list, and what is decided of them, as sets of places.
 use Rattle.std.specs.Prelude.{◌≡◌, ℕ, ◌<◌, Bool, not, ◌&&◌, List, length, slice_get, Option, Some}
-use Rattle.ranges.specs.Lists.{filter, up_to}
+use Rattle.std.specs.List.{filter}
+use Rattle.ranges.specs.Lists.{up_to}
 use Rattle.items.specs.declared.item.Item.{Item}
 use Rattle.rule.specs.Standing as S
 use Rattle.rule.specs.declared.row.Row.{Row}

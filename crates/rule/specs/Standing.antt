@@ -3,7 +3,8 @@
 use Rattle.std.specs.Prelude.{Bool, true, false, not, cond, ◌&&◌, ◌||◌}
 use mathlib.Core.List.{List, [], ◌∷◌, flat_map}
 use Rattle.rule.specs.Outcome.{Refused, Outcome}
-use Rattle.ranges.specs.Lists.{any_of, filter, sort, foremost}
+use Rattle.std.specs.List.{filter, list_any}
+use Rattle.ranges.specs.Lists.{sort, foremost}
 
 pub record Relations (A C : Type 0) : Type 0 where
   -- the second is a consistent subset of the first, and they disagree
@@ -25,14 +26,14 @@ module _ {A C : Type 0} (r : Relations A C) (all : List A) where
   -- f passed, has disagreeing subsets, and more standing than each of them
   unfoldable pub supersedes : A → Bool
   supersedes f =
-      r.passed f && (any_of (r.disagrees f) all && not (any_of (λ g. r.disagrees f g && not (r.outstands f g)) all))
+      r.passed f && (list_any (r.disagrees f) all && not (list_any (λ g. r.disagrees f g && not (r.outstands f g)) all))
 
   -- g takes the place of f
   abbrev pub replaces : A → A → Bool
   replaces f g = supersedes g && r.disagrees g f
 
   unfoldable pub is_superseded : A → Bool
-  is_superseded f = any_of (replaces f) all
+  is_superseded f = list_any (replaces f) all
 
   -- g is a disagreeing subset of f that nothing supersedes
   abbrev pub opposes : A → A → Bool
@@ -40,14 +41,14 @@ module _ {A C : Type 0} (r : Relations A C) (all : List A) where
 
   -- f neither supersedes nor is superseded, and something opposes it
   unfoldable pub is_contested : A → Bool
-  is_contested f = not (supersedes f) && (not (is_superseded f) && any_of (opposes f) all)
+  is_contested f = not (supersedes f) && (not (is_superseded f) && list_any (opposes f) all)
 
   unfoldable pub is_refused : A → Bool
   is_refused f = is_superseded f || is_contested f
 
   -- f is a subset, with its model inputs, of one that is not refused
   unfoldable pub is_covered : A → Bool
-  is_covered f = any_of (λ g. not (is_refused g) && r.within f g) all
+  is_covered f = list_any (λ g. not (is_refused g) && r.within f g) all
 
   -- a refused item names the lowest identity of those that replace it, or else of those that oppose it
   abbrev pub replaced : A → List A → List (Refused A C)

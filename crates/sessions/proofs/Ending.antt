@@ -1,7 +1,6 @@
 -- The board after the answers, and the cases of a session's output.
 use Rattle.std.proofs.Common.{ℕ, ◌+◌, ◌-◌, ◌≤◌, ◌<◌, ◌≡◌, refl, sym, ap, ◌∙◌, true, List, [], ◌∷◌, ◌++◌, append_assoc, arith, length, take, drop, length-drop, drop-drop, le-ltb}
 use lib.Seq.{sets-eq}
-use Rattle.octets.specs.Ascii.{ascii}
 use Rattle.octets.specs.Bytes.{Bytes}
 use Rattle.octets.specs.Put.{Put}
 use Rattle.octets.proofs.Moves.{tail-back, tail-lent}

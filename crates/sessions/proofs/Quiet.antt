@@ -1,7 +1,6 @@
 -- What is printed of a session without a board, and that only the empty input prints nothing before it.
 use Rattle.std.proofs.Common.{ℕ, ◌≤◌, ◌<◌, ◌≡◌, refl, sym, ap, ◌∙◌, ⊎_elim, List, [], ◌∷◌, ◌++◌, arith, ltb, length, get_or, length-append, le-ltb, Result, Ok, Err}
 use Rattle.std.specs.Result.{result_map_both}
-use Rattle.ranges.specs.Lists.{any_of}
 use Rattle.ranges.proofs.Bools.{by}
 use Rattle.octets.specs.Ascii.{ascii}
 use Rattle.register.specs.Memory.{decode, fresh}
@@ -61,7 +60,7 @@ never-silent s = text-long (calls_of s)
 
 -- a fresh register has a board of no bytes
 fresh-board : board_in (decode (runs fresh [])) ≡ []
-unfolding none_full run any_of
+unfolding none_full run
 fresh-board = ap board_in (decoded [] refl) ∙ no_bytes [] [] refl
 
 pub empty-text : text_by (Ok []) ≡ no_transmissions

@@ -2,7 +2,8 @@
 use mathlib.Core.Path.{◌≡◌, refl, sym, ap, ap₂, ◌∙◌}
 use mathlib.Core.Bool.{Bool, false, not, ◌&&◌, ◌||◌}
 use mathlib.Core.List.{List, [], ◌∷◌, flat_map}
-use Rattle.ranges.specs.Lists.{any_of, filter, sort}
+use Rattle.std.specs.List.{filter, list_any}
+use Rattle.ranges.specs.Lists.{sort}
 use Rattle.ranges.proofs.Lists.{any_none, filter_none}
 use Rattle.ranges.proofs.Bools.{by, and-unit}
 use Rattle.rule.specs.Standing as D
@@ -21,7 +22,7 @@ module _ (fs : List Fix) where
 
   contested-is : (f : Fix) → D.is_contested fix_relations fs f ≡ is_refused fs f
   unfolding D.is_contested D.supersedes
-  contested-is f = rw (not-superseded f) (ap (λ (p : Fix → Bool). any_of p fs) (opposes-is f))
+  contested-is f = rw (not-superseded f) (ap (λ (p : Fix → Bool). list_any p fs) (opposes-is f))
 
   refused-is : D.is_refused fix_relations fs ≡ is_refused fs
   unfolding D.is_refused
@@ -29,7 +30,7 @@ module _ (fs : List Fix) where
 
   covered-is : D.is_covered fix_relations fs ≡ is_covered fs
   unfolding D.is_covered
-  covered-is = λ i f. any_of (λ g. not (refused-is i g) && within f g) fs
+  covered-is = λ i f. list_any (λ g. not (refused-is i g) && within f g) fs
 
   opposed-is : (f : Fix) (l : List Fix) → D.opposed fix_relations fs f l ≡ refuse f l
   opposed-is f [] = refl

@@ -13,7 +13,7 @@ use Rattle.record.specs.Fields.{tag_count}
 use Rattle.record.proofs.Laws.{subset-fewer, subset-irrefl}
 use Rattle.arithmetic.specs.Agree.{agrees_of}
 use Rattle.arithmetic.specs.declared.standing.ChiSquare.{ChiSquare}
-use Rattle.ranges.specs.Lists.{any_of, filter, insert, sort, count_from, up_to}
+use Rattle.ranges.specs.Lists.{insert, sort, count_from, up_to}
 use Rattle.ranges.proofs.Lists.{up_in, by-places}
 use Rattle.ranges.proofs.Orders.{perm-mem}
 use Rattle.ranges.proofs.Bools.{or, and_left}
@@ -168,19 +168,19 @@ ranked-some gs h = let r = some-first gs h in rw r.2 (omega arith)
 
 -- whoever is alone is ranked
 pub alone : (f : Fix) → (shown (f ∷ [])).ranked ≡ f ∷ []
-unfolding shown any_of filter sort insert
+unfolding shown sort insert
 alone f = rw (subset-irrefl f.record_bytes) refl
 
 none-dominated : (f : Fix) → (shown (f ∷ [])).dominated ≡ []
-unfolding shown any_of filter
+unfolding shown
 none-dominated f = rw (subset-irrefl f.record_bytes) refl
 
 none-refused : (f : Fix) → (shown (f ∷ [])).refused ≡ []
-unfolding shown filter flat_map
+unfolding shown flat_map
 none-refused f = rw (subset-irrefl f.record_bytes) refl
 
 none : {N : ℕ} (d : Decision N) → d.ranked.items ≡ [] → d.dominated.items ≡ [] → d.refusals.items ≡ [] → Shows [] d
-unfolding shown filter sort flat_map
+unfolding shown sort flat_map
 none d p q r = record {
   shown = rw (p, q, r) refl;
   within = record {

@@ -7,7 +7,8 @@ use Rattle.record.specs.Fields.{weight}
 use Rattle.record.specs.Relations.{subset}
 use Rattle.arithmetic.specs.Agree.{agreement_of, agrees_of, chi_square_in}
 use Rattle.arithmetic.specs.declared.standing.Agreement.{Agreement}
-use Rattle.ranges.specs.Lists.{any_of, filter, sort, foremost}
+use Rattle.std.specs.List.{filter, list_any}
+use Rattle.ranges.specs.Lists.{sort, foremost}
 use Rattle.items.specs.Claimed.{claim_of, more_first}
 use Rattle.rule.specs.Outcome.{Refused, Outcome}
 use Rattle.shown.specs.Fix.{Fix}
@@ -54,11 +55,11 @@ refuse f (g ∷ gs) =
 module _ (fs : List Fix) where
   -- some subset of f disagrees with it
   abbrev pub is_refused : Fix → Bool
-  is_refused f = any_of (disagrees f) fs
+  is_refused f = list_any (disagrees f) fs
 
   -- f is a subset, with its model inputs, of one that is not refused
   abbrev pub is_covered : Fix → Bool
-  is_covered f = any_of (λ g. not (is_refused g) && within f g) fs
+  is_covered f = list_any (λ g. not (is_refused g) && within f g) fs
 
   unfoldable pub shown : Transmission
   shown = record {

@@ -17,7 +17,7 @@ use Rattle.octets.specs.Words.{word, word_bytes}
 use Rattle.octets.specs.Runs.{all_zero}
 use Rattle.octets.proofs.Numbers.{bytes_take, bytes_drop, length-word-bytes}
 use Rattle.octets.proofs.Zeros.{run-zero}
-use Rattle.places.specs.Places.{flat, table_of, all_places}
+use Rattle.places.specs.Places.{flat, table_of}
 use Rattle.places.proofs.Walks.{part_in}
 use Rattle.places.proofs.Tables.{wide, flat-length, places-flat, length-places, places-wide}
 use Rattle.record.specs.Layout.{record_size}
@@ -39,32 +39,24 @@ use Rattle.tracked.proofs.Encoding.{ValidFix, ValidRefused, Valid, Bounded, Cano
 
 -- ---- places that all pass a test
 
-pub all_listed : (test : List ℕ → Bool) (ps : List (List ℕ)) → list_all test ps ≡ all_places test ps
-unfolding all_places
-all_listed test [] = refl
-all_listed test (p ∷ ps) = ap (λ (b : Bool). test p && b) (all_listed test ps)
-
 module _ (test : List ℕ → Bool) where
-  pub passes : (ps : List (List ℕ)) → all_places test ps ≡ true → (p : List ℕ) → Memᴰ p ps → test p ≡ true
-  unfolding all_places
+  pub passes : (ps : List (List ℕ)) → list_all test ps ≡ true → (p : List ℕ) → Memᴰ p ps → test p ≡ true
   passes [] a p m = absurd (Memᴰ.not-nil m)
-  passes (q ∷ ps) a p m = or (Memᴰ.cases_cons m) (λ e. ap test e ∙ and_left (test q) (all_places test ps) a) (λ k. passes ps (and_right (test q) (all_places test ps) a) p k)
+  passes (q ∷ ps) a p m = or (Memᴰ.cases_cons m) (λ e. ap test e ∙ and_left (test q) (list_all test ps) a) (λ k. passes ps (and_right (test q) (list_all test ps) a) p k)
 
-  pub all_pass : (ps : List (List ℕ)) → ((p : List ℕ) → Memᴰ p ps → test p ≡ true) → all_places test ps ≡ true
-  unfolding all_places
+  pub all_pass : (ps : List (List ℕ)) → ((p : List ℕ) → Memᴰ p ps → test p ≡ true) → list_all test ps ≡ true
   all_pass [] f = refl
-  all_pass (p ∷ ps) f = and_both (test p) (all_places test ps) (f p (Memᴰ.head refl)) (all_pass ps (λ q m. f q (Memᴰ.tail m)))
+  all_pass (p ∷ ps) f = and_both (test p) (list_all test ps) (f p (Memᴰ.head refl)) (all_pass ps (λ q m. f q (Memᴰ.tail m)))
 
-  all_append : (ps qs : List (List ℕ)) → all_places test ps ≡ true → all_places test qs ≡ true → all_places test (ps ++ qs) ≡ true
-  unfolding all_places
+  all_append : (ps qs : List (List ℕ)) → list_all test ps ≡ true → list_all test qs ≡ true → list_all test (ps ++ qs) ≡ true
   all_append [] qs a b = b
-  all_append (p ∷ ps) qs a b = and_both (test p) (all_places test (ps ++ qs)) (and_left (test p) (all_places test ps) a) (all_append ps qs (and_right (test p) (all_places test ps) a) b)
+  all_append (p ∷ ps) qs a b = and_both (test p) (list_all test (ps ++ qs)) (and_left (test p) (list_all test ps) a) (all_append ps qs (and_right (test p) (list_all test ps) a) b)
 
   -- places that pass, in a table with zeros behind them
-  pub filled_of : (w cap : ℕ) (ps : List (List ℕ)) → wide w ps → all_places test ps ≡ true → filled_by test w (length ps) (table_of w cap ps) ≡ true
+  pub filled_of : (w cap : ℕ) (ps : List (List ℕ)) → wide w ps → list_all test ps ≡ true → filled_by test w (length ps) (table_of w cap ps) ≡ true
   filled_of w cap ps h a =
       let z : List ℕ = replicate ((cap - length ps) * w) 0 in
-      rw (places-flat w ps z h, drop_at (flat ps) z (length ps * w) (flat-length w ps h)) (and_both (all_places test ps) (all_zero z) a (run-zero ((cap - length ps) * w)))
+      rw (places-flat w ps z h, drop_at (flat ps) z (length ps * w) (flat-length w ps h)) (and_both (list_all test ps) (all_zero z) a (run-zero ((cap - length ps) * w)))
 
 pub of_map : {A B : Type 0} (g : A → B) (P : B → Type 0) (l : List A) → ((x : A) → Memᴰ x l → P (g x)) → (y : B) → Memᴰ y (map g l) → P y
 of_map g P [] f y m = absurd (Memᴰ.not-nil m)
@@ -148,9 +140,9 @@ pub record Parts (c : ℕ) (b : List ℕ) : Type 0 where
   pub some : 1 ≤ fix_count b
   pub few : fix_count b ≤ L.max_standing
   pub few_refused : refused_count b ≤ L.max_refused
-  pub fixes : all_places (begin_formed c) (fix_places b) ≡ true
+  pub fixes : list_all (begin_formed c) (fix_places b) ≡ true
   pub zeros : all_zero (drop (fix_count b * L.fix_size) (fix_table b)) ≡ true
-  pub refused : all_places (begin_formed c) (refused_places b) ≡ true
+  pub refused : list_all (begin_formed c) (refused_places b) ≡ true
   pub zeros_refused : all_zero (drop (refused_count b * L.refused_size) (refused_table b)) ≡ true
 
 pub parts : (c : ℕ) (b : List ℕ) → transmission_formed (begin_formed c) b ≡ true → Parts c b
@@ -159,9 +151,9 @@ parts c b h =
     let a₁ = leb 1 (fix_count b) in
     let a₂ = leb (fix_count b) L.max_standing in
     let a₃ = leb (refused_count b) L.max_refused in
-    let a₄ = all_places (begin_formed c) (fix_places b) in
+    let a₄ = list_all (begin_formed c) (fix_places b) in
     let a₅ = all_zero (drop (fix_count b * L.fix_size) (fix_table b)) in
-    let a₆ = all_places (begin_formed c) (refused_places b) in
+    let a₆ = list_all (begin_formed c) (refused_places b) in
     let a₇ = all_zero (drop (refused_count b * L.refused_size) (refused_table b)) in
     let h₂ = and_right a₁ (a₂ && (a₃ && ((a₄ && a₅) && (a₆ && a₇)))) h in
     let h₃ = and_right a₂ (a₃ && ((a₄ && a₅) && (a₆ && a₇))) h₂ in
@@ -247,10 +239,10 @@ module _ (c : ℕ) (t : HeldTransmission) (h : Held c t) where
   abbrev v : Valid t
   v = h.kept.valid
 
-  fs-begin : all_places (begin_formed c) fs ≡ true
+  fs-begin : list_all (begin_formed c) fs ≡ true
   fs-begin = all_pass (begin_formed c) fs (of_map fix_bytes (λ p. begin_formed c p ≡ true) t.fixes (λ f m. ap (begin_formed c) (sym (append-nil (fix_bytes f))) ∙ begins-with c f (v.fixes f m) (h.kept.held f (Memᴰ.append_left (map fix_of t.refused) m)) []))
 
-  rs-begin : all_places (begin_formed c) rs ≡ true
+  rs-begin : list_all (begin_formed c) rs ≡ true
   rs-begin = all_pass (begin_formed c) rs (of_map refused_bytes (λ p. begin_formed c p ≡ true) t.refused (λ x m. begins-with c x.fix (v.refused x m).fix (h.kept.held x.fix (Memᴰ.append_right t.fixes (mem-map fix_of t.refused m))) (x.against ++ word_bytes 8 x.chi2)))
 
   abbrev b : List ℕ

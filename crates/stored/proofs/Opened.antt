@@ -8,12 +8,13 @@ use lib.Dec.{leb, eqb}
 use lib.ListN.{length, get_or, drop, length-take, length-drop, length-map}
 use lib.Seq.{drop-cons}
 use borrow.Author.Tests.{eqb-true, leb-true}
+use Rattle.std.specs.List.{list_all}
 use Rattle.ranges.proofs.Bools.{and_left, and_right}
 use Rattle.octets.specs.Bytes.{Bytes}
 use Rattle.octets.specs.Runs.{all_zero}
 use Rattle.octets.specs.Words.{word_bytes, word_at}
 use Rattle.octets.proofs.Numbers.{bytes_drop}
-use Rattle.places.specs.Places.{table_of, is_table, ascending, all_places}
+use Rattle.places.specs.Places.{table_of, is_table, ascending}
 use Rattle.places.proofs.Tables.{wide, places-wide, length-places, table_is, filled-table}
 use Rattle.models.specs.Summary.{summary_size}
 use Rattle.held.specs.Limits.{max_summaries, summaries_size}
@@ -39,8 +40,8 @@ pub record Opened (m : List ℕ) : Type 0 where
   pub few : transmission_count m ≤ max_transmissions
   pub nought : get_or m zero_at 0 ≡ 0
   pub summary-table : is_table pair_size summary_size (summary_count m) (summary_table m) ≡ true
-  pub summaries-formed : all_places (summary_formed (convicted_in m)) (summaries_in m) ≡ true
-  pub transmissions-formed : all_places (transmission_formed (begin_formed (convicted_in m))) (transmission_places m) ≡ true
+  pub summaries-formed : list_all (summary_formed (convicted_in m)) (summaries_in m) ≡ true
+  pub transmissions-formed : list_all (transmission_formed (begin_formed (convicted_in m))) (transmission_places m) ≡ true
   pub zeros : all_zero (drop (transmission_count m * transmission_size) (transmission_table m)) ≡ true
 
 pub opened : (m : List ℕ) → well_formed m ≡ true → Opened m
@@ -51,8 +52,8 @@ opened m h =
     let a₃ = leb (transmission_count m) max_transmissions in
     let a₄ = eqb (get_or m zero_at 0) 0 in
     let a₅ = is_table pair_size summary_size (summary_count m) (summary_table m) in
-    let a₆ = all_places (summary_formed (convicted_in m)) (summaries_in m) in
-    let a₇ = all_places (transmission_formed (begin_formed (convicted_in m))) (transmission_places m) in
+    let a₆ = list_all (summary_formed (convicted_in m)) (summaries_in m) in
+    let a₇ = list_all (transmission_formed (begin_formed (convicted_in m))) (transmission_places m) in
     let a₈ = all_zero (drop (transmission_count m * transmission_size) (transmission_table m)) in
     let h₂ = and_right a₁ (a₂ && (a₃ && (a₄ && (a₅ && (a₆ && (a₇ && a₈)))))) h in
     let h₃ = and_right a₂ (a₃ && (a₄ && (a₅ && (a₆ && (a₇ && a₈))))) h₂ in

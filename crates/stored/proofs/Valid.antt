@@ -7,9 +7,10 @@ use native.Mathlib.Omega.{arith}
 use lib.Dec.{leb, eqb}
 use lib.ListN.{length, get_or, length-map}
 use borrow.Author.Tests.{eq-eqb, le-leb}
+use Rattle.std.specs.List.{list_all}
 use Rattle.ranges.proofs.Bools.{and_both}
 use Rattle.octets.specs.Bytes.{Bytes}
-use Rattle.places.specs.Places.{places, table_of, is_table, ascending, all_places}
+use Rattle.places.specs.Places.{places, table_of, is_table, ascending}
 use Rattle.places.proofs.Tables.{wide, table-length, is-table-of, places-of-table}
 use Rattle.models.specs.Summary.{summary_size}
 use Rattle.held.specs.Limits.{max_summaries, summaries_size}
@@ -35,7 +36,7 @@ pub record Valid (s : Track) : Type 0 where
   pub few : length s.transmissions ≤ max_transmissions
   pub summaries-wide : wide summary_size s.summaries
   pub summaries-ascend : ascending pair_size s.summaries ≡ true
-  pub summaries-formed : all_places (summary_formed s.convicted) s.summaries ≡ true
+  pub summaries-formed : list_all (summary_formed s.convicted) s.summaries ≡ true
   pub held : (t : HeldTransmission) → Memᴰ t s.transmissions → Held s.convicted t
 
 module _ (s : Track) (v : Valid s) where
@@ -121,7 +122,7 @@ module _ (s : Track) (v : Valid s) where
   summary-table : is_table pair_size summary_size (summary_count (encode s)) (summary_table (encode s)) ≡ true
   summary-table = rw (summary-count-back, summary-bytes-back) (is-table-of summary_size max_summaries pair_size s.summaries v.summaries-wide v.summaries-ascend)
 
-  formed-summaries : all_places (summary_formed (convicted_in (encode s))) (summaries_in (encode s)) ≡ true
+  formed-summaries : list_all (summary_formed (convicted_in (encode s))) (summaries_in (encode s)) ≡ true
   formed-summaries = rw (convicted-back, summaries-back) v.summaries-formed
 
   formed-transmissions : filled_by (transmission_formed (begin_formed (convicted_in (encode s)))) transmission_size (transmission_count (encode s)) (transmission_table (encode s)) ≡ true
@@ -140,7 +141,7 @@ module _ (s : Track) (v : Valid s) where
       let a₃ = leb (transmission_count (encode s)) max_transmissions in
       let a₄ = eqb (get_or (encode s) zero_at 0) 0 in
       let a₅ = is_table pair_size summary_size (summary_count (encode s)) (summary_table (encode s)) in
-      let a₆ = all_places (summary_formed (convicted_in (encode s))) (summaries_in (encode s)) in
+      let a₆ = list_all (summary_formed (convicted_in (encode s))) (summaries_in (encode s)) in
       let a₇ = filled_by (transmission_formed (begin_formed (convicted_in (encode s)))) transmission_size (transmission_count (encode s)) (transmission_table (encode s)) in
       let h₂ : a₂ ≡ true = le-leb (summary_count (encode s)) max_summaries (rw summary-count-back v.few_summaries) in
       let h₃ : a₃ ≡ true = le-leb (transmission_count (encode s)) max_transmissions (rw count-back v.few) in

@@ -1,7 +1,8 @@
 -- A track in memory (docs/REFERENCE.md, 'Layouts'): which bytes are one, the track that bytes are, its bytes, and an operation on bytes.
 use Rattle.std.specs.Prelude.{ℕ, Bool, cond, ◌&&◌, List, ◌∷◌, ◌++◌, map, leb, eqb, length, take, drop, get_or, replicate}
 use Rattle.octets.specs.Words.{word_at, word_bytes}
-use Rattle.places.specs.Places.{places, table_of, is_table, all_places}
+use Rattle.std.specs.List.{list_all}
+use Rattle.places.specs.Places.{places, table_of, is_table}
 use Rattle.models.specs.Summary.{summary_size}
 use Rattle.held.specs.After.{After, after}
 use Rattle.held.specs.Limits.{max_summaries, summaries_size}
@@ -50,7 +51,7 @@ well_formed m =
     && (leb (transmission_count m) max_transmissions
     && (eqb (get_or m L.zero_at 0) 0
     && (is_table L.pair_size summary_size (summary_count m) (summary_table m)
-    && (all_places (summary_formed (convicted_in m)) (summaries_in m)
+    && (list_all (summary_formed (convicted_in m)) (summaries_in m)
     && filled_by (transmission_formed (begin_formed (convicted_in m))) transmission_size (transmission_count m) (transmission_table m))))))
 
 -- ---- bytes and tracks

@@ -2,7 +2,6 @@
 
 ghost use Rattle.std.specs.Prelude.{◌≡◌, ◌*◌, ◌≤◌, length};
 ghost use Rattle.std.specs.List.{list_all};
-ghost use Rattle.places.specs.Places.{all_places};
 ghost use Rattle.held.specs.Limits.{place_size};
 ghost use Rattle.held.specs.Signed.{begin_formed};
 ghost use Rattle.tracked.specs.Layout.{transmission_size};
@@ -55,7 +54,6 @@ fn transmissions_formed(blocks: &[[u8; TRANSMISSION_SIZE]], convicted: Signers) 
 }
 
 // Whether a table holds n transmissions, and zeros behind them.
-#[tactic(auto, using(crate::proofs::Blocks::all_listed))]
 fn transmission_table_formed(t: &[u8], n: usize, convicted: Signers) -> bool
     requires { n * transmission_size ≤ length t.now }
     ensures { result ≡ filled_by (transmission_formed (begin_formed convicted.0)) transmission_size n t.now }

@@ -1,6 +1,6 @@
 -- The claims about the contested count.
 use Rattle.std.proofs.Common.{◌≡◌, ℕ, ◌+◌, ◌%◌, ◌^◌, not, ◌&&◌, ◌||◌, eqb, ltb, leb, List, length, take, refl, ap, ◌∙◌, subst}
-use Rattle.ranges.specs.Lists.{any_of}
+use Rattle.std.specs.List.{list_any}
 use Rattle.ranges.proofs.Bools.{by}
 use Rattle.octets.specs.Masks.{bit}
 use Rattle.places.specs.Places.{holds}
@@ -68,7 +68,7 @@ module _ (P : Track → Type 0) where
 
 recheck-count : (s : Track) → (recheck s).contested ≡ s.contested
 unfolding recheck
-recheck-count s = by (any_of (has_stale s.summaries) s.transmissions) (λ e. rw e refl) (λ e. rw e refl)
+recheck-count s = by (list_any (has_stale s.summaries) s.transmissions) (λ e. rw e refl) (λ e. rw e refl)
 
 strike-count : (e : ℕ) (s : Track) → (strike_engine e s).contested ≡ s.contested
 unfolding strike_engine

@@ -4,7 +4,7 @@ use mathlib.Core.List.Memᴰ
 use mathlib.Core.List.{Memᴰ}
 use lib.Bits.{or_lt}
 use lib.ListN.{length-map}
-use Rattle.ranges.specs.Lists.{any_of, filter}
+use Rattle.std.specs.List.{filter, list_any}
 use Rattle.ranges.proofs.Bools.{by, or}
 use Rattle.ranges.proofs.Lists.{filter-in}
 use Rattle.octets.specs.Masks.{bit}
@@ -134,7 +134,7 @@ module _ (c : ℕ) (f : Fix) (p : Fit c f) where
     joined-whole : (t : HeldTransmission) → Memᴰ t ts → Whole (joined f t ts).left
     unfolding joined
     joined-whole t m =
-        by (any_of (is_of f) (held_in t))
+        by (list_any (is_of f) (held_in t))
         (λ e. rw e (record { few = rw (length-map ts (λ x. cond (tied_to f x) (sign_in f t) x)) w.few; held = all-in-place (Held c) (sign_in f t) (sign-held t (w.held t m)) w.held }))
         (λ e. rw e (record {
           few = arranged-at-most (in_place f (with_fix f t) ts);
@@ -188,7 +188,7 @@ module _ (f : Fix) (ts : List HeldTransmission) (few : length ts ≤ max_transmi
   joined-few : (t : HeldTransmission) → length (joined f t ts).left ≤ max_transmissions
   unfolding joined
   joined-few t =
-      by (any_of (is_of f) (held_in t))
+      by (list_any (is_of f) (held_in t))
       (λ e. rw e (rw (length-map ts (λ x. cond (tied_to f x) (sign_in f t) x)) few))
       (λ e. rw e (arranged-at-most (in_place f (with_fix f t) ts)))
 

@@ -4,11 +4,12 @@ use mathlib.Core.Bool.{false≢true}
 use mathlib.Core.List.Memᴰ
 use mathlib.Core.List.{flat_map, Memᴰ}
 use lib.ListN.{replicate-append-replicate}
-use Rattle.ranges.specs.Lists.{any_of, last_of}
+use Rattle.std.specs.List.{list_any}
+use Rattle.ranges.specs.Lists.{last_of}
 use Rattle.ranges.proofs.Bools.{by, or}
 use Rattle.ranges.proofs.Lists.{flat_in}
 use Rattle.octets.specs.Words.{word_bytes}
-use Rattle.places.specs.Places.{flat, ascending, all_places}
+use Rattle.places.specs.Places.{flat, ascending}
 use Rattle.held.specs.After.{After}
 use Rattle.held.specs.Limits.{summaries_size}
 use Rattle.shown.specs.Fix.{Fix}
@@ -39,7 +40,7 @@ Ordered s = InOrder s.transmissions
 
 recheck-order : (s : Track) → Ordered s → Ordered (recheck s)
 unfolding recheck
-recheck-order s w = by (any_of (has_stale s.summaries) s.transmissions) (λ e. rw e (arranged-in-order _)) (λ e. rw e w)
+recheck-order s w = by (list_any (has_stale s.summaries) s.transmissions) (λ e. rw e (arranged-in-order _)) (λ e. rw e w)
 
 strike-order : (e : ℕ) (s : Track) → Ordered (strike_engine e s)
 unfolding strike_engine
@@ -66,7 +67,7 @@ fresh-is =
     ∙ replicate-append-replicate summaries_at (summaries_size + transmissions_size) 0
 
 pub start-valid : Valid start
-unfolding ascending all_places
+unfolding ascending
 start-valid = record {
   small = omega arith;
   counted = omega arith;

@@ -16,7 +16,7 @@ use merge::Merged;
 use models::citations::{cited_inputs, cites_missing, counts};
 use record::Record;
 use stored::{formed, layout, parts};
-use tracked::fixes::Fix;
+use tracked::fix::Fix;
 
 // The number of an answer.
 fn number_of(answer: Merged) -> u32

@@ -8,7 +8,7 @@ use lib.Dec.{ltb}
 use lib.ListN.{length, get_or, take, drop, length-append, length-map, get_or-append, get_or-map}
 use lib.Seq.{drop-drop, take-take, get_or-append-add}
 use borrow.Author.Tests.{ltb-true, ltb-false}
-use Rattle.places.specs.Places.{all_places}
+use Rattle.std.specs.List.{list_all}
 use Rattle.places.proofs.Tables.{length-places}
 use Rattle.places.proofs.Walks.{place_of, part_of, part_in}
 use Rattle.ranges.proofs.Bools.{by, and_left, and_right}
@@ -77,11 +77,10 @@ module _ (b : List ℕ) (s : Sound b) (k : ℕ) where
   held-size h = ap length (sym (held_at h)) ∙ taken L.fix_size (held_place b k) b (let r = held-room h in omega (arith, s.size))
 
 -- a place of those that all pass a test
-pub all-at : (test : List ℕ → Bool) (ps : List (List ℕ)) (k : ℕ) → all_places test ps ≡ true → k < length ps → test (get_or ps k []) ≡ true
-unfolding all_places
+pub all-at : (test : List ℕ → Bool) (ps : List (List ℕ)) (k : ℕ) → list_all test ps ≡ true → k < length ps → test (get_or ps k []) ≡ true
 all-at test [] k a h = absurd (omega arith)
-all-at test (p ∷ ps) zero a h = and_left (test p) (all_places test ps) a
-all-at test (p ∷ ps) (suc k) a h = all-at test ps k (and_right (test p) (all_places test ps) a) (omega arith)
+all-at test (p ∷ ps) zero a h = and_left (test p) (list_all test ps) a
+all-at test (p ∷ ps) (suc k) a h = all-at test ps k (and_right (test p) (list_all test ps) a) (omega arith)
 
 pub held-formed : (b : List ℕ) → Sound b → (k : ℕ) → k < held_count b → well_formed (record_in (get_or (held_places b) k [])) ≡ true
 held-formed b s k h = all-at record_formed (held_places b) k s.formed (rw (held-length b) h)

@@ -7,34 +7,31 @@ use native.Mathlib.Omega.{arith}
 use lib.ListN.{length, take}
 use lib.Seq.{take-take}
 use Rattle.ranges.proofs.Bools.{and_both, and_left, and_right}
-use Rattle.places.specs.Places.{all_places}
+use Rattle.std.specs.List.{list_all}
 use Rattle.places.proofs.Tables.{length-places}
 use Rattle.record.specs.Layout.{record_size}
 use Rattle.tracked.specs.Layout.{max_standing, max_refused, fix_size, refused_size}
 use Rattle.tracked.specs.Bytes.{fix_count, refused_count, fix_table, refused_table, fix_places, refused_places}
 use Rattle.tracked.specs.Parts.{Sound, record_formed}
 
-formed-first : (ps qs : List (List ℕ)) → all_places record_formed (ps ++ qs) ≡ true → all_places record_formed ps ≡ true
-unfolding all_places
-formed-first [] qs h = unfold all_places in refl
+formed-first : (ps qs : List (List ℕ)) → list_all record_formed (ps ++ qs) ≡ true → list_all record_formed ps ≡ true
+formed-first [] qs h = refl
 formed-first (p ∷ ps) qs h =
-    let rest = all_places record_formed (ps ++ qs) in
-    and_both (record_formed p) (all_places record_formed ps) (and_left (record_formed p) rest h) (formed-first ps qs (and_right (record_formed p) rest h))
+    let rest = list_all record_formed (ps ++ qs) in
+    and_both (record_formed p) (list_all record_formed ps) (and_left (record_formed p) rest h) (formed-first ps qs (and_right (record_formed p) rest h))
 
-formed-second : (ps qs : List (List ℕ)) → all_places record_formed (ps ++ qs) ≡ true → all_places record_formed qs ≡ true
-unfolding all_places
+formed-second : (ps qs : List (List ℕ)) → list_all record_formed (ps ++ qs) ≡ true → list_all record_formed qs ≡ true
 formed-second [] qs h = h
-formed-second (p ∷ ps) qs h = formed-second ps qs (and_right (record_formed p) (all_places record_formed (ps ++ qs)) h)
+formed-second (p ∷ ps) qs h = formed-second ps qs (and_right (record_formed p) (list_all record_formed (ps ++ qs)) h)
 
 -- of the refused the first bytes are a fix
-formed-refused : (qs : List (List ℕ)) → all_places record_formed (map (take fix_size) qs) ≡ true → all_places record_formed qs ≡ true
-unfolding all_places
+formed-refused : (qs : List (List ℕ)) → list_all record_formed (map (take fix_size) qs) ≡ true → list_all record_formed qs ≡ true
 formed-refused [] h = h
 formed-refused (q ∷ qs) h =
-    let a = and_left (record_formed (take fix_size q)) (all_places record_formed (map (take fix_size) qs)) h in
-    and_both (record_formed q) (all_places record_formed qs)
+    let a = and_left (record_formed (take fix_size q)) (list_all record_formed (map (take fix_size) qs)) h in
+    and_both (record_formed q) (list_all record_formed qs)
     (rw (take-take record_size fix_size q (omega arith)) at a)
-    (formed-refused qs (and_right (record_formed (take fix_size q)) (all_places record_formed (map (take fix_size) qs)) h))
+    (formed-refused qs (and_right (record_formed (take fix_size q)) (list_all record_formed (map (take fix_size) qs)) h))
 
 -- ---- what is lent of a transmission
 
@@ -45,9 +42,9 @@ module _ (b : List ℕ) (s : Sound b) (ps : List (List ℕ)) where
   pub few-refused : ps ≡ refused_places b → length ps ≤ max_refused
   few-refused e = omega (arith, ap length e, length-places refused_size (refused_count b) (refused_table b), s.few_refused)
 
-  pub standing-formed : ps ≡ fix_places b → all_places record_formed ps ≡ true
-  standing-formed e = ap (all_places record_formed) e ∙ formed-first (fix_places b) (map (take fix_size) (refused_places b)) s.formed
+  pub standing-formed : ps ≡ fix_places b → list_all record_formed ps ≡ true
+  standing-formed e = ap (list_all record_formed) e ∙ formed-first (fix_places b) (map (take fix_size) (refused_places b)) s.formed
 
-  pub refused-formed : ps ≡ refused_places b → all_places record_formed ps ≡ true
+  pub refused-formed : ps ≡ refused_places b → list_all record_formed ps ≡ true
   refused-formed e =
-      ap (all_places record_formed) e ∙ formed-refused (refused_places b) (formed-second (fix_places b) (map (take fix_size) (refused_places b)) s.formed)
+      ap (list_all record_formed) e ∙ formed-refused (refused_places b) (formed-second (fix_places b) (map (take fix_size) (refused_places b)) s.formed)

@@ -7,19 +7,16 @@ use native.Mathlib.Omega.{arith}
 use native.Mathlib.Numerals.{add-one}
 use lib.ListN.{length, get_or, drop}
 use lib.Seq.{drop-cons}
-use Rattle.ranges.specs.Lists.{any_of}
+use Rattle.std.specs.List.{list_any}
 
 module _ {A : Type 0} (test : A → Bool) (l : List A) (k : ℕ) (d : A) where
-  pub any_here : k < length l → test (get_or l k d) ≡ true → any_of test (drop k l) ≡ true
-  unfolding any_of
+  pub any_here : k < length l → test (get_or l k d) ≡ true → list_any test (drop k l) ≡ true
   any_here h e = rw (drop-cons l k d h, e) refl
 
-  pub any-on : k < length l → test (get_or l k d) ≡ false → any_of test (drop k l) ≡ any_of test (drop (k + 1) l)
-  unfolding any_of
+  pub any-on : k < length l → test (get_or l k d) ≡ false → list_any test (drop k l) ≡ list_any test (drop (k + 1) l)
   any-on h e = rw (drop-cons l k d h, e, add-one k) refl
 
-pub any-over : {A : Type 0} (test : A → Bool) (l : List A) (k : ℕ) → length l ≤ k → any_of test (drop k l) ≡ false
-unfolding any_of
+pub any-over : {A : Type 0} (test : A → Bool) (l : List A) (k : ℕ) → length l ≤ k → list_any test (drop k l) ≡ false
 any-over test [] zero h = refl
 any-over test [] (suc k) h = refl
 any-over test (x ∷ l) zero h = absurd (omega arith)

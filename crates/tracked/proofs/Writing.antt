@@ -1,30 +1,16 @@
 -- Laws of places that are written one after another into a cleared table.
 use Prim.Native.Nat.{ℕ, ◌+◌, ◌-◌, ◌*◌, ◌≤◌, ◌<◌}
 use mathlib.Core.Path.{◌≡◌, refl, sym, ap, ◌∙◌}
-use mathlib.Core.List.{List, [], ◌∷◌, ◌++◌, map, map-append, append-nil, append_assoc}
+use mathlib.Core.List.{List, [], ◌∷◌, ◌++◌, map, map-append, append-nil}
 use native.Mathlib.Omega.{arith}
 use native.Mathlib.Nat.{add-mul, zero-add}
 use native.Mathlib.Numerals.{add-one}
 use lib.ListN.{length, get_or, take, drop, set, replicate, length-replicate, length-map, replicate-append-replicate}
-use lib.Seq.{sets-eq, take-suc, drop_at, take_all}
-use Rattle.octets.specs.Words.{word_bytes}
-use Rattle.octets.specs.Writes.{put_word}
-use Rattle.octets.proofs.Numbers.{length-word-bytes}
+use lib.Seq.{take-suc, drop_at, take_all}
 use Rattle.octets.specs.Put.{Put}
 use Rattle.octets.proofs.Puts.{put_whole, put_as}
 use Rattle.places.specs.Places.{flat, table_of}
 use Rattle.places.proofs.Tables.{flat_append}
-
--- a number that is written is its bytes
-pub word-put : (n at x : ℕ) (l : List ℕ) {m : List ℕ} → m ≡ put_word n at x l → at + n ≤ length l → Put l at (word_bytes n x) (at + n) m
-word-put n at x l q h =
-    let e = length-word-bytes n x in
-    record {
-      next = ap (λ (k : ℕ). at + k) (sym e);
-      bytes =
-          q ∙ sym (sets-eq (word_bytes n x) l at (omega arith) ∙ append_assoc (take at l) (word_bytes n x) (drop (at + length (word_bytes n x)) l)
-          ∙ ap (λ (k : ℕ). take at l ++ (word_bytes n x ++ drop (at + k) l)) e);
-    }
 
 -- one place more
 pub flat-next : {A : Type 0} (f : A → List ℕ) (l : List A) (i : ℕ) (d : A) → i < length l → flat (map f (take i l)) ++ f (get_or l i d) ≡ flat (map f (take (i + 1) l))

@@ -2,7 +2,8 @@
 use Rattle.std.specs.Prelude.{ℕ, ◌*◌, Bool, ◌&&◌, List, ◌∷◌, ◌++◌, map, leb, length, take, drop, get_or}
 use Rattle.octets.specs.Words.{word_at, word_bytes}
 use Rattle.octets.specs.Runs.{all_zero}
-use Rattle.places.specs.Places.{places, table_of, all_places}
+use Rattle.std.specs.List.{list_all}
+use Rattle.places.specs.Places.{places, table_of}
 use Rattle.record.specs.Layout.{record_size}
 use Rattle.items.specs.Layout.{hash_size}
 use Rattle.models.specs.Identity.{set_hash, identity_from}
@@ -72,7 +73,7 @@ transmission_bytes t =
 
 -- n places of w bytes each that pass a test, and zeros behind them, as in a register
 abbrev pub filled_by : (List ℕ → Bool) → ℕ → ℕ → List ℕ → Bool
-filled_by test w n t = all_places test (places w n t) && all_zero (drop (n * w) t)
+filled_by test w n t = list_all test (places w n t) && all_zero (drop (n * w) t)
 
 -- one to five fixes stand, at most four are refused, and every fix passes a test
 unfoldable pub transmission_formed : (List ℕ → Bool) → List ℕ → Bool

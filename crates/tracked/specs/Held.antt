@@ -1,7 +1,7 @@
 -- A transmission as a track holds it (docs/REFERENCE.md, 'Track and listing'; the Rust's `Transmission`).
 use Rattle.std.specs.Prelude.{ℕ, Bool, List, ◌++◌, map}
 use Rattle.octets.specs.Order.{same}
-use Rattle.ranges.specs.Lists.{any_of}
+use Rattle.std.specs.List.{list_any}
 use Rattle.record.specs.Relations.{tied}
 use Rattle.shown.specs.Fix.{Fix}
 
@@ -29,4 +29,4 @@ is_of f g = same g.identity f.identity
 
 -- the Rust's `same_transmission`, with some fix that is held
 abbrev pub tied_to : Fix → HeldTransmission → Bool
-tied_to f t = any_of (λ g. tied g.record_bytes f.record_bytes) (held_in t)
+tied_to f t = list_any (λ g. tied g.record_bytes f.record_bytes) (held_in t)

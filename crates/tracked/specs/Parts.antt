@@ -1,6 +1,6 @@
 -- No claim rests on these definitions: they say what the code asks of the bytes of a transmission, and where a held fix lies in them.
 use Rattle.std.specs.Prelude.{ℕ, ◌+◌, ◌*◌, ◌-◌, ◌≤◌, ◌≡◌, Bool, true, cond, List, ◌++◌, map, ltb, length, take}
-use Rattle.places.specs.Places.{all_places}
+use Rattle.std.specs.List.{list_all}
 use Rattle.record.specs.Formed.{well_formed}
 use Rattle.record.specs.Relations.{tied}
 use Rattle.tracked.specs.Layout as L
@@ -21,7 +21,7 @@ pub record Sound (b : List ℕ) : Type 0 where
   pub size : length b ≡ L.transmission_size
   pub few : fix_count b ≤ L.max_standing
   pub few_refused : refused_count b ≤ L.max_refused
-  pub formed : all_places record_formed (held_places b) ≡ true
+  pub formed : list_all record_formed (held_places b) ≡ true
 
 -- where the fix k lies, the refused k, and the held k
 abbrev pub fix_place : ℕ → ℕ

@@ -1,8 +1,7 @@
 //! A transmission of a track where it lies: bytes that are known to hold one.
 
 ghost use Rattle.std.specs.Prelude.{◌≡◌, true, Some, map, ◌<◌, ◌≤◌, length, slice_get};
-ghost use Rattle.ranges.specs.Lists.{any_of};
-ghost use Rattle.places.specs.Places.{all_places};
+ghost use Rattle.std.specs.List.{list_all, list_any};
 ghost use Rattle.record.specs.Relations.{tied};
 ghost use Rattle.shown.specs.Items.{at};
 ghost use Rattle.tracked.specs.Layout as L;
@@ -10,7 +9,7 @@ ghost use Rattle.tracked.specs.Held.{held_in};
 ghost use Rattle.tracked.specs.Bytes as B;
 ghost use Rattle.tracked.specs.Parts.{Sound, record_formed};
 
-use crate::fixes::Fix;
+use crate::fix::Fix;
 use crate::layout::{FIX_SIZE, FIXES_AT, REFUSED_AT, REFUSED_SIZE, TRANSMISSION_SIZE};
 use crate::refused::RefusedFix;
 use record::Record;
@@ -57,7 +56,7 @@ impl<'a> Block<'a> {
     pub fn fix_places(&self) -> &'a [[u8; FIX_SIZE]]
         ensures values { map B.fix_in result.now ≡ self.now.fixes }
         ensures few { length result.now ≤ L.max_standing }
-        ensures formed { all_places record_formed result.now ≡ true }
+        ensures formed { list_all record_formed result.now ≡ true }
     {
         let bytes = self.bytes;
         let count = crate::fix_count(bytes) as usize;
@@ -68,7 +67,7 @@ impl<'a> Block<'a> {
     pub fn refused_places(&self) -> &'a [[u8; REFUSED_SIZE]]
         ensures values { map B.refused_in result.now ≡ self.now.refused }
         ensures few { length result.now ≤ L.max_refused }
-        ensures formed { all_places record_formed result.now ≡ true }
+        ensures formed { list_all record_formed result.now ≡ true }
     {
         let bytes = self.bytes;
         let count = crate::refused_count(bytes) as usize;
@@ -137,7 +136,7 @@ impl<'a> Block<'a> {
 
     /// Whether some fix that is held is tied to a record.
     pub fn ties(&self, r: Record) -> bool
-        ensures { result ≡ any_of (λ f. tied f.record_bytes r.entry.bytes.now) (held_in self.now) }
+        ensures { result ≡ list_any (λ f. tied f.record_bytes r.entry.bytes.now) (held_in self.now) }
     {
         let n = self.held_count();
         for k in 0..n {

@@ -13,7 +13,7 @@ ghost use Rattle.tracked.specs.Parts as P;
 use layout::TRANSMISSION_SIZE;
 
 pub mod block;
-pub mod fixes;
+pub mod fix;
 pub mod layout;
 pub mod refused;
 pub mod transmission;

@@ -7,7 +7,7 @@ ghost use Rattle.tracked.specs.Layout.{refused_size};
 ghost use Rattle.tracked.specs.Bytes.{record_in, refused_in, refused_bytes};
 ghost use Rattle.tracked.specs.Values.{signed_refused};
 
-use crate::fixes::{Fix, hash_at};
+use crate::fix::{Fix, hash_at};
 use crate::layout::{AGAINST_AT, CHI2_AT, REFUSED_SIZE};
 use models::hashes::Identity;
 use std::marker::Model;

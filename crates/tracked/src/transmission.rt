@@ -7,7 +7,7 @@ ghost use Rattle.tracked.specs.Bytes as B;
 ghost use Rattle.tracked.specs.Values.{nothing_held};
 
 use crate::block::Block;
-use crate::fixes::Fix;
+use crate::fix::Fix;
 use crate::layout::{FIXES_AT, MAX_REFUSED, MAX_STANDING, REFUSED_AT, TRANSMISSION_SIZE};
 use crate::refused::RefusedFix;
 use arrayvec::ArrayVec;

@@ -4,7 +4,7 @@ use mathlib.Core.Bool.{false≢true}
 use mathlib.Core.List.{Memᴰ}
 use Rattle.octets.specs.Order.{is_before}
 use Rattle.octets.proofs.Comparison.{before-trans}
-use Rattle.ranges.specs.Lists.{filter}
+use Rattle.std.specs.List.{filter}
 use Rattle.ranges.proofs.Lists.{filter-in, filter-few}
 use Rattle.ranges.proofs.Bools.{by, and_left, and_right, and_both}
 use Rattle.items.specs.Layout.{max_items}
@@ -30,7 +30,7 @@ weaker a b (f ∷ fs) h e =
     (and_right (is_before b f.identity) (ascends_from f.identity fs) e)
 
 filter-from : (p : Fix → Bool) (key : List ℕ) (fs : List Fix) → ascends_from key fs ≡ true → ascends_from key (filter p fs) ≡ true
-unfolding ascends_from filter
+unfolding ascends_from
 filter-from p key [] e = refl
 filter-from p key (f ∷ fs) e =
     let h = and_left (is_before key f.identity) (ascends_from f.identity fs) e in
@@ -40,7 +40,7 @@ filter-from p key (f ∷ fs) e =
     (λ t. rw t (weaker key f.identity (filter p fs) h k))
 
 filter-ascends : (p : Fix → Bool) (fs : List Fix) → ascends fs ≡ true → ascends (filter p fs) ≡ true
-unfolding ascends filter
+unfolding ascends
 filter-ascends p [] e = refl
 filter-ascends p (f ∷ fs) e =
     let k = filter-from p f.identity fs e in

@@ -4,7 +4,8 @@ use mathlib.Core.List.{List}
 use Prim.Native.Nat.{ℕ, ◌*◌, ◌/◌, ◌%◌, ◌<◌, ◌≤◌}
 use lib.ListN.{length}
 use borrow.Author.Tests.{eq-eqb, ne_eqb, lt-ltb, le-ltb}
-use Rattle.ranges.specs.Lists.{any_of, up_to}
+use Rattle.std.specs.List.{list_any}
+use Rattle.ranges.specs.Lists.{up_to}
 use Rattle.items.specs.Layout.{max_items, item_size}
 use Rattle.decision.specs.Answer.{bad_at, bad}
 use Rattle.decision.proofs.is_bad.Goals as goal
@@ -18,7 +19,7 @@ module _ (s : List ℕ) where
   unfolding bad
   not_whole h e = rw (le-ltb _ _ h, ne_eqb _ _ e) refl
 
-  each_tested : length s ≤ max_items * item_size → length s % item_size ≡ 0 → any_of (bad_at s) (up_to (length s / item_size)) ≡ bad s
+  each_tested : length s ≤ max_items * item_size → length s % item_size ≡ 0 → list_any (bad_at s) (up_to (length s / item_size)) ≡ bad s
   unfolding bad
   each_tested h e = rw (le-ltb _ _ h, eq-eqb _ _ e) refl
 

@@ -1,6 +1,6 @@
-use mathlib.Core.Path.{sym, ap, ap₂, ◌∙◌}
+use mathlib.Core.Path.{sym, ap₂, ◌∙◌}
 use native.Mathlib.Omega.{arith}
-use Rattle.shown.specs.Items.{no_fix, at}
+use Rattle.shown.specs.Items.{no_fix}
 use Rattle.tracked.specs.Held.{held_in, is_of}
 use Rattle.merge.proofs.Counting.{place-among, none-among}
 use Rattle.merge.proofs.first_identified.Goals as goal

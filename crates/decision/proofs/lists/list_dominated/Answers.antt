@@ -1,12 +1,13 @@
 use Rattle.std.proofs.Common.{◌≡◌, sym, ap, ◌∙◌, length, arith, ◌∷◌, ◌++◌, []}
-use Rattle.ranges.specs.Lists.{filter, up_to, count_from}
+use Rattle.std.specs.List.{filter}
+use Rattle.ranges.specs.Lists.{up_to, count_from}
 use Rattle.ranges.proofs.Searches.{filter-hit, filter-miss, filter-up}
 use Rattle.rule.specs.Standing as S
 use Rattle.rule.specs.Rows.{is_dominated}
 use Rattle.decision.proofs.lists.list_dominated.Goals as goal
 
 pub loop-i-init : goal.loop-i-init
-unfolding filter count_from
+unfolding count_from
 loop-i-init g c = record { most = omega arith; dominated = c.requires.none }
 
 pub push-requires : goal.push-requires

@@ -1,5 +1,6 @@
 use Rattle.std.proofs.Common.{◌≡◌, ◌≤◌, length}
-use Rattle.ranges.specs.Lists.{filter, up_to}
+use Rattle.std.specs.List.{filter}
+use Rattle.ranges.specs.Lists.{up_to}
 use Rattle.rule.specs.Rows.{is_dominated}
 use Rattle.decision.proofs.lists.list_dominated.Given as goal
 

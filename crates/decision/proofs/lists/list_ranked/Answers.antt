@@ -1,5 +1,6 @@
 use Rattle.std.proofs.Common.{◌≡◌, ◌-◌, sym, ap, ◌∙◌, arith, length}
-use Rattle.ranges.specs.Lists.{filter, sort, count_from, insert}
+use Rattle.std.specs.List.{filter}
+use Rattle.ranges.specs.Lists.{sort, count_from, insert}
 use Rattle.rule.specs.Standing as S
 use Rattle.rule.specs.Listed.{relations}
 use Rattle.rule.specs.Rows.{is_ranked}

@@ -2,20 +2,20 @@ use mathlib.Core.Path.{ap, ap₂, ◌∙◌}
 use mathlib.Core.Bool.{not}
 use mathlib.Core.List.{map}
 use lib.ListN.{length}
-use Rattle.ranges.specs.Lists.{any_of, filter}
+use Rattle.std.specs.List.{filter, list_any}
 use Rattle.tracked.specs.Held.{fix_of, is_of}
 use Rattle.normalize.specs.Joining.{moved}
 use Rattle.normalize.specs.Did.{did}
-use Rattle.normalize.proofs.Told.{any_same, any_held, count_new}
+use Rattle.normalize.proofs.Told.{any_held, count_new}
 use Rattle.normalize.proofs.joining.join.Goals as goal
 
 pub returns-clause-told : goal.returns-clause-told
 returns-clause-told c =
     let f = c.args.fix.now in
-    let r = c.has_refused.ensures ∙ any_held (is_of f) c.deref.result.now ∙ ap (λ l. any_of (is_of f) (map fix_of l)) c.deref.ensures.0 in
+    let r = c.has_refused.ensures ∙ any_held (is_of f) c.deref.result.now ∙ ap (λ l. list_any (is_of f) (map fix_of l)) c.deref.ensures.0 in
     let m = c.is_moved.ensures ∙ ap₂ moved c.deref-2.ensures.0 c.deref-3.ensures.0 ∙ ap (λ t. moved t.fixes c.into.inside.fixes.items) c.held.view_is in
-    let u = c.has.ensures ∙ any_same (is_of f) c.deref-4.result.now ∙ ap (any_of (is_of f)) c.deref-4.ensures.0 in
+    let u = c.has.ensures ∙ ap (list_any (is_of f)) c.deref-4.ensures.0 in
     let n = c.entered.ensures ∙ count_new c.deref-5.result.now c.deref-6.result.now
-    ∙ ap₂ (λ b a. length (filter (λ g. not (any_of (is_of g) (map fix_of b))) (map fix_of a))) c.deref-5.ensures.0 c.deref-6.ensures.0
-    ∙ ap (λ t. length (filter (λ g. not (any_of (is_of g) (map fix_of t.refused))) (map fix_of c.into.inside.refused.items))) c.held.view_is in
+    ∙ ap₂ (λ b a. length (filter (λ g. not (list_any (is_of g) (map fix_of b))) (map fix_of a))) c.deref-5.ensures.0 c.deref-6.ensures.0
+    ∙ ap (λ t. length (filter (λ g. not (list_any (is_of g) (map fix_of t.refused))) (map fix_of c.into.inside.refused.items))) c.held.view_is in
     (λ t. record { refused = r t; moved = m t; upheld = u t; entered = n t }) ∙ ap (did f c.args.held.now) c.into.view_is

@@ -10,7 +10,7 @@ use Rattle.tracked.specs.Held.{RefusedFix, HeldTransmission, fix_of, held_in, is
 use Rattle.tracked.specs.Values.{signed_refused}
 use Rattle.normalize.specs.Normal.{signed_by}
 use Rattle.normalize.specs.Joining.{sign_in}
-use Rattle.ranges.specs.Lists.{any_of}
+use Rattle.std.specs.List.{list_any}
 use Rattle.normalize.proofs.Taken.{held-standing, left-standing, held-refused, left-refused, held-none}
 use Rattle.normalize.proofs.joining.sign.Goals as goal
 
@@ -22,7 +22,7 @@ returns-in-Some-clause-held c =
     let f = c.args.fix.now in
     let t = view c.held.inside.fixes.items c.held.inside.refused.items in
     let e = ap (position (is_of f)) (sym c.deref.ensures.0) ∙ sym c.seat_of.ensures ∙ c.in-Some.is in
-    sym (ap (λ u. any_of (is_of f) (held_in u)) (sym c.held.view_is) ∙ held-standing f t c.in-Some.i f e)
+    sym (ap (λ u. list_any (is_of f) (held_in u)) (sym c.held.view_is) ∙ held-standing f t c.in-Some.i f e)
 
 pub returns-in-Some-clause-left : goal.returns-in-Some-clause-left
 returns-in-Some-clause-left c =
@@ -47,7 +47,7 @@ returns-in-Some-place_of-clause-held c =
     let t = view c.held.inside.fixes.items c.held.inside.refused.items in
     let e = ap (position (is_of f)) (sym c.deref.ensures.0) ∙ sym c.seat_of.ensures ∙ c.in_default.is in
     let q = ap (position (λ x. is_of f (fix_of x))) (sym c.deref-2.ensures.0) ∙ sym c.place_of.ensures ∙ c.in-Some-place_of.is in
-    sym (ap (λ u. any_of (is_of f) (held_in u)) (sym c.held.view_is) ∙ held-refused f t e c.in-Some-place_of.i (record { fix = f; against = f.inputs; chi2 = 0 }) q)
+    sym (ap (λ u. list_any (is_of f) (held_in u)) (sym c.held.view_is) ∙ held-refused f t e c.in-Some-place_of.i (record { fix = f; against = f.inputs; chi2 = 0 }) q)
 
 pub returns-in-Some-place_of-clause-left : goal.returns-in-Some-place_of-clause-left
 returns-in-Some-place_of-clause-left c =
@@ -73,4 +73,4 @@ returns-clause-held c =
     let t = view c.held.inside.fixes.items c.held.inside.refused.items in
     let e = ap (position (is_of f)) (sym c.deref.ensures.0) ∙ sym c.seat_of.ensures ∙ c.in_default.is in
     let q = ap (position (λ x. is_of f (fix_of x))) (sym c.deref-2.ensures.0) ∙ sym c.place_of.ensures ∙ c.in_default-place_of.is in
-    sym (ap (λ u. any_of (is_of f) (held_in u)) (sym c.held.view_is) ∙ held-none f t e q)
+    sym (ap (λ u. list_any (is_of f) (held_in u)) (sym c.held.view_is) ∙ held-none f t e q)

@@ -1,6 +1,6 @@
 use Rattle.std.proofs.Common.{ap, ◌∙◌}
 use mathlib.Core.Path.{subst}
-use Rattle.ranges.specs.Lists.{filter}
+use Rattle.std.specs.List.{filter}
 use Rattle.tracked.specs.Held.{held_in}
 use Rattle.tracked.specs.Bytes.{transmission_in, transmission_bytes}
 use Rattle.normalize.specs.Normal.{normalized}

@@ -4,9 +4,10 @@ use mathlib.Core.Bool.{Bool, false, ◌&&◌}
 use mathlib.Core.List.{List}
 use lib.ListN.{length, get_or, take, drop}
 use borrow.Author.Tests.{le-leb, lt-leb, eq-eqb, ne_eqb}
+use Rattle.std.specs.List.{list_all}
 use Rattle.ranges.proofs.Bools.{and_assoc}
 use Rattle.octets.proofs.Moves.{tail-lent}
-use Rattle.places.specs.Places.{places, is_table, all_places}
+use Rattle.places.specs.Places.{places, is_table}
 use Rattle.models.specs.Summary.{summary_size}
 use Rattle.held.specs.Limits.{max_summaries}
 use Rattle.held.specs.Summaries.{summary_formed}
@@ -20,7 +21,7 @@ use Rattle.stored.proofs.formed.well_formed.Goals as goal
 
 -- ---- the definition, by the checks of the function
 abbrev summaries_formed : ℕ → ℕ → List ℕ → Bool
-summaries_formed c n t = is_table pair_size summary_size n t && all_places (summary_formed c) (places summary_size n t)
+summaries_formed c n t = is_table pair_size summary_size n t && list_all (summary_formed c) (places summary_size n t)
 
 abbrev transmissions_formed : ℕ → ℕ → List ℕ → Bool
 transmissions_formed c n t = filled_by (transmission_formed (begin_formed c)) transmission_size n t
@@ -52,7 +53,7 @@ module _ (m : List ℕ) where
         unfolding well_formed
         by-tables c n t c-is n-is t-is z =
             rw (eq-eqb (length m) track_size size, le-leb (summary_count m) max_summaries few_summaries, le-leb (transmission_count m) max_transmissions few, eq-eqb (get_or m zero_at 0) 0 z, c-is, n-is, t-is)
-            (sym (and_assoc (is_table pair_size summary_size (summary_count m) (summary_table m)) (all_places (summary_formed (convicted_in m)) (summaries_in m)) (transmissions_formed (convicted_in m) (transmission_count m) (transmission_table m))))
+            (sym (and_assoc (is_table pair_size summary_size (summary_count m) (summary_table m)) (list_all (summary_formed (convicted_in m)) (summaries_in m)) (transmissions_formed (convicted_in m) (transmission_count m) (transmission_table m))))
 
 -- the same of the counts and words that are read, where the header is right
 by-header : (m : List ℕ) → length m ≡ track_size → (n : ℕ) → n ≡ summary_count m → n ≤ max_summaries → transmission_count m ≤ max_transmissions → get_or m zero_at 0 ≡ 0 → (c : ℕ) → c ≡ convicted_in m

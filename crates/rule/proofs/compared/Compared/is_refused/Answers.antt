@@ -1,5 +1,5 @@
 use Rattle.std.proofs.Common.{refl, sym, ◌∙◌, length, arith}
-use Rattle.ranges.specs.Lists.{any_of}
+use Rattle.std.specs.List.{list_any}
 use Rattle.rule.specs.Standing as S
 use Rattle.rule.specs.Rows as R
 use Rattle.rule.proofs.Sets.{asked, none-left}
@@ -16,7 +16,7 @@ pub returns-then-contains-2 : goal.returns-then-contains-2
 unfolding S.is_refused S.is_contested
 returns-then-contains-2 c =
     let xs = c.args.self.now.listed.items.now in
-    refused-not (R.is_superseded xs c.args.i) (R.supersedes xs c.args.i) (any_of (R.opposes xs c.args.i) (R.all xs))
+    refused-not (R.is_superseded xs c.args.i) (R.supersedes xs c.args.i) (list_any (R.opposes xs c.args.i) (R.all xs))
     (sym (asked (R.is_superseded xs) (length xs) c.args.i c.requires.superseded c.requires.i_below (omega arith)) ∙ sym c.contains.ensures ∙ c.if-contains.false)
     (sym (asked (R.supersedes xs) (length xs) c.args.i c.requires.superseding c.requires.i_below (omega arith)) ∙ sym c.contains-2.ensures ∙ c.if-contains-2.true)
 
@@ -24,7 +24,7 @@ pub returns : goal.returns
 unfolding S.is_refused S.is_contested
 returns c =
     let xs = c.args.self.now.listed.items.now in
-    refused-so (R.is_superseded xs c.args.i) (R.supersedes xs c.args.i) (any_of (R.opposes xs c.args.i) (R.all xs))
+    refused-so (R.is_superseded xs c.args.i) (R.supersedes xs c.args.i) (list_any (R.opposes xs c.args.i) (R.all xs))
     (sym (asked (R.is_superseded xs) (length xs) c.args.i c.requires.superseded c.requires.i_below (omega arith)) ∙ sym c.contains.ensures ∙ c.if-contains.false)
     (sym (asked (R.supersedes xs) (length xs) c.args.i c.requires.superseding c.requires.i_below (omega arith)) ∙ sym c.contains-2.ensures ∙ c.if-contains-2.false)
     (c.is_empty.ensures ∙ none-left (R.opposes xs c.args.i) (length xs) c.opposing-opposing.ensures)

@@ -1,5 +1,6 @@
 use Rattle.std.proofs.Common.{refl, sym, ap, ◌∙◌, length}
-use Rattle.ranges.specs.Lists.{any_of, up_to}
+use Rattle.std.specs.List.{list_any}
+use Rattle.ranges.specs.Lists.{up_to}
 use Rattle.rule.specs.Standing as S
 use Rattle.rule.specs.Rows as R
 use Rattle.rule.specs.Listed.{relations}
@@ -17,14 +18,14 @@ pub returns-then-is_empty : goal.returns-then-is_empty
 unfolding S.supersedes
 returns-then-is_empty c =
     let xs = c.args.self.now.listed.items.now in
-    super-no ((relations xs).passed c.args.i) (any_of ((relations xs).disagrees c.args.i) (up_to (length xs))) (any_of (R.resists xs c.args.i) (up_to (length xs)))
+    super-no ((relations xs).passed c.args.i) (list_any ((relations xs).disagrees c.args.i) (up_to (length xs))) (list_any (R.resists xs c.args.i) (up_to (length xs)))
     (c.is_empty.ensures ∙ none-left ((relations xs).disagrees c.args.i) (length xs) (ap (λ w. w.disagreeing.word) c.row-row.ensures)) c.if-is_empty.true
 
 pub returns : goal.returns
 unfolding S.supersedes
 returns c =
     let xs = c.args.self.now.listed.items.now in
-    super-yes ((relations xs).passed c.args.i) (any_of ((relations xs).disagrees c.args.i) (up_to (length xs))) (any_of (R.resists xs c.args.i) (up_to (length xs)))
+    super-yes ((relations xs).passed c.args.i) (list_any ((relations xs).disagrees c.args.i) (up_to (length xs))) (list_any (R.resists xs c.args.i) (up_to (length xs)))
     (c.is_empty.ensures ∙ none-left ((relations xs).disagrees c.args.i) (length xs) (ap (λ w. w.disagreeing.word) c.row-row.ensures)) c.if-is_empty.false
     (sym c.has_passed.ensures ∙ c.if-not-has_passed.false)
     (c.is_empty-2.ensures ∙ none-left (R.resists xs c.args.i) (length xs) (ap (λ w. w.resisting.word) c.row-row.ensures))

@@ -1,6 +1,7 @@
 use Rattle.std.proofs.Common.{◌≡◌, ◌<◌, ◌/◌, ◌^◌, length}
 use Rattle.std.specs.Prelude.{IfSome}
-use Rattle.ranges.specs.Lists.{filter, up_to}
+use Rattle.std.specs.List.{filter}
+use Rattle.ranges.specs.Lists.{up_to}
 use Rattle.rule.specs.Places.{has}
 use Rattle.rule.specs.First.{first_of}
 use Rattle.rule.specs.Listed as L

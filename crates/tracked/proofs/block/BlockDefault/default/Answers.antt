@@ -2,10 +2,10 @@ use mathlib.Core.Path.{refl}
 use Prim.Native.Nat.{ℕ}
 use native.Mathlib.Omega.{arith}
 use lib.ListN.{length-replicate}
-use Rattle.places.specs.Places.{places, all_places}
+use Rattle.places.specs.Places.{places}
 use Rattle.tracked.specs.Layout.{transmission_size}
 use Rattle.tracked.proofs.block.BlockDefault.default.Goals as goal
 
 pub of-requires : goal.of-requires
-unfolding places all_places
+unfolding places
 of-requires c = record { size = length-replicate {A = ℕ} transmission_size 0; few = omega arith; few_refused = omega arith; formed = refl }

@@ -2,7 +2,7 @@ use mathlib.Core.Path.{ap}
 use native.Mathlib.Omega.{arith}
 use Rattle.tracked.specs.Bytes.{refused_bytes}
 use Rattle.octets.proofs.Puts.{put-put, put_as}
-use Rattle.tracked.proofs.Writing.{word-put}
+use Rattle.octets.proofs.Puts.{word-put}
 use Rattle.tracked.proofs.refused.RefusedFix.put.Goals as goal
 
 pub returns : goal.returns

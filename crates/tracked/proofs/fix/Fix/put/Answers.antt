@@ -2,8 +2,8 @@ use mathlib.Core.Path.{ap}
 use native.Mathlib.Omega.{arith}
 use Rattle.octets.proofs.Puts.{put-put, put_as}
 use Rattle.tracked.specs.Bytes.{fix_bytes}
-use Rattle.tracked.proofs.Writing.{word-put}
-use Rattle.tracked.proofs.fixes.Fix.put.Goals as goal
+use Rattle.octets.proofs.Puts.{word-put}
+use Rattle.tracked.proofs.fix.Fix.put.Goals as goal
 
 pub returns : goal.returns
 returns c =

@@ -1,6 +1,6 @@
 use mathlib.Core.Path.{sym, ◌∙◌}
 use Rattle.tracked.proofs.Alike.{same-set}
-use Rattle.tracked.proofs.fixes.Fix.is_of.Goals as goal
+use Rattle.tracked.proofs.fix.Fix.is_of.Goals as goal
 
 pub returns-then-has_set_of : goal.returns-then-has_set_of
 returns-then-has_set_of c =
