@@ -24,19 +24,8 @@ use Rattle.decision.specs.Answer.{indices, refusal, no_refusal, refusals, decisi
 use Rattle.decision.specs.Working.{plainly}
 use Rattle.answers.specs.Layout.{chi_square_size, refusal_size}
 use Rattle.answers.specs.Offsets.{indices_size, refusals_size, ranked_at, dominated_at, refusals_at, answer_size, list_bytes}
+use Rattle.answers.specs.Claims.{HasAllPlaces, PartsStand}
 use Rattle.answers.specs.Answer.{indices_bytes, chi_square_bytes, refusal_bytes, each_bytes, counted_bytes, refusals_bytes, answer_bytes}
-
--- three bytes stored one after another
-three-put : (l : List ℕ) (at x y z : ℕ) → Put l at (x ∷ y ∷ z ∷ []) (at + 3) (set (set (set l at x) (at + 1) y) (at + 2) z)
-three-put l at x y z =
-    let p : at + 1 ≡ suc at = omega arith in
-    let q : at + 2 ≡ suc (suc at) = omega arith in
-    record { next = refl; bytes = ap₂ (λ (i j : ℕ). set (set (set l at x) i y) j z) p q }
-
--- a flag as the byte that the machine makes of it
-flag : (b : Bool) → bool_byte b ≡ cond b 1 0
-flag true = refl
-flag false = refl
 
 -- a byte before a number that is put after it
 pub measured-put : (l : List ℕ) (at b x : ℕ) → at + chi_square_size ≤ length l → Put l at (b ∷ word_bytes 8 x) (at + chi_square_size) (put_word 8 (at + 1) x (set l at b))
@@ -61,13 +50,6 @@ length-chi-square Unmeasured = rw (length-word-bytes 8) refl
 
 pub length-refusal : (x : Refusal) → length (refusal_bytes x) ≡ refusal_size
 length-refusal x = rw (length-chi-square x.chi2) refl
-
--- a refusal's three bytes, and its chi-square after them
-pub refusal-put : (l : List ℕ) (at : ℕ) (x : Refusal) {r : ℕ} {l' : List ℕ}
-    → Put (set (set (set l at x.refused) (at + 1) x.kept) (at + 2) (bool_byte x.superseded)) (at + 3) (chi_square_bytes x.chi2) r l' → Put l at (refusal_bytes x) r l'
-refusal-put l at x p =
-    put_as (ap (λ (b : ℕ). x.refused ∷ x.kept ∷ b ∷ chi_square_bytes x.chi2) (flag x.superseded))
-    (put-put (three-put l at x.refused x.kept (bool_byte x.superseded)) p)
 
 pub drop-zeros : (k n : ℕ) → drop k (replicate {A = ℕ} n 0) ≡ replicate (n - k) 0
 drop-zeros zero n = ap (λ (m : ℕ). replicate m 0) (sym (sub-zero n))
@@ -138,11 +120,6 @@ counted-fits l n = omega (arith, length-each (take n l), length-take n l)
 
 -- ---- where each part stands, in a decision whose lists have room for all items, as each has that `decide` returns
 
-pub record Roomy (d : Decision) : Type 0 where
-  pub ranked : length d.ranked.list ≡ max_items
-  pub dominated : length d.dominated.list ≡ max_items
-  pub refusals : length d.refusals.list ≡ max_items
-
 refusals-long : (x : Refusals) → length x.list ≡ max_items → length (refusals_bytes x) ≡ refusals_size
 refusals-long x h =
     let f = counted-fits x.list x.count in
@@ -150,7 +127,7 @@ refusals-long x h =
     let e : length (counted_bytes x ++ replicate n 0) ≡ length (counted_bytes x) + n = length-append (counted_bytes x) (replicate n 0) ∙ ap (λ (k : ℕ). length (counted_bytes x) + k) (length-replicate n 0) in
     omega arith
 
-pub answer-long : (d : Decision) → Roomy d → length (answer_bytes d) ≡ answer_size
+answer-long : (d : Decision) → HasAllPlaces d → length (answer_bytes d) ≡ answer_size
 unfolding answer_bytes
 answer-long d r =
     let a = r.ranked in
@@ -158,17 +135,17 @@ answer-long d r =
     let c = refusals-long d.refusals r.refusals in
     omega (arith, length-append (indices_bytes d.ranked) (indices_bytes d.dominated ++ refusals_bytes d.refusals), length-append (indices_bytes d.dominated) (refusals_bytes d.refusals))
 
-pub ranked-stands : (d : Decision) → Roomy d → take indices_size (drop ranked_at (answer_bytes d)) ≡ indices_bytes d.ranked
+ranked-stands : (d : Decision) → HasAllPlaces d → take indices_size (drop ranked_at (answer_bytes d)) ≡ indices_bytes d.ranked
 unfolding answer_bytes
 ranked-stands d r = take_at (indices_bytes d.ranked) (indices_bytes d.dominated ++ refusals_bytes d.refusals) indices_size (ap suc r.ranked)
 
-pub dominated-stands : (d : Decision) → Roomy d → take indices_size (drop dominated_at (answer_bytes d)) ≡ indices_bytes d.dominated
+dominated-stands : (d : Decision) → HasAllPlaces d → take indices_size (drop dominated_at (answer_bytes d)) ≡ indices_bytes d.dominated
 unfolding answer_bytes
 dominated-stands d r =
     ap (take indices_size) (drop_at (indices_bytes d.ranked) (indices_bytes d.dominated ++ refusals_bytes d.refusals) dominated_at (ap suc r.ranked))
     ∙ take_at (indices_bytes d.dominated) (refusals_bytes d.refusals) indices_size (ap suc r.dominated)
 
-pub refusals-stand : (d : Decision) → Roomy d → drop refusals_at (answer_bytes d) ≡ refusals_bytes d.refusals
+refusals-stand : (d : Decision) → HasAllPlaces d → drop refusals_at (answer_bytes d) ≡ refusals_bytes d.refusals
 unfolding answer_bytes
 refusals-stand d r =
     let a = indices_bytes d.ranked in
@@ -176,6 +153,9 @@ refusals-stand d r =
     let p = r.ranked in
     let q = r.dominated in
     ap (drop refusals_at) (sym (append_assoc a b (refusals_bytes d.refusals))) ∙ drop_at (a ++ b) (refusals_bytes d.refusals) refusals_at (omega (arith, length-append a b))
+
+pub parts-stand : PartsStand
+parts-stand d r = record { long = answer-long d r; ranked = ranked-stands d r; dominated = dominated-stands d r; refusals = refusals-stand d r }
 
 -- a list that is padded with zeros, after its count
 pub indices-put : (l k xs : List ℕ) (at : ℕ) {r : ℕ} {k' : List ℕ} → length l ≤ max_items → xs ≡ l ++ drop (length l) (replicate max_items 0)

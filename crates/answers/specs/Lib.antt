@@ -1,4 +1,5 @@
--- The bytes in which a decision goes out to C: a refusal's layout (Layout), what they are (Answer), and where each list begins (Offsets).
+-- The bytes in which a decision goes out to C: a refusal's layout (Layout), what they are (Answer), where each list begins (Offsets), and that it does (Claims).
 pub mod Layout
 pub mod Answer
 pub mod Offsets
+pub mod Claims

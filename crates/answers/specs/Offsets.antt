@@ -1,5 +1,4 @@
--- No claim rests on these definitions: they say where each list begins in the bytes of a decision, how long they are, and what is written of the refusals. include/toastlagoon.h and
--- oracle/driver/binding.rs have the same.
+-- Where each list begins in the bytes of a decision, and how long it is. include/toastlagoon.h and oracle/driver/binding.rs have the same.
 use Rattle.std.specs.Prelude.{ℕ, ◌+◌, ◌*◌, List, ◌∷◌, length}
 use Rattle.items.specs.Layout.{max_items}
 use Rattle.decision.specs.declared.Refusal.{Refusal}
@@ -25,6 +24,6 @@ refusals_at = dominated_at + indices_size
 abbrev pub answer_size : ℕ
 answer_size = refusals_at + refusals_size
 
--- refusals with their count before them, and nothing after them
+-- refusals with their count before them, and nothing after them: what is written of them. No claim rests on it.
 abbrev pub list_bytes : List Refusal → List ℕ
 list_bytes l = length l ∷ each_bytes l

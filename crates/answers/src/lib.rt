@@ -10,7 +10,6 @@ ghost use Rattle.items.specs.Layout.{item_size, max_items};
 ghost use Rattle.rule.specs.Outcome.{Outcome};
 ghost use Rattle.arithmetic.specs.declared.standing.ChiSquare.{ChiSquare as Squared};
 ghost use Rattle.decision.specs.Answer.{indices, bad, outcome, decision as decision_of, decided};
-ghost use Rattle.decision.specs.Each.{few, least, some};
 ghost use Rattle.decision.specs.Answered.{Says};
 ghost use Rattle.held.specs.After.{after};
 ghost use Rattle.answers.specs.Layout.{chi_square_size, refusal_size};
@@ -20,10 +19,11 @@ ghost use Rattle.answers.specs.Offsets.{list_bytes};
 
 use arithmetic::standing::ChiSquare;
 use decision::{
-    Decision, FEW, LEAST, Refusal, SOME, decide_each, decide_few, decide_least, decide_some,
-    item_at,
+    Decision, FEW, Items, LEAST, Refusal, SOME, decide_each, decide_few, decide_least, decide_some,
 };
-use items::layout::{ITEM_SIZE, MAX_ITEMS};
+use items::layout::MAX_ITEMS;
+
+pub mod claims;
 
 /// A count and room for an index of each item.
 pub const INDICES_SIZE: usize = 1 + MAX_ITEMS;
@@ -114,73 +114,22 @@ fn put_decision<const N: usize>(out: &mut [u8], decision: &Decision<N>)
     put_refusals(out, third, &decision.refusals);
 }
 
-// Decides in tables of four sizes, each in a function of its own, so that the smaller ones do not wait for the larger.
-fn put_least(out: &mut [u8], s: &[u8], n: usize)
-    requires zeros { out.old ≡ replicate answer_size 0 }
-    requires good { bad s.now ≡ false }
-    requires len { length s.now ≡ n * item_size }
-    requires n_bound { (0 < n) × (n ≤ least) }
-    ensures { out.new ≡ answer_bytes (decision_of (outcome s.now)) }
-{
-    put_decision(out, &decide_least(n, |i| item_at(s, i)));
-}
-
-fn put_few(out: &mut [u8], s: &[u8], n: usize)
-    requires zeros { out.old ≡ replicate answer_size 0 }
-    requires good { bad s.now ≡ false }
-    requires len { length s.now ≡ n * item_size }
-    requires n_bound { (0 < n) × (n ≤ few) }
-    ensures { out.new ≡ answer_bytes (decision_of (outcome s.now)) }
-{
-    put_decision(out, &decide_few(n, |i| item_at(s, i)));
-}
-
-fn put_some(out: &mut [u8], s: &[u8], n: usize)
-    requires zeros { out.old ≡ replicate answer_size 0 }
-    requires good { bad s.now ≡ false }
-    requires len { length s.now ≡ n * item_size }
-    requires n_bound { (0 < n) × (n ≤ some) }
-    ensures { out.new ≡ answer_bytes (decision_of (outcome s.now)) }
-{
-    put_decision(out, &decide_some(n, |i| item_at(s, i)));
-}
-
-fn put_each(out: &mut [u8], s: &[u8], n: usize)
-    requires zeros { out.old ≡ replicate answer_size 0 }
-    requires good { bad s.now ≡ false }
-    requires len { length s.now ≡ n * item_size }
-    requires n_bound { (0 < n) × (n ≤ max_items) }
-    ensures { out.new ≡ answer_bytes (decision_of (outcome s.now)) }
-{
-    put_decision(out, &decide_each(n, |i| item_at(s, i)));
-}
-
 /// Decides items in bytes. The array is written where something is decided, and stays as it is on a refusal.
 pub fn decide(s: &[u8], out: &mut [u8; ANSWER_SIZE]) -> u32
     ensures { after result out.new ≡ hand_out (decided s.now) out.old }
 {
-    if decision::is_bad(s) {
+    let Some(items) = Items::parse(s) else {
         return BAD_ITEMS;
-    }
-    let n = s.len() / ITEM_SIZE;
+    };
     *out = [0u8; ANSWER_SIZE];
-    // An item that is alone is ranked.
-    if n <= 1 {
-        out[0] = n as u8;
-        return DECIDED;
+    let n = items.len();
+    match n {
+        // An item that is alone is ranked.
+        ..=1 => out[0] = n as u8,
+        ..=LEAST => put_decision(out, &decide_least(n, |i| items.get(i))),
+        ..=FEW => put_decision(out, &decide_few(n, |i| items.get(i))),
+        ..=SOME => put_decision(out, &decide_some(n, |i| items.get(i))),
+        _ => put_decision(out, &decide_each(n, |i| items.get(i))),
     }
-    if n <= LEAST {
-        put_least(out, s, n);
-        return DECIDED;
-    }
-    if n <= FEW {
-        put_few(out, s, n);
-        return DECIDED;
-    }
-    if n <= SOME {
-        put_some(out, s, n);
-        return DECIDED;
-    }
-    put_each(out, s, n);
     DECIDED
 }

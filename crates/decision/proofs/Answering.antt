@@ -1,8 +1,9 @@
 -- What the code answers is the whole answer, and its lists are those of what is decided.
 use Rattle.std.proofs.Common.{◌≡◌, ℕ, ◌*◌, ◌≤◌, false, refl, sym, ap, ◌∙◌, length}
-use Rattle.std.specs.Prelude.{Some}
+use Rattle.std.specs.Prelude.{Some, not, true}
 use mathlib.Core.List.{List, [], map}
 use Rattle.ranges.specs.Lists.{up_to}
+use Rattle.ranges.proofs.Bools.{not-false-t}
 use Rattle.items.specs.Layout.{item_size}
 use Rattle.decision.specs.declared.Decision.{Decision}
 use Rattle.decision.specs.Answer.{bad, outcome, decided, decision, refusal}
@@ -18,3 +19,7 @@ pub says-alone : {N : ℕ} (s : List ℕ) (n : ℕ) (d : Decision N) → length 
 says-alone s n d long few e p q r =
     let a = ranked-alone s n long few e in
     record { ranked = p ∙ sym a.0; dominated = q ∙ sym a.1; refusals = r ∙ sym (ap (map refusal) a.2) }
+
+-- bytes of which `Items::parse` makes nothing
+pub none-bad : (s : List ℕ) → false ≡ not (bad s) → bad s ≡ true
+none-bad s e = not-false-t (bad s) (sym e)

@@ -6,16 +6,6 @@ use Rattle.decision.specs.declared.Decision.{Decision}
 use Rattle.decision.specs.Answered.{Says}
 use Rattle.decision.specs.Working.{among}
 
--- up to this many items have small tables, smaller ones, and tables of a third of the most
-abbrev pub few : ℕ
-few = 10
-
-abbrev pub least : ℕ
-least = 4
-
-abbrev pub some : ℕ
-some = 32
-
 -- so it is of the first k of a list, each with its place
 abbrev pub Each : (ℕ → Item → Type 0) → List Item → ℕ → Type 0
 Each holds l k = (i : ℕ) (x : Item) → i < k → slice_get l i ≡ Some x → holds i x

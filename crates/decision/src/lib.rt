@@ -1,40 +1,39 @@
 //! Which of one transmission's fixes stand, in rank, which are dominated, and which are refused, and against whom.
 //!
-//! `decide` takes the items in any bytes; `decide_each` asks for one after another, and `decide_some`, `decide_few` and `decide_least` do so
-//! with smaller tables and lists.
+//! `decide` takes the items in any bytes. `decide_each` asks for one after another, and `decide_some`, `decide_few` and `decide_least` do so
+//! with smaller tables and lists, each in a frame of its own.
 #![tactic(auto)]
 
 ghost use Rattle.std.specs.Prelude.{◌≡◌, ℕ, false, [], ◌+◌, ◌*◌, ◌≤◌, ◌<◌, length};
-ghost use Rattle.std.specs.List.{list_any};
 ghost use Rattle.ranges.specs.Lists.{up_to};
 ghost use Rattle.items.specs.Layout.{item_size, max_items};
-ghost use Rattle.items.specs.Items.{same_identity};
-ghost use Rattle.decision.specs.Answer.{bad_at, bad, outcome, decided};
+ghost use Rattle.decision.specs.Answer.{decided};
 ghost use Rattle.decision.specs.Answered.{Says, answered};
 ghost use Rattle.rule.specs.Phases.{items_of};
 ghost use Rattle.decision.specs.Working.{among};
-ghost use Rattle.items.specs.Values.{IsItem};
-ghost use Rattle.decision.specs.Each.{few, least, some, Each, DecidesEach};
+ghost use Rattle.decision.specs.Each.{Each, DecidesEach};
 
 use arithmetic::standing::ChiSquare;
 use arrayvec::ArrayVec;
 use items::Item;
 use items::layout::{ITEM_SIZE, MAX_ITEMS};
-use places::table::places_of;
 use rule::listed::Listed;
 use rule::row::Row;
 use rule::settled::Settled;
 
 pub mod claims;
 mod lists;
+mod parsed;
 
-/// Up to this many items have small tables, which cost little to clear.
-pub const FEW: usize = 10;
+pub use parsed::Items;
 
-/// And up to this many still smaller ones.
+/// A decision of up to this many items is made in the smallest tables: the fewer places they have, the less there is to clear.
 pub const LEAST: usize = 4;
 
-/// Up to this many items have tables of a third of the most.
+/// Up to this many items have small tables.
+pub const FEW: usize = 10;
+
+/// And up to this many have tables of a third of the most.
 pub const SOME: usize = 32;
 
 /// A refused item, the one that it is refused against, and the chi-square between them where there is one. `superseded`: it is the smaller,
@@ -65,52 +64,6 @@ pub struct Decision<const N: usize> {
     pub ranked: ArrayVec<u8, N>,
     pub dominated: ArrayVec<u8, N>,
     pub refusals: ArrayVec<Refusal, N>,
-}
-
-// Whether item i has the identity of one before it.
-fn repeated(s: &[u8], i: u8) -> bool
-    requires { i * item_size + item_size ≤ length s.now }
-    ensures { result ≡ list_any (same_identity s.now i) (up_to i) }
-{
-    for j in 0..i {
-        if items::same_identity(s, i, j) {
-            return true;
-        }
-    }
-    false
-}
-
-#[tactic(auto, unfolding(crate::specs::Answer::bad_at))]
-fn bad_at(s: &[u8], i: u8) -> bool
-    requires { i * item_size + item_size ≤ length s.now }
-    ensures { result ≡ bad_at s.now i }
-{
-    items::parsed_record(s, i).is_none() || repeated(s, i)
-}
-
-fn any_bad(s: &[u8], n: u8) -> bool
-    requires { n * item_size ≤ length s.now }
-    ensures { result ≡ list_any (bad_at s.now) (up_to n) }
-{
-    for i in 0..n {
-        if bad_at(s, i) {
-            return true;
-        }
-    }
-    false
-}
-
-/// Over 96 items, no whole number of items, a malformed one, or two with one identity.
-pub fn is_bad(s: &[u8]) -> bool
-    ensures { result ≡ bad s.now }
-{
-    if MAX_ITEMS * ITEM_SIZE < s.len() {
-        return true;
-    }
-    if s.len() % ITEM_SIZE != 0 {
-        return true;
-    }
-    any_bad(s, (s.len() / ITEM_SIZE) as u8)
 }
 
 // What is decided of settled items.
@@ -151,8 +104,9 @@ fn decide_items<const N: usize>(items: &[Item<'_>], rows: &mut [Row]) -> Decisio
 }
 
 /// What is decided of at most `LEAST` items, each of which is given by its place.
+#[inline(never)]
 pub fn decide_least<'a, F: Fn(usize) -> Item<'a>>(n: usize, item: F) -> Decision<LEAST>
-    requires n_bound { (0 < n) × (n ≤ least) }
+    requires n_bound { (0 < n) × (n ≤ LEAST) }
     requires given { (i : ℕ) → i < n → F.pre item i }
     ensures { DecidesEach (F.post item) n result }
 {
@@ -163,8 +117,9 @@ pub fn decide_least<'a, F: Fn(usize) -> Item<'a>>(n: usize, item: F) -> Decision
 }
 
 /// What is decided of at most `FEW` items, each of which is given by its place.
+#[inline(never)]
 pub fn decide_few<'a, F: Fn(usize) -> Item<'a>>(n: usize, item: F) -> Decision<FEW>
-    requires n_bound { (0 < n) × (n ≤ few) }
+    requires n_bound { (0 < n) × (n ≤ FEW) }
     requires given { (i : ℕ) → i < n → F.pre item i }
     ensures { DecidesEach (F.post item) n result }
 {
@@ -175,8 +130,9 @@ pub fn decide_few<'a, F: Fn(usize) -> Item<'a>>(n: usize, item: F) -> Decision<F
 }
 
 /// What is decided of at most `SOME` items, each of which is given by its place.
+#[inline(never)]
 pub fn decide_some<'a, F: Fn(usize) -> Item<'a>>(n: usize, item: F) -> Decision<SOME>
-    requires n_bound { (0 < n) × (n ≤ some) }
+    requires n_bound { (0 < n) × (n ≤ SOME) }
     requires given { (i : ℕ) → i < n → F.pre item i }
     ensures { DecidesEach (F.post item) n result }
 {
@@ -187,8 +143,9 @@ pub fn decide_some<'a, F: Fn(usize) -> Item<'a>>(n: usize, item: F) -> Decision<
 }
 
 // In small tables, where the lists have room for all.
+#[inline(never)]
 fn decide_small<'a, F: Fn(usize) -> Item<'a>>(n: usize, item: F) -> Decision<MAX_ITEMS>
-    requires n_bound { (0 < n) × (n ≤ few) }
+    requires n_bound { (0 < n) × (n ≤ FEW) }
     requires given { (i : ℕ) → i < n → F.pre item i }
     ensures { DecidesEach (F.post item) n result }
 {
@@ -199,8 +156,9 @@ fn decide_small<'a, F: Fn(usize) -> Item<'a>>(n: usize, item: F) -> Decision<MAX
 }
 
 // In tables with room for all.
+#[inline(never)]
 fn decide_many<'a, F: Fn(usize) -> Item<'a>>(n: usize, item: F) -> Decision<MAX_ITEMS>
-    requires n_bound { (0 < n) × (n ≤ max_items) }
+    requires n_bound { (0 < n) × (n ≤ MAX_ITEMS) }
     requires given { (i : ℕ) → i < n → F.pre item i }
     ensures { DecidesEach (F.post item) n result }
 {
@@ -212,7 +170,7 @@ fn decide_many<'a, F: Fn(usize) -> Item<'a>>(n: usize, item: F) -> Decision<MAX_
 
 /// What is decided of items, each of which is given by its place.
 pub fn decide_each<'a, F: Fn(usize) -> Item<'a>>(n: usize, item: F) -> Decision<MAX_ITEMS>
-    requires n_bound { (0 < n) × (n ≤ max_items) }
+    requires n_bound { (0 < n) × (n ≤ MAX_ITEMS) }
     requires given { (i : ℕ) → i < n → F.pre item i }
     ensures { DecidesEach (F.post item) n result }
 {
@@ -241,27 +199,15 @@ pub fn decide_alone<const N: usize>(n: usize) -> Decision<N>
     }
 }
 
-/// Item i of bytes.
-pub fn item_at(s: &[u8], i: usize) -> Item<'_>
-    requires good { bad s.now ≡ false }
-    requires here { i * item_size + item_size ≤ length s.now }
-    ensures { IsItem s.now i result }
-{
-    let places = places_of::<ITEM_SIZE>(s, i + 1);
-    Item::of(&places[i])
-}
-
 /// What is decided of items in bytes, of `items::layout::ITEM_SIZE` each: any bytes may be lent. Nothing is decided of bad items
-/// (`is_bad`).
+/// (`Items::parse`).
 pub fn decide(s: &[u8]) -> Option<Decision<MAX_ITEMS>>
     ensures { answered result ≡ decided s.now }
 {
-    if is_bad(s) {
-        return None;
-    }
-    let n = s.len() / ITEM_SIZE;
+    let items = Items::parse(s)?;
+    let n = items.len();
     if n <= 1 {
         return Some(decide_alone(n));
     }
-    Some(decide_each(n, |i| item_at(s, i)))
+    Some(decide_each(n, |i| items.get(i)))
 }

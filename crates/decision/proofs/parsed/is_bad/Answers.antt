@@ -8,7 +8,7 @@ use Rattle.std.specs.List.{list_any}
 use Rattle.ranges.specs.Lists.{up_to}
 use Rattle.items.specs.Layout.{max_items, item_size}
 use Rattle.decision.specs.Answer.{bad_at, bad}
-use Rattle.decision.proofs.is_bad.Goals as goal
+use Rattle.decision.proofs.parsed.is_bad.Goals as goal
 
 module _ (s : List ℕ) where
   too_many : max_items * item_size < length s → true ≡ bad s

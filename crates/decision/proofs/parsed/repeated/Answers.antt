@@ -1,5 +1,5 @@
 use Rattle.ranges.proofs.Searches.{searches}
-use Rattle.decision.proofs.repeated.Goals as goal
+use Rattle.decision.proofs.parsed.repeated.Goals as goal
 
 pub returns-then-same_identity : goal.returns-then-same_identity
 returns-then-same_identity c = search searches

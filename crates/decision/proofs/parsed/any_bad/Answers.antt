@@ -1,5 +1,5 @@
 use Rattle.ranges.proofs.Searches.{searches}
-use Rattle.decision.proofs.any_bad.Goals as goal
+use Rattle.decision.proofs.parsed.any_bad.Goals as goal
 
 pub returns-then-bad_at : goal.returns-then-bad_at
 returns-then-bad_at c = search searches

@@ -1,0 +1,8 @@
+//! What is claimed of a decision's bytes. The function's contract is the claim; there is nothing to run.
+
+ghost use Rattle.answers.specs.Claims.{PartsStand};
+
+/// The ranked, the dominated and the refusals stand where their offsets say, one after another, and fill the answer.
+pub fn parts_stand()
+    ensures { PartsStand }
+{}

@@ -1,0 +1,99 @@
+//! The items of a decision in lent bytes.
+#![tactic(auto)]
+
+ghost use Rattle.std.specs.Prelude.{◌≡◌, false, not, ◌+◌, ◌*◌, ◌/◌, ◌≤◌, ◌<◌, length, is_some, IfSome};
+ghost use Rattle.std.specs.List.{list_any};
+ghost use Rattle.ranges.specs.Lists.{up_to};
+ghost use Rattle.items.specs.Layout.{item_size, max_items};
+ghost use Rattle.items.specs.Items.{same_identity};
+ghost use Rattle.items.specs.Values.{IsItem};
+ghost use Rattle.decision.specs.Answer.{bad_at, bad};
+
+use items::Item;
+use items::layout::{ITEM_SIZE, MAX_ITEMS};
+use places::table::places_of;
+
+/// At most 96 items in bytes of `items::layout::ITEM_SIZE` each, of which every record is well-formed and no two have one identity.
+#[derive(Clone, Copy)]
+pub struct Items<'a> {
+    bytes: &'a [u8],
+    ghost good: { bad bytes.now ≡ false },
+    ghost whole: { length bytes.now ≡ length bytes.now / item_size * item_size },
+    ghost few: { length bytes.now / item_size ≤ max_items },
+}
+
+// Whether item i has the identity of one before it.
+fn repeated(s: &[u8], i: u8) -> bool
+    requires { i * item_size + item_size ≤ length s.now }
+    ensures { result ≡ list_any (same_identity s.now i) (up_to i) }
+{
+    for j in 0..i {
+        if items::same_identity(s, i, j) {
+            return true;
+        }
+    }
+    false
+}
+
+#[tactic(auto, unfolding(crate::specs::Answer::bad_at))]
+fn bad_at(s: &[u8], i: u8) -> bool
+    requires { i * item_size + item_size ≤ length s.now }
+    ensures { result ≡ bad_at s.now i }
+{
+    items::parsed_record(s, i).is_none() || repeated(s, i)
+}
+
+fn any_bad(s: &[u8], n: u8) -> bool
+    requires { n * item_size ≤ length s.now }
+    ensures { result ≡ list_any (bad_at s.now) (up_to n) }
+{
+    for i in 0..n {
+        if bad_at(s, i) {
+            return true;
+        }
+    }
+    false
+}
+
+// Over 96 items, no whole number of items, a malformed one, or two with one identity.
+fn is_bad(s: &[u8]) -> bool
+    ensures { result ≡ bad s.now }
+{
+    if MAX_ITEMS * ITEM_SIZE < s.len() {
+        return true;
+    }
+    if s.len() % ITEM_SIZE != 0 {
+        return true;
+    }
+    any_bad(s, (s.len() / ITEM_SIZE) as u8)
+}
+
+impl<'a> Items<'a> {
+    /// The items that bytes are. There are none where they are bad: over 96 items, no whole number of items, a malformed one, or two with
+    /// one identity.
+    pub fn parse(bytes: &'a [u8]) -> Option<Items<'a>>
+        ensures good { is_some result ≡ not (bad bytes.now) }
+        ensures same { IfSome result (λ items. items.bytes.now ≡ bytes.now) }
+    {
+        if is_bad(bytes) {
+            return None;
+        }
+        Some(Items { bytes })
+    }
+
+    /// How many they are.
+    pub fn len(&self) -> usize
+        ensures { result ≡ length self.now.bytes.now / item_size }
+    {
+        self.bytes.len() / ITEM_SIZE
+    }
+
+    /// Item i.
+    pub fn get(&self, i: usize) -> Item<'a>
+        requires { i < length self.now.bytes.now / item_size }
+        ensures { IsItem self.now.bytes.now i result }
+    {
+        let places = places_of::<ITEM_SIZE>(self.bytes, i + 1);
+        Item::of(&places[i])
+    }
+}
