@@ -22,24 +22,6 @@ pub struct Prepared {
     pub has_height: bool,
 }
 
-const NOWHERE: Vec3 = Vec3 {
-    x: 0.0,
-    y: 0.0,
-    z: 0.0,
-};
-
-/// What fills a table before its fixes are prepared.
-pub const UNPREPARED: Prepared = Prepared {
-    ecef: NOWHERE,
-    basis: Basis {
-        east: NOWHERE,
-        north: NOWHERE,
-        up: NOWHERE,
-    },
-    factor: None,
-    has_height: false,
-};
-
 /// The squared length of a difference under the smaller fix's covariance, and the most that agrees.
 #[derive(Clone, Copy)]
 pub struct Measure {

@@ -139,15 +139,6 @@ impl<'a> Item<'a> {
         octets::order::equal(mine, theirs)
     }
 
-    /// Whether the two have one identity.
-    pub fn has_identity_of(&self, other: &Item<'_>) -> bool
-        ensures { result ≡ same self.now.identity.now other.now.identity.now }
-    {
-        let mine = self.identity;
-        let theirs = other.identity;
-        octets::order::equal(mine, theirs)
-    }
-
     /// Whether it has the lower identity.
     pub fn is_lower(&self, other: &Item<'_>) -> bool
         ensures { result ≡ V.lower self.now other.now }
