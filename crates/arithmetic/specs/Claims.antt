@@ -1,14 +1,14 @@
 -- What is claimed of agreement, beside that the code gives what Agree says. Each statement is a type; src/claims.rt has a function whose contract
 -- it is.
 use Rattle.std.specs.Prelude.{◌≡◌, true, false, ◌↔◌, List, ◌+◌, Float, Option, Some, None}
-use Rattle.std.specs.Float.{inf, binary64}
+use Rattle.std.specs.Float.{inf, nan, binary64}
 use Rattle.std.specs.Float.Ieee.{of_bits, to_bits, is_nan, le, lt}
 use Rattle.std.specs.Float.Ieee.Scale.{finite}
-use Rattle.geometry.specs.Numbers.{whole, from_decimal}
+use Rattle.geometry.specs.Numbers.{◌⊕◌, ◌⊗◌, whole, from_decimal}
 use Rattle.geometry.specs.Formula.{formula_sincos}
 use Rattle.geometry.specs.Claims.{InI32}
 use Rattle.geometry.specs.Linalg.{cholesky_of}
-use Rattle.arithmetic.specs.Agree.{limit_of, geodetic_of, rows_of, matrix_of, sum_under, difference_of, three_of, outcome_of, agreement_of, agrees_of, chi_square_in, measure_in}
+use Rattle.arithmetic.specs.Agree.{limit_of, geodetic_of, rows_of, matrix_of, sum_under, difference_of, three_of, outcome_of, agreement_of, agrees_of, chi_square_in, measure_in, sigma_of}
 use Rattle.arithmetic.specs.Bits.{stored_bits, stored_chi_square}
 use Rattle.arithmetic.specs.Before.{agreement_before, agreed_before}
 use Rattle.geometry.specs.declared.linalg.Covariance.{Covariance}
@@ -119,3 +119,12 @@ Position2 =
     (smaller larger : Claimed)
     → smaller.covariance ≡ zero_covariance
     → (agreement_of smaller larger ≡ Unmeasurable) × (agrees_of (agreement_of smaller larger) ≡ false)
+
+-- ---- the horizontal sigma
+
+-- it is 0 where the mean variance is not above zero, and where the sum of the two is a NaN (Rust's `max` drops it)
+abbrev pub SigmaOfNoVariance : Type 0
+SigmaOfNoVariance = (c : Covariance) → lt (whole 0) (from_decimal 5 1 ⊗ (c.xx ⊕ c.yy)) ≡ false → sigma_of c ≡ whole 0
+
+abbrev pub SigmaOfNan : Type 0
+SigmaOfNan = (c : Covariance) → c.xx ⊕ c.yy ≡ nan → sigma_of c ≡ whole 0

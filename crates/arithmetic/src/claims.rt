@@ -1,6 +1,6 @@
 //! What is claimed of agreement. Each function's contract is the claim; there is nothing to run.
 
-ghost use Rattle.arithmetic.specs.Claims.{UnmeasurableExactlyWhen, ElseTheSum, FiniteNumbers, InsideExactlyWhen, OutsideExactlyWhen, UnmeasurableWasInfinite, NumbersAsBefore, AgreesAsBefore, BitsAsBefore, StoredReadBack, PlacedByFormula, Position1, Position2};
+ghost use Rattle.arithmetic.specs.Claims.{AgreesAsBefore, BitsAsBefore, ElseTheSum, FiniteNumbers, InsideExactlyWhen, NumbersAsBefore, OutsideExactlyWhen, PlacedByFormula, Position1, Position2, SigmaOfNan, SigmaOfNoVariance, StoredReadBack, UnmeasurableExactlyWhen, UnmeasurableWasInfinite};
 
 /// An agreement is unmeasurable exactly where there is no Cholesky factor or the sum is not finite; else it has the sum, which is
 /// a finite number, and is inside exactly where that is at most the limit.
@@ -31,4 +31,10 @@ pub fn fixes_are_placed_by_the_formula()
 pub fn limits_of_agreement()
     ensures limit { Position1 }
     ensures zero_covariance { Position2 }
+{}
+
+/// A horizontal sigma is 0 where the mean variance is not above zero or a NaN.
+pub fn sigma_of_no_variance_is_zero()
+    ensures none { SigmaOfNoVariance }
+    ensures nan { SigmaOfNan }
 {}

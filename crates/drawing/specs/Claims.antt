@@ -1,5 +1,4 @@
--- What is claimed of the text of a chi-square: a line says `none` exactly where there is no number. The theorem is `none-exactly-when` in
--- proofs/Widths.
+-- What is claimed of the text of a chi-square: a line says `none` exactly where there is no number.
 use Rattle.std.specs.Prelude.{◌≡◌, ◌↔◌}
 use Rattle.octets.specs.Ascii.{ascii}
 use Rattle.arithmetic.specs.declared.standing.ChiSquare.{ChiSquare}
