@@ -1,22 +1,22 @@
 -- A place put into a sorted table: what is written lies within it, and what is left is the table of the places with that one put in.
-use Rattle.std.proofs.Common.{◌≡◌, ℕ, suc, ◌+◌, ◌*◌, ◌≤◌, ◌<◌, true, false, List, [], ◌++◌, length, take, drop, get_or, refl, sym, ap, ap₂, ◌∙◌, arith, Result, Ok, Err, IfOk, suc-mul, mul-le-mul_right, set, take-append-drop, length-drop, length-take-le, leb-false}
-use Rattle.ranges.proofs.Bools.{by, and_left}
+use Rattle.std.proofs.Common.{◌≡◌, ℕ, suc, ◌+◌, ◌*◌, ◌≤◌, ◌<◌, true, false, List, [], ◌++◌, length, take, drop, get_or, refl, sym, ap, ap₂, ◌∙◌, arith, Result, Ok, Err, IfOk, suc-mul, mul-le-mul_right, set, take-append-drop, length-drop, length-take-le}
+use Rattle.ranges.proofs.Bools.{and_left}
 use Rattle.octets.specs.Runs.{all_zero}
 use Rattle.places.specs.Places.{places, table_of, ascending, holds}
 use Rattle.places.specs.Positions.{rank, insert_at, with_place}
-use Rattle.places.proofs.Tables.{wide, length-places, places-wide, table-length, insert-used, replace-table, table_is, is-table-of}
+use Rattle.places.proofs.Tables.{wide, length-places, places-wide, table-length, insert-table, replace-table, table_is, is-table-of}
 use Rattle.places.proofs.Keys.{rank-le}
 use Rattle.places.proofs.Putting.{held_at, new-length, put-new, put-held, put-ascending, put-length-held, put-wide}
 use Rattle.places.specs.Tables.{sought, full, put_in, Sorted}
 
 -- what a search tells
 pub told_found : (k : ℕ) (key : List ℕ) (ps : List (List ℕ)) (i : ℕ) → Ok i ≡ sought k key ps → (holds k key ps ≡ true) × (i ≡ rank k key ps)
-told_found k key ps i e = by (holds k key ps) (λ h. (h, let q : ◌≡◌ {A = Result ℕ ℕ} (Ok i) (Ok (rank k key ps)) = e ∙ rw h refl in cc)) (λ h. let q : ◌≡◌ {A = Result ℕ ℕ} (Ok i) (Err (rank k key ps)) = e ∙ rw h refl in cc)
+told_found k key ps i e = grind arith
 
 pub told_none : (k : ℕ) (key : List ℕ) (ps : List (List ℕ)) (i : ℕ) → Err i ≡ sought k key ps → (holds k key ps ≡ false) × (i ≡ rank k key ps)
-told_none k key ps i e = by (holds k key ps) (λ h. let q : ◌≡◌ {A = Result ℕ ℕ} (Err i) (Ok (rank k key ps)) = e ∙ rw h refl in cc) (λ h. (h, let q : ◌≡◌ {A = Result ℕ ℕ} (Err i) (Err (rank k key ps)) = e ∙ rw h refl in cc))
+told_none k key ps i e = grind arith
 
-module _ (w k cap n : ℕ) (t : List ℕ) (s : Sorted w k cap n t) where
+module _ {w k cap n : ℕ} {t : List ℕ} (s : Sorted w k cap n t) where
   abbrev pub held : List (List ℕ)
   held = places w n t
 
@@ -59,52 +59,45 @@ module _ (w k cap n : ℕ) (t : List ℕ) (s : Sorted w k cap n t) where
           table = is-table-of w cap k (put_in k x held) wd (put-ascending k (λ v. drop k x) key key-length held in-order);
         }
 
-    module _ (i : ℕ) (f : Ok i ≡ sought k key held) where
-      at-rank : (rank k key held < length held) × (take k (get_or held (rank k key held) []) ≡ key)
-      at-rank = held_at k key held in-order (told_found k key held i f).0
-
-      pub found-within : i < n
-      found-within = omega (arith, at-rank.0, (told_found k key held i f).1, counted)
+    module _ {i : ℕ} {r : Result ℕ ℕ} (o : r ≡ Ok i) (f : r ≡ sought k key held) where
+      at-rank : (i < n) × (i ≡ rank k key held) × (holds k key held ≡ true) × (take k (get_or held i []) ≡ key)
+      at-rank = grind (arith, held_at k key held in-order, told_found k key held i (sym o ∙ f), counted)
 
       pub found-room : i * w + w ≤ length t
-      found-room = let h = found-within in let m : suc i * w ≤ n * w = mul-le-mul_right w (omega arith) in omega (arith, used, suc-mul i w)
+      found-room = let m : suc i * w ≤ n * w = mul-le-mul_right w at-rank.0 in omega (arith, used, suc-mul i w)
 
       pub replaced : take (i * w) t ++ (x ++ drop w (drop (i * w) t)) ≡ table_of w cap (put_in k x held)
       replaced =
-          let e = (told_found k key held i f).1 in
-          ap (λ (y : List ℕ). take (i * w) y ++ (x ++ drop w (drop (i * w) y))) is
-          ∙ replace-table w cap held i x all-wide l (rw counted found-within)
-          ∙ ap (table_of w cap) (ap₂ (set held) e (sym (ap (λ (y : List ℕ). y ++ drop k x) at-rank.1 ∙ take-append-drop k x)) ∙ sym (put-held k (λ v. drop k x) key held at-rank.0 at-rank.1))
+          let e : set held i x ≡ put_in k x held = grind (arith, at-rank, counted, put-held k (λ (v : List ℕ). drop k x) key held, take-append-drop k x) in
+          ap (λ (y : List ℕ). take (i * w) y ++ (x ++ drop w (drop (i * w) y))) is ∙ replace-table w cap held i x all-wide l (rw counted at-rank.0) ∙ ap (table_of w cap) e
 
       pub replaced-count : n ≡ length (put_in k x held)
-      replaced-count = sym (put-length-held k (λ v. drop k x) key key-length held in-order (told_found k key held i f).0 ∙ counted)
+      replaced-count = sym (put-length-held k (λ v. drop k x) key key-length held in-order at-rank.2 ∙ counted)
 
-    module _ (i : ℕ) (f : Err i ≡ sought k key held) (free : n < cap) where
-      pub new-within : i ≤ n
-      new-within = omega (arith, rank-le k key held, (told_none k key held i f).1, counted)
+    module _ {i : ℕ} {r : Result ℕ ℕ} (o : r ≡ Err i) (f : r ≡ sought k key held) (room : full cap n r ≡ false) where
+      out : (i ≤ n) × (n < cap) × (i ≡ rank k key held) × (holds k key held ≡ false)
+      out = grind (arith, rank-le k key held, told_none k key held i (sym o ∙ f), counted)
 
       pub new-room : i * w + w ≤ (n + 1) * w
-      new-room = let h = new-within in let m : suc i * w ≤ (n + 1) * w = mul-le-mul_right w (omega arith) in omega (arith, suc-mul i w)
+      new-room = let m : suc i * w ≤ (n + 1) * w = mul-le-mul_right w (omega (arith, out.0)) in omega (arith, suc-mul i w)
 
       pub next-room : (n + 1) * w ≤ length t
-      next-room = rw s.size (mul-le-mul_right w (omega arith))
+      next-room = rw s.size (mul-le-mul_right w (omega (arith, out.1)))
 
       pub inserted : insert_at (i * w) x (take ((n + 1) * w) t) ++ drop ((n + 1) * w) t ≡ table_of w cap (put_in k x held)
       inserted =
-          let o = told_none k key held i f in
-          let h = new-within in
+          let e : with_place i x held ≡ put_in k x held = rw (out.2, put-new k (λ (v : List ℕ). drop k x) key held out.3, take-append-drop k x) refl in
           ap₂ (λ (j : ℕ) (y : List ℕ). insert_at (i * w) x (take ((j + 1) * w) y) ++ drop ((j + 1) * w) y) (sym counted) is
-          ∙ insert-used w cap held i x all-wide l (rw counted h) (rw counted free)
-          ∙ ap (table_of w cap) (ap₂ (λ (j : ℕ) (y : List ℕ). with_place j y held) o.1 (sym (take-append-drop k x)) ∙ sym (put-new k (λ v. drop k x) key held o.0))
+          ∙ insert-table w cap held i x all-wide l (rw counted out.0) (rw counted out.1) ∙ ap (table_of w cap) e
 
       pub inserted-count : n + 1 ≡ length (put_in k x held)
-      inserted-count = sym (new-length k (λ v. drop k x) key held (told_none k key held i f).0 ∙ ap (λ (j : ℕ). j + 1) counted)
+      inserted-count = grind (arith, new-length k (λ (v : List ℕ). drop k x) key held, out, counted)
 
     pub few-after : (r : Result ℕ ℕ) → r ≡ sought k key held → full cap n r ≡ false → length (put_in k x held) ≤ cap
-    few-after (Ok i) f h = omega (arith, replaced-count i f, s.few)
-    few-after (Err i) f h = let free = leb-false cap n h in omega (arith, inserted-count i f free)
+    few-after (Ok i) f h = omega (arith, replaced-count refl f, s.few)
+    few-after (Err i) f h = omega (arith, inserted-count refl f h, out refl f h)
 
 -- what is found is a place
 pub found-in-range : (k : ℕ) (key : List ℕ) (ps : List (List ℕ)) → ascending k ps ≡ true → (r : Result ℕ ℕ) → r ≡ sought k key ps → IfOk r (λ i. i < length ps)
-found-in-range k key ps a (Ok i) e = let t = told_found k key ps i e in rw t.1 (held_at k key ps a t.0).0
+found-in-range k key ps a (Ok i) e = grind (arith, told_found k key ps i, held_at k key ps a)
 found-in-range k key ps a (Err i) e = tt

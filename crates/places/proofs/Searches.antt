@@ -1,9 +1,8 @@
 -- What std's clauses on slices of arrays say of the places of a table.
-use Rattle.std.proofs.Common.{◌≡◌, ℕ, zero, suc, ◌-◌, ◌≤◌, ◌<◌, Bool, true, false, List, [], ◌∷◌, length, take, drop, get_or, refl, sym, ap, ◌∙◌, arith, Ok, Err, ltb, le_antisymm, ltb-true, ltb-false, lt-ltb}
+use Rattle.std.proofs.Common.{◌≡◌, ℕ, zero, suc, ◌-◌, ◌≤◌, ◌<◌, Bool, true, false, List, [], ◌∷◌, length, take, drop, get_or, refl, ap, arith, Ok, Err}
 use Rattle.std.specs.List.Sorted.{IsPartitionPoint, IsPartitionedBy}
 use Rattle.std.specs.Simd.{first_chunks}
 use Rattle.std.proofs.lemmas.List.{get_or_default}
-use Rattle.ranges.proofs.Bools.{by}
 use Rattle.octets.specs.Order.{is_before, same}
 use Rattle.octets.proofs.Comparison.{before-trans}
 use Rattle.places.specs.Places.{places, ascending}
@@ -26,32 +25,19 @@ module _ (k : ℕ) (key : List ℕ) (ps : List (List ℕ)) (a : ascending k ps �
 
   -- those before a key come first
   pub parted : IsPartitionedBy before ps
-  parted i j d h l b =
-      by (ltb i j)
-      (λ u. let v = ltb-true i j u in
-      rw (get_or_default ps i d [] (omega arith)) (before-trans (take k (get_or ps i [])) (take k (get_or ps j [])) key (keys-ascend k ps i j a v l) (rw (get_or_default ps j d [] l) at b)))
-      (λ u. let v = ltb-false i j u in let e : i ≡ j = omega arith in rw e b)
+  parted i j d h l b = grind (arith, get_or_default ps i d [], get_or_default ps j d [], before-trans (take k (get_or ps i [])) (take k (get_or ps j [])) key, keys-ascend k ps i j a)
 
   -- and they end at its position
   pub position : (i : ℕ) → i ≤ length ps → IsPartitionPoint (λ y. before y ≡ true) (λ y. before y ≡ false) ps i → rank k key ps ≡ i
-  position i l h = le_antisymm above below
-    where
-      above : rank k key ps ≤ i
-      above = by (ltb i (length ps)) (λ u. rank_below k key ps i (h.1 i [] (omega arith) (ltb-true i (length ps) u))) (λ u. let v = ltb-false i (length ps) u in omega (arith, rank-le k key ps))
-
-      below : i ≤ rank k key ps
-      below = by (ltb 0 i) (λ u. let v = ltb-true 0 i u in let w : i - 1 < rank k key ps = rank-above k key ps (i - 1) a (omega arith) (h.0 (i - 1) [] (omega arith) (omega arith)) in omega arith) (λ u. let v = ltb-false 0 i u in omega arith)
+  position i l h = grind (arith, rank_below k key ps i, h.1 i [], rank-le k key ps, rank-above k key ps (i - 1) a, h.0 (i - 1) [])
 
   module _ (i : ℕ) (e : rank k key ps ≡ i) where
     pub found : i < length ps → same (take k (get_or ps i [])) key ≡ true → Ok i ≡ sought k key ps
-    found l h = rw (holds-at-rank k key ps a, e, lt-ltb i (length ps) l, h) refl
+    found l h = grind (arith, holds-at-rank k key ps)
 
     pub not-found : (i < length ps → same (take k (get_or ps i [])) key ≡ false) → Err i ≡ sought k key ps
-    not-found h =
-        by (ltb i (length ps))
-        (λ u. rw (holds-at-rank k key ps a, e, u, h (ltb-true i (length ps) u)) refl)
-        (λ u. rw (holds-at-rank k key ps a, e, u) refl)
+    not-found h = grind (arith, holds-at-rank k key ps)
 
     -- the place as it is read
     pub compared : (p x : List ℕ) (b : Bool) → i < length ps → p ≡ get_or ps i p → x ≡ take k p → b ≡ same x key → same (take k (get_or ps i [])) key ≡ b
-    compared p x b l q f s = ap (λ (y : List ℕ). same y key) (ap (take k) (get_or_default ps i [] p l ∙ sym q) ∙ sym f) ∙ sym s
+    compared p x b l q f s = grind (arith, get_or_default ps i [] p l)
