@@ -1,7 +1,6 @@
 -- The relations of records are those of their values, and a record is its value: two records with one value are the same bytes.
 use Prim.Native.Nat.{ℕ, ◌<◌}
-use Rattle.std.proofs.Common.{◌≡◌, true, false, ◌&&◌, List, length, get_or, refl, sym, ap, ap₂, ◌∙◌, arith, ltb, Option, Some, None, is_some}
-use lib.IntN.{ℤ, pos}
+use Rattle.std.proofs.Common.{◌≡◌, true, false, ◌&&◌, List, length, get_or, refl, sym, ap, ap₂, ◌∙◌, arith, ltb}
 use Rattle.octets.specs.Bytes.{Bytes}
 use Rattle.octets.specs.Order.{same}
 use Rattle.record.specs.Fields as F
@@ -11,15 +10,10 @@ use Rattle.record.specs.Value.{Value, value_of, is_subset, is_tied}
 use Rattle.record.specs.Layout as L
 use Rattle.record.proofs.Parts.{Formed, formed}
 use Rattle.record.proofs.Whole.{flagged, height_number, tags-length, fields-whole}
-use Rattle.ranges.proofs.Bools.{by}
-use Rattle.octets.specs.Words.{word, signed_of}
 use Rattle.octets.specs.Runs.{all_zero}
 use Rattle.octets.proofs.Zeros.{zero-run}
-use lib.Dec.{eqb}
 use lib.ListN.{take, drop, replicate, length-drop}
 use lib.Seq.{length-take-le}
-use Rattle.std.proofs.lemmas.Bool.{false≢true}
-use Rattle.std.specs.Option.{unwrap_or}
 use Prim.Native.Nat.{zero, suc}
 
 pub subset-value : (a b : List ℕ) → R.subset a b ≡ is_subset (value_of a) (value_of b)
@@ -45,23 +39,12 @@ covariance-at r (suc (suc (suc (suc (suc (suc i)))))) h = absurd (omega arith)
 -- without a height its bytes are zero
 blank : (r : List ℕ) → Formed r → flagged r ≡ false → take 4 (drop L.height_at r) ≡ replicate 4 0
 blank r f p =
-    let z : all_zero (take 4 (drop L.height_at r)) ≡ true = by (eqb (F.byte_at L.height_flag_at r) 0) (λ e. rw e at f.flag) (λ e. absurd (false≢true (sym p ∙ (rw e at f.flag)))) in
+    let z : all_zero (take 4 (drop L.height_at r)) ≡ true = grind (arith, f.flag) in
     let n : length (take 4 (drop L.height_at r)) ≡ 4 = length-take-le 4 (drop L.height_at r) (rw (length-drop, f.size) (omega arith)) in
     zero-run (take 4 (drop L.height_at r)) z ∙ ap (λ (m : ℕ). replicate m 0) n
 
-module _ (a b : List ℕ) (f : Formed a) (g : Formed b) (e : F.height a ≡ F.height b) where
-  same-height : (flagged a ≡ flagged b) × (height_number a ≡ height_number b)
-  same-height =
-      by (flagged a)
-      (λ p. by (flagged b)
-      (λ q. let h : Some (height_number a) ≡ Some (height_number b) = rw (p, q) at e in (p ∙ sym q, ap (λ (o : Option ℤ). unwrap_or o (pos 0)) h))
-      (λ q. let h : Some (height_number a) ≡ None = rw (p, q) at e in absurd (some-not-none (height_number a) h)))
-      (λ p. by (flagged b)
-      (λ q. let h : None ≡ Some (height_number b) = rw (p, q) at e in absurd (some-not-none (height_number b) (sym h)))
-      (λ q. (p ∙ sym q, ap (λ (s : List ℕ). signed_of (word s)) (blank a f p ∙ sym (blank b g q)))))
-    where
-      some-not-none : (z : ℤ) → Some z ≡ None → ⊥
-      some-not-none z h = false≢true (sym (ap is_some h))
+same-height : (a b : List ℕ) → Formed a → Formed b → F.height a ≡ F.height b → (flagged a ≡ flagged b) × (height_number a ≡ height_number b)
+same-height a b f g e = grind (arith, blank a f, blank b g)
 
 pub value-whole : (a b : List ℕ) → Bytes a → Bytes b → well_formed a ≡ true → well_formed b ≡ true → value_of a ≡ value_of b → a ≡ b
 value-whole a b ba bb wa wb e =
