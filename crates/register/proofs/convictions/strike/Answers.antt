@@ -19,11 +19,11 @@ use Rattle.register.proofs.convictions.strike.Goals as goal
 
 pub strike_summaries-first-requires : goal.strike_summaries-first-requires
 strike_summaries-first-requires c =
-    used _ _ _ _ _ (summaries-sorted c.args.memory.now _ c.split_at_mut-header.ensures.back c.split_at_mut-summaries.result.0.now _ c.split_at_mut-header.ensures.front (opened c.args.memory.now c.requires) c.u16_at.result c.u16_at.ensures c.split_at_mut-summaries.ensures.front)
+    used (summaries-sorted c.args.memory.now _ c.split_at_mut-header.ensures.back c.split_at_mut-summaries.result.0.now _ c.split_at_mut-header.ensures.front (opened c.args.memory.now c.requires) c.u16_at.result c.u16_at.ensures c.split_at_mut-summaries.ensures.front)
 
 pub strike_records-second-requires : goal.strike_records-second-requires
 strike_records-second-requires c =
-    used _ _ _ _ _ (records-sorted c.args.memory.now _ c.split_at_mut-header.ensures.back c.split_at_mut-summaries.result.1.now _ c.split_at_mut-header.ensures.front (opened c.args.memory.now c.requires) c.u16_at-2.result c.u16_at-2.ensures c.split_at_mut-summaries.ensures.back)
+    used (records-sorted c.args.memory.now _ c.split_at_mut-header.ensures.back c.split_at_mut-summaries.result.1.now _ c.split_at_mut-header.ensures.front (opened c.args.memory.now c.requires) c.u16_at-2.result c.u16_at-2.ensures c.split_at_mut-summaries.ensures.back)
 
 pub overflow_cast-first : goal.overflow_cast-first
 overflow_cast-first c =

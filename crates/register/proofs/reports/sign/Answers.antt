@@ -7,7 +7,6 @@ use Rattle.places.specs.Tables.{sought}
 use Rattle.places.proofs.Puts.{found-in-range, in-order}
 use Rattle.held.specs.Limits.{place_size}
 use Rattle.record.specs.Layout.{record_size}
-use Rattle.register.specs.Layout.{max_records}
 use Rattle.register.specs.Signers.{signers_found}
 use Rattle.register.proofs.Opened.{opened}
 use Rattle.register.proofs.Parts.{records-sorted}
@@ -21,7 +20,7 @@ of-records-requires c =
 pub signers_with-signers-requires : goal.signers_with-signers-requires
 signers_with-signers-requires c =
     let q = c.of-records.result in
-    rw c.places.ensures (found-in-range record_size c.args.r.bytes.now (places place_size q.count q.places.now) (in-order place_size record_size max_records q.count q.places.now q.sorted) c.search-found.result c.search-found.ensures)
+    rw c.places.ensures (found-in-range record_size c.args.r.bytes.now (places place_size q.count q.places.now) (in-order q.sorted) c.search-found.result c.search-found.ensures)
 
 pub put-requires : goal.put-requires
 put-requires c =
