@@ -1,6 +1,7 @@
 -- What is shown of fixes is what a decision of their items shows.
+use Rattle.std.proofs.lemmas.List.{get_or_default, get_or-map}
 use Rattle.std.specs.Prelude.{Some, slice_get}
-use Prim.Native.Nat.{ℕ, zero, suc, ◌≤◌, ◌<◌}
+use Prim.Native.Nat.{ℕ, ◌≤◌, ◌<◌}
 use mathlib.Core.Path.{◌≡◌, refl, sym, ap, subst, ◌∙◌}
 use mathlib.Core.Bool.{not, false≢true}
 use mathlib.Core.List.Memᴰ
@@ -32,7 +33,7 @@ use Rattle.decision.specs.Working.{among}
 use Rattle.decision.specs.declared.Decision.{Decision}
 use Rattle.decision.specs.declared.Refusal.{Refusal}
 use Rattle.decision.proofs.Carried.{Alike, carried, carried_outcome}
-use Rattle.decision.proofs.Laws.{Sound, Named, opponent, successor, listed-once, refused-names, some_ranked}
+use Rattle.decision.proofs.Laws.{Sound, opponent, successor, listed-once, refused-names, some_ranked}
 use Rattle.shown.specs.Fix.{Fix}
 use Rattle.shown.specs.Shown.{subset_of, agreement, shown}
 use Rattle.shown.specs.Items.{no_fix, at}
@@ -54,31 +55,19 @@ module _ (gs : List Fix) (l : List Item) (long : length l ≡ length gs) (w : Ea
   abbrev o : Outcome ℕ ChiSquare
   o = decide (relations l) (all l)
 
-  item : (i : ℕ) → i < length l → (x : Item) × (slice_get l i ≡ Some x) × IsFix (at gs i) x
-  item i h = let r = some-here l i h in (r.0, r.1, w i r.0 h r.1)
+  item : (i : ℕ) → Memᴰ i (all l) → (x : Item) × (slice_get l i ≡ Some x) × IsFix (at gs i) x
+  item i m = let h = up_in (length l) i m in let r = some-here l i h in (r.0, r.1, w i r.0 h r.1)
 
   alike : Alike (relations l) fix_relations (at gs) (λ c. c) (all l)
   unfolding V.disagrees V.ahead
   alike = record {
-    disagrees = λ i j m n.
-        let a = item i (up_in (length l) i m) in let b = item j (up_in (length l) j n) in
-        sym (rw (a.1, b.1, a.2.report, b.2.report, b.2.candidate) refl);
-    chi_square = λ i j m n.
-        let a = item i (up_in (length l) i m) in let b = item j (up_in (length l) j n) in
-        sym (rw (a.1, b.1, a.2.report, b.2.report) refl);
-    outstands = λ i j m n.
-        let a = item i (up_in (length l) i m) in let b = item j (up_in (length l) j n) in
-        sym (rw (a.1, b.1, a.2.candidate, b.2.candidate) refl);
-    passed = λ i m. let a = item i (up_in (length l) i m) in sym (rw (a.1, a.2.candidate) refl);
-    within = λ i j m n.
-        let a = item i (up_in (length l) i m) in let b = item j (up_in (length l) j n) in
-        sym (rw (a.1, b.1, a.2.report, b.2.report, a.2.inputs, b.2.inputs) refl);
-    lower = λ i j m n.
-        let a = item i (up_in (length l) i m) in let b = item j (up_in (length l) j n) in
-        sym (rw (a.1, b.1, a.2.identity, b.2.identity) refl);
-    ahead = λ i j m n.
-        let a = item i (up_in (length l) i m) in let b = item j (up_in (length l) j n) in
-        sym (rw (a.1, b.1, a.2.candidate, b.2.candidate, a.2.identity, b.2.identity) refl);
+    disagrees = λ i j m n. let a = item i m in let b = item j n in sym (rw (a.1, b.1, a.2.report, b.2.report, b.2.candidate) refl);
+    chi_square = λ i j m n. let a = item i m in let b = item j n in sym (rw (a.1, b.1, a.2.report, b.2.report) refl);
+    outstands = λ i j m n. let a = item i m in let b = item j n in sym (rw (a.1, b.1, a.2.candidate, b.2.candidate) refl);
+    passed = λ i m. let a = item i m in sym (rw (a.1, a.2.candidate) refl);
+    within = λ i j m n. let a = item i m in let b = item j n in sym (rw (a.1, b.1, a.2.report, b.2.report, a.2.inputs, b.2.inputs) refl);
+    lower = λ i j m n. let a = item i m in let b = item j n in sym (rw (a.1, b.1, a.2.identity, b.2.identity) refl);
+    ahead = λ i j m n. let a = item i m in let b = item j n in sym (rw (a.1, b.1, a.2.candidate, b.2.candidate, a.2.identity, b.2.identity) refl);
   }
 
   -- what is shown of the fixes is what is decided of their items, each index standing for its fix
@@ -95,20 +84,17 @@ module _ (gs : List Fix) (l : List Item) (long : length l ≡ length gs) (w : Ea
   listed-below i m = up_in (length l) i (perm-mem (Permᴰ.symm (listed-once (relations l) (all l))) m)
 
   against-below : (x : Refused ℕ ChiSquare) → Memᴰ x o.refused → x.against < length l
-  against-below x m = go (refused-names (relations l) (all l) x m)
-    where
-      go : Named (relations l) (all l) x → x.against < length l
-      go (opponent q c k d u) = up_in (length l) x.against k
-      go (successor q c k d v w) = up_in (length l) x.against k
+  against-below x m = elim (refused-names (relations l) (all l) x m) [ opponent q c k d u ↦ up_in (length l) x.against k | successor q c k d v w ↦ up_in (length l) x.against k ]
 
   map-in : {A B : Type 0} (f : A → B) (k : List A) (x : A) → Memᴰ x k → Memᴰ (f x) (map f k)
   map-in f [] x m = absurd (Memᴰ.not-nil m)
   map-in f (y ∷ k) x m = or (Memᴰ.cases_cons m) (λ e. Memᴰ.head (ap f e)) (λ z. Memᴰ.tail (map-in f k x z))
 
   refusal-at : (rs : List (Refused ℕ ChiSquare)) (i : ℕ) (d : Refusal) → i < length (map refusal rs) → (x : Refused ℕ ChiSquare) × Memᴰ x rs × (get_or (map refusal rs) i d ≡ refusal x)
-  refusal-at [] i d h = absurd (omega arith)
-  refusal-at (x ∷ rs) zero d h = (x, Memᴰ.head refl, refl)
-  refusal-at (x ∷ rs) (suc i) d h = let r = refusal-at rs i d (omega arith) in (r.0, Memᴰ.tail r.1, r.2)
+  refusal-at rs i d h =
+      let k : i < length rs = rw (length-map rs refusal) at h in
+      let x = get_or rs i (refused_by d) in
+      (x, at_in (refused_by d) rs i k, get_or-map refusal rs i (refused_by d) d k)
 
   module _ {N : ℕ} (d : Decision N) (says : Says d o) where
     list-below : (k m : List ℕ) → k ≡ m → ((i : ℕ) → Memᴰ i m → i < length l) → AllBelow (length gs) k
@@ -166,61 +152,37 @@ some-first (g ∷ gs) h =
 pub ranked-some : (gs : List Fix) → 0 < length gs → 0 < length (shown gs).ranked
 ranked-some gs h = let r = some-first gs h in rw r.2 (omega arith)
 
--- whoever is alone is ranked
+-- whoever is alone is ranked, and nothing opposes it
+pub alone-shown : (f : Fix) → shown (f ∷ []) ≡ record { ranked = f ∷ []; dominated = []; refused = [] }
+unfolding shown sort insert flat_map
+alone-shown f = rw (subset-irrefl f.record_bytes) refl
+
 pub alone : (f : Fix) → (shown (f ∷ [])).ranked ≡ f ∷ []
-unfolding shown sort insert
-alone f = rw (subset-irrefl f.record_bytes) refl
+alone f = ap (λ (o : Outcome Fix ChiSquare). o.ranked) (alone-shown f)
 
-none-dominated : (f : Fix) → (shown (f ∷ [])).dominated ≡ []
-unfolding shown
-none-dominated f = rw (subset-irrefl f.record_bytes) refl
-
-none-refused : (f : Fix) → (shown (f ∷ [])).refused ≡ []
-unfolding shown flat_map
-none-refused f = rw (subset-irrefl f.record_bytes) refl
-
-none : {N : ℕ} (d : Decision N) → d.ranked.items ≡ [] → d.dominated.items ≡ [] → d.refusals.items ≡ [] → Shows [] d
-unfolding shown sort flat_map
-none d p q r = record {
-  shown = rw (p, q, r) refl;
-  within = record {
-    ranked = λ i k. absurd (omega (arith, k, ap (λ (z : List ℕ). length z) p));
-    dominated = λ i k. absurd (omega (arith, k, ap (λ (z : List ℕ). length z) q));
-    refused = λ i x k. absurd (omega (arith, k, ap (λ (z : List Refusal). length z) r));
-    against = λ i x k. absurd (omega (arith, k, ap (λ (z : List Refusal). length z) r));
-  };
+-- a decision that only ranks
+ranking : {N : ℕ} (n : ℕ) (d : Decision N) → d.dominated.items ≡ [] → d.refusals.items ≡ [] → AllBelow n d.ranked.items → Within n d
+ranking n d q r a = record {
+  ranked = a;
+  dominated = λ i k. absurd (omega (arith, k, ap (λ (z : List ℕ). length z) q));
+  refused = λ i x k. absurd (omega (arith, k, ap (λ (z : List Refusal). length z) r));
+  against = λ i x k. absurd (omega (arith, k, ap (λ (z : List Refusal). length z) r));
 }
 
 -- nothing opposes at most one
 pub shows-few : {N : ℕ} (gs : List Fix) (d : Decision N) → length gs ≤ 1 → d.ranked.items ≡ up_to (length gs) → d.dominated.items ≡ [] → d.refusals.items ≡ [] → Shows gs d
-unfolding count_from
-shows-few [] d h p q r = none d p q r
-shows-few (f ∷ []) d h p q r = record {
-  shown = rw (p, q, r, alone f, none-dominated f, none-refused f) refl;
-  within = record {
-    ranked = λ i k. rw p (first i (rw p at k));
-    dominated = λ i k. absurd (omega (arith, k, ap (λ (z : List ℕ). length z) q));
-    refused = λ i x k. absurd (omega (arith, k, ap (λ (z : List Refusal). length z) r));
-    against = λ i x k. absurd (omega (arith, k, ap (λ (z : List Refusal). length z) r));
-  };
-}
-  where
-    first : (i : ℕ) → i < 1 → get_or (0 ∷ []) i 0 < 1
-    first zero k = omega arith
-    first (suc i) k = absurd (omega arith)
+unfolding shown sort flat_map count_from
+shows-few [] d h p q r = record { shown = rw (p, q, r) refl; within = ranking 0 d q r (rw p (λ i k. absurd (omega (arith, k)))) }
+shows-few (f ∷ []) d h p q r = record { shown = rw (p, q, r, alone-shown f) refl; within = ranking 1 d q r (rw p (λ i k. let z : i ≡ 0 = omega (arith, k) in rw z (omega arith))) }
 shows-few (f ∷ (g ∷ gs)) d h p q r = absurd (omega arith)
 
 -- ---- one of those that are listed
 
 pub at-map : {A B : Type 0} (f : A → B) (l : List A) (i : ℕ) (x : A) (y : B) → i < length l → get_or (map f l) i y ≡ f (get_or l i x)
-at-map f [] i x y h = absurd (omega arith)
-at-map f (z ∷ l) zero x y h = refl
-at-map f (z ∷ l) (suc i) x y h = at-map f l i x y (omega arith)
+at-map f l i x y h = get_or-map f l i x y h
 
 pub get_or-default : {A : Type 0} (l : List A) (i : ℕ) (x y : A) → i < length l → get_or l i x ≡ get_or l i y
-get_or-default [] i x y h = absurd (omega arith)
-get_or-default (z ∷ l) zero x y h = refl
-get_or-default (z ∷ l) (suc i) x y h = get_or-default l i x y (omega arith)
+get_or-default l i x y h = get_or_default l i x y h
 
 module _ (gs : List Fix) where
   -- what an index in a list stands for; m is the list as it is lent
