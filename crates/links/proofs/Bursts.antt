@@ -1,9 +1,9 @@
 -- Bursts with a pause between them: no chain leads from one to the other, and each has the transmissions that it has alone.
-use Rattle.std.proofs.Common.{ℕ, ◌≡◌, refl, sym, ap, ◌∙◌, Bool, true, ◌&&◌, List, [], ◌∷◌, arith, ltb, leb, leb-true, le-leb, ltb-true, lt-ltb}
+use Rattle.std.proofs.Common.{ℕ, ◌≡◌, refl, sym, ◌∙◌, Bool, true, ◌&&◌, List, [], ◌∷◌, arith, ltb, leb, leb-true, le-leb, lt-ltb}
 use mathlib.Core.List.{Memᴰ}
 use Rattle.std.specs.List.{filter}
 use Rattle.ranges.proofs.Lists.{filter-in, filter-of, filter_same}
-use Rattle.ranges.proofs.Bools.{by, or, and_left, and_right, and_both, same_test}
+use Rattle.ranges.proofs.Bools.{and_left, and_right, and_both, same_test}
 use Rattle.shown.specs.Fix.{Fix}
 use Rattle.shown.specs.Ages.{time_of}
 use Rattle.links.specs.Transmissions.{linked, Chain, here, more, transmission_of}
@@ -14,10 +14,7 @@ use Rattle.links.proofs.Limits.{link-exactly-when}
 
 twice : {A : Type 0} (p q : A → Bool) (l : List A) → filter q (filter p l) ≡ filter (λ x. p x && q x) l
 twice p q [] = refl
-twice {A = A} p q (x ∷ l) =
-    by (p x)
-    (λ h. by (q x) (λ k. rw (h, k) (ap (λ (t : List A). x ∷ t) (twice p q l))) (λ k. rw (h, k) (twice p q l)))
-    (λ h. rw h (twice p q l))
+twice p q (x ∷ l) = grind (arith, twice p q l)
 
 -- ---- a burst: all that a test holds of, where a link leads from none of these to another
 
@@ -52,16 +49,10 @@ module _ (fs : List Fix) (self : SelfLinked fs) (p : Fix → Bool)
 
 module _ (s : ℕ) (fs : List Fix) (pause : Pause s fs) where
   stays-before : (f g : Fix) → Memᴰ f fs → Memᴰ g fs → linked g f ≡ true → leb (time_of f) s ≡ true → leb (time_of g) s ≡ true
-  stays-before f g m n e h =
-      let t = ((link-exactly-when g.record_bytes f.record_bytes).0 e).1 in
-      let l = leb-true (time_of f) s h in
-      or (pause g n) (λ k. le-leb (time_of g) s k) (λ k. absurd (omega arith))
+  stays-before f g m n e h = grind (arith, pause g n, ((link-exactly-when g.record_bytes f.record_bytes).0 e).1)
 
   stays_after : (f g : Fix) → Memᴰ f fs → Memᴰ g fs → linked g f ≡ true → ltb s (time_of f) ≡ true → ltb s (time_of g) ≡ true
-  stays_after f g m n e h =
-      let t = ((link-exactly-when g.record_bytes f.record_bytes).0 e).2 in
-      let l = ltb-true s (time_of f) h in
-      or (pause f m) (λ k. absurd (omega arith)) (λ k. lt-ltb s (time_of g) (omega arith))
+  stays_after f g m n e h = grind (arith, pause f m, ((link-exactly-when g.record_bytes f.record_bytes).0 e).2)
 
 pub bursts-stay-apart : BurstsStayApart
 bursts-stay-apart fs parted formed s pause = record {

@@ -1,5 +1,5 @@
 -- The transmissions of fixes, by the indices of the fixes in their list.
-use Rattle.std.proofs.Common.{ℕ, zero, suc, ◌↔◌, ◌+◌, ◌≤◌, ◌<◌, ◌≡◌, refl, sym, ap, ap₂, ◌∙◌, Bool, true, List, [], ◌∷◌, map, arith, length, get_or}
+use Rattle.std.proofs.Common.{ℕ, zero, suc, ◌↔◌, ◌+◌, ◌≤◌, ◌<◌, ◌≡◌, refl, ap, ap₂, ◌∙◌, Bool, true, List, [], ◌∷◌, map, arith, length, get_or}
 use mathlib.Core.List.{Memᴰ}
 use Rattle.octets.specs.Order.{same}
 use Rattle.std.specs.List.{filter}
@@ -22,9 +22,7 @@ module _ {A : Type 0} (d : A) where
       let z : k ≡ k + 0 = omega arith in
       let w : h k ≡ x = ap h z ∙ e 0 (omega arith) in
       let r = from_place p h l (suc k) (λ i b. let y : suc k + i ≡ k + suc i = omega arith in ap h y ∙ e (suc i) (omega arith)) in
-      by (p x)
-      (λ u. rw (u, ap p w ∙ u) (ap₂ (λ (y : A) (ys : List A). y ∷ ys) (sym w) r))
-      (λ u. rw (u, ap p w ∙ u) r)
+      grind (arith, w, r)
 
   pub filter-places : (p : A → Bool) (l : List A) → filter p l ≡ map (λ i. get_or l i d) (filt (λ i. p (get_or l i d)) 0 (length l))
   filter-places p l = from_place p (λ i. get_or l i d) l 0 (λ i b. let z : 0 + i ≡ i = omega arith in ap (λ (j : ℕ). get_or l j d) z)

@@ -1,17 +1,10 @@
 -- Laws of the table of labels: what visits write into it.
-use Rattle.std.proofs.Common.{◌≡◌, refl, sym, ap, ap₂, ◌∙◌, Bool, true, false, cond, List, [], ◌∷◌, ℕ, zero, suc, ◌<◌, arith, length, get_or, set}
-use Rattle.ranges.proofs.Bools.{clash}
+use Rattle.std.proofs.Common.{◌≡◌, refl, sym, ap, ◌∙◌, Bool, true, false, cond, List, [], ◌∷◌, ℕ, zero, suc, ◌<◌, arith, length, get_or, set}
 use Rattle.ranges.specs.Tables.{marked}
 use Rattle.links.specs.Labels.{relabel}
 use Rattle.links.proofs.Marks.{Grown, grown-none, grown-set, grown-more}
 
 -- ---- what one visit writes
-
-label-once : (a b c : Bool) (s x : ℕ) → (a ≡ true → b ≡ true) → (b ≡ true → c ≡ true) → cond b (cond a x (cond b s x)) (cond c s (cond a x (cond b s x))) ≡ cond a x (cond c s x)
-label-once true true c s x f g = refl
-label-once true false c s x f g = clash (f refl) refl
-label-once false true c s x f g = rw (g refl) refl
-label-once false false c s x f g = refl
 
 module _ (s : ℕ) where
   pub relabel-length : (m r : List Bool) (l : List ℕ) → length (relabel s m r l) ≡ length l
@@ -26,17 +19,15 @@ module _ (s : ℕ) where
   unfolding relabel
   relabel-none m [] = refl
   relabel-none [] (x ∷ l) = refl
-  relabel-none (true ∷ m) (x ∷ l) = ap (λ (k : List ℕ). x ∷ k) (relabel-none m l)
-  relabel-none (false ∷ m) (x ∷ l) = ap (λ (k : List ℕ). x ∷ k) (relabel-none m l)
+  relabel-none (b ∷ m) (x ∷ l) = grind (arith, relabel-none m l)
 
   -- with one mark more, its place is
   pub relabel-set : (m : List Bool) (l : List ℕ) (i : ℕ) → i < length m → marked m i ≡ false → relabel s m (set m i true) l ≡ set l i s
   unfolding relabel
   relabel-set m [] i h e = refl
   relabel-set [] (x ∷ l) i h e = absurd (omega arith)
-  relabel-set (a ∷ m) (x ∷ l) zero h e = rw (e, relabel-none m l) refl
-  relabel-set (true ∷ m) (x ∷ l) (suc i) h e = ap (λ (k : List ℕ). x ∷ k) (relabel-set m l i (omega arith) e)
-  relabel-set (false ∷ m) (x ∷ l) (suc i) h e = ap (λ (k : List ℕ). x ∷ k) (relabel-set m l i (omega arith) e)
+  relabel-set (a ∷ m) (x ∷ l) zero h e = grind (arith, relabel-none m l)
+  relabel-set (a ∷ m) (x ∷ l) (suc i) h e = grind (arith, relabel-set m l i)
 
   -- marks that are only added: what is written in two steps is written in one
   pub relabel-more :
@@ -49,9 +40,10 @@ module _ (s : ℕ) where
   relabel-more (y ∷ m) [] q (x ∷ l) a b f g = absurd (omega arith)
   relabel-more (y ∷ m) (z ∷ r) [] (x ∷ l) a b f g = absurd (omega arith)
   relabel-more (y ∷ m) (z ∷ r) (w ∷ q) (x ∷ l) a b f g =
-      ap₂ (λ (h : ℕ) (k : List ℕ). h ∷ k)
-      (label-once y z w s x (f 0) (g 0))
-      (relabel-more m r q l (omega arith) (omega arith) (λ k. f (suc k)) (λ k. g (suc k)))
+      let f₀ : y ≡ true → z ≡ true = f 0 in
+      let g₀ : z ≡ true → w ≡ true = g 0 in
+      let ih = relabel-more m r q l (omega arith) (omega arith) (λ k. f (suc k)) (λ k. g (suc k)) in
+      grind (arith, ih, f₀, g₀)
 
   pub relabel-at : (m r : List Bool) (l : List ℕ) (k : ℕ) → k < length m → k < length r → k < length l → get_or (relabel s m r l) k 0 ≡ cond (marked m k) (get_or l k 0) (cond (marked r k) s (get_or l k 0))
   unfolding relabel

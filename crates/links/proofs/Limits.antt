@@ -1,47 +1,25 @@
 -- The limit in time of a link: when two records link, which fixes are one transmission by computation, and that two fixes further apart rank alone.
-use Rattle.std.proofs.Common.{ℕ, ◌+◌, ◌-◌, ◌≤◌, ◌<◌, ◌≡◌, refl, ap, ap₂, ◌∙◌, true, false, List, [], ◌∷◌, map, arith, ltb, ltb-true, ltb-false, leb-true, le-leb}
-use mathlib.Core.List.{flat_map}
-use borrow.Author.Tests.{lt-leb}
+use Rattle.shown.proofs.Showing.{alone-shown}
+use Rattle.std.proofs.Common.{◌<◌, ◌≡◌, refl, ap, ap₂, ◌∙◌, true, false, List, [], ◌∷◌, map, arith}
 use Rattle.octets.specs.Words.{word, word_bytes}
 use Rattle.octets.specs.Order.{same, is_before}
 use Rattle.octets.proofs.Comparison.{same_refl}
-use Rattle.record.specs.Fields.{time, tags_from}
+use Rattle.record.specs.Fields.{tags_from}
 use Rattle.record.specs.Relations.{shares_tag, any_in, member, tied}
-use Rattle.record.proofs.Laws.{subset-irrefl}
 use Rattle.std.specs.List.{filter, list_any}
-use Rattle.ranges.specs.Lists.{insert, sort}
-use Rattle.ranges.proofs.Bools.{by, and_left, and_right, and_both}
 use Rattle.shown.specs.Fix.{Fix}
 use Rattle.shown.specs.Ages.{time_of}
 use Rattle.shown.specs.Shown.{Transmission, shown}
-use Rattle.links.specs.Transmissions.{link_span, difference, near_in_time, records_link, linked, reach, transmission_of, leads, is_first, transmissions_of}
+use Rattle.links.specs.Transmissions.{link_span, difference, records_link, linked, reach, transmission_of, leads, is_first, transmissions_of}
 use Rattle.links.specs.Bursts.{LinkExactlyWhen, Limit, ChainsJoin, ranks_alone, FarSubset}
 use Rattle.links.proofs.Symmetry.{linked-turned}
 use Rattle.links.proofs.Fitness.{self-linked}
 
 -- ---- near in time
 
-near-is : (s t : ℕ) → near_in_time s t ≡ true → (s ≤ t + link_span) × (t ≤ s + link_span)
-near-is s t h = let d = leb-true (difference s t) link_span h in by (ltb s t) (λ p. above (ltb-true s t p) (rw p at d)) (λ p. below (ltb-false s t p) (rw p at d))
-  where
-    above : s < t → t - s ≤ link_span → (s ≤ t + link_span) × (t ≤ s + link_span)
-    above l d = (omega arith, omega arith)
-
-    below : t ≤ s → s - t ≤ link_span → (s ≤ t + link_span) × (t ≤ s + link_span)
-    below l d = (omega arith, omega arith)
-
-near_of : (s t : ℕ) → s ≤ t + link_span → t ≤ s + link_span → near_in_time s t ≡ true
-near_of s t h k =
-    by (ltb s t)
-    (λ p. rw p (le-leb (t - s) link_span (omega arith)))
-    (λ p. rw p (le-leb (s - t) link_span (omega arith)))
-
 pub link-exactly-when : LinkExactlyWhen
 unfolding records_link
-link-exactly-when a b = (
-  λ h. let n = near-is (time a) (time b) (and_right (tied a b) (near_in_time (time a) (time b)) h) in (and_left (tied a b) (near_in_time (time a) (time b)) h, n.0, n.1),
-  λ p. and_both (tied a b) (near_in_time (time a) (time b)) p.0 (near_of (time a) (time b) p.1 p.2),
-)
+link-exactly-when a b = (λ (h : records_link a b ≡ true). grind arith, λ p. grind arith)
 
 -- ---- by computation
 
@@ -62,14 +40,10 @@ chains-join = record { by_tags = record { all = refl; ends = refl }; by_times = 
 
 far-unlinked : (f g : Fix) → link_span < difference (time_of f) (time_of g) → linked f g ≡ false
 unfolding records_link
-far-unlinked f g h = by (tied f.record_bytes g.record_bytes) (λ p. rw (p, far) refl) (λ p. rw p refl)
-  where
-    far : near_in_time (time_of f) (time_of g) ≡ false
-    far = lt-leb (difference (time_of f) (time_of g)) link_span h
+far-unlinked f g h = grind arith
 
 alone : (f : Fix) → shown (f ∷ []) ≡ ranks_alone f
-unfolding shown sort insert flat_map
-alone f = rw (subset-irrefl f.record_bytes) refl
+alone f = alone-shown f
 
 module _ (f g : Fix) (ff : linked f f ≡ true) (gg : linked g g ≡ true) (fg : linked f g ≡ false) (gf : linked g f ≡ false) where
   abbrev both : List Fix

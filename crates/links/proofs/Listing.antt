@@ -11,23 +11,13 @@ module _ {A : Type 0} where
   module _ (p q : A → Bool) where
     pub filter-wider : (l : List A) → ((x : A) → Memᴰ x l → p x ≡ true → q x ≡ true) → length (filter p l) ≤ length (filter q l)
     filter-wider [] w = omega arith
-    filter-wider (y ∷ l) w =
-        let r = filter-wider l (λ x m. w x (Memᴰ.tail m)) in
-        by (p y)
-        (λ u. rw (u, w y (Memᴰ.head refl) u) (omega arith))
-        (λ u. by (q y) (λ v. rw (u, v) (omega arith)) (λ v. rw (u, v) (omega arith)))
+    filter-wider (y ∷ l) w = grind (arith, filter-wider l (λ (x : A) (m : Memᴰ x l). w x (Memᴰ.tail m)), w y (Memᴰ.head refl))
 
     pub filter-no-wider : (l : List A) → ((x : A) → Memᴰ x l → p x ≡ true → q x ≡ true) → length (filter q l) ≤ length (filter p l) → filter q l ≡ filter p l
     filter-no-wider [] w h = refl
     filter-no-wider (y ∷ l) w h =
         let v : (x : A) → Memᴰ x l → p x ≡ true → q x ≡ true = λ x m. w x (Memᴰ.tail m) in
-        let r = filter-wider l v in
-        by (p y)
-        (λ u. let k = w y (Memᴰ.head refl) u in
-        rw (u, k) (ap (λ (z : List A). y ∷ z) (filter-no-wider l v (let g = rw (u, k) at h in omega arith))))
-        (λ u. by (q y)
-        (λ k. absurd (let g = rw (u, k) at h in omega arith))
-        (λ k. rw (u, k) (filter-no-wider l v (rw (u, k) at h))))
+        grind (arith, filter-wider l v, filter-no-wider l v, w y (Memᴰ.head refl))
 
   -- a test that as many pass as there are is passed by all
   pub filter-all : (p : A → Bool) (l : List A) → length l ≤ length (filter p l) → (x : A) → Memᴰ x l → p x ≡ true

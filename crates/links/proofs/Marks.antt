@@ -1,4 +1,5 @@
 -- Laws of marks: what a store and visits leave marked, and how many are left without a mark.
+use Rattle.std.proofs.lemmas.Grind.{common_steps}
 use Rattle.std.proofs.Common.{◌≡◌, refl, sym, ap, ◌∙◌, Bool, true, false, cond, ◌⊎◌, inl, inr, List, [], ◌∷◌, ℕ, zero, suc, ◌+◌, ◌-◌, ◌≤◌, ◌<◌, arith, add-one, length, set, replicate, length-set}
 use native.Mathlib.Nat.{sub-zero}
 use Rattle.ranges.proofs.Bools.{by, or}
@@ -11,14 +12,14 @@ use Rattle.links.specs.Walk.{unmarked, each, visit}
 pub unmarked-set : (m : List Bool) (j : ℕ) → j < length m → marked m j ≡ false → unmarked m ≡ suc (unmarked (set m j true))
 unfolding unmarked
 unmarked-set [] j h e = absurd (omega arith)
-unmarked-set (b ∷ m) zero h e = rw e (omega arith)
-unmarked-set (b ∷ m) (suc j) h e = let r = unmarked-set m j (omega arith) e in omega arith
+unmarked-set (b ∷ m) zero h e = grind arith
+unmarked-set (b ∷ m) (suc j) h e = grind (arith, unmarked-set m j)
 
 set-fewer : (m : List Bool) (j : ℕ) → unmarked (set m j true) ≤ unmarked m
 unfolding unmarked
 set-fewer [] j = omega arith
 set-fewer (b ∷ m) zero = omega arith
-set-fewer (b ∷ m) (suc j) = let r = set-fewer m j in omega arith
+set-fewer (b ∷ m) (suc j) = grind (arith, set-fewer m j)
 
 set_keeps : (m : List Bool) (j i : ℕ) → marked m i ≡ true → marked (set m j true) i ≡ true
 set_keeps [] j i e = e
@@ -36,9 +37,7 @@ set-marks (a ∷ m) (suc i) zero b e = inr e
 set-marks (a ∷ m) (suc i) (suc j) b e = or (set-marks m i j b e) (λ q. inl (ap suc q.0, q.1)) (λ q. inr q)
 
 pub no-marks : (n i : ℕ) → marked (replicate n false) i ≡ false
-no-marks zero i = refl
-no-marks (suc n) zero = refl
-no-marks (suc n) (suc i) = no-marks n i
+no-marks n i = grind (arith, common_steps)
 
 -- ---- marks are only added
 
@@ -96,7 +95,7 @@ module _ (v : ℕ → List Bool → List Bool) (g : ℕ → Bool) where
 
   module _ (grows : (j : ℕ) (m : List Bool) → Grown m (v j m)) where
     pub next-grown : (m : List Bool) (j : ℕ) → Grown m (next m j)
-    next-grown m j = by (marked m j) (λ p. rw p (grown-none m)) (λ p. rw p (by (g j) (λ q. rw q (grows j m)) (λ q. rw q (grown-none m))))
+    next-grown m j = by (marked m j) (λ p. rw p (grown-none m)) (λ p. by (g j) (λ q. rw (p, q) (grows j m)) (λ q. rw (p, q) (grown-none m)))
 
     each-grown : (k : ℕ) (m : List Bool) (j : ℕ) → Grown m (each v g m j k)
     unfolding each
@@ -112,10 +111,7 @@ module _ (v : ℕ → List Bool → List Bool) (g : ℕ → Bool) where
       each_same (suc k) m j a b c =
           let r = next-grown m j in
           let f = r.fewer in
-          each_same k (next m j) (suc j) (r.same ∙ a) (omega arith) (omega arith)
-          ∙ ap (λ (x : List Bool). each w g x (suc j) k)
-          (by (marked m j) (λ p. rw p refl)
-          (λ p. rw p (by (g j) (λ q. rw q (agree j m a (omega arith) p c)) (λ q. rw q refl))))
+          each_same k (next m j) (suc j) (r.same ∙ a) (omega arith) (omega arith) ∙ ap (λ (x : List Bool). each w g x (suc j) k) (grind (arith, agree j m))
 
 -- ---- a visit
 

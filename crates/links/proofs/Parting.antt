@@ -1,5 +1,5 @@
 -- Fixes by their labels are the transmissions of fixes.
-use Rattle.std.proofs.Common.{ℕ, zero, suc, ◌+◌, ◌≤◌, ◌<◌, ◌≡◌, refl, sym, ap, subst, ◌∙◌, Bool, true, false, cond, List, [], ◌∷◌, ◌++◌, map, arith, length, get_or, replicate, eqb-true, eq-eqb, eq-or-lt_of_le}
+use Rattle.std.proofs.Common.{append-nil, ℕ, zero, suc, ◌+◌, ◌≤◌, ◌<◌, ◌≡◌, refl, sym, ap, subst, ◌∙◌, Bool, true, false, cond, List, [], ◌∷◌, ◌++◌, map, arith, length, get_or, replicate, eqb-true, eq-eqb, eq-or-lt_of_le}
 use Rattle.octets.proofs.Comparison.{same-eq, same_refl}
 use Rattle.ranges.specs.Tables.{marked}
 use Rattle.ranges.specs.Range.{filt}
@@ -24,25 +24,18 @@ use Rattle.links.proofs.Indexed.{map_same, together_at, first_at, together-at-is
 
 filt-snoc : (g : ℕ → Bool) (k f : ℕ) → filt g k (suc f) ≡ filt g k f ++ cond (g (k + f)) ((k + f) ∷ []) []
 unfolding filt
-filt-snoc g k zero = let z : k + 0 ≡ k = omega arith in rw z refl
-filt-snoc g k (suc f) =
-    let z : suc k + f ≡ k + suc f = omega arith in
-    let r = rw z at (filt-snoc g (suc k) f) in
-    by (g k) (λ u. rw u (ap (λ (l : List ℕ). k ∷ l) r)) (λ u. rw u r)
+filt-snoc g k zero = grind arith
+filt-snoc g k (suc f) = let z : suc k + f ≡ k + suc f = omega arith in grind (arith, filt-snoc g (suc k) f)
 
 module _ (g : ℕ → Bool) (i : ℕ) (l : List ℕ) (e : l ≡ filt g 0 i) where
   next-is : filt g 0 (i + 1) ≡ filt g 0 i ++ cond (g i) (i ∷ []) []
   next-is = let z : i + 1 ≡ suc i = omega arith in let y : 0 + i ≡ i = omega arith in rw (z, filt-snoc g 0 i, y) refl
 
   pub passed-in : (r : List ℕ) → g i ≡ true → r ≡ l ++ (i ∷ []) → r ≡ filt g 0 (i + 1)
-  passed-in r h p = p ∙ rw (next-is, h, e) refl
+  passed-in r h p = grind (arith, next-is)
 
   pub passed-by : g i ≡ false → l ≡ filt g 0 (i + 1)
-  passed-by h = e ∙ rw (next-is, h) (sym (nothing (filt g 0 i)))
-    where
-      nothing : (x : List ℕ) → x ++ [] ≡ x
-      nothing [] = refl
-      nothing (y ∷ x) = ap (λ (z : List ℕ). y ∷ z) (nothing x)
+  passed-by h = grind (arith, next-is, append-nil)
 
   pub passed-few : length l ≤ i
   passed-few = rw e (filt-few g 0 i)

@@ -1,6 +1,5 @@
 -- What a visit marks: all that a chain of links leads to from it, where these have no mark.
-use Rattle.std.proofs.Common.{◌≡◌, sym, ap, ap₂, ◌∙◌, subst, Bool, true, false, ◌⊎◌, inl, inr, List, ℕ, zero, suc, ◌+◌, ◌≤◌, ◌<◌, arith, eqb, length, set, length-set, get_or-set_same, eqb-true}
-use borrow.Author.Tests.{eqb-false}
+use Rattle.std.proofs.Common.{◌≡◌, sym, ap, ap₂, ◌∙◌, subst, Bool, true, false, ◌⊎◌, inl, inr, List, ℕ, zero, suc, ◌+◌, ◌≤◌, ◌<◌, arith, length, set, length-set, get_or-set_same}
 use Rattle.ranges.proofs.Bools.{by, or, clash}
 use Rattle.ranges.specs.Tables.{marked}
 use Rattle.shown.specs.Fix.{Fix}
@@ -42,11 +41,7 @@ module _ (fs : List Fix) where
     old r j w f = record {
       start = w.start;
       sound = w.sound;
-      closed = λ k l a b c e d. by (marked r l) (λ p. p)
-          (λ p. w.closed k l a b c e
-          (λ q. by (eqb l j)
-          (λ z. clash (f (ap (λ (x : ℕ). link x j) (sym q) ∙ ap (link k) (sym (eqb-true l j z)) ∙ e)) (ap (marked r) (sym (eqb-true l j z)) ∙ p))
-          (λ z. let y = d q in let x = eqb-false l j z in omega arith)));
+      closed = λ k l a b c e d. grind (arith, f, w.closed k l a b c e, d);
     }
 
     -- j is visited
@@ -54,11 +49,7 @@ module _ (fs : List Fix) where
     new r q j b e g v w = record {
       start = g.kept i w.start;
       sound = λ k p. or (v.sound k p) (λ z. w.sound k z) (λ c. inr (chain-joined (more (here (at_in no_fix fs i h)) (at_in no_fix fs j b) (turned fs j i ∙ e)) c));
-      closed = λ k l a p c t d. by (marked r k)
-          (λ z. by (eqb l j)
-          (λ y. ap (marked q) (eqb-true l j y) ∙ v.start)
-          (λ y. g.kept l (w.closed k l a z c t (λ x. let o = d x in let u = eqb-false l j y in omega arith))))
-          (λ z. v.closed k l z p c t);
+      closed = λ k l a p c t d. grind (arith, g.kept l, v.start, v.closed k l, w.closed k l a, d);
     }
 
     module _ (v : ℕ → List Bool → List Bool) (grows : (j : ℕ) (r : List Bool) → Grown r (v j r)) (s u : ℕ)
