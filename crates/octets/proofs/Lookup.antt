@@ -1,7 +1,7 @@
 -- Laws of masks, for every width: what the machine's operations do to the bits, and that a number is its bits.
-use Prim.Native.Nat.{ℕ, zero, suc, ◌+◌, ◌*◌, ◌/◌, ◌%◌, ◌^◌, ◌≤◌, ◌<◌, min, max}
+use Prim.Native.Nat.{ℕ, zero, suc, ◌+◌, ◌*◌, ◌/◌, ◌%◌, ◌^◌, ◌≤◌, ◌<◌}
 use mathlib.Core.Path.{◌≡◌, refl, sym, ap, ◌∙◌}
-use mathlib.Core.Bool.{true, false, cond, not, ◌&&◌, ◌||◌, true≢false, false≢true}
+use mathlib.Core.Bool.{true, false, cond, not, ◌&&◌, ◌||◌}
 use native.Mathlib.Omega.{arith}
 use native.Mathlib.Nat.{pow-suc, one-mul}
 use native.Mathlib.Numerals.{one-add}
@@ -11,7 +11,7 @@ use lib.Pow.{pow_mono, shr-shr, shl_exact}
 use lib.Arith.{bin_ind}
 use lib.Count.{ones, ones_in, ones_step}
 use Rattle.ranges.proofs.Bools.{by}
-use borrow.Author.Tests.{eq-eqb, ne_eqb, eqb-true, eqb-false, ltb-true, ltb-false}
+use borrow.Author.Tests.{ne_eqb, eqb-false, ltb-true, ltb-false}
 use Rattle.octets.specs.Masks.{bit, with_bit, without_bit, bits}
 
 -- ---- the machine's operations
@@ -34,7 +34,7 @@ or_set m (suc e) =
 
 pub clear-set : (m e : ℕ) → bit m e ≡ true → without_bit m e + 2 ^ e ≡ m
 unfolding bit without_bit
-clear-set m zero h = omega (arith, eqb-true (m % 2) 1 h)
+clear-set m zero h = grind arith
 clear-set m (suc e) h = omega (arith, clear-set (m / 2) e h, pow-suc 2 e)
 
 pub clear-unset : (m e : ℕ) → bit m e ≡ false → without_bit m e ≡ m
@@ -46,9 +46,9 @@ clear-unset m (suc e) h = omega (arith, clear-unset (m / 2) e h)
 
 pub bit-set : (m e k : ℕ) → bit (with_bit m e) k ≡ (eqb e k || bit m k)
 unfolding bit with_bit
-bit-set m zero zero = eq-eqb ((m / 2 * 2 + 1) % 2) 1 (omega arith)
+bit-set m zero zero = grind arith
 bit-set m zero (suc k) = let p : (m / 2 * 2 + 1) / 2 ≡ m / 2 = omega arith in rw (eqb-zero-suc k, p) refl
-bit-set m (suc e) zero = let p : (with_bit (m / 2) e * 2 + m % 2) % 2 ≡ m % 2 = omega arith in rw (eqb-suc-zero e, p) refl
+bit-set m (suc e) zero = grind arith
 bit-set m (suc e) (suc k) = let p : (with_bit (m / 2) e * 2 + m % 2) / 2 ≡ with_bit (m / 2) e = omega arith in rw (eqb-suc-suc e k, p) (bit-set (m / 2) e k)
 
 pub bit-clear : (m e k : ℕ) → bit (without_bit m e) k ≡ (not (eqb e k) && bit m k)
@@ -63,32 +63,14 @@ unfolding bit
 bit-zero zero = refl
 bit-zero (suc k) = bit-zero k
 
-min-both : (a b : ℕ) → a < 2 → b < 2 → eqb (min a b) 1 ≡ (eqb a 1 && eqb b 1)
-min-both zero zero h k = refl
-min-both zero (suc zero) h k = refl
-min-both (suc zero) zero h k = refl
-min-both (suc zero) (suc zero) h k = refl
-min-both zero (suc (suc b)) h k = absurd (omega arith)
-min-both (suc zero) (suc (suc b)) h k = absurd (omega arith)
-min-both (suc (suc a)) b h k = absurd (omega arith)
-
 pub bit-and : (a b k : ℕ) → bit (bit_and a b) k ≡ (bit a k && bit b k)
 unfolding bit
-bit-and a b zero = let p : bit_and a b % 2 ≡ min (a % 2) (b % 2) = omega (arith, and_step a b) in rw p (min-both (a % 2) (b % 2) (omega arith) (omega arith))
+bit-and a b zero = grind (arith, and_step a b)
 bit-and a b (suc k) = let p : bit_and a b / 2 ≡ bit_and (a / 2) (b / 2) = omega (arith, and_step a b) in rw p (bit-and (a / 2) (b / 2) k)
-
-max-either : (a b : ℕ) → a < 2 → b < 2 → eqb (max a b) 1 ≡ (eqb a 1 || eqb b 1)
-max-either zero zero h k = refl
-max-either zero (suc zero) h k = refl
-max-either (suc zero) zero h k = refl
-max-either (suc zero) (suc zero) h k = refl
-max-either zero (suc (suc b)) h k = absurd (omega arith)
-max-either (suc zero) (suc (suc b)) h k = absurd (omega arith)
-max-either (suc (suc a)) b h k = absurd (omega arith)
 
 pub bit-or : (a b k : ℕ) → bit (bit_or a b) k ≡ (bit a k || bit b k)
 unfolding bit
-bit-or a b zero = let p : bit_or a b % 2 ≡ max (a % 2) (b % 2) = omega (arith, or_step a b) in rw p (max-either (a % 2) (b % 2) (omega arith) (omega arith))
+bit-or a b zero = grind (arith, or_step a b)
 bit-or a b (suc k) = let p : bit_or a b / 2 ≡ bit_or (a / 2) (b / 2) = omega (arith, or_step a b) in rw p (bit-or (a / 2) (b / 2) k)
 
 -- ---- a number is its bits
@@ -101,13 +83,7 @@ none = bin_ind (λ (t : ℕ). ((k : ℕ) → bit t k ≡ false) → t ≡ 0) (λ
     step n ih h = let o = eqb-false (n % 2) 1 (h 0) in omega (arith, ih (λ k. h (suc k)))
 
 odd-same : (a b : ℕ) → a < 2 → b < 2 → eqb a 1 ≡ eqb b 1 → a ≡ b
-odd-same zero zero h k e = refl
-odd-same zero (suc zero) h k e = absurd (false≢true e)
-odd-same (suc zero) zero h k e = absurd (true≢false e)
-odd-same (suc zero) (suc zero) h k e = refl
-odd-same zero (suc (suc b)) h k e = absurd (omega arith)
-odd-same (suc zero) (suc (suc b)) h k e = absurd (omega arith)
-odd-same (suc (suc a)) b h k e = absurd (omega arith)
+odd-same a b h k e = grind arith
 
 pub bit-ext : (s t : ℕ) → ((k : ℕ) → bit s k ≡ bit t k) → s ≡ t
 unfolding bit
@@ -137,33 +113,20 @@ without-le m (suc e) = omega (arith, without-le (m / 2) e)
 
 -- and has no bit there or above
 pub bit_below : (w m e : ℕ) → m < 2 ^ w → bit m e ≡ true → e < w
-bit_below w m e h z =
-    by (ltb e w)
-    (λ q. ltb-true e w q)
-    (λ q. let p : 2 ^ w ≤ 2 ^ e = pow_mono (ltb-false e w q) in omega (arith, p, clear-set m e z, h))
+bit_below w m e h z = by (ltb e w) (λ q. ltb-true e w q) (λ q. let p : 2 ^ w ≤ 2 ^ e = pow_mono (ltb-false e w q) in omega (arith, p, clear-set m e z, h))
 
 -- setting a bit that is clear counts one more, and one that is set no more
 pub bits-with : (n m e : ℕ) → e < n → bits n (with_bit m e) ≡ bits n m + cond (bit m e) 0 1
 unfolding bits with_bit bit
 bits-with zero m e h = absurd (omega arith)
-bits-with (suc n) m zero h =
-    let p : (m / 2 * 2 + 1) % 2 ≡ 1 = omega arith in
-    let q : (m / 2 * 2 + 1) / 2 ≡ m / 2 = omega arith in
-    rw (p, q) (by (eqb (m % 2) 1) (λ t. let o = eqb-true (m % 2) 1 t in rw t (omega arith)) (λ t. let o = eqb-false (m % 2) 1 t in rw t (omega arith)))
-bits-with (suc n) m (suc e) h =
-    let p : (with_bit (m / 2) e * 2 + m % 2) % 2 ≡ m % 2 = omega arith in
-    let q : (with_bit (m / 2) e * 2 + m % 2) / 2 ≡ with_bit (m / 2) e = omega arith in
-    rw (p, q, bits-with n (m / 2) e (omega arith)) (omega arith)
+bits-with (suc n) m zero h = let q : (m / 2 * 2 + 1) / 2 ≡ m / 2 = omega arith in rw q (grind arith)
+bits-with (suc n) m (suc e) h = let q : (with_bit (m / 2) e * 2 + m % 2) / 2 ≡ with_bit (m / 2) e = omega arith in rw (q, bits-with n (m / 2) e (omega arith)) (omega arith)
 
 pub bits-without : (n m e : ℕ) → e < n → bits n (without_bit m e) + cond (bit m e) 1 0 ≡ bits n m
 unfolding bits without_bit bit
 bits-without zero m e h = absurd (omega arith)
-bits-without (suc n) m zero h =
-    let p : m / 2 * 2 % 2 ≡ 0 = omega arith in
-    let q : m / 2 * 2 / 2 ≡ m / 2 = omega arith in
-    rw (p, q) (by (eqb (m % 2) 1) (λ t. let o = eqb-true (m % 2) 1 t in rw t (omega arith)) (λ t. let o = eqb-false (m % 2) 1 t in rw t (omega arith)))
+bits-without (suc n) m zero h = let q : m / 2 * 2 / 2 ≡ m / 2 = omega arith in rw q (grind arith)
 bits-without (suc n) m (suc e) h =
-    let p : (without_bit (m / 2) e * 2 + m % 2) % 2 ≡ m % 2 = omega arith in
     let q : (without_bit (m / 2) e * 2 + m % 2) / 2 ≡ without_bit (m / 2) e = omega arith in
     let ih = bits-without n (m / 2) e (omega arith) in
-    rw (p, q) (omega arith)
+    rw q (omega arith)

@@ -1,4 +1,5 @@
 -- Laws of little-endian numbers, for every width: the round trips both ways, and a number in two parts.
+use Rattle.std.proofs.lemmas.Grind.{common_steps}
 use Prim.Native.Nat.{ℕ, zero, suc, ◌+◌, ◌*◌, ◌/◌, ◌%◌, ◌^◌, ◌≤◌, ◌<◌}
 use mathlib.Core.Path.{◌≡◌, refl, sym, ap, ◌∙◌}
 use mathlib.Core.List.{List, [], ◌∷◌, ◌++◌, append_assoc}
@@ -51,11 +52,7 @@ word-of-bytes (suc n) x h = omega (arith, word-of-bytes n (x / 256) (omega (arit
 pub bytes-of-word : (s : List ℕ) → Bytes s → word_bytes (length s) (word s) ≡ s
 unfolding word word_bytes
 bytes-of-word [] h = refl
-bytes-of-word (b ∷ s) h =
-    let l = h.0 in
-    let p : (b + word s * 256) % 256 ≡ b = omega arith in
-    let q : (b + word s * 256) / 256 ≡ word s = omega arith in
-    rw (p, q) (ap (λ (t : List ℕ). b ∷ t) (bytes-of-word s h.1))
+bytes-of-word (b ∷ s) h = grind (arith, bytes-of-word s)
 
 -- a number of n bytes is below 256 ^ n
 pub word_lt : (s : List ℕ) → Bytes s → word s < 256 ^ length s
@@ -133,8 +130,7 @@ put-read n at x s h b =
 -- putting what is read leaves all bytes as they are
 pub read-put : (n at : ℕ) (s : List ℕ) → at + n ≤ length s → Bytes s → put_word n at (word_at n at s) s ≡ s
 read-put n at s h b =
-    let l : length (take n (drop at s)) ≡ n = length-take-le n (drop at s) (rw length-drop (omega arith)) in
-    let e : word_bytes n (word_at n at s) ≡ take n (drop at s) = ap (λ (k : ℕ). word_bytes k (word_at n at s)) (sym l) ∙ bytes-of-word (take n (drop at s)) (bytes_take n (drop at s) (bytes_drop at s b)) in
+    let e : word_bytes n (word_at n at s) ≡ take n (drop at s) = grind (arith, common_steps, bytes-of-word (take n (drop at s)) (bytes_take n (drop at s) (bytes_drop at s b))) in
     rw (e, ← drop-drop n at s, take-append-drop n (drop at s), take-append-drop at s) refl
 
 pub length-put : (n at x : ℕ) (s : List ℕ) → at + n ≤ length s → length (put_word n at x s) ≡ length s

@@ -2,7 +2,7 @@
 use mathlib.Core.Path.{◌≡◌, refl, sym, ap, ◌∙◌, subst}
 use mathlib.Core.List.{List, [], ◌∷◌, ◌++◌, append_assoc}
 use Prim.Native.Nat.{ℕ, suc, ◌+◌, ◌≤◌}
-use native.Mathlib.Nat.{suc-add, add-suc, add-zero, add_assoc}
+use native.Mathlib.Nat.{suc-add, add-suc, add-zero}
 use lib.ListN.{length, take, drop, set, length-append}
 use lib.Seq.{sets, sets-eq, length-sets}
 use native.Mathlib.Omega.{arith}
@@ -19,8 +19,8 @@ sets-append l i (a ∷ vs) us = ap (λ (k : ℕ). sets (sets (set l i a) (suc i)
 -- one text after another
 pub put-put : {l l₁ l₂ : List ℕ} {at r₁ r₂ : ℕ} {t u : List ℕ} → Put l at t r₁ l₁ → Put l₁ r₁ u r₂ l₂ → Put l at (t ++ u) r₂ l₂
 put-put {l} {l₁} {l₂} {at} {r₁} {r₂} {t} {u} p q = record {
-  next = q.next ∙ ap (λ (k : ℕ). k + length u) p.next ∙ add_assoc at (length t) (length u) ∙ ap (λ (k : ℕ). at + k) (sym (length-append t u));
-  bytes = q.bytes ∙ ap (λ (m : List ℕ). sets m r₁ u) p.bytes ∙ ap (λ (k : ℕ). sets (sets l at t) k u) p.next ∙ sets-append l at t u;
+  next = omega (arith, p.next, q.next, length-append t u);
+  bytes = q.bytes ∙ rw (p.bytes, p.next) (sets-append l at t u);
 }
 
 -- no text, and one byte

@@ -1,6 +1,6 @@
 -- What the order of a table's keys gives, for every width: the position of a key says whether it is held, insertion there and removal keep the order,
 -- and two tables in which the same keys are held with the same contents are equal.
-use Rattle.std.proofs.Common.{ℕ, zero, suc, ◌≤◌, ◌<◌, ◌≡◌, refl, sym, Bool, true, false, ◌&&◌, List, [], ◌∷◌, arith, ltb, length, get_or, take, drop, take-append-drop}
+use Rattle.std.proofs.Common.{ℕ, zero, suc, ◌≤◌, ◌<◌, ◌≡◌, refl, sym, Bool, true, false, ◌&&◌, List, [], ◌∷◌, arith, ltb, length, get_or, take, take-append-drop}
 use Rattle.std.proofs.lemmas.Grind.{common_steps}
 use Rattle.octets.specs.Order.{is_before, same}
 use Rattle.ranges.proofs.Bools.{and_right}
@@ -23,14 +23,6 @@ module _ (k : ℕ) (key p : List ℕ) (ps : List (List ℕ)) where
   unfolding holds
   holds_later h = rw h refl
 
-  pub lookup-here : same (take k p) key ≡ true → lookup k key (p ∷ ps) ≡ drop k p
-  unfolding lookup
-  lookup-here h = rw h refl
-
-  pub lookup-later : same (take k p) key ≡ false → lookup k key (p ∷ ps) ≡ lookup k key ps
-  unfolding lookup
-  lookup-later h = rw h refl
-
 -- places that ascend from a key hold no key at or before it
 pub none_below : (k : ℕ) (key from : List ℕ) (ps : List (List ℕ)) → is_before from key ≡ false → ascending_from k from ps ≡ true → holds k key ps ≡ false
 unfolding holds ascending_from
@@ -42,10 +34,6 @@ pub from-weaken : (k : ℕ) (a b : List ℕ) (ps : List (List ℕ)) → is_befor
 unfolding ascending_from
 from-weaken k a b [] g h = refl
 from-weaken k a b (p ∷ ps) g h = grind (arith, before-trans a b (take k p))
-
-pub ascending-from : (k : ℕ) (p : List ℕ) (ps : List (List ℕ)) → ascending k (p ∷ ps) ≡ ascending_from k (take k p) ps
-unfolding ascending
-ascending-from k p ps = refl
 
 -- what ascends from a key ascends
 pub from-ascending : (k : ℕ) (from : List ℕ) (ps : List (List ℕ)) → ascending_from k from ps ≡ true → ascending k ps ≡ true

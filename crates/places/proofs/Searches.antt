@@ -1,14 +1,13 @@
 -- What std's clauses on slices of arrays say of the places of a table.
-use Rattle.std.proofs.Common.{◌≡◌, ℕ, zero, suc, ◌-◌, ◌≤◌, ◌<◌, Bool, true, false, List, [], ◌∷◌, length, take, drop, get_or, refl, ap, arith, Ok, Err}
+use Rattle.std.proofs.Common.{◌≡◌, ℕ, zero, suc, ◌-◌, ◌≤◌, Bool, true, false, List, [], ◌∷◌, length, take, drop, get_or, refl, ap, arith}
 use Rattle.std.specs.List.Sorted.{IsPartitionPoint, IsPartitionedBy}
 use Rattle.std.specs.Simd.{first_chunks}
 use Rattle.std.proofs.lemmas.List.{get_or_default}
-use Rattle.octets.specs.Order.{is_before, same}
+use Rattle.octets.specs.Order.{is_before}
 use Rattle.octets.proofs.Comparison.{before-trans}
 use Rattle.places.specs.Places.{places, ascending}
 use Rattle.places.specs.Positions.{rank}
-use Rattle.places.proofs.Keys.{rank-le, rank-above, rank_below, keys-ascend, holds-at-rank}
-use Rattle.places.specs.Tables.{sought}
+use Rattle.places.proofs.Keys.{rank-le, rank-above, rank_below, keys-ascend}
 
 -- the first n of m chunks are n places
 pub first-places : (w n m : ℕ) (t : List ℕ) → n ≤ m → take n (first_chunks w m t) ≡ places w n t
@@ -30,14 +29,3 @@ module _ (k : ℕ) (key : List ℕ) (ps : List (List ℕ)) (a : ascending k ps �
   -- and they end at its position
   pub position : (i : ℕ) → i ≤ length ps → IsPartitionPoint (λ y. before y ≡ true) (λ y. before y ≡ false) ps i → rank k key ps ≡ i
   position i l h = grind (arith, rank_below k key ps i, h.1 i [], rank-le k key ps, rank-above k key ps (i - 1) a, h.0 (i - 1) [])
-
-  module _ (i : ℕ) (e : rank k key ps ≡ i) where
-    pub found : i < length ps → same (take k (get_or ps i [])) key ≡ true → Ok i ≡ sought k key ps
-    found l h = grind (arith, holds-at-rank k key ps)
-
-    pub not-found : (i < length ps → same (take k (get_or ps i [])) key ≡ false) → Err i ≡ sought k key ps
-    not-found h = grind (arith, holds-at-rank k key ps)
-
-    -- the place as it is read
-    pub compared : (p x : List ℕ) (b : Bool) → i < length ps → p ≡ get_or ps i p → x ≡ take k p → b ≡ same x key → same (take k (get_or ps i [])) key ≡ b
-    compared p x b l q f s = grind (arith, get_or_default ps i [] p l)

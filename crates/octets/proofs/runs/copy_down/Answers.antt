@@ -1,10 +1,11 @@
+use Rattle.std.proofs.lemmas.Grind.{common_steps}
 use Prim.Native.Nat.{ℕ, ◌+◌, ◌-◌, ◌≤◌, ◌<◌}
 use mathlib.Core.Path.{◌≡◌, refl, sym, ap, ◌∙◌}
 use mathlib.Core.List.{List, ◌++◌, append_assoc}
 use native.Mathlib.Omega.{arith}
 use native.Mathlib.Nat.{add-zero, add_assoc}
-use lib.ListN.{length, get_or, take, drop, set, length-append, length-take, length-drop, take-append-drop, get_or-append}
-use lib.Seq.{take_at, length-take-le, get_or-append-add, get_or-take, get_or-drop}
+use lib.ListN.{length, get_or, take, drop, set, length-append, length-take, length-drop, take-append-drop}
+use lib.Seq.{take_at, length-take-le}
 use Rattle.octets.proofs.Moves.{up, read-high}
 use Rattle.octets.proofs.runs.copy_down.Invariants.{moved}
 use Rattle.octets.proofs.runs.copy_down.Goals as goal
@@ -22,10 +23,7 @@ module _ (s : List ℕ) (from to w : ℕ) (h : to ≤ from) (l : from + w ≤ le
 
   moved_at : (k : ℕ) → k < w → get_or (moved s from to w) (to + k) 0 ≡ get_or s (from + k) 0
   unfolding moved
-  moved_at k g =
-      ap (λ (n : ℕ). get_or (take to s ++ (take w (drop from s) ++ drop (to + w) s)) (n + k) 0) (sym front)
-      ∙ get_or-append-add (take to s) (take w (drop from s) ++ drop (to + w) s) k 0
-      ∙ get_or-append (take w (drop from s)) (drop (to + w) s) 0 k (rw part g) ∙ get_or-take w (drop from s) k 0 g ∙ get_or-drop from s k 0
+  moved_at k g = grind (arith, common_steps)
 
   begin : s ≡ take (to + 0) (moved s from to w) ++ drop (to + 0) s
   unfolding moved

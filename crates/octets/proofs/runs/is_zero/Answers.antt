@@ -1,4 +1,4 @@
-use Prim.Native.Nat.{ℕ, suc, ◌+◌, ◌≤◌, ◌<◌}
+use Prim.Native.Nat.{ℕ, ◌+◌, ◌≤◌, ◌<◌}
 use mathlib.Core.Path.{◌≡◌, sym, ◌∙◌}
 use mathlib.Core.Bool.{◌&&◌}
 use mathlib.Core.List.{List}
@@ -9,18 +9,17 @@ use lib.Bits.{bit_or}
 use lib.ListN.{length, get_or, drop, drop_of_length-le}
 use lib.Seq.{drop-cons}
 use Rattle.octets.specs.Runs.{all_zero}
-use Rattle.ranges.proofs.Bools.{and_assoc, and-unit}
 use Rattle.octets.proofs.Zeros.{or-zero}
 use Rattle.octets.proofs.runs.is_zero.Goals as goal
 
 -- one byte more joins what was seen
 turn : (s : List ℕ) (i any : ℕ) → i < length s → (eqb any 0 && all_zero (drop i s)) ≡ (eqb (bit_or any (get_or s i 0)) 0 && all_zero (drop (i + 1) s))
 unfolding all_zero
-turn s i any h = rw (add-one, drop-cons s i 0 h, or-zero any (get_or s i 0)) (sym (and_assoc (eqb any 0) (eqb (get_or s i 0) 0) (all_zero (drop (suc i) s))))
+turn s i any h = rw (add-one, drop-cons s i 0 h) (grind (arith, or-zero any (get_or s i 0)))
 
 past : (s : List ℕ) (i any : ℕ) → length s ≤ i → (eqb any 0 && all_zero (drop i s)) ≡ eqb any 0
 unfolding all_zero
-past s i any h = rw (drop_of_length-le s h) (and-unit (eqb any 0))
+past s i any h = rw (drop_of_length-le s h) (grind arith)
 
 pub loop-byte-preserved : goal.loop-byte-preserved
 loop-byte-preserved c = c.loop-byte.invariant ∙ turn c.args.s.now c.loop-byte.byte-index c.loop-byte.any (omega arith)

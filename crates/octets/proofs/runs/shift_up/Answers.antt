@@ -1,5 +1,6 @@
+use Rattle.std.proofs.lemmas.Grind.{common_steps}
 use lib.ListN.{drop_of_length-le}
-use lib.Seq.{get_or-take, get_or-append-add, length-take-le, take-length, drop_at}
+use lib.Seq.{length-take-le, take-length, drop_at}
 use Prim.Native.Nat.{ℕ, ◌+◌, ◌-◌, ◌≤◌, ◌<◌}
 use mathlib.Core.Path.{◌≡◌, refl, sym, ap, ◌∙◌}
 use mathlib.Core.List.{List, ◌++◌, append-nil}
@@ -15,9 +16,7 @@ moved_length s w h = simp (length-append, length-take) (omega arith)
 
 moved_at : (s : List ℕ) (w k : ℕ) → w + k < length s → get_or (moved s w) (w + k) 0 ≡ get_or s k 0
 unfolding moved
-moved_at s w k h =
-    ap (λ (n : ℕ). get_or (take w s ++ take (length s - w) s) (n + k) 0) (sym (length-take-le w s (omega arith)))
-    ∙ get_or-append-add (take w s) (take (length s - w) s) k 0 ∙ get_or-take (length s - w) s k 0 (omega arith)
+moved_at s w k h = grind (arith, common_steps)
 
 start : (s : List ℕ) (w : ℕ) → w ≤ length s → s ≡ take (length s) s ++ drop (length s) (moved s w)
 start s w h =
