@@ -1,11 +1,10 @@
 -- The state of a model, from its first summary on.
-use Rattle.std.proofs.Common.{ℕ, ◌≡◌, Bool, true, false, ◌&&◌, List, [], ◌∷◌, Some, None, refl, sym, ap, ◌∙◌, eqb, cond}
+use Rattle.std.proofs.Common.{arith, ℕ, ◌≡◌, Bool, true, false, ◌&&◌, List, [], ◌∷◌, Some, None, refl, sym, ap, ◌∙◌, eqb, cond}
 use denote.Param.Members.{Mut}
 use denote.Ref.{Bor}
 use Rattle.std.specs.Fn.{CalledAt}
 use Rattle.std.specs.Iterator.{YieldsFirstBy, Yields, FindsItem}
 use Rattle.std.specs.List.{FoldsTo, list_all}
-use Rattle.ranges.proofs.Bools.{by}
 use Rattle.models.specs.Summary.{model_of, spec_of, summary_inputs}
 use Rattle.models.specs.Models.{summaries_for, claims, state_of, state_from, agreed, disputed}
 use Rattle.models.specs.Answers.{listed, concurs}
@@ -16,7 +15,7 @@ use Rattle.models.specs.declared.summaries.Summaries.{Summaries}
 pub concur-all : (m s : ℕ) (h : List ℕ) (ps : List (List ℕ)) → list_all (claims s h) (summaries_for m ps) ≡ list_all (concurs m s h) ps
 unfolding summaries_for
 concur-all m s h [] = refl
-concur-all m s h (p ∷ ps) = by (eqb (model_of p) m) (λ e. rw e (ap (λ (b : Bool). claims s h p && b) (concur-all m s h ps))) (λ e. rw e (concur-all m s h ps))
+concur-all m s h (p ∷ ps) = grind (arith, concur-all m s h ps)
 
 pub as-places : (test : List ℕ → Bool) (ps : List (List ℕ)) → list_all test ps ≡ list_all test ps
 as-places test [] = refl
