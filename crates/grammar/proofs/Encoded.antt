@@ -1,4 +1,5 @@
 -- Numbers as std writes their bytes are numbers in memory.
+use Rattle.std.proofs.lemmas.Grind.{common_steps}
 use Rattle.std.proofs.Common.{◌≡◌, ◌∙◌, sym, ap, refl, ℕ, zero, suc, ◌+◌, ◌*◌, ◌/◌, ◌%◌, ◌^◌, ◌-◌, ◌≤◌, ◌++◌, Option, Some, None, length-append, append-nil, List, [], ◌∷◌, length, take, drop, replicate, w16, w32, w64, arith, ℤ, div-one, pow-suc, drop_of_length-le}
 use Rattle.std.proofs.lemmas.List.{drop-replicate, take_all, length-replicate}
 use Rattle.record.specs.Layout.{record_size, long_message, max_tags, max_models}
@@ -46,10 +47,10 @@ zeros-behind m n =
 
 length-words : (w : ℕ) (xs : List ℕ) → length (words w xs) ≡ w * length xs
 length-words w [] = omega arith
-length-words w (x ∷ xs) = let ih = length-words w xs in length-append (word_bytes w x) (words w xs) ∙ omega (arith, ih, length-word-bytes w x)
+length-words w (x ∷ xs) = grind (arith, common_steps, length-words w xs, length-word-bytes w x)
 
 length-pad : (n : ℕ) (l : List ℕ) → length l ≤ n → length (pad n l) ≡ n
-length-pad n l h = length-append l (replicate (n - length l) 0) ∙ (let z : length {A = ℕ} (replicate (n - length l) 0) ≡ n - length l = length-replicate {A = ℕ} (n - length l) 0 in omega arith)
+length-pad n l h = grind (arith, common_steps)
 
 height-length : (h : Option ℤ) → length (height_bytes h) ≡ 5
 unfolding word_bytes
@@ -57,21 +58,13 @@ height-length None = refl
 height-length (Some z) = refl
 
 place-length : (time lat lon : ℕ) (h : List ℕ) → length h ≡ 5 → length (place_bytes time lat lon h) ≡ 21
-place-length time lat lon h e =
-    length-append (word_bytes 8 time) (word_bytes 4 lat ++ (word_bytes 4 lon ++ h))
-    ∙ omega (arith, length-word-bytes 8 time, length-append (word_bytes 4 lat) (word_bytes 4 lon ++ h), length-word-bytes 4 lat, length-append (word_bytes 4 lon) h, length-word-bytes 4 lon, e)
+place-length time lat lon h e = simp (length-append, length-word-bytes) (omega arith)
 
 sighting-length : (message tags : List ℕ) (count used : ℕ) → length message ≡ 15 → length tags ≡ 16 → length (sighting_bytes message count used tags) ≡ 146
-sighting-length message tags count used e f =
-    length-append message (count ∷ (word_bytes 2 used ++ words 8 tags))
-    ∙ omega (arith, e, length-append (word_bytes 2 used) (words 8 tags), length-word-bytes 2 used, length-words 8 tags, f)
+sighting-length message tags count used e f = simp (length-append, length-word-bytes, length-words) (omega arith)
 
 cited-length : (models cov : List ℕ) (count spec : ℕ) → length models ≡ 4 → length cov ≡ 48 → length (cited_bytes count models spec cov) ≡ 55
-cited-length models cov count spec e f =
-    let a = length-append (words 1 models) (word_bytes 2 spec ++ cov) in
-    let b = length-append (word_bytes 2 spec) cov in
-    let d = length-words 1 models in
-    omega (arith, a, b, d, length-word-bytes 2 spec, e, f)
+cited-length models cov count spec e f = simp (length-append, length-word-bytes, length-words) (omega arith)
 
 pub record-length : (r : Report) → length r.message.items ≤ long_message → length r.tags.items ≤ max_tags → length r.models.items ≤ max_models → length r.covariance ≡ 48
     → length (record_bytes r) ≡ record_size

@@ -1,5 +1,5 @@
 -- An operation takes bytes, so that a session is an operation and the session of what is left.
-use Rattle.std.proofs.Common.{◌≡◌, ◌∙◌, sym, ap, refl, ℕ, zero, suc, ◌+◌, ◌-◌, ◌≤◌, ◌<◌, ltb, List, [], ◌∷◌, length, take, drop, Option, Some, None, Result, Ok, Err, eqb, MatchOption, ok_or, arith, length-drop, length-take, ltb-true, ltb-false, eqb-true, eq-eqb, ne_eqb, option_map, position, ◌==◌}
+use Rattle.std.proofs.Common.{◌≡◌, ◌∙◌, sym, ap, refl, ℕ, zero, suc, ◌+◌, ◌-◌, ◌≤◌, ◌<◌, ltb, List, [], ◌∷◌, length, take, drop, Option, Some, None, Result, Ok, Err, eqb, MatchOption, ok_or, arith, length-drop, length-take, ltb-true, ltb-false, eqb-true, option_map, position, ◌==◌}
 use Rattle.ranges.proofs.Bools.{by}
 use Rattle.std.specs.List.{position_or_len}
 use Rattle.std.specs.Str.{bytes_eq}
@@ -113,11 +113,11 @@ operation_below s = step_below due.Op kind_of s (length s.rest) _ (omega arith) 
 pub nothing_left : (j : ℕ) (s : At) → length s.rest ≡ 0 → operations_at j s ≡ Ok ([], s)
 unfolding operations_at
 nothing_left zero s h = refl
-nothing_left (suc j) s h = rw (eq-eqb (length s.rest) 0 h) refl
+nothing_left (suc j) s h = grind arith
 
 pub one_more : (j : ℕ) (s : At) → 0 < length s.rest → operations_at (suc j) s ≡ (operation_at s >>= λ (c : Call × At). operations_at j c.1 >>= λ (cs : List Call × At). Ok (c.0 ∷ cs.0, cs.1))
 unfolding operations_at
-one_more j s h = rw (ne_eqb (length s.rest) 0 (λ e. omega arith)) refl
+one_more j s h = grind arith
 
 abbrev pub later : ℕ → Call × At → Reading (List Call)
 later j c = operations_at j c.1 >>= λ (cs : List Call × At). Ok (c.0 ∷ cs.0, cs.1)

@@ -1,5 +1,5 @@
 -- What a session says, and that nothing else reads sessions so.
-use Rattle.std.proofs.Common.{◌≡◌, ◌∙◌, sym, ap, refl, ℕ, zero, suc, ◌≤◌, ◌<◌, ltb, eqb, cond, List, [], ◌∷◌, length, Result, Ok, Err, arith, ltb-true, ltb-false, eq-eqb, ne_eqb}
+use Rattle.std.proofs.Common.{◌≡◌, ◌∙◌, sym, ap, refl, ℕ, zero, suc, ◌≤◌, ◌<◌, ltb, eqb, cond, List, [], ◌∷◌, length, Result, Ok, Err, arith, ltb-true, ltb-false}
 use Rattle.ranges.proofs.Bools.{by}
 use Rattle.register.specs.Calls.{Call}
 use Rattle.grammar.specs.declared.lines.BadLine.{BadLine}
@@ -37,11 +37,11 @@ no-other-reading read w s = up_to read w (length s.rest) s (omega arith)
 -- ---- the empty file
 
 some-call : (c : Call) (m : Result (List Call) BadLine) → and_then c m ≡ Ok [] → ⊥
-some-call c (Err e) h = let z : ◌≡◌ {A = ℕ} 0 1 = cc in omega arith
-some-call c (Ok cs) h = let z : ◌≡◌ {A = ℕ} 0 1 = cc in omega arith
+some-call c (Err e) h = grind arith
+some-call c (Ok cs) h = grind arith
 
 begun : (s : At) → 0 < length s.rest → (m : Reading Call) → operation_at s ≡ m → session_at s ≡ Ok [] → ⊥
-begun s h (Err e) q k = let b : ◌≡◌ {A = Result (List Call) BadLine} (Err e) (Ok []) = sym (session-here s e h q) ∙ k in let z : ◌≡◌ {A = ℕ} 0 1 = cc in omega arith
+begun s h (Err e) q k = grind (arith, session-here s e h q)
 begun s h (Ok c) q k = some-call c.0 (session_at c.1) (sym (session-step s c.0 c.1 q) ∙ k)
 
 pub others-have-calls : OthersHaveCalls
@@ -51,11 +51,7 @@ others-have-calls (b ∷ s) h = absurd (begun (start (b ∷ s)) (omega arith) (o
 -- after an operation, nothing or another
 rest-same : (k : ℕ) (c : Call × At) → (0 < length (c.1).rest → some_operations k c.1 ≡ operations_at k c.1)
     → cond (eqb (length (c.1).rest) 0) (Ok (c.0 ∷ [], c.1)) (some_operations k c.1 >>= λ (cs : List Call × At). Ok (c.0 ∷ cs.0, cs.1)) ≡ later k c
-rest-same k c f =
-    by (ltb 0 (length (c.1).rest))
-    (λ q. let p = ltb-true 0 (length (c.1).rest) q in rw (f p, ne_eqb (length (c.1).rest) 0 (λ z. omega arith)) refl)
-    (λ q. let p = ltb-false 0 (length (c.1).rest) q in
-    let z : length (c.1).rest ≡ 0 = omega arith in rw (eq-eqb (length (c.1).rest) 0 z, nothing_left k c.1 z) refl)
+rest-same k c f = grind (arith, f, nothing_left k c.1)
 
 some-same : (k : ℕ) (s : At) → 0 < length s.rest → length s.rest ≤ k → some_operations k s ≡ operations_at k s
 unfolding some_operations

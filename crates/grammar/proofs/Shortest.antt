@@ -1,8 +1,6 @@
 -- The fewest bytes of a good operation: its first line alone has as many as `op=report` and a line feed.
-use Rattle.std.proofs.Common.{◌≡◌, ap, refl, ℕ, zero, suc, ◌+◌, ◌*◌, ◌≤◌, ◌<◌, List, length, Option, Some, None, Ok, Err, ok_or, arith, codes}
-use Rattle.std.specs.Str.{bytes_eq}
+use Rattle.std.proofs.Common.{◌≡◌, refl, ℕ, zero, suc, ◌+◌, ◌*◌, ◌≤◌, ◌<◌, List, length, Option, Some, None, Ok, Err, ok_or, arith, codes}
 use Rattle.std.proofs.lemmas.Slice.Eq.{bytes_eq-Decides}
-use Rattle.ranges.proofs.Bools.{by}
 use Rattle.register.specs.Calls.{Call}
 use Rattle.grammar.specs.declared.lines.Due.TheVariants as due
 use Rattle.grammar.specs.declared.lines.Kind.{Kind}
@@ -24,11 +22,7 @@ Takes n (Err e) = Unit {0}
 -- `report` is the shortest of the three words
 kind-wide : (t : List ℕ) (k : Kind) → kind_of t ≡ Some k → 6 ≤ length t
 unfolding kind_of
-kind-wide t k h =
-    by (bytes_eq t (codes "summary")) (λ p. omega (arith, ap length ((bytes_eq-Decides t (codes "summary")).0 p)))
-    (λ p. by (bytes_eq t (codes "convict")) (λ q. omega (arith, ap length ((bytes_eq-Decides t (codes "convict")).0 q)))
-    (λ q. by (bytes_eq t (codes "report")) (λ r. omega (arith, ap length ((bytes_eq-Decides t (codes "report")).0 r)))
-    (λ r. let f : None ≡ Some k = rw (p, q, r) at h in absurd (let z : ◌≡◌ {A = ℕ} 0 1 = cc in omega arith))))
+kind-wide t k h = grind (arith, (bytes_eq-Decides t (codes "summary")).0, (bytes_eq-Decides t (codes "convict")).0, (bytes_eq-Decides t (codes "report")).0)
 
 first-takes : (s : At) → Takes (length s.rest) (value due.Op kind_of s)
 unfolding value text

@@ -1,5 +1,6 @@
 -- Numbers from the highest byte first to the lowest first, byte by byte.
-use Rattle.std.proofs.Common.{ℕ, zero, suc, ◌+◌, ◌-◌, ◌*◌, ◌%◌, ◌≤◌, ◌<◌, ◌≡◌, refl, ap, ◌∙◌, List, [], ◌∷◌, ◌++◌, append-nil, reverse, arith, ltb-true, ltb-false, ltb, length, take, drop, get_or, drop_of_length-le, length-drop, length-append, take_all, length-take-le, get_or-take, get_or-drop, get_or-append-add}
+use Rattle.std.proofs.lemmas.Grind.{common_steps}
+use Rattle.std.proofs.Common.{ℕ, zero, suc, ◌+◌, ◌-◌, ◌*◌, ◌%◌, ◌≤◌, ◌<◌, ◌≡◌, refl, ap, ◌∙◌, List, [], ◌∷◌, ◌++◌, append-nil, reverse, arith, ltb-true, ltb-false, ltb, length, take, drop, get_or, drop_of_length-le, length-drop, take_all, length-take-le, get_or-take, get_or-drop, get_or-append-add}
 use mathlib.Core.List.{reverse_aux}
 use lib.ListN.{length-reverse, get_or-append}
 use Rattle.ranges.proofs.Bools.{by}
@@ -22,11 +23,7 @@ aux-low (a ∷ l) r i h =
 pub length-swap : (n : ℕ) (s : List ℕ) → length s ≡ 8 * n → length (swap_bytes n s) ≡ 8 * n
 unfolding swap_bytes
 length-swap zero s h = refl
-length-swap (suc n) s h =
-    let ih = length-swap n (drop 8 s) (rw length-drop (omega arith)) in
-    let l = length-take-le 8 s (omega arith) in
-    let r = length-reverse (take 8 s) in
-    length-append (reverse (take 8 s)) (swap_bytes n (drop 8 s)) ∙ omega arith
+length-swap (suc n) s h = grind (arith, common_steps, length-swap n (drop 8 s), length-reverse (take 8 s))
 
 pub swap_at : (n : ℕ) (s : List ℕ) (i : ℕ) → length s ≡ 8 * n → i < 8 * n → get_or (swap_bytes n s) i 0 ≡ get_or s (i + 7 - 2 * (i % 8)) 0
 unfolding swap_bytes

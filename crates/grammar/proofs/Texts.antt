@@ -1,9 +1,7 @@
 -- The definitions of values at the steps of the loops that read them.
-use Rattle.std.proofs.Common.{ltb, sym, ap, ◌/◌, ◌++◌, append_assoc, append-nil, suc, option_map, MatchOption, ◌≡◌, refl, ℕ, ◌+◌, ◌-◌, ◌*◌, ◌≤◌, ◌<◌, List, [], ◌∷◌, length, drop, get_or, Option, Some, None, ◌∙◌, arith, drop-cons, add-one, le-leb, le-ltb, eq-eqb, ne_eqb, drop_of_length-le}
-use borrow.Author.Tests.{lt-leb}
-use Rattle.ranges.proofs.Bools.{by}
+use Rattle.std.proofs.Common.{sym, ap, ◌/◌, ◌++◌, append_assoc, append-nil, suc, option_map, MatchOption, ◌≡◌, refl, ℕ, ◌+◌, ◌-◌, ◌*◌, ◌≤◌, ◌<◌, List, [], ◌∷◌, length, drop, get_or, Option, Some, None, ◌∙◌, arith, drop-cons, add-one, le-ltb, drop_of_length-le}
 use Rattle.text.specs.Numbers.{decimal_value}
-use Rattle.grammar.specs.Numbers.{numbers_by, read_hex, hex_up_to, read_numbers, read_number, split_once, hex_byte, hex_bytes, ◌>>=◌, all_digits, digits_after}
+use Rattle.grammar.specs.Numbers.{numbers_by, read_hex, hex_up_to, read_numbers, read_number, split_once, hex_byte, hex_bytes, all_digits, digits_after}
 
 pub value_grows : (a : ℕ) (t : List ℕ) → a ≤ decimal_value a t
 unfolding decimal_value
@@ -13,28 +11,23 @@ value_grows a (d ∷ t) = let ih = value_grows (a * 10 + (d - 48)) t in omega ar
 module _ (most a : ℕ) (t : List ℕ) (i : ℕ) (h : i < length t) where
   pub digit_low : get_or t i 0 < 48 → digits_after most a (drop i t) ≡ None
   unfolding digits_after all_digits
-  digit_low l = rw (drop-cons t i 0 h, lt-leb 48 (get_or t i 0) l) refl
+  digit_low l = rw (drop-cons t i 0 h) (grind arith)
 
   pub digit-high : 57 < get_or t i 0 → digits_after most a (drop i t) ≡ None
   unfolding digits_after all_digits
-  digit-high l = rw (drop-cons t i 0 h, le-leb 48 (get_or t i 0) (omega arith), lt-leb (get_or t i 0) 57 l) refl
+  digit-high l = rw (drop-cons t i 0 h) (grind arith)
 
   pub digit-more : 48 ≤ get_or t i 0 → get_or t i 0 ≤ 57 → digits_after most a (drop i t) ≡ digits_after most (a * 10 + (get_or t i 0 - 48)) (drop (i + 1) t)
   unfolding digits_after all_digits decimal_value
-  digit-more l u = rw (add-one i, drop-cons t i 0 h, le-leb 48 (get_or t i 0) l, le-leb (get_or t i 0) 57 u) refl
+  digit-more l u = rw (add-one i, drop-cons t i 0 h) (grind arith)
 
   pub digit-over : 48 ≤ get_or t i 0 → get_or t i 0 ≤ 57 → most < a * 10 + (get_or t i 0 - 48) → digits_after most a (drop i t) ≡ None
-  digit-over l u o = digit-more l u ∙ over (a * 10 + (get_or t i 0 - 48)) (drop (i + 1) t) o
-    where
-      over : (b : ℕ) (u : List ℕ) → most < b → digits_after most b u ≡ None
-      over b u o =
-          let g = value_grows b u in
-          unfold digits_after in
-          by (all_digits u) (λ e. rw (e, lt-leb (decimal_value b u) most (omega arith)) refl) (λ e. rw e refl)
+  unfolding digits_after
+  digit-over l u o = digit-more l u ∙ grind (arith, value_grows (a * 10 + (get_or t i 0 - 48)) (drop (i + 1) t))
 
 pub digits-end : (most a : ℕ) (t : List ℕ) (i : ℕ) → length t ≤ i → a ≤ most → digits_after most a (drop i t) ≡ Some a
 unfolding digits_after all_digits decimal_value
-digits-end most a t i h l = rw (drop_of_length-le t h, le-leb a most l) refl
+digits-end most a t i h l = rw (drop_of_length-le t h) (grind arith)
 
 pub ruleset digits_steps = (digit_low, digit-high, digit-more, digit-over, digits-end)
 
@@ -45,13 +38,7 @@ pub hex_length : (t : List ℕ) → MatchOption (hex_bytes t) (Unit {0}) (λ m. 
 unfolding hex_bytes
 hex_length [] = refl
 hex_length (a ∷ []) = tt
-hex_length (a ∷ b ∷ t) = go (hex_byte a b) (hex_bytes t) (hex_length t)
-  where
-    go : (x : Option ℕ) (o : Option (List ℕ)) → MatchOption o (Unit {0}) (λ m. length t ≡ 2 * length m)
-        → MatchOption (x >>= λ (y : ℕ). option_map (λ (l : List ℕ). y ∷ l) o) (Unit {0}) (λ m. suc (suc (length t)) ≡ 2 * length m)
-    go None o h = tt
-    go (Some y) None h = tt
-    go (Some y) (Some m) h = omega arith
+hex_length (a ∷ b ∷ t) = grind (arith, hex_length t)
 
 pub hex_within : (n : ℕ) (t : List ℕ) → length t / 2 ≤ n → hex_up_to n t ≡ hex_bytes t
 hex_within n t h = rw (le-ltb n (length t / 2) h) refl
@@ -89,17 +76,11 @@ hex-odd b (a ∷ d ∷ s) h = absurd (omega arith)
 
 pub hex_whole : (n : ℕ) (t m : List ℕ) → Some m ≡ hex_up_to n t → length m ≡ n → Some m ≡ read_hex n t
 unfolding read_hex
-hex_whole n t m e l = by (ltb n (length t / 2)) (λ k. let f : Some m ≡ None = rw k at e in absurd (let z : ◌≡◌ {A = ℕ} 0 1 = cc in omega arith))
-    (λ k. let f : Some m ≡ hex_bytes t = rw k at e in
-    let c : length t ≡ 2 * length m = rw (← f) at (hex_length t) in
-    rw (eq-eqb (length t) (2 * n) (omega arith)) f)
+hex_whole n t m e l = grind (arith, hex_length t)
 
 pub hex_part : (n : ℕ) (t m : List ℕ) → Some m ≡ hex_up_to n t → (length m ≡ n → ⊥) → None ≡ read_hex n t
 unfolding read_hex
-hex_part n t m e l = by (ltb n (length t / 2)) (λ k. let f : Some m ≡ None = rw k at e in absurd (let z : ◌≡◌ {A = ℕ} 0 1 = cc in omega arith))
-    (λ k. let f : Some m ≡ hex_bytes t = rw k at e in
-    let c : length t ≡ 2 * length m = rw (← f) at (hex_length t) in
-    rw (ne_eqb (length t) (2 * n) (λ q. l (omega arith))) refl)
+hex_part n t m e l = grind (arith, hex_length t)
 
 -- ---- lists
 
@@ -113,14 +94,14 @@ module _ (most : ℕ) (p t : List ℕ) (n : ℕ) where
   list_step h q e = let z : n ≡ suc (n - 1) = omega arith in ap (λ (i : ℕ). read_numbers most i t) z ∙ ap (numbers_by most t (read_numbers most (n - 1))) e
 
   pub list_bad : (f o : List ℕ) → 0 < n → split_once 44 t ≡ Some (f, o) → read_number most f ≡ None → option_map (λ (m : List ℕ). p ++ m) (read_numbers most n t) ≡ None
-  list_bad f o h e k = ap (option_map (λ (m : List ℕ). p ++ m)) (list_step h (Some (f, o)) e) ∙ rw k refl
+  list_bad f o h e k = grind (arith, list_step h (Some (f, o)) e)
 
   pub list-more : (f o : List ℕ) (x : ℕ) → 0 < n → split_once 44 t ≡ Some (f, o) → read_number most f ≡ Some x
       → option_map (λ (m : List ℕ). p ++ m) (read_numbers most n t) ≡ option_map (λ (m : List ℕ). (p ++ x ∷ []) ++ m) (read_numbers most (n - 1) o)
-  list-more f o x h e k = ap (option_map (λ (m : List ℕ). p ++ m)) (list_step h (Some (f, o)) e) ∙ rw k (moved p x (read_numbers most (n - 1) o))
+  list-more f o x h e k = grind (arith, list_step h (Some (f, o)) e, moved p x (read_numbers most (n - 1) o))
 
   pub last_bad : 0 < n → split_once 44 t ≡ None → read_number most t ≡ None → option_map (λ (m : List ℕ). p ++ m) (read_numbers most n t) ≡ None
-  last_bad h e k = ap (option_map (λ (m : List ℕ). p ++ m)) (list_step h None e) ∙ rw k refl
+  last_bad h e k = grind (arith, list_step h None e)
 
   pub list-last : (x : ℕ) → 0 < n → split_once 44 t ≡ None → read_number most t ≡ Some x → option_map (λ (m : List ℕ). p ++ m) (read_numbers most n t) ≡ Some (p ++ x ∷ [])
-  list-last x h e k = ap (option_map (λ (m : List ℕ). p ++ m)) (list_step h None e) ∙ rw k refl
+  list-last x h e k = grind (arith, list_step h None e)
