@@ -1,3 +1,4 @@
 pub mod Root
 pub mod SquareRoot
 pub mod Claims
+pub mod Worked
