@@ -31,7 +31,7 @@ abbrev pub rest_of : ℤ → ℤ → ℤ
 rest_of q v = v -ℤ pos 900_000_000 *ℤ q
 
 -- The value nearest to pi / 180, from pi's first 35 decimals. (Pi cut after them and the next number of 35 decimals give
--- the same value: `nearest-pi` of proofs/Constants.antt.)
+-- the same value: `NearestPi` of Claims.)
 abbrev pub pi_digits : ℕ
 pi_digits = 3_14159_26535_89793_23846_26433_83279_50288
 

@@ -1,7 +1,11 @@
 -- What is claimed of the sine and the cosine of an angle, beside that the code gives what Angles says. Each statement is a type; the theorem of it has its
--- name, in proofs/Quadrants and proofs/Positions.
-use Rattle.std.specs.Prelude.{◌≡◌, ◌<◌, ℤ, pos, neg_ℤ, ◌+ℤ◌, ◌*ℤ◌, ◌≤ℤ◌, ◌<ℤ◌, Float}
-use Rattle.geometry.specs.Angles.{quadrant_of, right_angles, rest_of, turn_of, sincos_of}
+-- name, in proofs/Quadrants, proofs/Positions and proofs/Constants.
+use Rattle.std.specs.Prelude.{◌≡◌, ◌+◌, ◌*◌, ◌^◌, ◌<◌, false, ℤ, pos, neg_ℤ, ◌+ℤ◌, ◌*ℤ◌, ◌≤ℤ◌, ◌<ℤ◌, Float}
+use Rattle.std.specs.Float.{binary64}
+use Rattle.std.specs.Float.Ieee.{round, to_bits}
+use Rattle.geometry.specs.Numbers.{from_decimal}
+use Rattle.geometry.specs.Angles.{quadrant_of, right_angles, rest_of, turn_of, sincos_of, pi_digits, degree}
+use Rattle.geometry.specs.Geodesy.{flattening, eccentricity2}
 use Rattle.geometry.specs.Formula.{floor_div, floor_mod, formula_q, formula_turn, formula_sincos}
 use Rattle.geometry.specs.declared.angles.Quadrant.{Quadrant}
 use Rattle.geometry.specs.declared.angles.Quadrant.TheVariants.{MinusTwo, MinusOne, Zero, One, Two}
@@ -82,3 +86,16 @@ pub record Edges : Type 0 where
   pub last_one : Given (pos 1_349_999_999) One
   pub first_two : Given (pos 1_350_000_000) Two
   pub greatest : Given (pos 2_147_483_647) Two
+
+-- ---- the constants
+
+-- pi lies between pi_digits / 10 ^ 35 and the next number of 35 decimals, and the two give one value for a degree
+abbrev pub NearestPi : Type 0
+NearestPi = round binary64 false (pi_digits + 1) (180 * 10 ^ 35) ≡ degree
+
+-- the bits of 1e-7, of a degree in radians, and of the ellipsoid's two numbers
+pub record ConstantBits : Type 0 where
+  pub unit_bits : to_bits binary64 (from_decimal 1 7) ≡ 0x3e7ad7f29abcaf48
+  pub degree_bits : to_bits binary64 degree ≡ 0x3f91df46a2529d39
+  pub flattening_bits : to_bits binary64 flattening ≡ 0x3f6b775a84f3e128
+  pub eccentricity2_bits : to_bits binary64 eccentricity2 ≡ 0x3f7b6b90f1fe94f0

@@ -1,6 +1,6 @@
 //! What is claimed of sine and cosine. Each function's contract is the claim; there is nothing to run.
 
-ghost use Rattle.geometry.specs.Claims.{CoveredOnce, QuadrantAndRest, RangesAreTheFormula, Edges, Position4};
+ghost use Rattle.geometry.specs.Claims.{CoveredOnce, QuadrantAndRest, RangesAreTheFormula, Edges, Position4, NearestPi, ConstantBits};
 
 /// Each angle lies in exactly one of the five ranges that choose sine and cosine.
 pub fn angles_lie_in_one_range()
@@ -17,4 +17,10 @@ pub fn ranges_are_the_formula()
 pub fn edges_of_the_ranges()
     ensures edges { Edges }
     ensures halves { Position4 }
+{}
+
+/// Pi's first 35 decimals decide the value of a degree; and the constants' bits.
+pub fn constants_worked()
+    ensures nearest { NearestPi }
+    ensures bits { ConstantBits }
 {}
