@@ -1,6 +1,6 @@
 -- Eight worked cases, and that a board of no records has no bytes.
 use Rattle.std.proofs.Common.{ℕ, ◌≡◌, refl, List, []}
-use Rattle.floats.proofs.Worked.{root-of-4}
+use Rattle.floats.proofs.Worked.{roots-worked}
 use Rattle.text.proofs.Readback.{height-texts}
 use Rattle.geometry.proofs.Positions.{position-4}
 use Rattle.arithmetic.proofs.Positions.{position-1, position-2}
@@ -27,6 +27,6 @@ positions = record {
   p4 = position-4;
   p5 = height-texts;
   p6 = position-6;
-  p7 = root-of-4;
+  p7 = roots-worked.of_4;
   p8 = no_bytes;
 }

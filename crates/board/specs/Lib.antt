@@ -1,6 +1,6 @@
 -- The board of a register (Board) and the one after a conviction, shown first (Preview); what is claimed of whole lists of calls (Claims), of previews (Previews), of
--- what is shown (Shows) and of bursts with a pause between them (Bursts), when it has no bytes (Nothing), the positions to check (Positions); and what a board shows
--- of fixes (Latest).
+-- what is shown (Shows) and of bursts with a pause between them (Bursts), when it has no bytes (Nothing), the positions to check (Positions), a board
+-- and a preview worked out (Worked); and what a board shows of fixes (Latest).
 pub mod Board
 pub mod Preview
 pub mod Claims
@@ -9,4 +9,5 @@ pub mod Shows
 pub mod Bursts
 pub mod Nothing
 pub mod Positions
+pub mod Worked
 pub mod Latest

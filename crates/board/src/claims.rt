@@ -11,6 +11,7 @@ ghost use Rattle.board.specs.Shows.{WhatIsShown};
 ghost use Rattle.board.specs.Bursts.{BurstsOnBoards};
 ghost use Rattle.board.specs.Nothing.{NoBytesExactlyWhen};
 ghost use Rattle.board.specs.Positions.{Positions};
+ghost use Rattle.board.specs.Worked.{BoardsWorked};
 
 /// Two control rooms that get the same reports over different links, in different orders, hold the same register and see the same board.
 pub fn whole_lists()
@@ -55,4 +56,9 @@ pub fn previews_of_lists()
 /// Eight worked cases.
 pub fn positions()
     ensures { Positions }
+{}
+
+/// A whole board and a whole preview, line by line.
+pub fn boards_worked()
+    ensures { BoardsWorked }
 {}
