@@ -1,7 +1,7 @@
 //! The items of a decision: in lent bytes of `layout::ITEM_SIZE` each, and as values.
 #![tactic(auto)]
 
-ghost use Rattle.std.specs.Prelude.{◌≡◌, ◌+◌, ◌*◌, ◌≤◌, ◌<◌, length, is_some};
+ghost use Rattle.std.specs.Prelude.{◌≡◌, ◌+◌, ◌*◌, ◌≤◌, ◌<◌, length, is_some, IfSome};
 ghost use Rattle.octets.specs.Order.{same};
 ghost use Rattle.record.specs.Layout.{record_size};
 ghost use Rattle.record.specs.Formed.{well_formed};
@@ -71,7 +71,8 @@ fn record_bytes(s: &[u8], i: u8) -> &[u8]
 /// The record of item i, if its bytes are one.
 pub fn parsed_record(s: &[u8], i: u8) -> Option<Record>
     requires { i * item_size + item_size ≤ length s.now }
-    ensures { is_some result ≡ well_formed (I.item_record s.now i) }
+    ensures formed { is_some result ≡ well_formed (I.item_record s.now i) }
+    ensures same { IfSome result (λ r. r.bytes.now ≡ I.item_record s.now i) }
 {
     Record::parse(record_bytes(s, i))
 }
