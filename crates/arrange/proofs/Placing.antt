@@ -202,7 +202,7 @@ module _ (t₀ : List ℕ) (n : ℕ) (f : Filled t₀ n) where
 
   unused : drop (n * transmission_size) t₀ ≡ zeros (max_transmissions - n)
   unused =
-      let w = all-wide (blocks n t₀) f.sound in
+      let w = all-wide (blocks n t₀) f.steady in
       let c = count-is t₀ n f in
       ap (drop (n * transmission_size)) f.is
       ∙ drop_at (flat (blocks n t₀)) (zeros (max_transmissions - length (blocks n t₀))) (n * transmission_size) (flat-length transmission_size (blocks n t₀) w ∙ ap (λ (x : ℕ). x * transmission_size) c)

@@ -1,5 +1,5 @@
 -- What is arranged in bytes is what is arranged of the transmissions that they hold.
-use Prim.Native.Nat.{ℕ, zero, suc, ◌-◌, ◌≤◌}
+use Prim.Native.Nat.{ℕ, zero, suc, ◌-◌}
 use mathlib.Core.Path.{◌≡◌, refl, sym, ap, ap₂, ◌∙◌}
 use mathlib.Core.List.{List, [], ◌∷◌, map}
 use lib.ListN.{length, drop, length-map}
@@ -10,7 +10,6 @@ use Rattle.tracked.specs.Held.{HeldTransmission}
 use Rattle.tracked.specs.Bytes.{transmission_in}
 use Rattle.arrange.specs.Arranged.{max_transmissions, has_fix, older_than, arranged}
 use Rattle.arrange.specs.Blocks.{has_fix_in, older_block, arranged_blocks, latest_blocks}
-use Rattle.arrange.proofs.Tables.{few-stay}
 
 pub map-drop : {A B : Type 0} (f : A → B) (n : ℕ) (l : List A) → map f (drop n l) ≡ drop n (map f l)
 map-drop f zero l = refl
@@ -28,7 +27,3 @@ unfolding arranged
 latest-values bs =
     map-drop transmission_in (length (arranged_blocks bs) - max_transmissions) (arranged_blocks bs)
     ∙ ap₂ (λ (n : ℕ) (l : List HeldTransmission). drop (n - max_transmissions) l) (sym (length-map (arranged_blocks bs) transmission_in) ∙ ap length (sorted-values bs)) (sorted-values bs)
-
--- of at most eight none goes
-pub arranged-values : (bs : List (List ℕ)) → length bs ≤ max_transmissions → map transmission_in (arranged_blocks bs) ≡ arranged (map transmission_in bs)
-arranged-values bs h = ap (map transmission_in) (sym (few-stay bs h)) ∙ latest-values bs

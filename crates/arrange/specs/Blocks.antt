@@ -1,17 +1,22 @@
 -- No claim rests on these definitions: they say what the code does to a table of transmissions, each in its bytes.
 use Rattle.std.specs.Prelude.{ℕ, ◌+◌, ◌*◌, ◌≤◌, ◌≡◌, Bool, length, get_or, take, drop}
-use mathlib.Core.List.{List, [], ◌∷◌, ◌++◌, map, Memᴰ}
+use mathlib.Core.List.{List, [], ◌++◌, map, Memᴰ}
 use Rattle.std.specs.List.{filter}
 use Rattle.ranges.specs.Lists.{sort, last_of}
 use Rattle.places.specs.Places.{places, flat, table_of}
 use Rattle.tracked.specs.Layout.{transmission_size}
+use Rattle.tracked.specs.Held.{HeldTransmission}
 use Rattle.tracked.specs.Bytes.{transmission_in}
-use Rattle.tracked.specs.Parts.{Sound}
+use Rattle.tracked.specs.Parts.{Steady}
 use Rattle.arrange.specs.Arranged.{max_transmissions, has_fix, older_than}
 
 -- the first n transmissions of a table
 abbrev pub blocks : ℕ → List ℕ → List (List ℕ)
 blocks n t = places transmission_size n t
+
+-- the transmissions that they hold
+abbrev pub held : ℕ → List ℕ → List HeldTransmission
+held n t = map transmission_in (blocks n t)
 
 -- the table of transmissions
 abbrev pub block_table : List (List ℕ) → List ℕ
@@ -30,19 +35,15 @@ arranged_blocks bs = sort older_block (filter has_fix_in bs)
 abbrev pub latest_blocks : List (List ℕ) → List (List ℕ)
 latest_blocks bs = last_of max_transmissions (arranged_blocks bs)
 
--- with a further one, in their order, the latest eight
-abbrev pub admitted : List (List ℕ) → List ℕ → List (List ℕ)
-admitted bs b = latest_blocks (bs ++ (b ∷ []))
-
-abbrev pub AllSound : List (List ℕ) → Type 0
-AllSound bs = (b : List ℕ) → Memᴰ b bs → Sound b
+abbrev pub AllSteady : List (List ℕ) → Type 0
+AllSteady bs = (b : List ℕ) → Memᴰ b bs → Steady b
 
 -- a table of n transmissions, and zeros behind them
 pub record Filled (t : List ℕ) (n : ℕ) : Type 0 where
   pub few : n ≤ max_transmissions
   pub size : length t ≡ max_transmissions * transmission_size
   pub is : t ≡ block_table (blocks n t)
-  pub sound : AllSound (blocks n t)
+  pub steady : AllSteady (blocks n t)
 
 -- ---- by their places
 

@@ -5,13 +5,13 @@
 //! stored in a track, and one is worked out, once, only where two times are equal.
 #![tactic(auto)]
 
-ghost use Rattle.std.specs.Prelude.{◌≡◌, ℕ, [], ◌++◌, ◌+◌, ◌*◌, ◌<◌, ◌≤◌, IsTrue, length, map, get_or, take, drop, slice_index};
+ghost use Rattle.std.specs.Prelude.{◌≡◌, ℕ, [], ◌∷◌, ◌++◌, ◌+◌, ◌*◌, ◌<◌, ◌≤◌, IsTrue, length, map, get_or, take, drop, slice_index};
 ghost use Rattle.places.specs.Places.{flat};
 ghost use Rattle.tracked.specs.Layout.{transmission_size};
 ghost use Rattle.tracked.specs.Bytes.{transmission_in};
-ghost use Rattle.tracked.specs.Parts.{Sound};
-ghost use Rattle.arrange.specs.Arranged.{max_transmissions};
-ghost use Rattle.arrange.specs.Blocks.{Filled, AllSound};
+ghost use Rattle.tracked.specs.Parts.{Steady};
+ghost use Rattle.arrange.specs.Arranged.{max_transmissions, arranged};
+ghost use Rattle.arrange.specs.Blocks.{Filled, AllSteady};
 ghost use Rattle.arrange.specs.Blocks as B;
 ghost use Rattle.arrange.specs.Leads.{order_of};
 
@@ -37,7 +37,7 @@ pub type Blocks<'a> = ArrayVec<Block<'a>, MAX_LEADS>;
 /// The n transmissions of a table.
 pub fn blocks(t: &[u8], n: usize) -> Blocks<'_>
     requires { Filled t.now n }
-    ensures { result.items ≡ map transmission_in (B.blocks n t.now) }
+    ensures { result.items ≡ B.held n t.now }
 {
     let mut blocks = Blocks::new();
     let places = places::table::places_of::<TRANSMISSION_SIZE>(t, n);
@@ -186,14 +186,12 @@ impl Moves<'_> {
 // Brings the n transmissions of a table and further ones into their order, and returns how many are left.
 fn settle(t: &mut [u8], n: usize, further: &[[u8; TRANSMISSION_SIZE]], order: &[usize]) -> usize
     requires filled { Filled t.old n }
-    requires sound { AllSound further.now }
-    requires order { order.now ≡ order_of (map transmission_in (B.blocks n t.old ++ further.now)) }
-    ensures value { result ≡ length (B.latest_blocks (B.blocks n t.old ++ further.now)) }
-    ensures t_after { t.new ≡ B.block_table (B.latest_blocks (B.blocks n t.old ++ further.now)) }
+    requires steady { AllSteady further.now }
+    requires order { order.now ≡ order_of (B.held n t.old ++ map transmission_in further.now) }
+    ensures filled { Filled t.new result }
+    ensures held { B.held result t.new ≡ arranged (B.held n t.old ++ map transmission_in further.now) }
 {
-    let Some(table) = t.as_mut_array::<TABLE_SIZE>() else {
-        return n;
-    };
+    let table = t.as_mut_array::<TABLE_SIZE>().unwrap();
     Moves { n, further, order }.write(table);
     let left = order.len();
     if left < n {
@@ -205,8 +203,8 @@ fn settle(t: &mut [u8], n: usize, further: &[[u8; TRANSMISSION_SIZE]], order: &[
 /// Brings the n transmissions of a table into their order, and returns how many are left.
 pub fn arrange(t: &mut [u8], n: usize) -> usize
     requires { Filled t.old n }
-    ensures value { result ≡ length (B.arranged_blocks (B.blocks n t.old)) }
-    ensures t_after { t.new ≡ B.block_table (B.arranged_blocks (B.blocks n t.old)) }
+    ensures filled { Filled t.new result }
+    ensures held { B.held result t.new ≡ arranged (B.held n t.old) }
 {
     let order = leads::order(&blocks(t, n));
     settle(t, n, &[], &order)
@@ -214,9 +212,10 @@ pub fn arrange(t: &mut [u8], n: usize) -> usize
 
 /// Takes a further transmission in among n, and returns how many there are then. Beyond eight the oldest goes.
 pub fn admit(t: &mut [u8], n: usize, b: &[u8; TRANSMISSION_SIZE]) -> usize
-    requires { Filled t.old n × Sound b.now }
-    ensures value { result ≡ length (B.admitted (B.blocks n t.old) b.now) }
-    ensures t_after { t.new ≡ B.block_table (B.admitted (B.blocks n t.old) b.now) }
+    requires filled { Filled t.old n }
+    requires steady { Steady b.now }
+    ensures filled { Filled t.new result }
+    ensures held { B.held result t.new ≡ arranged (B.held n t.old ++ transmission_in b.now ∷ []) }
 {
     let mut all = blocks(t, n);
     all.push(Block::of(b));

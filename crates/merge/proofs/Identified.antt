@@ -30,12 +30,11 @@ use Rattle.shown.proofs.Indexed.{at_in}
 use Rattle.tracked.specs.Layout as L
 use Rattle.tracked.specs.Held.{RefusedFix, HeldTransmission, fix_of, held_in, is_of}
 use Rattle.tracked.specs.Bytes.{signers_in, fix_in, refused_in, fix_count, refused_count, fix_table, refused_table, fix_places, refused_places, transmission_in, transmission_bytes}
-use Rattle.tracked.specs.Parts.{held_places, held_count, held_place, fix_place, refused_place, Sound}
+use Rattle.tracked.specs.Parts.{held_places, held_count, held_place, fix_place, refused_place, Sound, Steady}
 use Rattle.tracked.proofs.Holding.{held-length, held_at, held-are}
 use Rattle.tracked.proofs.Encoding.{ValidFix, ValidRefused, Valid, bytes-of-places, wide-in}
 use Rattle.normalize.specs.Normal.{sign_first}
 use Rattle.normalize.specs.Joining.{upholds, sign_refused, sign_in}
-use Rattle.merge.specs.Searching.{Steady}
 use Rattle.merge.proofs.Counting.{first-at}
 use Rattle.merge.proofs.Signing.{no_refused, resigned, sign-standing, sign-refused, sign-first-at, sign-refused-at}
 

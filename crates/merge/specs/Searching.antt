@@ -1,14 +1,13 @@
 -- No claim rests on these definitions: they say what the code finds in a table of transmissions, and what it leaves.
 use Rattle.std.specs.Prelude.{ℕ, ◌+◌, ◌≡◌, Bool, cond, ◌||◌, length, drop, Option, Some, None, is_some, option_and_then, position}
-use mathlib.Core.List.{List, [], ◌∷◌, map, Memᴰ}
+use mathlib.Core.List.{List, [], ◌∷◌, map}
 use Rattle.std.specs.List.{list_any}
 use Rattle.record.specs.Relations.{tied}
 use Rattle.shown.specs.Fix.{Fix}
 use Rattle.tracked.specs.Held.{HeldTransmission, held_in}
-use Rattle.tracked.specs.Bytes.{transmission_in, transmission_bytes}
-use Rattle.tracked.specs.Parts.{Sound}
+use Rattle.tracked.specs.Bytes.{transmission_bytes}
 use Rattle.normalize.specs.declared.Joined.{Joined}
-use Rattle.arrange.specs.Blocks.{blocks, block_table, Filled}
+use Rattle.arrange.specs.Blocks.{block_table}
 use Rattle.merge.specs.declared.Outcome.{Outcome}
 use Rattle.merge.specs.declared.Merged.{Merged}
 use Rattle.merge.specs.declared.Merged.TheVariants.{Changed, Contested, Dropped}
@@ -36,16 +35,6 @@ pub record Leaves (x : Step) (r : Outcome) (t : List ℕ) : Type 0 where
   pub entered : r.entered ≡ x.entered
   pub count : r.count ≡ length x.left
   pub bytes : t ≡ block_table (map transmission_bytes x.left)
-
--- a transmission as a track holds it: the bytes are those of what it holds
-pub record Steady (b : List ℕ) : Type 0 where
-  pub sound : Sound b
-  pub same_bytes : transmission_bytes (transmission_in b) ≡ b
-
--- a table of such transmissions
-pub record Ready (t : List ℕ) (n : ℕ) : Type 0 where
-  pub filled : Filled t n
-  pub steady : (b : List ℕ) → Memᴰ b (blocks n t) → Steady b
 
 -- Contested goes before Changed
 abbrev pub answer_in : Joined → Merged

@@ -1,13 +1,15 @@
 //! What a track does with a further fix.
 #![tactic(auto)]
 
-ghost use Rattle.std.specs.Prelude.{◌≡◌, true, map, ◌≤◌, Some, IfSome, length, take, position};
+ghost use Rattle.std.specs.Prelude.{◌≡◌, true, ◌≤◌, Some, IfSome, length, take, position};
 ghost use Rattle.std.specs.List.{list_any};
 ghost use Rattle.tracked.specs.Held.{held_in, is_of, tied_to};
 ghost use Rattle.tracked.specs.Bytes.{transmission_in, transmission_bytes};
+ghost use Rattle.tracked.specs.Parts.{Steady};
 ghost use Rattle.normalize.specs.Joining.{with_fix};
 ghost use Rattle.normalize.specs.Taking.{taken_in, told_of};
-ghost use Rattle.arrange.specs.Blocks.{blocks};
+ghost use Rattle.arrange.specs.Blocks.{Filled};
+ghost use Rattle.arrange.specs.Blocks as B;
 ghost use Rattle.merge.specs.Merged as M;
 ghost use Rattle.merge.specs.Searching as S;
 
@@ -62,7 +64,7 @@ fn only_tied(blocks: &[Block<'_>], r: Record) -> Option<usize>
 // A transmission of one fix, in its bytes.
 fn alone(fix: Fix<'_>) -> [u8; TRANSMISSION_SIZE]
     ensures held { transmission_in result ≡ S.single fix.entry }
-    ensures steady { S.Steady result }
+    ensures steady { Steady result }
 {
     // A proof learns what holds of a fix where a field of it is read.
     let _known = fix.known;
@@ -126,8 +128,8 @@ fn keeps(blocks: &[Block<'_>], mut fix: Fix<'_>) -> bool
 
 // A fix that is tied to none or to several transmissions opens one of its own.
 fn open(t: &mut [u8], n: usize, fix: Fix<'_>) -> Outcome
-    requires { S.Ready t.old n }
-    ensures { S.Leaves (M.opened fix.entry (map transmission_in (blocks n t.old))) result t.new }
+    requires { Filled t.old n }
+    ensures { S.Leaves (M.opened fix.entry (B.held n t.old)) result t.new }
 {
     let count = arrange::admit(t, n, &alone(fix.copied()));
     let answer = if keeps(&arrange::blocks(t, count), fix) {
@@ -174,14 +176,12 @@ fn duplicate_of(block: &Block<'_>, fix: &Fix<'_>) -> Option<u8>
 
 // A fix in the transmission that it is tied to. Where a held fix has its message, tags and inputs, four bytes are written.
 fn join(b: &mut [u8], fix: Fix<'_>) -> Option<Joined>
-    requires { S.Steady b.old }
+    requires { Steady b.old }
     ensures left { b.new ≡ transmission_bytes (taken_in fix.entry (transmission_in b.old)) }
     ensures told { result ≡ told_of fix.entry (transmission_in b.old) }
-    ensures decided { IfSome result (λ _. S.Steady b.new × (transmission_in b.new ≡ with_fix fix.entry (transmission_in b.old))) }
+    ensures decided { IfSome result (λ _. Steady b.new × (transmission_in b.new ≡ with_fix fix.entry (transmission_in b.old))) }
 {
-    let Some(b) = b.as_mut_array() else {
-        return None;
-    };
+    let b = b.as_mut_array().unwrap();
     if let Some(k) = duplicate_of(&Block::of(b), &fix) {
         tracked::sign(b, k, fix.signers);
         return None;
@@ -204,9 +204,9 @@ fn answer_of(j: Joined) -> Merged
 
 // A fix that is tied to transmission i alone.
 fn join_at(t: &mut [u8], n: usize, i: usize, fix: Fix<'_>) -> Outcome
-    requires ready { S.Ready t.old n }
-    requires only { S.only (tied_to fix) (map transmission_in (blocks n t.old)) ≡ Some i }
-    ensures { S.Leaves (M.merged fix.entry (map transmission_in (blocks n t.old))) result t.new }
+    requires filled { Filled t.old n }
+    requires only { S.only (tied_to fix) (B.held n t.old) ≡ Some i }
+    ensures { S.Leaves (M.merged fix.entry (B.held n t.old)) result t.new }
 {
     let a = i * TRANSMISSION_SIZE;
     let e = a + TRANSMISSION_SIZE;
@@ -227,8 +227,8 @@ fn join_at(t: &mut [u8], n: usize, i: usize, fix: Fix<'_>) -> Outcome
 
 /// Takes a further fix in among n transmissions.
 pub fn merge(t: &mut [u8], n: usize, fix: Fix<'_>) -> Outcome
-    requires { S.Ready t.old n }
-    ensures { S.Leaves (M.merged fix.entry (map transmission_in (blocks n t.old))) result t.new }
+    requires { Filled t.old n }
+    ensures { S.Leaves (M.merged fix.entry (B.held n t.old)) result t.new }
 {
     match only_tied(&arrange::blocks(t, n), fix.report) {
         Some(i) => join_at(t, n, i, fix),

@@ -32,8 +32,8 @@ use Rattle.shown.proofs.Plainly.{shown-is-decided}
 use Rattle.tracked.specs.Layout.{max_standing, fix_size, signers_at, inputs_at}
 use Rattle.tracked.specs.Held.{RefusedFix, HeldTransmission, fix_of, held_in, is_of}
 use Rattle.tracked.specs.Bytes.{record_in, fix_in, fix_bytes, refused_bytes, transmission_in, transmission_bytes}
-use Rattle.tracked.specs.Parts.{held_places, held_count, Sound, held_place}
-use Rattle.tracked.proofs.Encoding.{ValidFix, ValidRefused, Valid, Bounded, fix-length, fix-back, bytes-length, fix-places-back, refused-places-back}
+use Rattle.tracked.specs.Parts.{held_places, held_count, Sound, Steady, held_place}
+use Rattle.tracked.proofs.Encoding.{ValidFix, ValidRefused, Valid, Bounded, fix-length, fix-back, bytes-length, fix-places-back, refused-places-back, decode-encode}
 use Rattle.tracked.proofs.Holding.{held-length, held_at, held-size, held-formed, held-are}
 use Rattle.normalize.proofs.Lowest.{front-in}
 use Rattle.normalize.specs.Normal.{signed_by, sign_first, gather, gather_all, distinct, refused_fix, normalized}
@@ -195,6 +195,12 @@ module _ (fs : List Fix) (w : (f : Fix) → Memᴰ f fs → Holdable f) where
     few_refused = (few-kept fs).1;
     formed = held-pass (normalized fs) (normalized-valid fs w) (λ f. well_formed f.record_bytes) (λ f m. (kept-holdable fs w f m).form);
   }
+
+  pub normalized-read : transmission_in (transmission_bytes (normalized fs)) ≡ normalized fs
+  normalized-read = decode-encode (normalized fs) (normalized-valid fs w) (normalized-bounded fs)
+
+  pub normalized-steady : Steady (transmission_bytes (normalized fs))
+  normalized-steady = record { sound = normalized-sound; same_bytes = ap transmission_bytes normalized-read }
 
 -- ---- the fixes that sound bytes hold
 

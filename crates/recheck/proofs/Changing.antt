@@ -33,15 +33,17 @@ module _ {A : Type 0} where
     changed-all h = sym (take_all i l (rw changed-length h)) ∙ changed-front ∙ ap (map f) (take_all i l₀ h)
 
     module _ (d : A) (h : i < length l₀) where
-      pub changed-next : (l' : List A) → l' ≡ take i l ++ (f (get_or l i d) ∷ drop (i + 1) l) → Changed f l₀ (i + 1) l'
+      pub changed-here : get_or l i d ≡ get_or l₀ i d
+      changed-here = ap (λ (z : List A). get_or z 0 d) (sym (drop-cons l i d (rw changed-length h)) ∙ changed-rest ∙ drop-cons l₀ i d h)
+
+      changed-next : (l' : List A) → l' ≡ take i l ++ (f (get_or l i d) ∷ drop (i + 1) l) → Changed f l₀ (i + 1) l'
       changed-next l' q =
           let g : get_or l i d ∷ drop (suc i) l ≡ get_or l₀ i d ∷ drop (suc i) l₀ = sym (drop-cons l i d (rw changed-length h)) ∙ changed-rest ∙ drop-cons l₀ i d h in
-          let x : get_or l i d ≡ get_or l₀ i d = ap (λ (z : List A). get_or z 0 d) g in
           let y : drop (i + 1) l ≡ drop (i + 1) l₀ = ap (λ (k : ℕ). drop k l) (add-one i) ∙ ap (drop 1) g ∙ ap (λ (k : ℕ). drop k l₀) (sym (add-one i)) in
           record {
             few = omega arith;
             is =
-                q ∙ ap₂ (λ (u v : List A). u ++ v) changed-front (ap₂ (λ (u : A) (v : List A). f u ∷ v) x y)
+                q ∙ ap₂ (λ (u v : List A). u ++ v) changed-front (ap₂ (λ (u : A) (v : List A). f u ∷ v) changed-here y)
                 ∙ sym (append_assoc (map f (take i l₀)) (f (get_or l₀ i d) ∷ []) (drop (i + 1) l₀))
                 ∙ ap (λ (u : List A). u ++ drop (i + 1) l₀) (sym (map-append f (take i l₀) (get_or l₀ i d ∷ [])) ∙ ap (map f) (sym (ap (λ (k : ℕ). take k l₀) (add-one i) ∙ take-suc l₀ i d h)));
           }

@@ -1,9 +1,9 @@
 pub mod Standing
+pub mod Decided
 pub mod Settled
 pub mod Renewing
 pub mod Changing
 pub mod Rewriting
 pub mod Heads
-pub mod Arranging
 pub mod Rechecked
 pub mod Stricken

@@ -1,53 +1,43 @@
 -- What a recheck leaves of a track's bytes: the bytes of the track without the fixes that do not stand.
-use Prim.Native.Nat.{ℕ, ◌≤◌}
-use mathlib.Core.Path.{◌≡◌, refl, sym, ap, ◌∙◌}
+use Prim.Native.Nat.{ℕ}
+use mathlib.Core.Path.{◌≡◌, refl, sym, ap₂, ◌∙◌}
 use mathlib.Core.Bool.{true, false}
+use mathlib.Core.List.{List, ◌++◌, map}
+use lib.ListN.{take, set}
 use Rattle.std.specs.List.{list_any}
-use mathlib.Core.List.{List, [], ◌∷◌, map, Memᴰ}
-use lib.ListN.{length, length-map}
 use Rattle.octets.specs.Bytes.{Bytes}
+use Rattle.places.specs.Places.{places}
+use Rattle.models.specs.Summary.{summary_size}
 use Rattle.tracked.specs.Held.{HeldTransmission}
-use Rattle.tracked.specs.Bytes.{transmission_in, transmission_bytes}
-use Rattle.arrange.specs.Arranged.{max_transmissions, arranged}
-use Rattle.arrange.specs.Blocks.{block_table}
+use Rattle.arrange.specs.Arranged.{arranged}
+use Rattle.arrange.specs.Blocks.{held, Filled}
+use Rattle.arrange.proofs.Tables.{held-count, held-bytes}
+use Rattle.stored.specs.Layout.{transmission_count_at, transmissions_at}
 use Rattle.stored.specs.Track.{Track, with_transmissions}
-use Rattle.stored.specs.Memory.{convicted_in, summary_count, transmission_count, contested_in, summary_table, summaries_in, transmission_places, decode, encode}
-use Rattle.stored.proofs.Blocks.{of_map, Kept}
-use Rattle.stored.proofs.Frames.{frame, frame_same}
-use Rattle.stored.proofs.Opened.{Opened, summaries-length, summaries-are, transmissions-length, all_held}
+use Rattle.stored.specs.Memory.{convicted_in, summary_count, transmission_count, contested_in, summary_table, transmission_table, decode, encode}
+use Rattle.stored.proofs.Frames.{frame_same}
+use Rattle.stored.proofs.Opened.{Opened, summaries-length, summaries-are}
 use Rattle.recheck.specs.Recheck.{has_stale, standing, recheck}
-use Rattle.recheck.specs.Steps.{standing_bytes}
-use Rattle.recheck.proofs.Renewing.{standing-kept}
+use Rattle.recheck.proofs.Heads.{head-counted, with-table}
 
-module _ (m : List ℕ) (o : Opened m) (b : Bytes m) where
-  -- other transmissions behind the header and the summaries
-  pub encoded : (ts : List HeldTransmission) (n : ℕ) → n ≡ length ts
-      → frame (convicted_in m) (summary_count m) n (contested_in m) (summary_table m) (block_table (map transmission_bytes ts)) ≡ encode (with_transmissions ts (decode m))
-  unfolding encode decode
-  encoded ts n e = frame_same (convicted_in m) (contested_in m) (sym (summaries-length m o)) e (summaries-are m o) refl
+-- what the parts of the bytes hold
+module _ (m : List ℕ) where
+  pub summaries-there : (n : ℕ) (s : List ℕ) → n ≡ summary_count m → s ≡ summary_table m → places summary_size n s ≡ (decode m).summaries
+  unfolding decode
+  summaries-there n s e q = ap₂ (places summary_size) e q
 
-  abbrev pub ts : List HeldTransmission
-  ts = map transmission_in (transmission_places m)
+  pub transmissions-there : (k : ℕ) (t : List ℕ) → k ≡ transmission_count m → t ≡ transmission_table m → held k t ≡ (decode m).transmissions
+  unfolding decode
+  transmissions-there k t e q = ap₂ held e q
 
-  -- some do not
-  abbrev pub us : List HeldTransmission
-  us = map (standing (summaries_in m)) ts
-
-  pub us-kept : (u : HeldTransmission) → Memᴰ u us → Kept (convicted_in m) u
-  us-kept = of_map (standing (summaries_in m)) (Kept (convicted_in m)) ts (λ t i. standing-kept (convicted_in m) (summaries_in m) t (all_held m o b t i).kept)
-
-  pub us-count : transmission_count m ≡ length us
-  us-count = sym (length-map ts (standing (summaries_in m)) ∙ length-map (transmission_places m) transmission_in ∙ transmissions-length m o)
-
-  pub us-few : length us ≤ max_transmissions
-  us-few = rw (sym us-count) o.few
-
-  pub us-bytes : map (standing_bytes (summaries_in m)) (transmission_places m) ≡ map transmission_bytes us
-  us-bytes = go (transmission_places m)
-    where
-      go : (bs : List (List ℕ)) → map (standing_bytes (summaries_in m)) bs ≡ map transmission_bytes (map (standing (summaries_in m)) (map transmission_in bs))
-      go [] = refl
-      go (x ∷ bs) = ap (λ (l : List (List ℕ)). standing_bytes (summaries_in m) x ∷ l) (go bs)
+-- other transmissions behind the header and the summaries
+pub encoded : (m : List ℕ) (o : Opened m) (b : Bytes m) (h t : List ℕ) (r : ℕ) (ts : List HeldTransmission) → h ≡ take transmissions_at m → Filled t r → held r t ≡ ts
+    → set h transmission_count_at r ++ t ≡ encode (with_transmissions ts (decode m))
+unfolding encode decode
+encoded m o b h t r ts e f q =
+    ap₂ (λ (x y : List ℕ). x ++ y) (head-counted m h e o b r) (held-bytes f q)
+    ∙ with-table (convicted_in m) (summary_count m) r (contested_in m) (summary_table m) _
+    ∙ frame_same (convicted_in m) (contested_in m) (sym (summaries-length m o)) (held-count f q) (summaries-are m o) refl
 
 -- ---- what a recheck leaves of a track
 

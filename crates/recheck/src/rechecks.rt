@@ -1,13 +1,13 @@
 //! Which fixes a track's summaries still bear out, and those that they do not taken out.
 
-ghost use Rattle.std.specs.Prelude.{◌≡◌, true, ℕ, List, IsTrue, map};
-ghost use mathlib.Core.List.{Memᴰ};
+ghost use Rattle.std.specs.Prelude.{◌≡◌, true, IsTrue, map};
 ghost use Rattle.std.specs.List.{list_any};
 ghost use Rattle.models.specs.Answers.{listed};
-ghost use Rattle.tracked.specs.Parts.{Sound};
-ghost use Rattle.arrange.specs.Arranged.{arranged};
-ghost use Rattle.arrange.specs.Blocks.{blocks, block_table, Filled};
-ghost use Rattle.stored.specs.Track.{with_transmissions};
+ghost use Rattle.tracked.specs.Bytes.{transmission_in};
+ghost use Rattle.tracked.specs.Parts.{Sound, Steady};
+ghost use Rattle.normalize.specs.Taking.{Settled};
+ghost use Rattle.arrange.specs.Blocks.{Filled};
+ghost use Rattle.arrange.specs.Blocks as B;
 ghost use Rattle.stored.specs.Memory.{well_formed, decode, encode};
 ghost use Rattle.recheck.specs.Recheck as T;
 ghost use Rattle.recheck.specs.Steps as S;
@@ -72,7 +72,8 @@ fn drop_stale(held: &mut Transmission<'_>, summaries: Summaries)
 // Decides a transmission again, in its bytes, without the fixes that do not stand.
 fn decide_standing(b: &mut [u8; TRANSMISSION_SIZE], summaries: Summaries)
     requires { Sound b.old }
-    ensures { b.new ≡ S.standing_bytes (listed summaries.entry) b.old }
+    ensures steady { Steady b.new }
+    ensures held { transmission_in b.new ≡ T.standing (listed summaries.entry) (transmission_in b.old) }
 {
     let was = *b;
     let mut held = Transmission::read(&Block::of(&was));
@@ -84,12 +85,12 @@ fn decide_standing(b: &mut [u8; TRANSMISSION_SIZE], summaries: Summaries)
 
 // The same. Where the transmission is settled and all its fixes stand, it is only read.
 fn renew(b: &mut [u8], summaries: Summaries, settled: bool)
-    requires { S.Known settled b.old }
-    ensures { b.new ≡ S.standing_bytes (listed summaries.entry) b.old }
+    requires steady { Steady b.old }
+    requires settled { IsTrue settled → Settled (transmission_in b.old) }
+    ensures steady { Steady b.new }
+    ensures held { transmission_in b.new ≡ T.standing (listed summaries.entry) (transmission_in b.old) }
 {
-    let Some(b) = b.as_mut_array() else {
-        return;
-    };
+    let b = b.as_mut_array().unwrap();
     if settled {
         if !has_stale(summaries, &Block::of(b)) {
             return;
@@ -101,8 +102,9 @@ fn renew(b: &mut [u8], summaries: Summaries, settled: bool)
 // Decides the first n transmissions of a table again, without the fixes that do not stand.
 fn renew_all(t: &mut [u8], n: usize, summaries: Summaries, settled: bool)
     requires filled { Filled t.old n }
-    requires known { (b : List ℕ) → Memᴰ b (blocks n t.old) → S.Known settled b }
-    ensures { t.new ≡ block_table (map (S.standing_bytes (listed summaries.entry)) (blocks n t.old)) }
+    requires settled { IsTrue settled → S.AllSettled (B.held n t.old) }
+    ensures filled { Filled t.new n }
+    ensures held { B.held n t.new ≡ map (T.standing (listed summaries.entry)) (B.held n t.old) }
 {
     for i in 0..n {
         let at = i * TRANSMISSION_SIZE;
@@ -110,12 +112,16 @@ fn renew_all(t: &mut [u8], n: usize, summaries: Summaries, settled: bool)
     }
 }
 
-// Takes the fixes that do not stand out of a track.
-fn take_out(memory: &mut [u8], settled: bool)
+/// Takes the fixes that do not stand out of a track, of which it may be known that every transmission is settled: then those of which
+/// every fix stands are left alone. Where all stand it is only read.
+pub fn recheck_settled(memory: &mut [u8], settled: bool)
     requires track { well_formed memory.old ≡ true }
     requires settled { IsTrue settled → S.AllSettled (decode memory.old).transmissions }
-    ensures { memory.new ≡ encode (with_transmissions (arranged (map (T.standing (decode memory.old).summaries) (decode memory.old).transmissions)) (decode memory.old)) }
+    ensures { memory.new ≡ encode (T.recheck (decode memory.old)) }
 {
+    if !any_stale(memory) {
+        return;
+    }
     let (head, transmissions) = memory.split_at_mut(layout::TRANSMISSIONS_AT);
     let count = head[layout::TRANSMISSION_COUNT_AT] as usize;
     let n = u16_at(head, layout::SUMMARY_COUNT_AT) as usize;
@@ -126,18 +132,6 @@ fn take_out(memory: &mut [u8], settled: bool)
     renew_all(transmissions, count, summaries, settled);
     let left = arrange::arrange(transmissions, count);
     head[layout::TRANSMISSION_COUNT_AT] = left as u8;
-}
-
-/// Takes the fixes that do not stand out of a track, of which it may be known that every transmission is settled: then those of which
-/// every fix stands are left alone.
-pub fn recheck_settled(memory: &mut [u8], settled: bool)
-    requires track { well_formed memory.old ≡ true }
-    requires settled { IsTrue settled → S.AllSettled (decode memory.old).transmissions }
-    ensures { memory.new ≡ encode (T.recheck (decode memory.old)) }
-{
-    if any_stale(memory) {
-        take_out(memory, settled);
-    }
 }
 
 /// Takes the fixes that do not stand out of a track. Where all stand it is only read.

@@ -3,9 +3,10 @@
 ghost use Rattle.std.specs.Prelude.{◌≡◌, true, IsTrue, map, ◌≤◌, length, set};
 ghost use Rattle.octets.specs.Writes.{put_word};
 ghost use Rattle.tracked.specs.Bytes.{transmission_in};
-ghost use Rattle.tracked.specs.Parts.{Sound};
+ghost use Rattle.tracked.specs.Parts.{Sound, Steady};
 ghost use Rattle.normalize.specs.Taking.{Settled};
-ghost use Rattle.arrange.specs.Blocks.{blocks, block_table, Filled};
+ghost use Rattle.arrange.specs.Blocks.{Filled};
+ghost use Rattle.arrange.specs.Blocks as B;
 ghost use Rattle.stored.specs.Layout as L;
 ghost use Rattle.stored.specs.Memory.{well_formed, decode, encode};
 ghost use Rattle.recheck.specs.Recheck.{recheck, unsigned, without_engine, strike_engine};
@@ -42,11 +43,13 @@ fn unsign_all(held: &mut Transmission<'_>, engine: Engine)
 }
 
 // Decides a transmission again, in its bytes, without an engine, and tells whether it is settled then.
-fn strike_fixes(b: &mut [u8; TRANSMISSION_SIZE], engine: Engine) -> bool
+fn strike_fixes(b: &mut [u8], engine: Engine) -> bool
     requires { Sound b.old }
-    ensures left { b.new ≡ S.without_bytes engine.number b.old }
-    ensures settled { IsTrue result → Settled (without_engine engine.number (transmission_in b.old)) }
+    ensures steady { Steady b.new }
+    ensures held { transmission_in b.new ≡ without_engine engine.number (transmission_in b.old) }
+    ensures settled { IsTrue result → Settled (transmission_in b.new) }
 {
+    let b = b.as_mut_array().unwrap();
     let was = *b;
     let mut held = Transmission::read(&Block::of(&was));
     unsign_all(&mut held, engine);
@@ -55,28 +58,17 @@ fn strike_fixes(b: &mut [u8; TRANSMISSION_SIZE], engine: Engine) -> bool
     settled
 }
 
-// The same, of bytes that are as many.
-fn strike_bytes(b: &mut [u8], engine: Engine) -> bool
-    requires { Sound b.old }
-    ensures left { b.new ≡ S.without_bytes engine.number b.old }
-    ensures settled { IsTrue result → Settled (without_engine engine.number (transmission_in b.old)) }
-{
-    match b.as_mut_array() {
-        Some(b) => strike_fixes(b, engine),
-        None => false,
-    }
-}
-
 // Decides the first n transmissions of a table again, without an engine, and tells whether all are settled then.
 fn strike_all(t: &mut [u8], n: usize, engine: Engine) -> bool
     requires { Filled t.old n }
-    ensures left { t.new ≡ block_table (map (S.without_bytes engine.number) (blocks n t.old)) }
-    ensures settled { IsTrue result → S.AllSettled (map (without_engine engine.number) (map transmission_in (blocks n t.old))) }
+    ensures filled { Filled t.new n }
+    ensures held { B.held n t.new ≡ map (without_engine engine.number) (B.held n t.old) }
+    ensures settled { IsTrue result → S.AllSettled (B.held n t.new) }
 {
     let mut settled = true;
     for i in 0..n {
         let at = i * TRANSMISSION_SIZE;
-        let one = strike_bytes(&mut t[at..at + TRANSMISSION_SIZE], engine);
+        let one = strike_fixes(&mut t[at..at + TRANSMISSION_SIZE], engine);
         settled = settled & one;
     }
     settled

@@ -1,8 +1,8 @@
 -- What bytes that are a track show: its parts, its transmissions, and that they are the bytes of what they hold.
 use Prim.Native.Nat.{ℕ, ◌+◌, ◌*◌, ◌≤◌}
-use mathlib.Core.Path.{◌≡◌, refl, sym, ap, ap₂, ◌∙◌}
+use mathlib.Core.Path.{◌≡◌, sym, ap, ◌∙◌}
 use mathlib.Core.Bool.{true, ◌&&◌}
-use mathlib.Core.List.{List, [], ◌∷◌, ◌++◌, map, Memᴰ}
+use mathlib.Core.List.{List, ◌∷◌, ◌++◌, map, Memᴰ}
 use native.Mathlib.Omega.{arith}
 use lib.Dec.{leb, eqb}
 use lib.ListN.{length, get_or, drop, length-take, length-drop, length-map}
@@ -24,11 +24,12 @@ use Rattle.held.proofs.Framing.{cut, cut_word}
 use Rattle.tracked.specs.Layout.{transmission_size}
 use Rattle.tracked.specs.Held.{HeldTransmission}
 use Rattle.tracked.specs.Bytes.{transmission_formed, transmission_in, transmission_bytes}
-use Rattle.tracked.specs.Parts.{Sound}
-use Rattle.tracked.proofs.Encoding.{Canonical, bytes-of-places, wide-in}
+use Rattle.tracked.specs.Parts.{Sound, Steady}
+use Rattle.tracked.proofs.Encoding.{bytes-of-places, wide-in}
 use Rattle.tracked.proofs.Encoding as E
 use Rattle.arrange.specs.Arranged.{max_transmissions}
 use Rattle.arrange.specs.Blocks.{Filled}
+use Rattle.arrange.proofs.Tables.{written}
 use Rattle.stored.specs.Layout.{pair_size, summary_count_at, transmission_count_at, zero_at, contested_at, summaries_at, transmissions_at, transmissions_size, track_size}
 use Rattle.stored.specs.Memory.{convicted_in, summary_count, transmission_count, contested_in, summary_table, transmission_table, summaries_in, transmission_places, well_formed, decode, encode}
 use Rattle.stored.proofs.Frames.{frame, frame_same}
@@ -114,26 +115,22 @@ module _ (m : List ℕ) (o : Opened m) where
     pub block-sound : Sound b
     block-sound = sound (convicted_in m) b block-parts block_size
 
-  pub filled : Filled (transmission_table m) (transmission_count m)
-  filled = record { few = o.few; size = transmission-bytes-length; is = transmissions-are; sound = block-sound }
-
   module _ (bytes : Bytes m) where
     pub block-bytes : (b : List ℕ) → Memᴰ b (transmission_places m) → Bytes b
     block-bytes = bytes-of-places transmission_size (transmission_count m) (transmission_table m) (bytes_drop transmissions_at m bytes)
 
-    pub block-canonical : (b : List ℕ) → Memᴰ b (transmission_places m) → Canonical b
-    block-canonical b i = canonical (convicted_in m) b (block-parts b i) (block_size b i) (block-bytes b i)
+    block-steady : (b : List ℕ) → Memᴰ b (transmission_places m) → Steady b
+    block-steady b i = record { sound = block-sound b i; same_bytes = E.encode-decode b (canonical (convicted_in m) b (block-parts b i) (block_size b i) (block-bytes b i)) }
+
+    pub filled : Filled (transmission_table m) (transmission_count m)
+    filled = record { few = o.few; size = transmission-bytes-length; is = transmissions-are; steady = block-steady }
 
     -- what each transmission's bytes hold is what a track may hold
     pub all_held : (t : HeldTransmission) → Memᴰ t (map transmission_in (transmission_places m)) → Held (convicted_in m) t
     all_held = of_map transmission_in (Held (convicted_in m)) (transmission_places m) (λ b i. block_held (convicted_in m) b (block-parts b i) (block_size b i) (block-bytes b i))
 
     pub blocks-back : map transmission_bytes (map transmission_in (transmission_places m)) ≡ transmission_places m
-    blocks-back = go (transmission_places m) (λ b i. E.encode-decode b (block-canonical b i))
-      where
-        go : (bs : List (List ℕ)) → ((b : List ℕ) → Memᴰ b bs → transmission_bytes (transmission_in b) ≡ b) → map transmission_bytes (map transmission_in bs) ≡ bs
-        go [] f = refl
-        go (b ∷ bs) f = ap₂ ◌∷◌ (f b (Memᴰ.head refl)) (go bs (λ x i. f x (Memᴰ.tail i)))
+    blocks-back = written (transmission_places m) block-steady
 
     -- ---- the whole
 

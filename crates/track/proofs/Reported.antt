@@ -1,6 +1,5 @@
 -- A record that is reported: what a merge leaves of a track's bytes.
 use Rattle.std.proofs.Common.{◌≡◌, ℕ, ◌+◌, ◌-◌, ◌%◌, ◌^◌, ◌≤◌, true, List, ◌++◌, map, length, take, drop, set, sym, refl, ap, ◌∙◌, ap₂, arith}
-use mathlib.Core.List.{Memᴰ}
 use lib.ListN.{length-map}
 use Rattle.octets.specs.Bytes.{Bytes}
 use Rattle.octets.specs.Words.{word_at}
@@ -11,15 +10,13 @@ use Rattle.held.specs.After.{after}
 use Rattle.held.proofs.Framing.{word_small}
 use Rattle.shown.specs.Fix.{Fix}
 use Rattle.tracked.specs.Bytes.{transmission_in, transmission_bytes}
-use Rattle.tracked.proofs.Encoding.{encode-decode}
 use Rattle.arrange.specs.Arranged.{max_transmissions}
-use Rattle.arrange.specs.Blocks.{blocks, block_table}
+use Rattle.arrange.specs.Blocks.{block_table, held, Filled}
 use Rattle.merge.specs.Merged.{Step, number_of, merged}
-use Rattle.merge.specs.Searching.{Steady, Ready}
 use Rattle.stored.specs.Layout.{transmission_count_at, contested_at, transmissions_at}
 use Rattle.stored.specs.Memory.{convicted_in, summary_count, transmission_count, contested_in, summary_table, transmission_table, summaries_in, transmission_places, decode, encode, commit}
 use Rattle.stored.proofs.Frames.{frame, read-contested, set-transmission-count, put-contested, frame-transmissions-back}
-use Rattle.stored.proofs.Opened.{Opened, summaries-length, summaries-are, summary-bytes-length, framed, filled, block-sound, block-canonical, transmissions-length}
+use Rattle.stored.proofs.Opened.{Opened, summaries-length, summaries-are, summary-bytes-length, framed, filled, transmissions-length}
 use Rattle.track.specs.Track.{fix_from, stepped, take_cited}
 use Rattle.track.proofs.Merging.{merged-few}
 
@@ -36,21 +33,18 @@ module _ (m : List ℕ) (o : Opened m) (b : Bytes m) where
   lent_is : lent ≡ transmission_table m
   lent_is = tail-lent m transmissions_at
 
-  steady : (c : List ℕ) → Memᴰ c (transmission_places m) → Steady c
-  steady c i = record { sound = block-sound m o c i; same_bytes = encode-decode c (block-canonical m o b c i) }
-
-  pub report-ready : Ready lent (transmission_count m)
-  report-ready = rw lent_is (record { filled = filled m o; steady = steady })
+  pub lent-filled : Filled lent (transmission_count m)
+  lent-filled = rw lent_is (filled m o b)
 
   module _ (e : ℕ) (r : List ℕ) (f : Fix) (q : f ≡ fix_from e r (decode m)) where
     abbrev step : Step
-    step = merged f (map transmission_in (blocks (transmission_count m) lent))
+    step = merged f (held (transmission_count m) lent)
 
     abbrev after-merge : Step
     after-merge = merged (fix_from e r (decode m)) (map transmission_in (transmission_places m))
 
     step_is : step ≡ after-merge
-    step_is = ap₂ (λ (g : Fix) (t : List ℕ). merged g (map transmission_in (blocks (transmission_count m) t))) q lent_is
+    step_is = ap₂ (λ (g : Fix) (t : List ℕ). merged g (held (transmission_count m) t)) q lent_is
 
     pub step-few : length step.left ≤ max_transmissions
     step-few =

@@ -4,7 +4,7 @@ use Rattle.std.specs.List.{list_all}
 use Rattle.record.specs.Formed.{well_formed}
 use Rattle.record.specs.Relations.{tied}
 use Rattle.tracked.specs.Layout as L
-use Rattle.tracked.specs.Bytes.{record_in, fix_count, refused_count, fix_places, refused_places}
+use Rattle.tracked.specs.Bytes.{record_in, fix_count, refused_count, fix_places, refused_places, transmission_in, transmission_bytes}
 
 -- the bytes of all fixes that are held: those that stand, then the refused
 abbrev pub held_places : List ℕ → List (List ℕ)
@@ -22,6 +22,11 @@ pub record Sound (b : List ℕ) : Type 0 where
   pub few : fix_count b ≤ L.max_standing
   pub few_refused : refused_count b ≤ L.max_refused
   pub formed : list_all record_formed (held_places b) ≡ true
+
+-- and the bytes of what they hold
+pub record Steady (b : List ℕ) : Type 0 where
+  pub sound : Sound b
+  pub same_bytes : transmission_bytes (transmission_in b) ≡ b
 
 -- where the fix k lies, the refused k, and the held k
 abbrev pub fix_place : ℕ → ℕ

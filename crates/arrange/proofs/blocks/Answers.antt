@@ -6,14 +6,14 @@ use lib.ListN.{length, get_or, take, length-map}
 use lib.Seq.{length-take-le}
 use Rattle.tracked.specs.Bytes.{transmission_in}
 use Rattle.tracked.specs.Parts.{Sound}
-use Rattle.arrange.proofs.Tables.{count-is, sound-at}
+use Rattle.arrange.proofs.Tables.{count-is, steady-at}
 use Rattle.arrange.proofs.blocks.Goals as goal
 
 pub of-requires : goal.of-requires
 of-requires c =
     let e = count-is c.args.t.now c.args.n c.requires in
     subst (λ (bs : List (List ℕ)). Sound (get_or bs c.loop-place.place-index [])) (sym c.places_of-places.ensures)
-    (sound-at c.args.t.now c.args.n c.requires c.loop-place.place-index (omega (arith, e, ap length c.places_of-places.ensures, c.loop-place-test.true)))
+    (steady-at c.args.t.now c.args.n c.requires c.loop-place.place-index (omega (arith, e, ap length c.places_of-places.ensures, c.loop-place-test.true))).sound
 
 pub push-requires : goal.push-requires
 push-requires c =

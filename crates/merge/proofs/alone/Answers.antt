@@ -3,9 +3,10 @@ use native.Mathlib.Omega.{arith}
 use Rattle.octets.proofs.Puts.{put_whole}
 use Rattle.shown.specs.Fix.{Fix}
 use Rattle.tracked.specs.Bytes.{transmission_in, transmission_bytes}
+use Rattle.tracked.specs.Parts.{Steady}
 use Rattle.tracked.proofs.Encoding.{fix-length}
 use Rattle.normalize.proofs.Validity.{Holdable}
-use Rattle.merge.specs.Searching.{single, Steady}
+use Rattle.merge.specs.Searching.{single}
 use Rattle.merge.proofs.Written.{holdable-of}
 use Rattle.merge.proofs.Opening.{single-steady, single-read}
 use Rattle.merge.proofs.Single.{single-put}

@@ -1,18 +1,17 @@
 use mathlib.Core.Path.{sym, ap, ◌∙◌}
-use Rattle.arrange.specs.Blocks.{blocks}
+use Rattle.arrange.specs.Blocks.{held}
 use Rattle.shown.specs.Fix.{Fix}
 use Rattle.tracked.specs.Held.{tied_to}
 use Rattle.merge.specs.Searching.{only}
-use Rattle.merge.proofs.Joining.{hs, merged-none}
+use Rattle.merge.proofs.Joining.{merged-none}
 use Rattle.merge.proofs.merge.Goals as goal
 
 pub join_at-requires-clause-only : goal.join_at-requires-clause-only
 join_at-requires-clause-only c =
-    let ts = hs c.args.fix (blocks c.args.n c.args.t.now) in
+    let ts = held c.args.n c.args.t.now in
     ap (λ (f : Fix). only (tied_to f) ts) (sym c.fix.view_is) ∙ ap (only _) (sym (c.deref.ensures.0 ∙ c.blocks-2.ensures)) ∙ sym c.only_tied.ensures ∙ c.in-Some.is
 
 pub returns-in-None : goal.returns-in-None
 returns-in-None c =
-    let bs = blocks c.args.n c.args.t.now in
-    let ts = hs c.args.fix bs in
-    rw (merged-none c.args.fix bs (ap (λ (f : Fix). only (tied_to f) ts) (sym c.fix.view_is) ∙ ap (only _) (sym (c.deref.ensures.0 ∙ c.blocks-2.ensures)) ∙ sym c.only_tied.ensures ∙ c.in-None.is)) c.open.ensures
+    let ts = held c.args.n c.args.t.now in
+    rw (merged-none c.args.fix ts (ap (λ (f : Fix). only (tied_to f) ts) (sym c.fix.view_is) ∙ ap (only _) (sym (c.deref.ensures.0 ∙ c.blocks-2.ensures)) ∙ sym c.only_tied.ensures ∙ c.in-None.is)) c.open.ensures

@@ -1,10 +1,12 @@
-use Rattle.std.proofs.Common.{ap, ◌∙◌}
+use Rattle.std.proofs.Common.{rules, ap, ◌∙◌}
+use Rattle.octets.proofs.Numbers.{all-bytes}
 use Rattle.models.specs.Answers.{listed}
 use Rattle.tracked.specs.Held.{held_in}
 use Rattle.tracked.specs.Bytes.{transmission_in, transmission_bytes}
 use Rattle.normalize.specs.Normal.{normalized}
 use Rattle.recheck.specs.Recheck.{stands}
 use Rattle.recheck.specs.Steps.{passing}
+use Rattle.recheck.proofs.Decided.{standing-decided}
 use Rattle.recheck.proofs.Standing.{passing-held}
 use Rattle.recheck.proofs.rechecks.decide_standing.Goals as goal
 
@@ -12,4 +14,6 @@ pub returns : goal.returns
 returns c =
     let test = stands (listed c.args.summaries) in
     let left = c.learn.ensures ∙ c.drop_stale.ensures ∙ ap (passing test) (c.read-held.ensures ∙ c.of.ensures) in
-    c.write.ensures ∙ ap transmission_bytes (c.decide_again.ensures.again ∙ ap (λ t. normalized (held_in t)) left ∙ ap normalized (passing-held test (transmission_in c.args.b.now)))
+    let d = standing-decided c.args.b.now (all-bytes c.args.b.now (search rules)) c.requires (listed c.args.summaries) c.write.new.b
+    (c.write.ensures ∙ ap transmission_bytes (c.decide_again.ensures.again ∙ ap (λ t. normalized (held_in t)) left ∙ ap normalized (passing-held test (transmission_in c.args.b.now)))) in
+    record { steady = d.steady; held = d.held }

@@ -1,6 +1,7 @@
-use Rattle.std.proofs.Common.{ℕ, List, arith, ap, ◌∙◌, sym, subst}
+use Rattle.std.proofs.Common.{ℕ, List, arith, rules, ap, ◌∙◌, sym, subst}
 use mathlib.Core.List.{map}
 use Rattle.octets.proofs.Moves.{tail-lent}
+use Rattle.octets.proofs.Numbers.{all-bytes}
 use Rattle.places.specs.Places.{places}
 use Rattle.tracked.specs.Layout.{transmission_size}
 use Rattle.tracked.specs.Bytes.{transmission_in}
@@ -22,7 +23,7 @@ slice_bounds-blocks-start c = omega (arith, (opened c.args.memory.now c.requires
 pub blocks-requires : goal.blocks-requires
 blocks-requires c =
     let m : List ℕ = c.args.memory.now in
-    subst (λ (t : List ℕ). Filled t (transmission_count m)) (sym (tail-lent m transmissions_at)) (filled m (opened m c.requires))
+    subst (λ (t : List ℕ). Filled t (transmission_count m)) (sym (tail-lent m transmissions_at)) (filled m (opened m c.requires) (all-bytes m (search rules)))
 
 pub returns : goal.returns
 unfolding decode

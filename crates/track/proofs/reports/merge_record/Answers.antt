@@ -5,7 +5,7 @@ use Rattle.models.specs.Models.{counts}
 use Rattle.merge.specs.Merged.{number_of}
 use Rattle.stored.specs.Layout.{transmissions_at}
 use Rattle.stored.proofs.Opened.{opened}
-use Rattle.track.proofs.Reported.{report-ready, step-few, stepped-is, decoded-summaries}
+use Rattle.track.proofs.Reported.{lent-filled, step-few, stepped-is, decoded-summaries}
 use Rattle.track.proofs.reports.merge_record.Goals as goal
 
 pub bounds-memory-6 : goal.bounds-memory-6
@@ -20,7 +20,7 @@ slice_bounds-merge-start c = omega (arith, (opened c.args.memory.now c.requires.
 pub merge-x-requires : goal.merge-x-requires
 merge-x-requires c =
     let m : List ℕ = c.args.memory.now in
-    report-ready m (opened m c.requires.track) (all-bytes m (search rules))
+    lent-filled m (opened m c.requires.track) (all-bytes m (search rules))
 
 pub overflow_cast-left : goal.overflow_cast-left
 overflow_cast-left c =
