@@ -30,8 +30,8 @@ use Rattle.track.specs.Track.{fix_from}
 use Rattle.track.specs.Served.{kept_of}
 use Rattle.track.specs.Calls.{Call, report, summary, conviction, act, runs}
 use Rattle.track.specs.Claims.{StaysInOrder, ReachedInOrder, OneServed, LatestServed}
-use Rattle.track.proofs.Kept.{Sound, act-sound}
-use Rattle.track.proofs.Counted.{Leaves, report-leaves, summary-leaves, conviction-leaves, left_after}
+use Rattle.track.proofs.Kept.{act-sound}
+use Rattle.track.proofs.Leaving.{Leaves, report-leaves, summary-leaves, conviction-leaves, left_after}
 
 abbrev Ordered : Track → Type 0
 Ordered s = InOrder s.transmissions
@@ -47,9 +47,9 @@ unfolding strike_engine
 strike-order e s = arranged-in-order _
 
 act-leaves : (c : Call) (s : Track) → Ordered s → Leaves Ordered (act c s)
-act-leaves (report e r) s w = report-leaves Ordered e r s (order-kept (fix_from e r s) s.transmissions w)
-act-leaves (summary e model spec inputs) s w = summary-leaves Ordered e model spec inputs s (λ p. w) recheck-order
-act-leaves (conviction e) s w = conviction-leaves Ordered e s (recheck-order (strike_engine e s) (strike-order e s))
+act-leaves (report e r) s w = report-leaves Ordered e r s (λ h v c. order-kept (fix_from e r s) s.transmissions w)
+act-leaves (summary e model spec inputs) s w = summary-leaves Ordered e model spec inputs s (λ h g l c d. w) recheck-order
+act-leaves (conviction e) s w = conviction-leaves Ordered e s (λ h. recheck-order (strike_engine e s) (strike-order e s))
 
 pub stays-in-order : StaysInOrder
 stays-in-order c s w = left_after Ordered s (act c s) w (act-leaves c s w)
@@ -92,7 +92,7 @@ call-reaches c m x =
     subst Reached (sym (ap (λ (k : List ℕ). (on_memory (act c) k).left) x.is ∙ ap (λ (a : After (List ℕ)). a.left) (on-encode s x.valid (act c))))
     (go (act c s) (act-sound c s x.valid) (act-leaves c s x.order))
   where
-    go : (o : Outcome) → Sound o → Leaves Ordered o → Reached (commit (encode x.track) o).left
+    go : (o : Outcome) → Leaves Valid o → Leaves Ordered o → Reached (commit (encode x.track) o).left
     go (refused n) v w = record { track = x.track; valid = x.valid; order = x.order; is = refl }
     go (done n t) v w = record { track = t; valid = v; order = w; is = refl }
 

@@ -17,69 +17,58 @@ use Rattle.track.proofs.Holding.{pair-room, pair_left, pair-plain, pair-rechecke
 use Rattle.track.proofs.summaries.hold.Goals as goal
 
 -- a summary p was put into the track m, which is x then
-module _ (m p x : List ℕ) (a model : ℕ) (bytes : Bytes m) (is : well_formed m ≡ true) (wide : length p ≡ summary_size)
-    (formed : summary_formed (decode m).convicted p ≡ true) (put : after a x ≡ commit m (put_pair p (decode m))) (z : a ≡ 0) where
+record Put (m p x : List ℕ) : Type 0 where
+  stored : x ≡ encode (with_pair p (decode m))
+  valid : Valid (with_pair p (decode m))
+
+put-is : (m p x : List ℕ) (a model : ℕ) → Bytes m → well_formed m ≡ true → length p ≡ summary_size → summary_formed (decode m).convicted p ≡ true → after a x ≡ commit m (put_pair p (decode m)) → a ≡ 0 → Put m p x
+put-is m p x a model bytes is wide formed put z = record {
+  stored = pair_left m model p a x put z;
+  valid = pair-valid p wide (decode m) (decode-valid m (opened m is) bytes) formed (pair-room m model p a x put z);
+}
+
+module _ {m p x : List ℕ} (u : Put m p x) where
   abbrev t : Track
   t = with_pair p (decode m)
 
-  valid : Valid t
-  valid =
-      pair-valid p wide (decode m) (decode-valid m (opened m is) bytes) formed
-      (pair-room m model p a x put z)
-
-  stored : x ≡ encode t
-  stored = pair_left m model p a x put z
-
   is-track : well_formed x ≡ true
-  is-track = ap well_formed stored ∙ formed-encode t valid
+  is-track = ap well_formed u.stored ∙ formed-encode t u.valid
 
-  held : (decode x).summaries ≡ t.summaries
-  held = ap (λ (l : List ℕ). (decode l).summaries) stored ∙ ap (λ (u : Track). u.summaries) (decode-encode t valid)
+  held : decode x ≡ t
+  held = ap decode u.stored ∙ decode-encode t u.valid
 
   -- whether the model is disputed now, and was not
-  becomes : (w v b : Bool) → w ≡ is_disputed (state_of model (decode m).summaries) → v ≡ is_disputed (state_of model (decode x).summaries) → b ≡ (not w && v)
+  becomes : (model : ℕ) (w v b : Bool) → w ≡ is_disputed (state_of model (decode m).summaries) → v ≡ is_disputed (state_of model (decode x).summaries) → b ≡ (not w && v)
       → b ≡ becomes_disputed model (decode m).summaries t.summaries
-  becomes w v b e f g =
-      g
-      ∙ ap₂ (λ (u y : Bool). not u && y) e
-      (f ∙ ap (λ (ss : List (List ℕ)). is_disputed (state_of model ss)) held)
-
-  rechecked : (y : List ℕ) → y ≡ encode (recheck (decode x)) → y ≡ encode (recheck t)
-  rechecked y e = e ∙ ap (λ (l : List ℕ). encode (recheck (decode l))) stored ∙ ap (λ (u : Track). encode (recheck u)) (decode-encode t valid)
+  becomes model w v b e f g = g ∙ ap₂ (λ (i j : Bool). not i && j) e (f ∙ ap (λ (s : Track). is_disputed (state_of model s.summaries)) held)
 
 pub disputed_in-requires : goal.disputed_in-requires
 disputed_in-requires c =
     let wide : length c.args.p.now ≡ summary_size = search rules in
     let m = c.args.memory.now in
-    is-track m c.args.p.now c.put_pair-a.new.memory c.put_pair-a.result c.args.model (all-bytes m (search rules)) c.requires.track wide c.requires.formed c.put_pair-a.ensures c.if-a-ne0.false
+    is-track (put-is m c.args.p.now c.put_pair-a.new.memory c.put_pair-a.result c.args.model (all-bytes m (search rules)) c.requires.track wide c.requires.formed c.put_pair-a.ensures c.if-a-ne0.false)
 
 pub returns-then-not-becomes_disputed : goal.returns-then-not-becomes_disputed
 returns-then-not-becomes_disputed c =
     let wide : length c.args.p.now ≡ summary_size = search rules in
     let m = c.args.memory.now in
-    let p = c.args.p.now in
     let x = c.put_pair-a.new.memory in
-    let a = c.put_pair-a.result in
-    let told = becomes m p x a c.args.model (all-bytes m (search rules)) c.requires.track wide c.requires.formed c.put_pair-a.ensures c.if-a-ne0.false
-    _ _ _ c.disputed_in-was.ensures c.disputed_in.ensures c.becomes_disputed.ensures in
-    pair-plain m c.args.model p a x c.put_pair-a.ensures c.if-a-ne0.false (sym told ∙ c.if-not-becomes_disputed.true)
+    let u = put-is m c.args.p.now x c.put_pair-a.result c.args.model (all-bytes m (search rules)) c.requires.track wide c.requires.formed c.put_pair-a.ensures c.if-a-ne0.false in
+    let told = becomes u c.args.model _ _ _ c.disputed_in-was.ensures c.disputed_in.ensures c.becomes_disputed.ensures in
+    pair-plain m c.args.model c.args.p.now c.put_pair-a.result x c.put_pair-a.ensures c.if-a-ne0.false (sym told ∙ c.if-not-becomes_disputed.true)
 
 pub recheck-requires : goal.recheck-requires
 recheck-requires c =
     let wide : length c.args.p.now ≡ summary_size = search rules in
     let m = c.args.memory.now in
-    is-track m c.args.p.now c.put_pair-a.new.memory c.put_pair-a.result c.args.model (all-bytes m (search rules)) c.requires.track wide c.requires.formed c.put_pair-a.ensures c.if-a-ne0.false
+    is-track (put-is m c.args.p.now c.put_pair-a.new.memory c.put_pair-a.result c.args.model (all-bytes m (search rules)) c.requires.track wide c.requires.formed c.put_pair-a.ensures c.if-a-ne0.false)
 
 pub returns : goal.returns
 returns c =
     let wide : length c.args.p.now ≡ summary_size = search rules in
     let m = c.args.memory.now in
-    let p = c.args.p.now in
     let x = c.put_pair-a.new.memory in
-    let a = c.put_pair-a.result in
-    let h = c.if-a-ne0.false in
-    let bytes : Bytes m = all-bytes m (search rules) in
-    let told = becomes m p x a c.args.model bytes c.requires.track wide c.requires.formed c.put_pair-a.ensures h
-    _ _ _ c.disputed_in-was.ensures c.disputed_in.ensures c.becomes_disputed.ensures in
-    pair-rechecked m c.args.model p a x c.put_pair-a.ensures h (sym told ∙ c.if-not-becomes_disputed.false) _
-    (rechecked m p x a c.args.model bytes c.requires.track wide c.requires.formed c.put_pair-a.ensures h _ c.recheck.ensures)
+    let u = put-is m c.args.p.now x c.put_pair-a.result c.args.model (all-bytes m (search rules)) c.requires.track wide c.requires.formed c.put_pair-a.ensures c.if-a-ne0.false in
+    let told = becomes u c.args.model _ _ _ c.disputed_in-was.ensures c.disputed_in.ensures c.becomes_disputed.ensures in
+    pair-rechecked m c.args.model c.args.p.now c.put_pair-a.result x c.put_pair-a.ensures c.if-a-ne0.false (sym told ∙ c.if-not-becomes_disputed.false) _
+    (c.recheck.ensures ∙ ap (λ (s : Track). encode (recheck s)) (held u))
