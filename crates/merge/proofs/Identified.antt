@@ -1,93 +1,41 @@
 -- The first held fix of an identity, and its signature.
-use Prim.Native.Nat.{ℕ, zero, suc, ◌+◌, ◌-◌, ◌^◌, ◌≤◌, ◌<◌}
-use mathlib.Core.Path.{◌≡◌, refl, sym, ap, ap₂, ◌∙◌, subst}
+use Prim.Native.Nat.{ℕ, ◌+◌, ◌-◌, ◌≤◌, ◌<◌}
+use mathlib.Core.Path.{◌≡◌, refl, sym, ap, ap₂, ◌∙◌}
 use mathlib.Core.Bool.{Bool, true, false, cond, ◌||◌}
-use mathlib.Core.List.Memᴰ
-use mathlib.Core.List.{List, [], ◌∷◌, map}
+use mathlib.Core.List.{List, [], map}
 use native.Mathlib.Omega.{arith}
 use lib.Bits.{bit_or}
 use lib.Dec.{ltb}
-use lib.ListN.{length, get_or, take, drop, set, length-map, length-drop, get_or-append}
-use lib.Seq.{length-take-le, take-append-le, take-append-add, get_or-append-add}
+use lib.ListN.{length, get_or, take, set, length-map, get_or-append}
+use lib.Seq.{take-append-le, take-append-add, get_or-append-add}
 use borrow.Author.Tests.{ltb-true, ltb-false}
+use Rattle.std.proofs.lemmas.List as S
 use Rattle.std.proofs.lemmas.List.Folds.{list_any-append}
 use Rattle.octets.specs.Bytes.{Bytes}
 use Rattle.octets.specs.Words.{word, word_at}
 use Rattle.octets.specs.Writes.{put_word}
-use Rattle.octets.proofs.Numbers.{bytes_take, bytes_drop, word_lt}
 use Rattle.std.specs.Prelude.{Some, position}
 use Rattle.std.specs.List.{list_any}
 use Rattle.ranges.proofs.Bools.{by, neither_left, neither_right}
 use Rattle.ranges.proofs.Lists.{any-map, any-of}
-use Rattle.places.proofs.Tables.{length-places, places-wide}
+use Rattle.places.proofs.Tables.{length-places}
 use Rattle.places.proofs.Walks.{part_of}
-use Rattle.record.specs.Layout.{record_size}
-use Rattle.items.specs.Layout.{hash_size}
-use Rattle.items.proofs.Pairing.{taken}
 use Rattle.shown.specs.Fix.{Fix, with_signers}
 use Rattle.shown.specs.Items.{no_fix}
 use Rattle.shown.proofs.Indexed.{at_in}
 use Rattle.tracked.specs.Layout as L
 use Rattle.tracked.specs.Held.{RefusedFix, HeldTransmission, fix_of, held_in, is_of}
 use Rattle.tracked.specs.Bytes.{signers_in, fix_in, refused_in, fix_count, refused_count, fix_table, refused_table, fix_places, refused_places, transmission_in, transmission_bytes}
-use Rattle.tracked.specs.Parts.{held_places, held_count, held_place, fix_place, refused_place, Sound, Steady}
-use Rattle.tracked.proofs.Holding.{held-length, held_at, held-are}
-use Rattle.tracked.proofs.Encoding.{ValidFix, ValidRefused, Valid, bytes-of-places, wide-in}
+use Rattle.tracked.specs.Parts.{held_places, held_count, held_place, fix_place, refused_place, Steady}
+use Rattle.tracked.proofs.Holding.{held-length, held-number, held_at, held-are}
+use Rattle.tracked.proofs.Encoding.{Valid, valid-in}
 use Rattle.normalize.specs.Normal.{sign_first}
 use Rattle.normalize.specs.Joining.{upholds, sign_refused, sign_in}
 use Rattle.merge.proofs.Counting.{first-at}
 use Rattle.merge.proofs.Signing.{no_refused, resigned, sign-standing, sign-refused, sign-first-at, sign-refused-at}
 
--- ---- a held fix
-
-at-held : (l : List (List ℕ)) (i : ℕ) → i < length l → get_or (map fix_in l) i no_fix ≡ fix_in (get_or l i [])
-at-held [] i w = absurd (omega arith)
-at-held (x ∷ l) zero w = refl
-at-held (x ∷ l) (suc i) w = at-held l i (omega arith)
-
 pub held-fix : (b : List ℕ) (k : ℕ) → k < held_count b → get_or (held_in (transmission_in b)) k no_fix ≡ fix_in (get_or (held_places b) k [])
-held-fix b k h = ap (λ (l : List Fix). get_or l k no_fix) (sym (held-are b)) ∙ at-held (held_places b) k (rw (held-length b) h)
-
-pub held-number : (b : List ℕ) → length (held_in (transmission_in b)) ≡ held_count b
-held-number b = sym (ap length (held-are b)) ∙ length-map (held_places b) fix_in ∙ held-length b
-
--- ---- a transmission in bytes is one that bytes can hold
-
-valid-in : (p : List ℕ) → Bytes p → L.fix_size ≤ length p → ValidFix (fix_in p)
-valid-in p b h =
-    let l : length (take 4 (drop L.signers_at p)) ≡ 4 = taken 4 L.signers_at p (omega arith) in
-    record {
-      record-size = length-take-le record_size p (omega arith);
-      inputs-size = taken hash_size L.inputs_at p (omega arith);
-      signed = subst (λ (k : ℕ). signers_in p < 256 ^ k) l (word_lt (take 4 (drop L.signers_at p)) (bytes_take 4 (drop L.signers_at p) (bytes_drop L.signers_at p b)));
-      identified = refl;
-    }
-
-refused-in-valid : (p : List ℕ) → Bytes p → length p ≡ L.refused_size → ValidRefused (refused_in p)
-refused-in-valid p b h = record { fix = valid-in p b (omega (arith, h)); against_size = taken hash_size L.against_at p (omega (arith, h)) }
-
-pub valid-held : (b : List ℕ) → Bytes b → Sound b → Valid (transmission_in b)
-unfolding transmission_in
-valid-held b y s =
-    let tf : length (fix_table b) ≡ L.fixes_size = taken L.fixes_size L.fixes_at b (omega (arith, s.size)) in
-    let tr : length (refused_table b) ≡ L.refused_table_size = rest b s.size in
-    let wf = places-wide L.fix_size (fix_count b) (fix_table b) (omega (arith, tf, s.few)) in
-    let wr = places-wide L.refused_size (refused_count b) (refused_table b) (omega (arith, tr, s.few_refused)) in
-    record {
-      few = rw (length-map (fix_places b) fix_in, length-places L.fix_size (fix_count b) (fix_table b)) s.few;
-      few_refused = rw (length-map (refused_places b) refused_in, length-places L.refused_size (refused_count b) (refused_table b)) s.few_refused;
-      fixes = λ f m.
-          let r = Memᴰ.of_map fix_in (fix_places b) m in
-          let l = wide-in L.fix_size (fix_places b) wf r.0 r.1 in
-          subst ValidFix r.2 (valid-in r.0 (bytes-of-places L.fix_size (fix_count b) (fix_table b) (bytes_take L.fixes_size (drop L.fixes_at b) (bytes_drop L.fixes_at b y)) r.0 r.1) (omega (arith, l)));
-      refused = λ x m.
-          let r = Memᴰ.of_map refused_in (refused_places b) m in
-          let l = wide-in L.refused_size (refused_places b) wr r.0 r.1 in
-          subst ValidRefused r.2 (refused-in-valid r.0 (bytes-of-places L.refused_size (refused_count b) (refused_table b) (bytes_drop L.refused_at b y) r.0 r.1) l);
-    }
-  where
-    rest : (c : List ℕ) → length c ≡ L.transmission_size → length (refused_table c) ≡ L.refused_table_size
-    rest c e = rw length-drop (omega (arith, e))
+held-fix b k h = ap (λ (l : List Fix). get_or l k no_fix) (sym (held-are b)) ∙ S.get_or-map fix_in (held_places b) k [] no_fix (rw (held-length b) h)
 
 -- ---- the signature of the held fix k, the first of its identity
 
@@ -99,7 +47,7 @@ module _ (b : List ℕ) (y : Bytes b) (st : Steady b) (g : Fix) (k : ℕ) (first
   h = rw (sym (held-number b)) (first-at (is_of g) (held_in t) k no_fix first).there
 
   v : Valid t
-  v = valid-held b y st.sound
+  v = valid-in b y st.sound.size st.sound.few st.sound.few_refused
 
   fixes-count : length t.fixes ≡ fix_count b
   unfolding transmission_in
@@ -144,25 +92,15 @@ module _ (b : List ℕ) (y : Bytes b) (st : Steady b) (g : Fix) (k : ℕ) (first
       let rs = t.refused in
       let z : length t.fixes + j ≡ k = omega (arith, l) in
       let q : j < length rs = omega (arith, l, h, fixes-count, refused-count) in
-      let e : get_or (held_in t) k no_fix ≡ (get_or rs j no_refused).fix = ap (λ (i : ℕ). get_or (held_in t) i no_fix) (sym z) ∙ get_or-append-add t.fixes (map fix_of rs) j no_fix ∙ at-fix rs j q in
+      let e : get_or (held_in t) k no_fix ≡ (get_or rs j no_refused).fix = ap (λ (i : ℕ). get_or (held_in t) i no_fix) (sym z) ∙ get_or-append-add t.fixes (map fix_of rs) j no_fix ∙ S.get_or-map fix_of rs j no_refused no_fix q in
       let p : (list_any (is_of g) t.fixes || list_any (is_of g) (take j (map fix_of rs))) ≡ false = sym (list_any-append (is_of g) t.fixes (take j (map fix_of rs))) ∙ ap (list_any (is_of g)) (sym (take-append-add t.fixes (map fix_of rs) j) ∙ ap (λ (i : ℕ). take i (held_in t)) z) ∙ none in
       let u : upholds t g ≡ false = neither_left (upholds t g) (list_any (is_of g) (take j (map fix_of rs))) p in
-      let n : list_any (λ x. is_of g x.fix) (take j rs) ≡ false = sym (any-map fix_of (λ x. is_of g x.fix) (is_of g) (take j rs) (λ x i. refl)) ∙ ap (list_any (is_of g)) (take-fix rs j) ∙ neither_right (upholds t g) (list_any (is_of g) (take j (map fix_of rs))) p in
+      let n : list_any (λ x. is_of g x.fix) (take j rs) ≡ false = sym (any-map fix_of (λ x. is_of g x.fix) (is_of g) (take j rs) (λ x i. refl)) ∙ ap (list_any (is_of g)) (sym (S.take-map fix_of j rs)) ∙ neither_right (upholds t g) (list_any (is_of g) (take j (map fix_of rs))) p in
       let m : is_of g (get_or rs j no_refused).fix ≡ true = ap (is_of g) (sym e) ∙ here in
       sign-refused t v j s q
       ∙ sym (ap (λ (c : Bool). transmission_bytes (cond c (record { fixes = sign_first g t.fixes; refused = rs }) (record { fixes = t.fixes; refused = sign_refused g rs }))) u
       ∙ ap (λ (l : List RefusedFix). transmission_bytes (record { fixes = t.fixes; refused = l })) (sign-refused-at g rs j q n m
       ∙ ap (λ (x : ℕ). set rs j (resigned (bit_or x g.signers) (get_or rs j no_refused))) (ap (λ (x : Fix). x.signers) (sym e))))
-    where
-      at-fix : (l : List RefusedFix) (i : ℕ) → i < length l → get_or (map fix_of l) i no_fix ≡ (get_or l i no_refused).fix
-      at-fix [] i w = absurd (omega arith)
-      at-fix (x ∷ l) zero w = refl
-      at-fix (x ∷ l) (suc i) w = at-fix l i (omega arith)
-
-      take-fix : (l : List RefusedFix) (i : ℕ) → map fix_of (take i l) ≡ take i (map fix_of l)
-      take-fix l zero = refl
-      take-fix [] (suc i) = refl
-      take-fix (x ∷ l) (suc i) = ap (λ (r : List Fix). x.fix ∷ r) (take-fix l i)
 
   pub signed-bytes : put_word 4 (held_place b k + L.signers_at) (bit_or (word_at 4 (held_place b k + L.signers_at) b) g.signers) b ≡ transmission_bytes (sign_in g t)
   signed-bytes =

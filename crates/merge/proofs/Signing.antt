@@ -9,6 +9,7 @@ use lib.ListN.{length, get_or, take, set, length-set, length-map}
 use Rattle.octets.specs.Words.{word_bytes}
 use Rattle.octets.specs.Writes.{put_word}
 use Rattle.std.specs.List.{list_any}
+use Rattle.std.proofs.lemmas.List as S
 use Rattle.ranges.proofs.Bools.{by, clash}
 use Rattle.places.specs.Places.{table_of}
 use Rattle.shown.specs.Fix.{Fix, with_signers}
@@ -22,18 +23,6 @@ use Rattle.tracked.proofs.Encoding.{Valid, wide-fixes, wide-refused, fixes-lengt
 use Rattle.normalize.specs.Normal.{signed_by, sign_first}
 use Rattle.merge.specs.Merged.{sign_refused}
 use Rattle.merge.proofs.Putting.{put_second, put_first, put-place}
-
--- ---- lists
-
-map_at : {A : Type 0} (to : A → List ℕ) (d : A) (l : List A) (k : ℕ) → k < length l → get_or (map to l) k [] ≡ to (get_or l k d)
-map_at to d [] k h = absurd (omega arith)
-map_at to d (x ∷ l) zero h = refl
-map_at to d (x ∷ l) (suc k) h = map_at to d l k (omega arith)
-
-map-set : {A : Type 0} (to : A → List ℕ) (l : List A) (k : ℕ) (y : A) → set (map to l) k (to y) ≡ map to (set l k y)
-map-set to [] k y = refl
-map-set to (x ∷ l) zero y = refl
-map-set to (x ∷ l) (suc k) y = ap (λ (r : List (List ℕ)). to x ∷ r) (map-set to l k y)
 
 abbrev pub no_refused : RefusedFix
 no_refused = record { fix = no_fix; against = []; chi2 = 0 }
@@ -68,11 +57,11 @@ module _ (t : HeldTransmission) (v : Valid t) (k s : ℕ) where
       let r = (v.fixes g (at_in no_fix t.fixes k h)).record-size in
       let e : fix_place k + L.signers_at ≡ length counts + (k * L.fix_size + L.signers_at) = omega arith in
       let w = wide-fixes t v in
-      let p = put-place L.fix_size L.max_standing fs w k (rw (length-map t.fixes fix_bytes) h) g.record_bytes g.inputs 4 g.signers s L.signers_at r (map_at fix_bytes no_fix t.fixes k h) in
+      let p = put-place L.fix_size L.max_standing fs w k (rw (length-map t.fixes fix_bytes) h) g.record_bytes g.inputs 4 g.signers s L.signers_at r (S.get_or-map fix_bytes t.fixes k no_fix [] h) in
       let room : k * L.fix_size + L.signers_at + 4 ≤ length ft = let f = v.few in omega (arith, fixes-length t v, h) in
       ap (λ (x : ℕ). put_word 4 x s (counts ++ (ft ++ rt))) e
       ∙ put_second 4 (k * L.fix_size + L.signers_at) s counts (ft ++ rt)
-      ∙ ap (λ (l : List ℕ). counts ++ l) (put_first 4 (k * L.fix_size + L.signers_at) s ft rt room ∙ ap (λ (l : List ℕ). l ++ rt) (p ∙ ap (table_of L.fix_size L.max_standing) (map-set fix_bytes t.fixes k (with_signers s g))))
+      ∙ ap (λ (l : List ℕ). counts ++ l) (put_first 4 (k * L.fix_size + L.signers_at) s ft rt room ∙ ap (λ (l : List ℕ). l ++ rt) (p ∙ ap (table_of L.fix_size L.max_standing) (sym (S.map-set fix_bytes t.fixes k (with_signers s g)))))
       ∙ ap (λ (n : ℕ). n ∷ (length t.refused ∷ (table_of L.fix_size L.max_standing (map fix_bytes (set t.fixes k (with_signers s g))) ++ rt))) (sym (length-set t.fixes k (with_signers s g)))
 
   pub sign-refused : k < length t.refused
@@ -87,11 +76,11 @@ module _ (t : HeldTransmission) (v : Valid t) (k s : ℕ) where
       let w = wide-refused t v in
       let parts : (i : ℕ) → refused_bytes (resigned i x) ≡ g.record_bytes ++ (word_bytes 4 i ++ (g.inputs ++ tail))
       = λ i. append_assoc g.record_bytes (word_bytes 4 i ++ g.inputs) tail ∙ ap (λ (l : List ℕ). g.record_bytes ++ l) (append_assoc (word_bytes 4 i) g.inputs tail) in
-      let p = put-place L.refused_size L.max_refused rs w k (rw (length-map t.refused refused_bytes) h) g.record_bytes (g.inputs ++ tail) 4 g.signers s L.signers_at r (map_at refused_bytes no_refused t.refused k h ∙ parts g.signers) in
+      let p = put-place L.refused_size L.max_refused rs w k (rw (length-map t.refused refused_bytes) h) g.record_bytes (g.inputs ++ tail) 4 g.signers s L.signers_at r (S.get_or-map refused_bytes t.refused k no_refused [] h ∙ parts g.signers) in
       ap (λ (y : ℕ). put_word 4 y s (counts ++ (ft ++ rt))) e
       ∙ put_second 4 (length ft + (k * L.refused_size + L.signers_at)) s counts (ft ++ rt)
       ∙ ap (λ (l : List ℕ). counts ++ l) (put_second 4 (k * L.refused_size + L.signers_at) s ft rt
-      ∙ ap (λ (l : List ℕ). ft ++ l) (p ∙ ap (λ (y : List ℕ). table_of L.refused_size L.max_refused (set rs k y)) (sym (parts s)) ∙ ap (table_of L.refused_size L.max_refused) (map-set refused_bytes t.refused k (resigned s x))))
+      ∙ ap (λ (l : List ℕ). ft ++ l) (p ∙ ap (λ (y : List ℕ). table_of L.refused_size L.max_refused (set rs k y)) (sym (parts s)) ∙ ap (table_of L.refused_size L.max_refused) (sym (S.map-set refused_bytes t.refused k (resigned s x)))))
       ∙ ap (λ (n : ℕ). length t.fixes ∷ (n ∷ (ft ++ table_of L.refused_size L.max_refused (map refused_bytes (set t.refused k (resigned s x)))))) (sym (length-set t.refused k (resigned s x)))
 
 -- ---- the first of an identity

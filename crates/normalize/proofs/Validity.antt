@@ -7,18 +7,14 @@ use mathlib.Core.List.{List, [], ◌∷◌, ◌++◌, map, map-append, map-map, 
 use native.Mathlib.Omega.{arith}
 use lib.Bits.{or_lt}
 use lib.ListN.{length, get_or, take, drop}
-use lib.Seq.{take_at, length-take-le}
+use lib.Seq.{take_at}
 use Rattle.octets.specs.Bytes.{Bytes}
-use Rattle.octets.specs.Words.{word}
-use Rattle.octets.proofs.Numbers.{word_lt, bytes_take, bytes_drop}
+use Rattle.octets.proofs.Numbers.{bytes_take, bytes_drop}
 use Rattle.std.specs.List.{list_all, list_any}
 use Rattle.ranges.proofs.Bools.{by, or, and_both}
 use Rattle.arithmetic.specs.Bits.{stored_bits}
 use Rattle.arithmetic.proofs.Outcomes.{stored-bounded}
-use Rattle.record.specs.Layout.{record_size}
 use Rattle.record.specs.Formed.{well_formed}
-use Rattle.items.specs.Layout.{hash_size}
-use Rattle.items.proofs.Pairing.{taken}
 use Rattle.models.specs.Identity.{set_hash}
 use Rattle.models.proofs.Sets.{identity-length}
 use Rattle.rule.specs.Outcome.{Refused}
@@ -29,11 +25,11 @@ use Rattle.shown.specs.Shown.{Transmission, shown}
 use Rattle.shown.specs.Claims.{fix_relations}
 use Rattle.shown.proofs.Indexed.{in-at}
 use Rattle.shown.proofs.Plainly.{shown-is-decided}
-use Rattle.tracked.specs.Layout.{max_standing, fix_size, signers_at, inputs_at}
+use Rattle.tracked.specs.Layout.{max_standing, fix_size}
 use Rattle.tracked.specs.Held.{RefusedFix, HeldTransmission, fix_of, held_in, is_of}
 use Rattle.tracked.specs.Bytes.{record_in, fix_in, fix_bytes, refused_bytes, transmission_in, transmission_bytes}
 use Rattle.tracked.specs.Parts.{held_places, held_count, Sound, Steady, held_place}
-use Rattle.tracked.proofs.Encoding.{ValidFix, ValidRefused, Valid, Bounded, fix-length, fix-back, bytes-length, fix-places-back, refused-places-back, decode-encode}
+use Rattle.tracked.proofs.Encoding.{ValidFix, ValidRefused, Valid, Bounded, fix-length, fix-back, bytes-length, fix-places-back, refused-places-back, decode-encode, fix-valid}
 use Rattle.tracked.proofs.Holding.{held-length, held_at, held-size, held-formed, held-are}
 use Rattle.normalize.proofs.Lowest.{front-in}
 use Rattle.normalize.specs.Normal.{signed_by, sign_first, gather, gather_all, distinct, refused_fix, normalized}
@@ -93,17 +89,7 @@ holdable-both f g p q = record {
 
 -- that which bytes hold is one
 pub holdable-in : (p : List ℕ) → Bytes p → length p ≡ fix_size → well_formed (record_in p) ≡ true → Holdable (fix_in p)
-holdable-in p b h e = record {
-  valid = record {
-    record-size = length-take-le record_size p (omega arith);
-    inputs-size = taken hash_size inputs_at p (omega arith);
-    signed =
-        let l : length (take 4 (drop signers_at p)) ≡ 4 = taken 4 signers_at p (omega arith) in
-        subst (λ (n : ℕ). word (take 4 (drop signers_at p)) < 256 ^ n) l (word_lt (take 4 (drop signers_at p)) (bytes_take 4 (drop signers_at p) (bytes_drop signers_at p b)));
-    identified = refl;
-  };
-  form = e;
-}
+holdable-in p b h e = record { valid = fix-valid p b (omega (arith, h)); form = e }
 
 -- ---- what is kept
 

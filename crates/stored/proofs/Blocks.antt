@@ -15,14 +15,13 @@ use Rattle.std.specs.List.{list_all}
 use Rattle.octets.specs.Bytes.{Bytes}
 use Rattle.octets.specs.Words.{word, word_bytes}
 use Rattle.octets.specs.Runs.{all_zero}
-use Rattle.octets.proofs.Numbers.{bytes_take, bytes_drop, length-word-bytes}
+use Rattle.octets.proofs.Numbers.{length-word-bytes}
 use Rattle.octets.proofs.Zeros.{run-zero}
 use Rattle.places.specs.Places.{flat, table_of}
 use Rattle.places.proofs.Walks.{part_in}
 use Rattle.places.proofs.Tables.{wide, flat-length, places-flat, length-places, places-wide}
 use Rattle.record.specs.Layout.{record_size}
 use Rattle.record.specs.Formed as R
-use Rattle.items.specs.Layout.{hash_size}
 use Rattle.items.proofs.Pairing.{taken}
 use Rattle.held.specs.Limits.{place_size}
 use Rattle.held.specs.Signed as H
@@ -35,7 +34,7 @@ use Rattle.tracked.specs.Layout as L
 use Rattle.tracked.specs.Held.{HeldTransmission, fix_of, held_in}
 use Rattle.tracked.specs.Bytes.{record_in, signers_in, fix_in, fix_bytes, refused_in, refused_bytes, fix_count, refused_count, fix_table, refused_table, fix_places, refused_places, filled_by, transmission_formed, transmission_in, transmission_bytes}
 use Rattle.tracked.specs.Parts.{record_formed, Sound}
-use Rattle.tracked.proofs.Encoding.{ValidFix, ValidRefused, Valid, Bounded, Canonical, wide-fixes, wide-refused, fix-table, refused-table, fix-count-back, refused-count-back, bytes-of-places, wide-in}
+use Rattle.tracked.proofs.Encoding.{ValidFix, Valid, Bounded, Canonical, wide-fixes, wide-refused, fix-table, refused-table, fix-count-back, refused-count-back, wide-in, refused-place, valid-in}
 
 -- ---- places that all pass a test
 
@@ -97,20 +96,6 @@ module _ (c : ℕ) (p : List ℕ) (h : begin_formed c p ≡ true) where
       signed = ap (λ (x : ℕ). eqb x 0) (sym signers-same) ∙ not-true (eqb (H.signers_in q) 0) (and_left (not (eqb (H.signers_in q) 0)) (eqb (bit_and (H.signers_in q) c) 0) rest);
       free = ap (λ (x : ℕ). eqb (bit_and x c) 0) (sym signers-same) ∙ and_right (not (eqb (H.signers_in q) 0)) (eqb (bit_and (H.signers_in q) c) 0) rest;
     }
-
-pub fix-valid : (p : List ℕ) → Bytes p → L.fix_size ≤ length p → ValidFix (fix_in p)
-fix-valid p b l = record {
-  record-size = length-take-le record_size p (omega arith);
-  inputs-size = taken hash_size L.inputs_at p (omega arith);
-  signed = word_small p b L.signers_at 4 (omega arith);
-  identified = refl;
-}
-
-pub refused-valid : (p : List ℕ) → Bytes p → length p ≡ L.refused_size → ValidRefused (refused_in p)
-refused-valid p b l = record {
-  fix = fix-valid p b (omega (arith, l));
-  against_size = taken hash_size L.against_at p (omega (arith, l));
-}
 
 -- the bytes of such a fix, whatever follows
 pub begins-with : (c : ℕ) (f : Fix) → ValidFix f → Upheld c f → (z : List ℕ) → begin_formed c (fix_bytes f ++ z) ≡ true
@@ -204,24 +189,13 @@ module _ (c : ℕ) (b : List ℕ) (o : Parts c b) (size : length b ≡ L.transmi
     pub canonical : Canonical b
     canonical = record { bytes = bytes; size = size; few = o.few; few_refused = o.few_refused; zeros = o.zeros; zeros_refused = o.zeros_refused }
 
-    fix-bytes : (p : List ℕ) → Memᴰ p (fix_places b) → Bytes p
-    fix-bytes p m = bytes-of-places L.fix_size (fix_count b) (fix_table b) (bytes_take L.fixes_size (drop L.fixes_at b) (bytes_drop L.fixes_at b bytes)) p m
-
-    refused-bytes : (p : List ℕ) → Memᴰ p (refused_places b) → Bytes p
-    refused-bytes p m = bytes-of-places L.refused_size (refused_count b) (refused_table b) (bytes_drop L.refused_at b bytes) p m
-
     -- what the bytes hold is what a track may hold
     pub block_held : Held c (transmission_in b)
     unfolding transmission_in
     block_held = record {
       kept = record {
-        valid = record {
-          few = rw (length-map (fix_places b) fix_in, length-places L.fix_size (fix_count b) (fix_table b)) o.few;
-          few_refused = rw (length-map (refused_places b) refused_in, length-places L.refused_size (refused_count b) (refused_table b)) o.few_refused;
-          fixes = of_map fix_in ValidFix (fix_places b) (λ p m. fix-valid p (fix-bytes p m) (let l = wide-in L.fix_size (fix_places b) fixes-wide p m in omega (arith, l)));
-          refused = of_map refused_in ValidRefused (refused_places b) (λ p m. refused-valid p (refused-bytes p m) (wide-in L.refused_size (refused_places b) refused-wide p m));
-        };
-        bounded = of_map refused_in (λ x. x.chi2 < 2 ^ 64) (refused_places b) (λ p m. let l = wide-in L.refused_size (refused_places b) refused-wide p m in word_small p (refused-bytes p m) L.chi2_at 8 (omega (arith, l)));
+        valid = valid-in b bytes size o.few o.few_refused;
+        bounded = of_map refused_in (λ x. x.chi2 < 2 ^ 64) (refused_places b) (λ p m. let q = refused-place b bytes size o.few o.few_refused p m in word_small p q.0 L.chi2_at 8 (omega (arith, q.1)));
         held = block-upheld;
       };
       some = rw (length-map (fix_places b) fix_in, length-places L.fix_size (fix_count b) (fix_table b)) o.some;

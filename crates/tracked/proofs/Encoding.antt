@@ -1,16 +1,16 @@
 -- A transmission and its bytes, both ways.
 use Prim.Native.Nat.{ℕ, zero, suc, ◌+◌, ◌*◌, ◌^◌, ◌≤◌, ◌<◌}
-use mathlib.Core.Path.{◌≡◌, refl, sym, ap, ap₂, ◌∙◌}
+use mathlib.Core.Path.{◌≡◌, refl, sym, ap, ap₂, ◌∙◌, subst}
 use mathlib.Core.Bool.{true}
 use mathlib.Core.List.Memᴰ
 use mathlib.Core.List.{List, [], ◌∷◌, ◌++◌, map, append_assoc, append-nil, Memᴰ}
 use native.Mathlib.Omega.{arith}
 use lib.ListN.{length, get_or, take, drop, length-append, length-drop, length-map, take-append-drop}
-use lib.Seq.{take_at, drop_at, drop-drop, take_all}
+use lib.Seq.{take_at, drop_at, drop-drop, take_all, length-take-le}
 use Rattle.octets.specs.Words.{word, word_bytes, word_at}
 use Rattle.octets.specs.Runs.{all_zero}
 use Rattle.octets.specs.Bytes.{Bytes}
-use Rattle.octets.proofs.Numbers.{bytes_take, bytes_drop, bytes-of-word, word-of-bytes, length-word-bytes}
+use Rattle.octets.proofs.Numbers.{bytes_take, bytes_drop, bytes-of-word, word-of-bytes, length-word-bytes, word_lt}
 use Rattle.places.specs.Places.{places, table_of}
 use Rattle.places.proofs.Tables.{wide, length-places, places-wide, table-length, places-of-table, filled-table}
 use Rattle.ranges.proofs.Bools.{or}
@@ -243,22 +243,62 @@ map-bytes : {A : Type 0} (to : A → List ℕ) (from : List ℕ → A) (l : List
 map-bytes to from [] e = refl
 map-bytes to from (p ∷ l) e = ap₂ ◌∷◌ (e p (Memᴰ.head refl)) (map-bytes to from l (λ q m. e q (Memᴰ.tail m)))
 
-module _ (b : List ℕ) (c : Canonical b) where
+-- ---- what bytes hold is valid
+
+pub fix-valid : (p : List ℕ) → Bytes p → L.fix_size ≤ length p → ValidFix (fix_in p)
+fix-valid p b h =
+    let l : length (take 4 (drop L.signers_at p)) ≡ 4 = taken 4 L.signers_at p (omega arith) in
+    record {
+      record-size = length-take-le record_size p (omega arith);
+      inputs-size = taken hash_size L.inputs_at p (omega arith);
+      signed = subst (λ (n : ℕ). signers_in p < 256 ^ n) l (word_lt (take 4 (drop L.signers_at p)) (bytes_take 4 (drop L.signers_at p) (bytes_drop L.signers_at p b)));
+      identified = refl;
+    }
+
+refused-valid : (p : List ℕ) → Bytes p → length p ≡ L.refused_size → ValidRefused (refused_in p)
+refused-valid p b h = record { fix = fix-valid p b (omega (arith, h)); against_size = taken hash_size L.against_at p (omega (arith, h)) }
+
+module _ (b : List ℕ) (bytes : Bytes b) (size : length b ≡ L.transmission_size) (few : fix_count b ≤ L.max_standing) (few_refused : refused_count b ≤ L.max_refused) where
   table-size : length (fix_table b) ≡ L.fixes_size
-  table-size = taken L.fixes_size L.fixes_at b (omega (arith, c.size))
+  table-size = taken L.fixes_size L.fixes_at b (omega (arith, size))
 
   refused-size : length (refused_table b) ≡ L.refused_table_size
-  refused-size = rw length-drop (omega (arith, c.size))
+  refused-size = rw length-drop (omega (arith, size))
 
+  -- of each place its bytes, and how many they are
+  pub fix-place : (p : List ℕ) → Memᴰ p (fix_places b) → Bytes p × (length p ≡ L.fix_size)
+  fix-place p m = (
+    bytes-of-places L.fix_size (fix_count b) (fix_table b) (bytes_take L.fixes_size (drop L.fixes_at b) (bytes_drop L.fixes_at b bytes)) p m,
+    wide-in L.fix_size (fix_places b) (places-wide L.fix_size (fix_count b) (fix_table b) (omega (arith, table-size, few))) p m,
+  )
+
+  pub refused-place : (p : List ℕ) → Memᴰ p (refused_places b) → Bytes p × (length p ≡ L.refused_size)
+  refused-place p m = (
+    bytes-of-places L.refused_size (refused_count b) (refused_table b) (bytes_drop L.refused_at b bytes) p m,
+    wide-in L.refused_size (refused_places b) (places-wide L.refused_size (refused_count b) (refused_table b) (omega (arith, refused-size, few_refused))) p m,
+  )
+
+  pub valid-in : Valid (transmission_in b)
+  unfolding transmission_in
+  valid-in = record {
+    few = rw (length-map (fix_places b) fix_in, length-places L.fix_size (fix_count b) (fix_table b)) few;
+    few_refused = rw (length-map (refused_places b) refused_in, length-places L.refused_size (refused_count b) (refused_table b)) few_refused;
+    fixes = λ f m.
+        let r = Memᴰ.of_map fix_in (fix_places b) m in
+        let p = fix-place r.0 r.1 in
+        subst ValidFix r.2 (fix-valid r.0 p.0 (omega (arith, p.1)));
+    refused = λ x m.
+        let r = Memᴰ.of_map refused_in (refused_places b) m in
+        let p = refused-place r.0 r.1 in
+        subst ValidRefused r.2 (refused-valid r.0 p.0 p.1);
+  }
+
+module _ (b : List ℕ) (c : Canonical b) where
   places-are : map fix_bytes (map fix_in (fix_places b)) ≡ fix_places b
-  places-are =
-      let w = places-wide L.fix_size (fix_count b) (fix_table b) (omega (arith, table-size, c.few)) in
-      map-bytes fix_bytes fix_in (fix_places b) (λ p m. fix-bytes-back p (bytes-of-places L.fix_size (fix_count b) (fix_table b) (bytes_take L.fixes_size (drop L.fixes_at b) (bytes_drop L.fixes_at b c.bytes)) p m) (wide-in L.fix_size (fix_places b) w p m))
+  places-are = map-bytes fix_bytes fix_in (fix_places b) (λ p m. let q = fix-place b c.bytes c.size c.few c.few_refused p m in fix-bytes-back p q.0 q.1)
 
   refused-are : map refused_bytes (map refused_in (refused_places b)) ≡ refused_places b
-  refused-are =
-      let w = places-wide L.refused_size (refused_count b) (refused_table b) (omega (arith, refused-size, c.few_refused)) in
-      map-bytes refused_bytes refused_in (refused_places b) (λ p m. refused-bytes-back p (bytes-of-places L.refused_size (refused_count b) (refused_table b) (bytes_drop L.refused_at b c.bytes) p m) (wide-in L.refused_size (refused_places b) w p m))
+  refused-are = map-bytes refused_bytes refused_in (refused_places b) (λ p m. let q = refused-place b c.bytes c.size c.few c.few_refused p m in refused-bytes-back p q.0 q.1)
 
   -- the bytes are those of what they hold
   pub encode-decode : transmission_bytes (transmission_in b) ≡ b
@@ -266,8 +306,8 @@ module _ (b : List ℕ) (c : Canonical b) where
   encode-decode =
       let n : length (map fix_in (fix_places b)) ≡ fix_count b = length-map (fix_places b) fix_in ∙ length-places L.fix_size (fix_count b) (fix_table b) in
       let m : length (map refused_in (refused_places b)) ≡ refused_count b = length-map (refused_places b) refused_in ∙ length-places L.refused_size (refused_count b) (refused_table b) in
-      let f = ap (table_of L.fix_size L.max_standing) places-are ∙ sym (filled-table L.fix_size L.max_standing (fix_count b) (fix_table b) table-size c.few c.zeros) in
-      let r = ap (table_of L.refused_size L.max_refused) refused-are ∙ sym (filled-table L.refused_size L.max_refused (refused_count b) (refused_table b) refused-size c.few_refused c.zeros_refused) in
+      let f = ap (table_of L.fix_size L.max_standing) places-are ∙ sym (filled-table L.fix_size L.max_standing (fix_count b) (fix_table b) (table-size b c.bytes c.size c.few c.few_refused) c.few c.zeros) in
+      let r = ap (table_of L.refused_size L.max_refused) refused-are ∙ sym (filled-table L.refused_size L.max_refused (refused_count b) (refused_table b) (refused-size b c.bytes c.size c.few c.few_refused) c.few_refused c.zeros_refused) in
       ap₂ (λ (i j : ℕ). i ∷ (j ∷ (table_of L.fix_size L.max_standing (map fix_bytes (map fix_in (fix_places b))) ++ table_of L.refused_size L.max_refused (map refused_bytes (map refused_in (refused_places b)))))) n m
       ∙ ap₂ (λ (x y : List ℕ). fix_count b ∷ (refused_count b ∷ (x ++ y))) f r
       ∙ ap (λ (l : List ℕ). fix_count b ∷ (refused_count b ∷ l)) (cut L.fixes_at L.fixes_size b)

@@ -20,7 +20,8 @@ use Rattle.normalize.specs.Taking.{taken_in, told_of}
 use Rattle.normalize.specs.Joining.{with_fix}
 use Rattle.merge.proofs.Counting.{first-at}
 use Rattle.merge.proofs.Written.{holdable-of}
-use Rattle.merge.proofs.Identified.{held-number, signed-bytes, some-held}
+use Rattle.tracked.proofs.Holding.{held-number}
+use Rattle.merge.proofs.Identified.{signed-bytes, some-held}
 use Rattle.merge.proofs.Joining.{told-some, told-held, taken-held, taken-new, with-steady, with-read}
 use Rattle.merge.proofs.join.Goals as goal
 
