@@ -12,9 +12,10 @@ use borrow.Author.Tests.{leb-false}
 use Rattle.ranges.proofs.Bools.{by}
 use Rattle.octets.specs.Bytes.{Bytes}
 use Rattle.octets.specs.Writes.{put_word}
-use Rattle.octets.specs.Words.{word_at}
-use Rattle.places.specs.Places.{table_of, holds, put_place}
-use Rattle.places.specs.Tables.{sought, full, Sorted}
+use Rattle.octets.specs.Words.{word, word_at}
+use Rattle.places.specs.Places.{places, table_of, holds, put_place}
+use Rattle.places.specs.Tables.{sought, full, put_in, Sorted}
+use Rattle.places.proofs.Walks.{part_in}
 use Rattle.places.proofs.Puts.{told_found, told_none}
 use Rattle.places.proofs.Putting.{new-length, put-length-held, put-ascending, put-wide, put_all}
 use Rattle.models.specs.Summary.{summary_size}
@@ -28,9 +29,39 @@ use Rattle.stored.specs.Layout.{pair_size, summary_count_at, summaries_at}
 use Rattle.stored.specs.Track.{Track}
 use Rattle.stored.specs.Memory.{convicted_in, summary_count, transmission_count, contested_in, summary_table, transmission_table, summaries_in, transmission_places, decode, encode, commit}
 use Rattle.stored.specs.Steps.{with_pair, put_pair}
-use Rattle.stored.proofs.Frames.{header, frame, frame_same, behind-header, header-length, put-count, read-count}
+use Rattle.stored.proofs.Frames.{header, frame, frame_same, behind-header, header-length, put-count}
 use Rattle.stored.proofs.Opened.{Opened, summaries-length, summary-bytes-length, framed, blocks-back, transmissions-length, transmissions-are}
 use Rattle.stored.proofs.Valid.{Valid}
+
+-- the bytes before the summaries, and the summaries and what is behind them, as they are split off one after another
+pub record Split (m h r s t : List ℕ) : Type 0 where
+  pub head : h ≡ take summaries_at m
+  pub rest : r ≡ drop summaries_at m
+  pub summaries : s ≡ take summaries_size r
+  pub behind : t ≡ drop summaries_size r
+
+module _ {m h r s t : List ℕ} (q : Split m h r s t) where
+  pub count-is : word_at 2 summary_count_at h ≡ summary_count m
+  count-is = ap (word_at 2 summary_count_at) q.head ∙ ap word (part_in 2 summary_count_at summaries_at m (omega arith))
+
+  pub table-is : s ≡ summary_table m
+  table-is = q.summaries ∙ ap (take summaries_size) q.rest
+
+  transmissions-there : t ≡ transmission_table m
+  transmissions-there = q.behind ∙ ap (drop summaries_size) q.rest ∙ drop-drop summaries_size summaries_at m
+
+  all-again : h ++ (s ++ t) ≡ m
+  all-again = rw (q.summaries, q.behind, take-append-drop summaries_size r, q.head, q.rest) (take-append-drop summaries_at m)
+
+pub sorted : (m : List ℕ) → Opened m → (n : ℕ) (t : List ℕ) → n ≡ summary_count m → t ≡ summary_table m → Sorted summary_size pair_size max_summaries n t
+sorted m o n t e q = rw (e, q) (record {
+  width = omega arith;
+  room = omega arith;
+  key = omega arith;
+  size = summary-bytes-length m o;
+  few = o.few_summaries;
+  table = o.summary-table;
+})
 
 module _ (p : List ℕ) (lp : length p ≡ summary_size) where
   abbrev key : List ℕ
@@ -64,16 +95,6 @@ module _ (p : List ℕ) (lp : length p ≡ summary_size) where
         frame_same (convicted_in m) (contested_in m) e (sym (length-map (transmission_places m) transmission_in ∙ transmissions-length m o)) q
         (transmissions-are m o ∙ ap (table_of transmission_size max_transmissions) (sym (blocks-back m o b)))
 
-    pub sorted : (n : ℕ) (t : List ℕ) → n ≡ summary_count m → t ≡ summary_table m → Sorted summary_size pair_size max_summaries n t
-    sorted n t e q = rw (e, q) (record {
-      width = omega arith;
-      room = omega arith;
-      key = omega arith;
-      size = summary-bytes-length m o;
-      few = o.few_summaries;
-      table = o.summary-table;
-    })
-
     -- there was no room
     refused-full : (f : Result ℕ ℕ) → f ≡ sought pair_size key ss → full max_summaries (summary_count m) f ≡ true → after 5 m ≡ commit m (put_pair p (decode m))
     unfolding decode
@@ -86,45 +107,32 @@ module _ (p : List ℕ) (lp : length p ≡ summary_size) where
     taken (Ok i) h u = let t = told_found pair_size key ss i h in rw t.0 refl
     taken (Err i) h u = let t = told_none pair_size key ss i h in rw (t.0, summaries-length m o, u) refl
 
-    -- the header and the tables, as they are split off one after another
-    module _ (h r s t : List ℕ) (h-is : h ≡ take summaries_at m) (r-is : r ≡ drop summaries_at m) (s-is : s ≡ take summaries_size r) (t-is : t ≡ drop summaries_size r) where
-      head-is : h ≡ header (convicted_in m) (summary_count m) (transmission_count m) (contested_in m)
-      head-is =
+    -- what was found among n summaries of a table
+    module _ {h r s t : List ℕ} (q : Split m h r s t) (n : ℕ) (n-is : n ≡ summary_count m) (u : List ℕ) (u-is : u ≡ summary_table m) (f : Result ℕ ℕ) (found : f ≡ sought pair_size key (places summary_size n u)) where
+      held : places summary_size n u ≡ ss
+      held = ap₂ (places summary_size) n-is u-is
+
+      sought-is : f ≡ sought pair_size key ss
+      sought-is = found ∙ ap (sought pair_size key) held
+
+      -- the memory as it was
+      pub left : full max_summaries n f ≡ true → (s' : List ℕ) → s' ≡ s → after 5 (h ++ (s' ++ t)) ≡ commit m (put_pair p (decode m))
+      left e s' z = ap (λ (x : List ℕ). after 5 (h ++ (x ++ t))) z ∙ ap (after 5) (all-again q) ∙ refused-full f sought-is (rw n-is at e)
+
+      -- the memory with the summary
+      pub done : full max_summaries n f ≡ false → (k : ℕ) (h' s' : List ℕ) → k ≡ length (put_in pair_size p (places summary_size n u)) → h' ≡ put_word 2 summary_count_at k h
+          → s' ≡ table_of summary_size max_summaries (put_in pair_size p (places summary_size n u)) → after 0 (h' ++ (s' ++ t)) ≡ commit m (put_pair p (decode m))
+      done e k h' s' k-is h-is s-is =
           let c = convicted_in m in
-          let n = summary_count m in
-          let k = transmission_count m in
+          let i = transmission_count m in
           let x = contested_in m in
-          h-is ∙ ap (take summaries_at) (framed m o b ∙ behind-header c n k x (summary_table m) (transmission_table m))
-          ∙ take_at (header c n k x) (summary_table m ++ transmission_table m) summaries_at (header-length c n k x (summary_table m) (transmission_table m))
-
-      pub count-is : word_at 2 summary_count_at h ≡ summary_count m
-      count-is =
-          let f = o.few_summaries in
-          ap (word_at 2 summary_count_at) head-is ∙ read-count (convicted_in m) (summary_count m) (transmission_count m) (contested_in m) (summary_table m) (transmission_table m) (omega (arith, f))
-
-      pub table-is : s ≡ summary_table m
-      table-is = s-is ∙ ap (take summaries_size) r-is
-
-      transmissions-there : t ≡ transmission_table m
-      transmissions-there = t-is ∙ ap (drop summaries_size) r-is ∙ drop-drop summaries_size summaries_at m
-
-      module _ (f : Result ℕ ℕ) (e : f ≡ sought pair_size key ss) where
-        -- the memory as it was
-        pub left : (s' : List ℕ) → s' ≡ s → full max_summaries (summary_count m) f ≡ true → after 5 (h ++ (s' ++ t)) ≡ commit m (put_pair p (decode m))
-        left s' q u = rw (q, s-is, t-is, take-append-drop summaries_size r, h-is, r-is) (ap (after 5) (take-append-drop summaries_at m) ∙ refused-full f e u)
-
-        -- the memory with the summary
-        pub done : (n : ℕ) (h' s' : List ℕ) → n ≡ length put → h' ≡ put_word 2 summary_count_at n h → s' ≡ table_of summary_size max_summaries put
-            → full max_summaries (summary_count m) f ≡ false → after 0 (h' ++ (s' ++ t)) ≡ commit m (put_pair p (decode m))
-        done n h' s' n-is z q u =
-            let c = convicted_in m in
-            let k = transmission_count m in
-            let x = contested_in m in
-            let new : h' ≡ header c n k x = z ∙ ap (put_word 2 summary_count_at n) head-is ∙ put-count c (summary_count m) k x (summary_table m) (transmission_table m) n in
-            ap (after 0)
-            (ap₂ (λ (y l : List ℕ). y ++ (s' ++ l)) new transmissions-there ∙ sym (behind-header c n k x s' (transmission_table m))
-            ∙ left_is n n-is s' q)
-            ∙ taken f e u
+          let head : h ≡ header c (summary_count m) i x = q.head ∙ ap (take summaries_at) (framed m o b ∙ behind-header c (summary_count m) i x (summary_table m) (transmission_table m))
+              ∙ take_at (header c (summary_count m) i x) (summary_table m ++ transmission_table m) summaries_at (header-length c (summary_count m) i x (summary_table m) (transmission_table m)) in
+          let new : h' ≡ header c k i x = h-is ∙ ap (put_word 2 summary_count_at k) head ∙ put-count c (summary_count m) i x (summary_table m) (transmission_table m) k in
+          ap (after 0)
+          (ap₂ (λ (y l : List ℕ). y ++ (s' ++ l)) new (transmissions-there q) ∙ sym (behind-header c k i x s' (transmission_table m))
+          ∙ left_is k (k-is ∙ ap (λ (l : List (List ℕ)). length (put_in pair_size p l)) held) s' (s-is ∙ ap (λ (l : List (List ℕ)). table_of summary_size max_summaries (put_in pair_size p l)) held))
+          ∙ taken f sought-is (rw n-is at e)
 
   -- ---- the track that is left is valid
 
