@@ -7,8 +7,8 @@ use native.Mathlib.Omega.{arith}
 use native.Mathlib.Numerals.{add-one}
 use mathlib.Core.Logic.{◌⊎◌, inl, inr}
 use borrow.Author.Tests.{lt-ltb, le-ltb}
-use lib.ListN.{length, get_or, take, drop, set, length-drop}
-use lib.Seq.{get_or-drop, length-take-le}
+use lib.ListN.{length, get_or, take, drop, set}
+use lib.Seq.{length-take-le}
 use Rattle.std.proofs.lemmas.List.{get_or-take}
 use Rattle.std.specs.Option.{unwrap_or}
 use Rattle.shown.proofs.Indexed.{at_in}
@@ -22,61 +22,30 @@ use Rattle.normalize.proofs.Gathered.{none-of}
 use Rattle.merge.specs.Searching.{only}
 
 module _ {A : Type 0} (test : A → Bool) where
-  -- that at one place alone
-  pub filter-one : (l : List A) (i : ℕ) (d : A) → i < length l → list_any test (take i l) ≡ false → test (get_or l i d) ≡ true → list_any test (drop (suc i) l) ≡ false
-      → filter test l ≡ get_or l i d ∷ []
-  filter-one [] i d h a e b = absurd (omega arith)
-  filter-one (x ∷ l) zero d h a e b = rw (e, filter_none test l b) refl
-  filter-one (x ∷ l) (suc i) d h a e b =
-      by (test x)
-      (λ t. clash refl (rw t at a))
-      (λ t. rw t (filter-one l i d (omega arith) (rw t at a) e b))
+  -- all that pass, by the first that does
+  passing : (l : List A) (i : ℕ) (d : A) → i < length l → test (get_or l i d) ≡ true → ((k : ℕ) → k < i → test (get_or l k d) ≡ false) → filter test l ≡ get_or l i d ∷ filter test (drop (suc i) l)
+  passing [] i d h e p = absurd (omega arith)
+  passing (x ∷ l) zero d h e p = rw e refl
+  passing (x ∷ l) (suc i) d h e p = rw (p 0 (omega arith)) (passing l i d (omega arith) e (λ k m. p (suc k) (omega arith)))
 
   -- y in the place of what passes
-  pub replace-none : (y : A) (l : List A) → list_any test l ≡ false → map (λ x. cond (test x) y x) l ≡ l
-  replace-none y [] a = refl
-  replace-none y (x ∷ l) a =
+  replaced-none : (y : A) (l : List A) → list_any test l ≡ false → map (λ x. cond (test x) y x) l ≡ l
+  replaced-none y [] a = refl
+  replaced-none y (x ∷ l) a =
       by (test x)
       (λ t. clash refl (rw t at a))
-      (λ t. rw t (ap (λ (k : List A). x ∷ k) (replace-none y l (rw t at a))))
+      (λ t. rw t (ap (λ (k : List A). x ∷ k) (replaced-none y l (rw t at a))))
 
-  pub replace-one : (y : A) (l : List A) (i : ℕ) (d : A) → i < length l → list_any test (take i l) ≡ false → test (get_or l i d) ≡ true → list_any test (drop (suc i) l) ≡ false
+  replaced-one : (y : A) (l : List A) (i : ℕ) (d : A) → i < length l → test (get_or l i d) ≡ true → ((k : ℕ) → k < i → test (get_or l k d) ≡ false) → list_any test (drop (suc i) l) ≡ false
       → map (λ x. cond (test x) y x) l ≡ set l i y
-  replace-one y [] i d h a e b = absurd (omega arith)
-  replace-one y (x ∷ l) zero d h a e b = rw e (ap (λ (k : List A). y ∷ k) (replace-none y l b))
-  replace-one y (x ∷ l) (suc i) d h a e b =
-      by (test x)
-      (λ t. clash refl (rw t at a))
-      (λ t. rw t (ap (λ (k : List A). x ∷ k) (replace-one y l i d (omega arith) (rw t at a) e b)))
-
-  -- several
-  filter-some-at : (l : List A) (j : ℕ) (d : A) → j < length l → test (get_or l j d) ≡ true → (x : A) × (rest : List A) × (filter test l ≡ x ∷ rest)
-  filter-some-at [] j d h e = absurd (omega arith)
-  filter-some-at (x ∷ l) zero d h e = (x, filter test l, rw e refl)
-  filter-some-at (x ∷ l) (suc j) d h e =
-      by (test x)
-      (λ t. (x, filter test l, rw t refl))
-      (λ t. let r = filter-some-at l j d (omega arith) e in (r.0, r.1, rw t r.2))
-
-  pub filter-several : (l : List A) (i j : ℕ) (d : A) → i < j → j < length l → test (get_or l i d) ≡ true → test (get_or l j d) ≡ true
-      → (x : A) × (y : A) × (rest : List A) × (filter test l ≡ x ∷ (y ∷ rest))
-  filter-several [] i j d g h e f = absurd (omega arith)
-  filter-several (x ∷ l) i zero d g h e f = absurd (omega arith)
-  filter-several (x ∷ l) zero (suc j) d g h e f = let r = filter-some-at l j d (omega arith) f in (x, r.0, r.1, rw e (ap (λ (k : List A). x ∷ k) r.2))
-  filter-several (x ∷ l) (suc i) (suc j) d g h e f =
-      by (test x)
-      (λ t. let r = filter-some-at l j d (omega arith) f in (x, r.0, r.1, rw t (ap (λ (k : List A). x ∷ k) r.2)))
-      (λ t. let r = filter-several l i j d (omega arith) (omega arith) e f in (r.0, r.1, r.2, rw t r.3))
+  replaced-one y [] i d h e p b = absurd (omega arith)
+  replaced-one y (x ∷ l) zero d h e p b = rw e (ap (λ (k : List A). y ∷ k) (replaced-none y l b))
+  replaced-one y (x ∷ l) (suc i) d h e p b = rw (p 0 (omega arith)) (ap (λ (k : List A). x ∷ k) (replaced-one y l i d (omega arith) e (λ k m. p (suc k) (omega arith)) b))
 
   -- ---- where the first is
 
-  pub place-is : (l : List A) (i : ℕ) (d : A) → i < length l → test (get_or l i d) ≡ true → ((k : ℕ) → k < i → test (get_or l k d) ≡ false) → position test l ≡ Some i
+  place-is : (l : List A) (i : ℕ) (d : A) → i < length l → test (get_or l i d) ≡ true → ((k : ℕ) → k < i → test (get_or l k d) ≡ false) → position test l ≡ Some i
   place-is l i d h e p = let q = position_or_len_is test l i d (omega arith) p (λ k. e) in rw (q, lt-ltb i (length l) h) refl
-
-  pub place-none : (l : List A) (n : ℕ) (d : A) → length l ≤ n → ((k : ℕ) → k < n → test (get_or l k d) ≡ false) → position test l ≡ None
-  place-none l n d h p =
-      let q = position_or_len_is test l (length l) d (omega arith) (λ k m. p k (omega arith)) (λ m. absurd (omega arith)) in
-      rw (q, le-ltb (length l) (length l) (omega arith)) refl
 
   -- among the first n
   pub place-among : (l : List A) (n i : ℕ) (d : A) → i < n → n ≤ length l → test (get_or l i d) ≡ true → ((k : ℕ) → k < i → test (get_or l k d) ≡ false)
@@ -85,7 +54,10 @@ module _ {A : Type 0} (test : A → Bool) where
       place-is (take n l) i d (omega (arith, length-take-le n l m)) (ap test (get_or-take n l i d h) ∙ e) (λ k q. ap test (get_or-take n l k d (omega arith)) ∙ p k q)
 
   pub none-among : (l : List A) (n : ℕ) (d : A) → n ≤ length l → ((k : ℕ) → k < n → test (get_or l k d) ≡ false) → position test (take n l) ≡ None
-  none-among l n d m p = place-none (take n l) n d (omega (arith, length-take-le n l m)) (λ k q. ap test (get_or-take n l k d q) ∙ p k q)
+  none-among l n d m p =
+      let e = length-take-le n l m in
+      let q = position_or_len_is test (take n l) n d (omega (arith, e)) (λ k h. ap test (get_or-take n l k d h) ∙ p k h) (λ h. absurd (omega (arith, e))) in
+      rw (q, le-ltb n (length (take n l)) (omega (arith, e))) refl
 
   -- the first before one that passes, or that one
   pub first-or : (l : List A) (k : ℕ) (d : A) → k < length l → test (get_or l k d) ≡ true → (o : Option ℕ) → o ≡ position test (take k l) → position test l ≡ Some (unwrap_or o k)
@@ -112,10 +84,11 @@ module _ {A : Type 0} (test : A → Bool) where
   pub first-at : (l : List A) (i : ℕ) (d : A) → position test l ≡ Some i → First l i d
   first-at l i d e = let s = position-Some test l i d e in record { there = s.0; before = none-front l i d (omega (arith, s.0)) s.2; here = s.1 }
 
-  -- and none behind it does
+  -- it alone passes
   pub record Alone (l : List A) (i : ℕ) (d : A) : Type 0 where
-    pub first : First l i d
-    pub behind : list_any test (drop (suc i) l) ≡ false
+    pub there : i < length l
+    pub passes : filter test l ≡ get_or l i d ∷ []
+    pub replaced : (y : A) → map (λ x. cond (test x) y x) l ≡ set l i y
 
   pub alone-at : (l : List A) (i : ℕ) (d : A) → only test l ≡ Some i → Alone l i d
   alone-at l i d e = go (position test l) refl
@@ -123,7 +96,13 @@ module _ {A : Type 0} (test : A → Bool) where
       last : (j : ℕ) → position test l ≡ Some j → (o : Option ℕ) → position test (drop (j + 1) l) ≡ o → Alone l i d
       last j p None q =
           let z : j ≡ i = let r = rw (p, q) at e in cc in
-          record { first = first-at l i d (p ∙ ap Some z); behind = ap (λ (k : ℕ). list_any test (drop k l)) (sym (add-one i)) ∙ none-of test (drop (i + 1) l) (ap (λ (k : ℕ). position test (drop (k + 1) l)) (sym z) ∙ q) }
+          let s = position-Some test l i d (p ∙ ap Some z) in
+          let b : list_any test (drop (suc i) l) ≡ false = none-of test (drop (suc i) l) (ap (λ (k : ℕ). position test (drop k l)) (sym (add-one i) ∙ ap (λ (k : ℕ). k + 1) (sym z)) ∙ q) in
+          record {
+            there = s.0;
+            passes = passing l i d s.0 s.1 s.2 ∙ ap (λ (r : List A). get_or l i d ∷ r) (filter_none test (drop (suc i) l) b);
+            replaced = λ y. replaced-one y l i d s.0 s.1 s.2 b;
+          }
       last j p (Some k) q = absurd (let r = rw (p, q) at e in cc)
 
       go : (o : Option ℕ) → position test l ≡ o → Alone l i d
@@ -144,11 +123,10 @@ module _ {A : Type 0} (test : A → Bool) where
       last : (j : ℕ) → position test l ≡ Some j → (o : Option ℕ) → position test (drop (j + 1) l) ≡ o → (filter test l ≡ []) ⊎ Several l
       last j p None q = absurd (let r = rw (p, q) at e in cc)
       last j p (Some k) q =
-          let a = first-at l j d p in
-          let b = first-at (drop (j + 1) l) k d q in
-          let h : j + 1 + k < length l = let t = b.there in let n = length-drop (j + 1) l in omega (arith, t, n) in
-          let r = filter-several l j (j + 1 + k) d (omega arith) h a.here (sym (ap test (get_or-drop (j + 1) l k d)) ∙ b.here) in
-          inr (record { one = r.0; other = r.1; rest = r.2; are = r.3 })
+          let a = position-Some test l j d p in
+          let b = position-Some test (drop (j + 1) l) k d q in
+          let behind = ap (λ (n : ℕ). filter test (drop n l)) (sym (add-one j)) ∙ passing (drop (j + 1) l) k d b.0 b.1 b.2 in
+          inr (record { one = get_or l j d; other = get_or (drop (j + 1) l) k d; rest = filter test (drop (suc k) (drop (j + 1) l)); are = passing l j d a.0 a.1 a.2 ∙ ap (λ (r : List A). get_or l j d ∷ r) behind })
 
       go : (o : Option ℕ) → position test l ≡ o → (filter test l ≡ []) ⊎ Several l
       go None p = inl (filter_none test l (none-of test l p))

@@ -21,7 +21,7 @@ use Rattle.arrange.specs.Arranged.{arranged}
 use Rattle.merge.specs.declared.Merged.TheVariants.{Duplicate}
 use Rattle.merge.specs.Merged.{in_place, answer_of, opened, joined, merged_into, merged}
 use Rattle.merge.specs.Searching.{only}
-use Rattle.merge.proofs.Counting.{Alone, alone-at, none-alone, filter-one, replace-one}
+use Rattle.merge.proofs.Counting.{Alone, alone-at, none-alone}
 
 -- ---- what is told of it
 
@@ -69,15 +69,15 @@ module _ (f : Fix) (ts : List HeldTransmission) where
     t = get_or ts i nothing
 
     pub there : i < length ts
-    there = alone.first.there
+    there = alone.there
 
     merged-one : merged f ts ≡ joined f t ts
     unfolding merged
-    merged-one = ap (merged_into f ts) (filter-one (tied_to f) ts i nothing alone.first.there alone.first.before alone.first.here alone.behind)
+    merged-one = ap (merged_into f ts) alone.passes
 
     -- u in its place
     placed : (u : HeldTransmission) → in_place f u ts ≡ set ts i u
-    placed u = replace-one (tied_to f) u ts i nothing alone.first.there alone.first.before alone.first.here alone.behind
+    placed = alone.replaced
 
     -- f is held: it gains a signer
     pub duplicate : list_any (is_of f) (held_in t) ≡ true → merged f ts ≡ record { answer = Duplicate; entered = 0; left = set ts i (sign_in f t) }
