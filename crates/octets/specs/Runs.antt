@@ -1,7 +1,7 @@
 -- Runs of zeros: what a record or a table does not use is zero.
-use Rattle.std.specs.Prelude.{ℕ, Bool, true, ◌&&◌, List, [], ◌∷◌, eqb}
+use Rattle.std.specs.Prelude.{ℕ, Bool, List, eqb}
+use Rattle.std.specs.List.{list_all}
 
 -- every byte is zero
 unfoldable pub all_zero : List ℕ → Bool
-all_zero [] = true
-all_zero (b ∷ bs) = eqb b 0 && all_zero bs
+all_zero s = list_all (λ b. eqb b 0) s

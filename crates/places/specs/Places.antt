@@ -1,6 +1,7 @@
 -- A counted table in bytes: the used places come first and ascend strictly in the byte order of their keys (a record's place by the record alone), and
 -- the rest is zero. A place has w bytes, of which the first k are its key. w, k and the count are arguments: one layer serves every table.
-use Rattle.std.specs.Prelude.{ℕ, zero, suc, ◌*◌, ◌-◌, Bool, true, false, cond, ◌&&◌, ◌||◌, List, [], ◌∷◌, ◌++◌, length, take, drop, replicate}
+use Rattle.std.specs.Prelude.{ℕ, zero, suc, ◌*◌, ◌-◌, Bool, true, cond, ◌&&◌, List, [], ◌∷◌, ◌++◌, length, take, drop, replicate}
+use Rattle.std.specs.List.{list_any}
 use Rattle.octets.specs.Order.{is_before, same}
 use Rattle.octets.specs.Runs.{all_zero}
 
@@ -38,8 +39,7 @@ is_table k w n t = ascending k (places w n t) && all_zero (drop (n * w) t)
 
 -- some place has this key
 unfoldable pub holds : ℕ → List ℕ → List (List ℕ) → Bool
-holds k key [] = false
-holds k key (p ∷ ps) = same (take k p) key || holds k key ps
+holds k key ps = list_any (λ p. same (take k p) key) ps
 
 -- what follows the key in the first place that has it; nothing where none has
 unfoldable pub lookup : ℕ → List ℕ → List (List ℕ) → List ℕ
