@@ -1,5 +1,5 @@
 -- The root in whole numbers: `isqrt` is the whole part of the root, and the digits that are kept of it are within half of the last one of the root itself.
-use Rattle.std.proofs.Common.{◌≡◌, ℕ, zero, suc, ◌+◌, ◌*◌, ◌/◌, ◌%◌, ◌^◌, ◌<◌, ◌≤◌, Bool, true, false, cond, not, T, eqb, leb, le_trans, mul_assoc, add-mul, pow-suc, mul-add, mul_left_comm, arith, eqb→eq, leb→le}
+use Rattle.std.proofs.Common.{◌≡◌, ℕ, zero, suc, ◌+◌, ◌*◌, ◌/◌, ◌%◌, ◌^◌, ◌<◌, ◌≤◌, not, T, mul_assoc, add-mul, pow-suc, mul-add, mul_left_comm, arith, eqb→eq, leb→le}
 use Prim.Native.Nat.{compare, Ordering}
 use lib.Dec.{nleb→lt, is_le, compare_is_eq}
 use lib.Ieee.{nearest}
@@ -19,11 +19,7 @@ pub record Whole (n q : ℕ) : Type 0 where
   pub high : n < (q + 1) * (q + 1)
 
 digit-whole : (n q : ℕ) → Whole (n / 4) q → Whole n (digit (2 * q) n)
-digit-whole n q w = go (leb ((2 * q + 1) * (2 * q + 1)) n) (leb→le _ _) (nleb→lt _ _)
-  where
-    go : (b : Bool) → (T b → (2 * q + 1) * (2 * q + 1) ≤ n) → (T (not b) → n < (2 * q + 1) * (2 * q + 1)) → Whole n (cond b (2 * q + 1) (2 * q))
-    go true h k = record { low = h tt; high = omega (arith, w.high, next-sq q, odd-sq q, next-sq (2 * q + 1)) }
-    go false h k = record { low = omega (arith, w.low, twice-sq q); high = k tt }
+digit-whole n q w = record { low = grind (arith, w.low, twice-sq q); high = grind (arith, w.high, next-sq q, odd-sq q, next-sq (2 * q + 1)) }
 
 pub isqrt-whole : (d n : ℕ) → n < 4 ^ d → Whole n (isqrt d n)
 unfolding isqrt
@@ -58,26 +54,11 @@ module _ (n q k : ℕ) (w : Whole n q) (eights : n % 8 ≡ 0) (k-is : k ≡ clos
   around = rw k-is (near (sticky n q))
 
   at_most : n ≤ (4 * k + 2) * (4 * k + 2)
-  at_most = go (eqb (q * q) n) (eqb→eq (q * q) n) around.1
-    where
-      go : (b : Bool) → (T b → q * q ≡ n) → 2 * q + cond b 0 1 ≤ 8 * k + 4 → n ≤ (4 * k + 2) * (4 * k + 2)
-      go true e h =
-          let l : q ≤ 4 * k + 2 = omega arith in
-          omega (arith, sq-le q (4 * k + 2) l, e tt)
-      go false e h =
-          let l : q + 1 ≤ 4 * k + 2 = omega arith in
-          omega (arith, sq-le (q + 1) (4 * k + 2) l, w.high)
+  at_most = grind (arith, around, sq-le q (4 * k + 2), sq-le (q + 1) (4 * k + 2), w.high)
 
   pub under-upper : n < (4 * k + 2) * (4 * k + 2)
   under-upper = omega (arith, at_most, middle-sq k)
 
   -- j is k - 1
   pub over-lower : (j : ℕ) → k ≡ j + 1 → (4 * j + 2) * (4 * j + 2) < n
-  over-lower j s = go (eqb (q * q) n) around.0
-    where
-      at_least : 4 * j + 2 ≤ q → (4 * j + 2) * (4 * j + 2) < n
-      at_least l = omega (arith, le_trans (sq-le (4 * j + 2) q l) w.low, middle-sq j)
-
-      go : (b : Bool) → 8 * k ≤ 2 * q + cond b 0 1 + 4 → (4 * j + 2) * (4 * j + 2) < n
-      go true h = at_least (omega arith)
-      go false h = at_least (omega arith)
+  over-lower j s = grind (arith, around, sq-le (4 * j + 2) q, w.low, middle-sq j)

@@ -1,6 +1,6 @@
 -- Bit patterns and units: the units of the value that a positive finite pattern stands for, the pattern of a value, and that
 -- the units of a finite value are a number of at most 53 digits, shifted.
-use Rattle.std.proofs.Common.{◌≡◌, ℕ, zero, suc, ◌+◌, ◌-◌, ◌*◌, ◌/◌, ◌%◌, ◌^◌, ◌<◌, ◌≤◌, Bool, true, false, cond, ◌&&◌, T, eqb, ltb, leb, ◌⊎◌, ℤ, pos, negsuc, sym, refl, ap, ◌∙◌, subst, inl, inr, le_of_suc-le-suc, lt_of_le_of_lt, lt_irrefl, mul_assoc, eq-or-lt_of_le, pow-suc, lt_of_not-le, zero-mul, mul-one, mul-div_cancel, arith, lit<, eqb→eq, ltb→lt, leb→le, pow-add, ne_eqb}
+use Rattle.std.proofs.Common.{◌≡◌, ℕ, zero, suc, ◌+◌, ◌-◌, ◌*◌, ◌/◌, ◌%◌, ◌^◌, ◌<◌, ◌≤◌, Bool, true, false, cond, ◌&&◌, T, eqb, ltb, leb, ◌⊎◌, ℤ, pos, negsuc, sym, refl, ap, ◌∙◌, subst, inl, inr, le_of_suc-le-suc, lt_of_le_of_lt, lt_irrefl, mul_assoc, eq-or-lt_of_le, pow-suc, lt_of_not-le, zero-mul, mul-one, mul-div_cancel, arith, lit<, ltb→lt, leb→le, pow-add, ne_eqb}
 use borrow.Author.Tests.{lt-leb}
 use lib.Pow.{pow-lt}
 use lib.Ieee.{Float, nan, inf, fin, binary64, up, down, fits, of_bits, of_fields, odd}
@@ -29,10 +29,7 @@ bits-value b h =
 
 -- the value that a field and 53 digits make, or a field and 2 ^ 53, which is carried into the field
 digits-at : (b f : ℕ) → b / 2 ^ 52 ≡ suc f → digits_in b * 2 ^ (field_of b - 1) ≡ (2 ^ 52 + b % 2 ^ 52) * 2 ^ f
-digits-at b f e =
-    let o : suc f ≡ 0 → ⊥ = λ k. omega arith in
-    let z : suc f - 1 ≡ f = omega arith in
-    rw (e, ne_eqb (suc f) 0 o, z)
+digits-at b f e = let z : suc f - 1 ≡ f = omega arith in grind (arith, z)
 
 pub made-value : (f k : ℕ) → f < 2000 → 2 ^ 52 ≤ k → k ≤ 2 ^ 53 → HasValue (of_bits binary64 (f * 2 ^ 52 + k)) false (k * 2 ^ f) (2 ^ 1074)
 made-value f k l lo hi = subst (λ (z : ℕ). HasValue (of_bits binary64 b) false z (2 ^ 1074)) (is (eq-or-lt_of_le hi)) (bits-value b (omega arith))
@@ -51,18 +48,10 @@ made-value f k l lo hi = subst (λ (z : ℕ). HasValue (of_bits binary64 b) fals
         digits-at b f g ∙ ap (λ (z : ℕ). z * 2 ^ f) d
 
 pub in-digits : (b : ℕ) → 0 < b → (0 < digits_in b) × (digits_in b < 2 ^ 53)
-in-digits b h = go (eqb (b / 2 ^ 52) 0) (eqb→eq (b / 2 ^ 52) 0)
-  where
-    go : (c : Bool) → (T c → b / 2 ^ 52 ≡ 0) → (0 < cond c (b % 2 ^ 52) (2 ^ 52 + b % 2 ^ 52)) × (cond c (b % 2 ^ 52) (2 ^ 52 + b % 2 ^ 52) < 2 ^ 53)
-    go true e = (omega (arith, e tt), omega arith)
-    go false e = (omega arith, omega arith)
+in-digits b h = grind arith
 
 pub in_field : (b : ℕ) → b < 0x7ff0_0000_0000_0000 → (1 ≤ field_of b) × (field_of b < 2047)
-in_field b h = go (eqb (b / 2 ^ 52) 0) (λ (e : b / 2 ^ 52 ≡ 0). subst (λ (z : ℕ). T (eqb z 0)) (sym e) tt)
-  where
-    go : (c : Bool) → (b / 2 ^ 52 ≡ 0 → T c) → (1 ≤ cond c 1 (b / 2 ^ 52)) × (cond c 1 (b / 2 ^ 52) < 2047)
-    go true e = (omega arith, omega arith)
-    go false e = (lt_of_not-le (λ k. e (omega arith)), omega arith)
+in_field b h = grind arith
 
 -- ---- the units of a value
 le-of-pow : (i j : ℕ) → 2 ^ i ≤ 2 ^ j → i ≤ j
