@@ -7,9 +7,8 @@ ghost use Rattle.ranges.specs.Lists.{last_of};
 ghost use Rattle.arrange.specs.Arranged.{max_transmissions};
 ghost use Rattle.arrange.specs.Leads.{before, put_behind, entered, leads_from, order_of, place_of};
 
-use crate::{MAX_LEADS, MAX_TRANSMISSIONS};
+use crate::{Blocks, MAX_LEADS, MAX_TRANSMISSIONS};
 use arrayvec::ArrayVec;
-use tracked::block::Block;
 use tracked::fix::Fix;
 
 /// A transmission by its place, and the fix that is kept of it.
@@ -78,11 +77,11 @@ fn enter<'a>(leads: &mut Leads<'a>, lead: Lead<'a>)
 }
 
 // Enters transmissions, but for those without a fix.
-fn enter_all<'a>(leads: &mut Leads<'a>, blocks: &[Block<'a>])
-    requires none { leads.old.items ≡ [] }
-    requires few { length blocks.now ≤ MAX_LEADS }
-    ensures { leads.new.items ≡ entered before [] (leads_from 0 blocks.now) }
+fn enter_all<'a>(leads: &mut Leads<'a>, blocks: &Blocks<'a>)
+    requires { leads.old.items ≡ [] }
+    ensures { leads.new.items ≡ entered before [] (leads_from 0 blocks.now.items) }
 {
+    let blocks = blocks.as_slice();
     for (place, block) in blocks.iter().enumerate() {
         if let Some(kept) = block.kept() {
             enter(leads, Lead { place, kept });
@@ -112,9 +111,8 @@ fn places_of(leads: &[Lead<'_>]) -> Order
 }
 
 /// The order of transmissions, by their places: that of the latest eight that have a fix.
-pub fn order(blocks: &[Block<'_>]) -> Order
-    requires { length blocks.now ≤ MAX_LEADS }
-    ensures { result.items ≡ order_of blocks.now }
+pub fn order(blocks: &Blocks<'_>) -> Order
+    ensures { result.items ≡ order_of blocks.now.items }
 {
     let mut leads = Leads::new();
     enter_all(&mut leads, blocks);

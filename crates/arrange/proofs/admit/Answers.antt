@@ -25,9 +25,9 @@ settle-requires-clause-steady c b m = subst Steady (sym (Memᴰ.eq_of_singleton 
 pub settle-requires-clause-order : goal.settle-requires-clause-order
 settle-requires-clause-order c =
     let ts = held c.args.n c.args.t.now in
-    c.deref-2.ensures.0 ∙ c.order-order.ensures
+    c.deref.ensures.0 ∙ c.order-order.ensures
     ∙ ap order_of
-    (c.deref.ensures.0 ∙ c.push.ensures.items
+    (c.push.ensures.items
     ∙ ap₂ (λ (l : List HeldTransmission) (t : HeldTransmission). l ++ (t ∷ [])) c.blocks-all.ensures c.of.ensures
     ∙ ap (λ (fs : List (List ℕ)). ts ++ map transmission_in fs) (sym c.from_ref.ensures.value))
 

@@ -8,4 +8,4 @@ use Rattle.arrange.proofs.leads.order.Goals as goal
 
 pub returns : goal.returns
 returns c =
-    c.places_of.ensures ∙ ap (map place_of) (c.deref.ensures.0 ∙ c.forget_oldest.ensures ∙ ap (last_of max_transmissions) (c.enter_all.ensures ∙ entered-all c.args.blocks.now))
+    c.places_of.ensures ∙ ap (map place_of) (c.deref.ensures.0 ∙ c.forget_oldest.ensures ∙ ap (last_of max_transmissions) (c.enter_all.ensures ∙ entered-all c.args.blocks.now.items))
