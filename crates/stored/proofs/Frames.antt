@@ -65,10 +65,6 @@ module _ (c n k x : ℕ) (s t : List ℕ) where
   unfolding word_bytes
   put-count y = refl
 
-  pub read-count : n < 256 ^ 2 → word_at 2 summary_count_at (header c n k x) ≡ n
-  unfolding word_bytes
-  read-count h = word-of-bytes 2 n h
-
   -- ---- the tables
 
   pub frame-length : length (frame c n k x s t) ≡ summaries_at + (length s + length t)

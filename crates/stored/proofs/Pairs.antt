@@ -127,7 +127,7 @@ module _ (p : List ℕ) (lp : length p ≡ summary_size) where
           let i = transmission_count m in
           let x = contested_in m in
           let head : h ≡ header c (summary_count m) i x = q.head ∙ ap (take summaries_at) (framed m o b ∙ behind-header c (summary_count m) i x (summary_table m) (transmission_table m))
-              ∙ take_at (header c (summary_count m) i x) (summary_table m ++ transmission_table m) summaries_at (header-length c (summary_count m) i x (summary_table m) (transmission_table m)) in
+          ∙ take_at (header c (summary_count m) i x) (summary_table m ++ transmission_table m) summaries_at (header-length c (summary_count m) i x (summary_table m) (transmission_table m)) in
           let new : h' ≡ header c k i x = h-is ∙ ap (put_word 2 summary_count_at k) head ∙ put-count c (summary_count m) i x (summary_table m) (transmission_table m) k in
           ap (after 0)
           (ap₂ (λ (y l : List ℕ). y ++ (s' ++ l)) new (transmissions-there q) ∙ sym (behind-header c k i x s' (transmission_table m))

@@ -21,9 +21,6 @@ module _ (m : List ℕ) (model : ℕ) (p : List ℕ) where
   put_full : full ≡ true → commit m (put_pair p s) ≡ after 5 m
   put_full t = rw t refl
 
-  hold-full : full ≡ true → commit m (hold_pair model p s) ≡ after 5 m
-  hold-full t = rw t refl
-
   put-room : full ≡ false → commit m (put_pair p s) ≡ after 0 (encode (with_pair p s))
   put-room t = rw t refl
 

@@ -31,7 +31,7 @@ returns-then-is_full c =
     let q : Split m _ _ _ _ = record { head = a.front; rest = a.back; summaries = b.front; behind = b.back } in
     let x = c.of-pairs in
     let as-it-was = left c.args.p.now c.told-p m (opened m c.requires) y q x.result.count (x.ensures.count ∙ c.u16_at.ensures ∙ count-is q) x.result.places.now (x.ensures.places ∙ table-is q)
-        c.search-found.result c.search-found.ensures (sym c.is_full.ensures ∙ c.if-is_full.true) in
+    c.search-found.result c.search-found.ensures (sym c.is_full.ensures ∙ c.if-is_full.true) in
     let same = λ (s : List ℕ). λ (e : s ≡ x.result.places.now). as-it-was s (e ∙ x.ensures.places) in
     same _ (search rules)
 
@@ -44,6 +44,6 @@ returns c =
     let q : Split m _ _ _ _ = record { head = a.front; rest = a.back; summaries = b.front; behind = b.back } in
     let x = c.of-pairs in
     let with-it = done c.args.p.now c.told-p m (opened m c.requires) y q x.result.count (x.ensures.count ∙ c.u16_at.ensures ∙ count-is q) x.result.places.now (x.ensures.places ∙ table-is q)
-        c.search-found.result c.search-found.ensures (sym c.is_full.ensures ∙ c.if-is_full.false) in
+    c.search-found.result c.search-found.ensures (sym c.is_full.ensures ∙ c.if-is_full.false) in
     let new = λ (s : List ℕ). λ (e : s ≡ c.put.new.self.places.now). with-it _ _ s (c.count.ensures ∙ c.put.ensures.count) c.put_u16.ensures (e ∙ c.put.ensures.places) in
     new _ (search rules)
