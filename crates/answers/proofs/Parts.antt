@@ -19,9 +19,9 @@ use Rattle.arithmetic.specs.declared.standing.ChiSquare.TheVariants.{Measured, U
 use Rattle.items.specs.Layout.{max_items}
 use Rattle.rule.specs.Outcome.{Outcome}
 use Rattle.decision.specs.declared.Refusal.{Refusal}
-use Rattle.decision.specs.Arrays.{Refusals, Indices, Decision}
-use Rattle.decision.specs.Answer.{indices, refusal, no_refusal, refusals, decision}
-use Rattle.decision.specs.Working.{plainly}
+use Rattle.decision.specs.Arrays.{Refusals, Indices, DecisionArrays}
+use Rattle.decision.specs.Answer.{indices, refusal, no_refusal, refusals, arrays_of}
+use Rattle.decision.specs.Working.{plain_decision}
 use Rattle.answers.specs.Layout.{chi_square_size, refusal_size}
 use Rattle.answers.specs.Offsets.{indices_size, refusals_size, ranked_at, dominated_at, refusals_at, answer_size, list_bytes}
 use Rattle.answers.specs.Claims.{HasAllPlaces, PartsStand}
@@ -93,8 +93,8 @@ all-counted l = ap each_bytes (take_at l (replicate (max_items - length l) no_re
 
 -- its three parts, and zeros after them
 answer-of : (o : Outcome ℕ ChiSquare) (k : ℕ) → k ≡ max_items * refusal_size - length (each_bytes (map refusal o.refused))
-    → indices_bytes (indices o.ranked) ++ (indices_bytes (indices o.dominated) ++ (list_bytes (map refusal o.refused) ++ replicate k 0)) ≡ answer_bytes (decision o)
-unfolding answer_bytes decision refusals
+    → indices_bytes (indices o.ranked) ++ (indices_bytes (indices o.dominated) ++ (list_bytes (map refusal o.refused) ++ replicate k 0)) ≡ answer_bytes (arrays_of o)
+unfolding answer_bytes arrays_of refusals
 answer-of o k e =
     let l = map refusal o.refused in
     ap (λ (t : List ℕ). indices_bytes (indices o.ranked) ++ (indices_bytes (indices o.dominated) ++ (length l ∷ t)))
@@ -102,7 +102,7 @@ answer-of o k e =
 
 -- as they are written into zeros one after another
 pub answer-put : (o : Outcome ℕ ChiSquare) {z l₁ l₂ l₃ : List ℕ} {a b : Indices} {r₁ r₂ r₃ : ℕ} → z ≡ replicate answer_size 0 → a ≡ indices o.ranked → b ≡ indices o.dominated
-    → Put z 0 (indices_bytes a) r₁ l₁ → Put l₁ r₁ (indices_bytes b) r₂ l₂ → Put l₂ r₂ (list_bytes (map refusal o.refused)) r₃ l₃ → r₂ ≡ refusals_at → r₃ ≤ answer_size → l₃ ≡ answer_bytes (decision o)
+    → Put z 0 (indices_bytes a) r₁ l₁ → Put l₁ r₁ (indices_bytes b) r₂ l₂ → Put l₂ r₂ (list_bytes (map refusal o.refused)) r₃ l₃ → r₂ ≡ refusals_at → r₃ ≤ answer_size → l₃ ≡ answer_bytes (arrays_of o)
 answer-put o {z} {l₁} {l₂} {l₃} {a} {b} {r₁} {r₂} {r₃} e f g p q r h k =
     let n = r.next in
     put-zeros answer_size (subst (λ (t : List ℕ). Put t 0 (indices_bytes a) r₁ l₁) e p) q r k
@@ -110,8 +110,8 @@ answer-put o {z} {l₁} {l₂} {l₃} {a} {b} {r₁} {r₂} {r₃} e f g p q r h
     ∙ answer-of o (answer_size - r₃) (omega arith)
 
 -- of one item, or of none, all is zero but the count of the ranked
-pub answer-alone : (n : ℕ) → set (replicate answer_size 0) 0 n ≡ answer_bytes (plainly 0 n)
-unfolding answer_bytes plainly indices refusals each_bytes
+pub answer-alone : (n : ℕ) → set (replicate answer_size 0) 0 n ≡ answer_bytes (plain_decision 0 n)
+unfolding answer_bytes plain_decision indices refusals each_bytes
 answer-alone n = refl
 
 -- they fit
@@ -127,7 +127,7 @@ refusals-long x h =
     let e : length (counted_bytes x ++ replicate n 0) ≡ length (counted_bytes x) + n = length-append (counted_bytes x) (replicate n 0) ∙ ap (λ (k : ℕ). length (counted_bytes x) + k) (length-replicate n 0) in
     omega arith
 
-answer-long : (d : Decision) → HasAllPlaces d → length (answer_bytes d) ≡ answer_size
+answer-long : (d : DecisionArrays) → HasAllPlaces d → length (answer_bytes d) ≡ answer_size
 unfolding answer_bytes
 answer-long d r =
     let a = r.ranked in
@@ -135,17 +135,17 @@ answer-long d r =
     let c = refusals-long d.refusals r.refusals in
     omega (arith, length-append (indices_bytes d.ranked) (indices_bytes d.dominated ++ refusals_bytes d.refusals), length-append (indices_bytes d.dominated) (refusals_bytes d.refusals))
 
-ranked-stands : (d : Decision) → HasAllPlaces d → take indices_size (drop ranked_at (answer_bytes d)) ≡ indices_bytes d.ranked
+ranked-stands : (d : DecisionArrays) → HasAllPlaces d → take indices_size (drop ranked_at (answer_bytes d)) ≡ indices_bytes d.ranked
 unfolding answer_bytes
 ranked-stands d r = take_at (indices_bytes d.ranked) (indices_bytes d.dominated ++ refusals_bytes d.refusals) indices_size (ap suc r.ranked)
 
-dominated-stands : (d : Decision) → HasAllPlaces d → take indices_size (drop dominated_at (answer_bytes d)) ≡ indices_bytes d.dominated
+dominated-stands : (d : DecisionArrays) → HasAllPlaces d → take indices_size (drop dominated_at (answer_bytes d)) ≡ indices_bytes d.dominated
 unfolding answer_bytes
 dominated-stands d r =
     ap (take indices_size) (drop_at (indices_bytes d.ranked) (indices_bytes d.dominated ++ refusals_bytes d.refusals) dominated_at (ap suc r.ranked))
     ∙ take_at (indices_bytes d.dominated) (refusals_bytes d.refusals) indices_size (ap suc r.dominated)
 
-refusals-stand : (d : Decision) → HasAllPlaces d → drop refusals_at (answer_bytes d) ≡ refusals_bytes d.refusals
+refusals-stand : (d : DecisionArrays) → HasAllPlaces d → drop refusals_at (answer_bytes d) ≡ refusals_bytes d.refusals
 unfolding answer_bytes
 refusals-stand d r =
     let a = indices_bytes d.ranked in

@@ -8,7 +8,7 @@ use Rattle.arithmetic.specs.declared.standing.ChiSquare.{ChiSquare}
 use Rattle.arithmetic.specs.declared.standing.ChiSquare.TheVariants.{Measured, Unmeasured}
 use Rattle.items.specs.Layout.{max_items}
 use Rattle.decision.specs.declared.Refusal.{Refusal}
-use Rattle.decision.specs.Arrays.{Refusals, Indices, Decision}
+use Rattle.decision.specs.Arrays.{Refusals, Indices, DecisionArrays}
 use Rattle.held.specs.After.{After, after}
 use Rattle.answers.specs.Layout.{refusal_size}
 
@@ -34,9 +34,9 @@ counted_bytes x = each_bytes (take x.count x.list)
 abbrev pub refusals_bytes : Refusals → List ℕ
 refusals_bytes x = x.count ∷ (counted_bytes x ++ replicate (max_items * refusal_size - length (counted_bytes x)) 0)
 
-unfoldable pub answer_bytes : Decision → List ℕ
+unfoldable pub answer_bytes : DecisionArrays → List ℕ
 answer_bytes d = indices_bytes d.ranked ++ (indices_bytes d.dominated ++ refusals_bytes d.refusals)
 
 -- what is answered, and what the array holds then: the decision, or what was found there, since a refusal changes no lent byte
-unfoldable pub hand_out : Decision → List ℕ → After (List ℕ)
+unfoldable pub hand_out : DecisionArrays → List ℕ → After (List ℕ)
 hand_out d found = cond (eqb d.answer 0) (after 0 (answer_bytes d)) (after d.answer found)

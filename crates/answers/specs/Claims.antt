@@ -1,21 +1,21 @@
 -- What is claimed of a decision's bytes: where each part of them stands. Where `decide` answers 0 its lists have places for all items.
 use Rattle.std.specs.Prelude.{◌≡◌, drop, length, take}
 use Rattle.items.specs.Layout.{max_items}
-use Rattle.decision.specs.Arrays.{Decision}
+use Rattle.decision.specs.Arrays.{DecisionArrays}
 use Rattle.answers.specs.Answer.{answer_bytes, indices_bytes, refusals_bytes}
 use Rattle.answers.specs.Offsets.{answer_size, dominated_at, indices_size, ranked_at, refusals_at}
 
 -- each list has a place for each item
-pub record HasAllPlaces (d : Decision) : Type 0 where
+pub record HasAllPlaces (d : DecisionArrays) : Type 0 where
   pub ranked : length d.ranked.list ≡ max_items
   pub dominated : length d.dominated.list ≡ max_items
   pub refusals : length d.refusals.list ≡ max_items
 
-pub record PartsOf (d : Decision) : Type 0 where
+pub record PartsOf (d : DecisionArrays) : Type 0 where
   pub long : length (answer_bytes d) ≡ answer_size
   pub ranked : take indices_size (drop ranked_at (answer_bytes d)) ≡ indices_bytes d.ranked
   pub dominated : take indices_size (drop dominated_at (answer_bytes d)) ≡ indices_bytes d.dominated
   pub refusals : drop refusals_at (answer_bytes d) ≡ refusals_bytes d.refusals
 
 abbrev pub PartsStand : Type 0
-PartsStand = (d : Decision) → HasAllPlaces d → PartsOf d
+PartsStand = (d : DecisionArrays) → HasAllPlaces d → PartsOf d

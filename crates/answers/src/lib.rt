@@ -9,7 +9,7 @@ ghost use Rattle.octets.specs.Put.{Put};
 ghost use Rattle.items.specs.Layout.{item_size, max_items};
 ghost use Rattle.rule.specs.Outcome.{Outcome};
 ghost use Rattle.arithmetic.specs.declared.standing.ChiSquare.{ChiSquare as Squared};
-ghost use Rattle.decision.specs.Answer.{indices, bad, outcome, decision as decision_of, decided};
+ghost use Rattle.decision.specs.Answer.{indices, is_bad, outcome, arrays_of, decided_arrays};
 ghost use Rattle.decision.specs.Answered.{Says};
 ghost use Rattle.held.specs.After.{after};
 ghost use Rattle.answers.specs.Layout.{chi_square_size, refusal_size};
@@ -107,7 +107,7 @@ fn put_refusals(out: &mut [u8], at: usize, refusals: &[Refusal]) -> usize
 fn put_decision<const N: usize>(out: &mut [u8], decision: &Decision<N>)
     requires zeros { out.old ≡ replicate answer_size 0 }
     requires few { N ≤ max_items }
-    ensures { (o : Outcome ℕ Squared) → Says decision.now o → out.new ≡ answer_bytes (decision_of o) }
+    ensures { (o : Outcome ℕ Squared) → Says decision.now o → out.new ≡ answer_bytes (arrays_of o) }
 {
     let second = put_indices(out, 0, &decision.ranked);
     let third = put_indices(out, second, &decision.dominated);
@@ -116,7 +116,7 @@ fn put_decision<const N: usize>(out: &mut [u8], decision: &Decision<N>)
 
 /// Decides items in bytes. The array is written where something is decided, and stays as it is on a refusal.
 pub fn decide(s: &[u8], out: &mut [u8; ANSWER_SIZE]) -> u32
-    ensures { after result out.new ≡ hand_out (decided s.now) out.old }
+    ensures { after result out.new ≡ hand_out (decided_arrays s.now) out.old }
 {
     let Some(items) = Items::parse(s) else {
         return BAD_ITEMS;

@@ -12,9 +12,9 @@ use lib.Ieee.Scale.{finite}
 use lib.Ieee.Fits.{add-fits}
 use lib.Ieee.Bits.{of_bits-to_bits, to_bits-lt}
 use Rattle.geometry.specs.Numbers.{◌⊗◌, from_decimal, not_above}
-use Rattle.geometry.specs.Linalg.{item, less, rows_below, columns, cholesky_of, solve_of, plus}
+use Rattle.geometry.specs.Linalg.{element, minus_each, rows_below, columns, cholesky_of, solve_of, sum_to}
 use Rattle.geometry.proofs.Comparing.{at-most-not-above}
-use Rattle.arithmetic.specs.Agree.{limit_of, rows_of, matrix_of, sum_under, finitely, length_under, chi_square_of, difference_of, three_of, outcome_of, agreement_of, agrees_of, chi_square_in, measure_in}
+use Rattle.arithmetic.specs.Agree.{limit_of, rows_of, matrix_of, sum_under, finitely, length_under, chi_square_of, difference_of, three_of, agreement_under, agreement_of, agrees_of, chi_square_in, measure_in}
 use Rattle.arithmetic.specs.Bits.{infinity, stored_bits, stored_chi_square}
 use Rattle.arithmetic.specs.Before.{length_before, chi_square_before, finite_or, agreement_before, agreed_before}
 use Rattle.arithmetic.specs.Claims.{factor_under, sum_with, NothingMeasured, refused, overflows, FiniteNumbers, InsideExactlyWhen, OutsideExactlyWhen, UnmeasurableExactlyWhen, ElseTheSum, UnmeasurableWasInfinite, NumbersAsBefore, AgreesAsBefore, BitsAsBefore, StoredReadBack}
@@ -51,40 +51,40 @@ module _ (limit x : Float) where
   abbrev numbers : Measure
   numbers = record { chi2 = x; limit = limit }
 
-  inside : le x limit ≡ true → outcome_of limit (Measured x) ≡ Inside numbers
-  unfolding outcome_of
+  inside : le x limit ≡ true → agreement_under limit (Measured x) ≡ Inside numbers
+  unfolding agreement_under
   inside e = rw e
 
-  outside : le x limit ≡ false → outcome_of limit (Measured x) ≡ Outside numbers
-  unfolding outcome_of
+  outside : le x limit ≡ false → agreement_under limit (Measured x) ≡ Outside numbers
+  unfolding agreement_under
   outside e = rw e
 
-  measured-out : measure_in (outcome_of limit (Measured x)) ≡ Some numbers
+  measured-out : measure_in (agreement_under limit (Measured x)) ≡ Some numbers
   unfolding measure_in
   measured-out = by (le x limit) (λ e. rw (inside e)) (λ e. rw (outside e))
 
-  agrees-out : agrees_of (outcome_of limit (Measured x)) ≡ le x limit
+  agrees-out : agrees_of (agreement_under limit (Measured x)) ≡ le x limit
   unfolding agrees_of
   agrees-out = by (le x limit) (λ e. rw (inside e, e)) (λ e. rw (outside e, e))
 
-  bits_out : stored_bits (chi_square_in (outcome_of limit (Measured x))) ≡ to_bits binary64 x
+  bits_out : stored_bits (chi_square_in (agreement_under limit (Measured x))) ≡ to_bits binary64 x
   unfolding chi_square_in stored_bits
   bits_out = by (le x limit) (λ e. rw (inside e)) (λ e. rw (outside e))
 
-  chi-out : chi_square_in (outcome_of limit (Measured x)) ≡ Measured x
+  chi-out : chi_square_in (agreement_under limit (Measured x)) ≡ Measured x
   unfolding chi_square_in
   chi-out = by (le x limit) (λ e. rw (inside e)) (λ e. rw (outside e))
 
-  not-unmeasurable : outcome_of limit (Measured x) ≡ Unmeasurable → ⊥
+  not-unmeasurable : agreement_under limit (Measured x) ≡ Unmeasurable → ⊥
   unfolding measure_in
   not-unmeasurable e =
-      let f : measure_in (outcome_of limit (Measured x)) ≡ None = ap measure_in e in
+      let f : measure_in (agreement_under limit (Measured x)) ≡ None = ap measure_in e in
       never (sym f ∙ measured-out)
 
 -- by its cases, an outcome that has these numbers is inside them or outside
 module _ (limit : Float) (m : Measure) where
-  inside-at-most : (o : ChiSquare) → outcome_of limit o ≡ Inside m → le m.chi2 m.limit ≡ true
-  unfolding outcome_of
+  inside-at-most : (o : ChiSquare) → agreement_under limit o ≡ Inside m → le m.chi2 m.limit ≡ true
+  unfolding agreement_under
   inside-at-most Unmeasured e = cc
   inside-at-most (Measured x) e =
       by (le x limit)
@@ -96,8 +96,8 @@ module _ (limit : Float) (m : Measure) where
       let f : Outside (numbers limit x) ≡ Inside m = sym (outside limit x t) ∙ e in
       cc)
 
-  outside-not-at-most : (o : ChiSquare) → outcome_of limit o ≡ Outside m → le m.chi2 m.limit ≡ false
-  unfolding outcome_of
+  outside-not-at-most : (o : ChiSquare) → agreement_under limit o ≡ Outside m → le m.chi2 m.limit ≡ false
+  unfolding agreement_under
   outside-not-at-most Unmeasured e = cc
   outside-not-at-most (Measured x) e =
       by (le x limit)
@@ -109,18 +109,18 @@ module _ (limit : Float) (m : Measure) where
       let g : numbers limit x ≡ m = cc in
       subst (λ (n : Measure). le n.chi2 n.limit ≡ false) g t)
 
-  same_numbers : (x : Float) → measure_in (outcome_of limit (Measured x)) ≡ Some m → numbers limit x ≡ m
+  same_numbers : (x : Float) → measure_in (agreement_under limit (Measured x)) ≡ Some m → numbers limit x ≡ m
   same_numbers x e = some_inj (sym (measured-out limit x) ∙ e)
 
-  inside-if : (o : ChiSquare) → measure_in (outcome_of limit o) ≡ Some m → le m.chi2 m.limit ≡ true → outcome_of limit o ≡ Inside m
-  unfolding outcome_of measure_in
+  inside-if : (o : ChiSquare) → measure_in (agreement_under limit o) ≡ Some m → le m.chi2 m.limit ≡ true → agreement_under limit o ≡ Inside m
+  unfolding agreement_under measure_in
   inside-if Unmeasured e t = cc
   inside-if (Measured x) e t =
       let g = same_numbers x e in
       inside limit x (subst (λ (n : Measure). le n.chi2 n.limit ≡ true) (sym g) t) ∙ ap (λ (n : Measure). Inside n) g
 
-  outside-if : (o : ChiSquare) → measure_in (outcome_of limit o) ≡ Some m → le m.chi2 m.limit ≡ false → outcome_of limit o ≡ Outside m
-  unfolding outcome_of measure_in
+  outside-if : (o : ChiSquare) → measure_in (agreement_under limit o) ≡ Some m → le m.chi2 m.limit ≡ false → agreement_under limit o ≡ Outside m
+  unfolding agreement_under measure_in
   outside-if Unmeasured e t = cc
   outside-if (Measured x) e t =
       let g = same_numbers x e in
@@ -128,14 +128,14 @@ module _ (limit : Float) (m : Measure) where
 
 -- ---- what there is to measure with
 
-plus-fits : (p : ℕ → Float) (k : ℕ) → T (fits binary64 (plus p (suc k)))
-unfolding plus
-plus-fits p k = add-fits binary64 (plus p k) (p (suc k))
+plus-fits : (p : ℕ → Float) (k : ℕ) → T (fits binary64 (sum_to p (suc k)))
+unfolding sum_to
+plus-fits p k = add-fits binary64 (sum_to p k) (p (suc k))
 
 sum_fits : (three : Bool) (enu factor : List Float) → T (fits binary64 (sum_under (rows_of three) enu factor))
 unfolding sum_under
-sum_fits true enu factor = plus-fits (λ at. item enu at ⊗ item (solve_of 3 factor enu) at) 1
-sum_fits false enu factor = plus-fits (λ at. item enu at ⊗ item (solve_of 2 factor enu) at) 0
+sum_fits true enu factor = plus-fits (λ at. element enu at ⊗ element (solve_of 3 factor enu) at) 1
+sum_fits false enu factor = plus-fits (λ at. element enu at ⊗ element (solve_of 2 factor enu) at) 0
 
 module _ (smaller larger : Claimed) where
   abbrev three : Bool
@@ -154,7 +154,7 @@ module _ (smaller larger : Claimed) where
       go (Some f) e = by (finite (sum_with smaller larger f)) (λ t. m f e t) (λ t. n (overflows f e t))
 
   pub nothing : NothingMeasured smaller larger → out ≡ Unmeasurable
-  unfolding agreement_of chi_square_of length_under finitely outcome_of
+  unfolding agreement_of chi_square_of length_under finitely agreement_under
   nothing (refused e) = rw e
   nothing (overflows factor e f) = rw (e, f)
 
@@ -167,7 +167,7 @@ module _ (smaller larger : Claimed) where
     abbrev sum : Float
     sum = sum_with smaller larger factor
 
-    summed : out ≡ outcome_of (limit_of three) (Measured sum)
+    summed : out ≡ agreement_under (limit_of three) (Measured sum)
     unfolding agreement_of chi_square_of length_under finitely
     summed = rw (e, f)
 
@@ -352,7 +352,7 @@ stored-bounded smaller larger =
 
 -- a covariance whose first entry is a NaN, zero or negative is refused
 first-none : (three : Bool) (c : Covariance) → not_above c.xx ≡ true → cholesky_of (rows_of three) (matrix_of three c) ≡ None
-unfolding cholesky_of columns less rows_below matrix_of
+unfolding cholesky_of columns minus_each rows_below matrix_of
 first-none true c e = rw e
 first-none false c e = rw e
 

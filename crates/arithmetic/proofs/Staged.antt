@@ -7,8 +7,8 @@ use lib.Ieee.{Float}
 use Rattle.floats.specs.Root.{root}
 use Rattle.geometry.specs.Numbers.{◌⊖◌, ◌⊗◌, ◌⊘◌, not_above}
 use Rattle.geometry.specs.Geodesy.{to_ecef}
-use Rattle.geometry.specs.Linalg.{less, rows_below, columns, cholesky_of, forwards, forward, backwards, backward, solve_of, plus}
-use Rattle.arithmetic.specs.Agree.{limit_of, geodetic_of, matrix_of, sum_under, length_under, chi_square_of, difference_of, outcome_of, agreement_of}
+use Rattle.geometry.specs.Linalg.{minus_each, rows_below, columns, cholesky_of, forwards, forward, backwards, backward, solve_of, sum_to}
+use Rattle.arithmetic.specs.Agree.{limit_of, geodetic_of, matrix_of, sum_under, length_under, chi_square_of, difference_of, agreement_under, agreement_of}
 use Rattle.geometry.specs.Factors.{factor_of, factor_of_two, factor_of_three, flat_length, full_length}
 use Rattle.arithmetic.specs.Stages.{measured_of, enu_of, parts_of, judged_of, compared_of}
 use Rattle.geometry.specs.declared.geodesy.Vec3.{Vec3}
@@ -43,11 +43,11 @@ module _ (c : Covariance) where
 
   -- the case of a factor says what Cholesky gives for two rows, and for three
   pub two_is : factor_of_two (factor_of c) ≡ cholesky_of 2 (matrix_of false c)
-  unfolding matrix_of cholesky_of columns rows_below less factor_of
+  unfolding matrix_of cholesky_of columns rows_below minus_each factor_of
   two_is = cases _ (λ x. rw x) (λ x y. rw (x, y)) (λ x y z. rw (x, y, z)) (λ x y z. rw (x, y, z))
 
   pub three-is : factor_of_three (factor_of c) ≡ cholesky_of 3 (matrix_of true c)
-  unfolding matrix_of cholesky_of columns rows_below less factor_of
+  unfolding matrix_of cholesky_of columns rows_below minus_each factor_of
   three-is = cases _ (λ x. rw x) (λ x y. rw (x, y)) (λ x y z. rw (x, y, z)) (λ x y z. rw (x, y, z))
 
 -- a difference as a list
@@ -55,23 +55,23 @@ abbrev numbers : Vec3 → List Float
 numbers v = v.x ∷ v.y ∷ v.z ∷ []
 
 -- what is measured by it is what is measured by the factor that it has
-two-under : (f : Option Factor) (v : Vec3) → outcome_of (limit_of false) (length_under 2 (numbers v) (factor_of_two f)) ≡ measured_of false f v
-unfolding outcome_of length_under sum_under solve_of forward forwards backward backwards less plus measured_of flat_length
+two-under : (f : Option Factor) (v : Vec3) → agreement_under (limit_of false) (length_under 2 (numbers v) (factor_of_two f)) ≡ measured_of false f v
+unfolding agreement_under length_under sum_under solve_of forward forwards backward backwards minus_each sum_to measured_of flat_length
 two-under None v = refl
 two-under (Some (Flat r)) v = refl
 two-under (Some (Full r t)) v = refl
 
-three-under : (f : Option Factor) (v : Vec3) → outcome_of (limit_of true) (length_under 3 (numbers v) (factor_of_three f)) ≡ measured_of true f v
-unfolding outcome_of length_under sum_under solve_of forward forwards backward backwards less plus measured_of full_length
+three-under : (f : Option Factor) (v : Vec3) → agreement_under (limit_of true) (length_under 3 (numbers v) (factor_of_three f)) ≡ measured_of true f v
+unfolding agreement_under length_under sum_under solve_of forward forwards backward backwards minus_each sum_to measured_of full_length
 three-under None v = refl
 three-under (Some (Flat r)) v = refl
 three-under (Some (Full r t)) v = refl
 
 pub measured-is : (three : Bool) (c : Covariance) (v : Vec3)
-    → outcome_of (limit_of three) (chi_square_of three c (numbers v)) ≡ measured_of three (factor_of c) v
+    → agreement_under (limit_of three) (chi_square_of three c (numbers v)) ≡ measured_of three (factor_of c) v
 unfolding chi_square_of
-measured-is true c v = ap (λ (l : Option (List Float)). outcome_of (limit_of true) (length_under 3 (numbers v) l)) (sym (three-is c)) ∙ three-under (factor_of c) v
-measured-is false c v = ap (λ (l : Option (List Float)). outcome_of (limit_of false) (length_under 2 (numbers v) l)) (sym (two_is c)) ∙ two-under (factor_of c) v
+measured-is true c v = ap (λ (l : Option (List Float)). agreement_under (limit_of true) (length_under 3 (numbers v) l)) (sym (three-is c)) ∙ three-under (factor_of c) v
+measured-is false c v = ap (λ (l : Option (List Float)). agreement_under (limit_of false) (length_under 2 (numbers v) l)) (sym (two_is c)) ∙ two-under (factor_of c) v
 
 -- ---- the two stages
 

@@ -8,7 +8,7 @@ use Rattle.floats.specs.Root.{root}
 use Rattle.geometry.specs.Numbers.{◌⊕◌, ◌⊗◌, ◌⊘◌, whole, from_decimal}
 use Rattle.geometry.specs.Angles.{sincos_of}
 use Rattle.geometry.specs.Geodesy.{to_ecef, enu_basis, sub_of, dot_of}
-use Rattle.geometry.specs.Linalg.{item, cholesky_of, solve_of, plus}
+use Rattle.geometry.specs.Linalg.{element, cholesky_of, solve_of, sum_to}
 use Rattle.geometry.specs.declared.geodesy.Geodetic.{Geodetic}
 use Rattle.geometry.specs.declared.linalg.Covariance.{Covariance}
 use Rattle.arithmetic.specs.declared.standing.Claimed.{Claimed}
@@ -54,7 +54,7 @@ matrix_of false c =
 unfoldable pub sum_under : ℕ → List Float → List Float → Float
 sum_under n enu factor =
     let solved = solve_of n factor enu in
-    plus (λ at. item enu at ⊗ item solved at) (n - 1)
+    sum_to (λ at. element enu at ⊗ element solved at) (n - 1)
 
 -- There is no number where none was measured: a sum that is a NaN or an infinity is no number, and without a factor there is no sum.
 unfoldable pub finitely : Float → ChiSquare
@@ -80,16 +80,16 @@ abbrev pub three_of : Claimed → Claimed → Bool
 three_of smaller larger = is_some smaller.height && is_some larger.height
 
 -- inside or outside, each with chi-square and limit, or unmeasurable without a number; a chi-square equal to its limit agrees
-unfoldable pub outcome_of : Float → ChiSquare → Agreement
-outcome_of limit Unmeasured = Unmeasurable
-outcome_of limit (Measured chi2) =
+unfoldable pub agreement_under : Float → ChiSquare → Agreement
+agreement_under limit Unmeasured = Unmeasurable
+agreement_under limit (Measured chi2) =
     let m : Measure = record { chi2 = chi2; limit = limit } in
     cond (le chi2 limit) (Inside m) (Outside m)
 
 unfoldable pub agreement_of : Claimed → Claimed → Agreement
 agreement_of smaller larger =
     let three = three_of smaller larger in
-    outcome_of (limit_of three) (chi_square_of three smaller.covariance (difference_of smaller larger))
+    agreement_under (limit_of three) (chi_square_of three smaller.covariance (difference_of smaller larger))
 
 -- Agreement::agrees; what is unmeasurable counts as disagreeing
 unfoldable pub agrees_of : Agreement → Bool
@@ -104,10 +104,10 @@ chi_square_in (Outside m) = Measured m.chi2
 chi_square_in Unmeasurable = Unmeasured
 
 -- the number of each outcome, as it is answered
-unfoldable pub number_of : Agreement → ℕ
-number_of (Inside m) = 0
-number_of (Outside m) = 1
-number_of Unmeasurable = 2
+unfoldable pub agreement_number : Agreement → ℕ
+agreement_number (Inside m) = 0
+agreement_number (Outside m) = 1
+agreement_number Unmeasurable = 2
 
 unfoldable pub measure_in : Agreement → Option Measure
 measure_in (Inside m) = Some m

@@ -8,7 +8,7 @@ use Rattle.geometry.specs.Numbers.{◌⊕◌, ◌⊗◌, whole, from_decimal}
 use Rattle.geometry.specs.Formula.{formula_sincos}
 use Rattle.geometry.specs.Claims.{InI32}
 use Rattle.geometry.specs.Linalg.{cholesky_of}
-use Rattle.arithmetic.specs.Agree.{limit_of, geodetic_of, rows_of, matrix_of, sum_under, difference_of, three_of, outcome_of, agreement_of, agrees_of, chi_square_in, measure_in, sigma_of}
+use Rattle.arithmetic.specs.Agree.{limit_of, geodetic_of, rows_of, matrix_of, sum_under, difference_of, three_of, agreement_under, agreement_of, agrees_of, chi_square_in, measure_in, sigma_of}
 use Rattle.arithmetic.specs.Bits.{stored_bits, stored_chi_square}
 use Rattle.arithmetic.specs.Before.{agreement_before, agreed_before}
 use Rattle.geometry.specs.declared.linalg.Covariance.{Covariance}
@@ -94,8 +94,8 @@ PlacedByFormula =
 -- ---- the limit, and a covariance of zeros
 
 -- the next f64 above a positive one
-abbrev pub next : Float → Float
-next x = of_bits binary64 (to_bits binary64 x + 1)
+abbrev pub next_up : Float → Float
+next_up x = of_bits binary64 (to_bits binary64 x + 1)
 
 -- a chi-square with both heights
 abbrev pub with_heights : Float → Measure
@@ -105,10 +105,10 @@ with_heights chi2 = record { chi2 = chi2; limit = limit_of true }
 abbrev pub Position1 : Type 0
 Position1 =
     let edge = from_decimal 16_266 3 in
-    (outcome_of (limit_of true) (Measured edge) ≡ Inside (with_heights edge))
+    (agreement_under (limit_of true) (Measured edge) ≡ Inside (with_heights edge))
     × (agrees_of (Inside (with_heights edge)) ≡ true)
-    × (outcome_of (limit_of true) (Measured (next edge)) ≡ Outside (with_heights (next edge)))
-    × (agrees_of (Outside (with_heights (next edge))) ≡ false)
+    × (agreement_under (limit_of true) (Measured (next_up edge)) ≡ Outside (with_heights (next_up edge)))
+    × (agrees_of (Outside (with_heights (next_up edge))) ≡ false)
 
 abbrev pub zero_covariance : Covariance
 zero_covariance = record { xx = whole 0; xy = whole 0; xz = whole 0; yy = whole 0; yz = whole 0; zz = whole 0 }

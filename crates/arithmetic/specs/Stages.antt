@@ -3,7 +3,7 @@
 use Rattle.std.specs.Prelude.{Bool, true, false, cond, ◌&&◌, Float, Option, Some, None, is_some}
 use Rattle.geometry.specs.Geodesy.{to_ecef, enu_basis, sub_of, dot_of}
 use Rattle.geometry.specs.Factors.{factor_of, flat_length, full_length}
-use Rattle.arithmetic.specs.Agree.{geodetic_of, finitely, outcome_of, limit_of}
+use Rattle.arithmetic.specs.Agree.{geodetic_of, finitely, agreement_under, limit_of}
 use Rattle.geometry.specs.declared.geodesy.Vec3.{Vec3}
 use Rattle.geometry.specs.declared.geodesy.Basis.{Basis}
 use Rattle.geometry.specs.declared.linalg.Factor.{Factor}
@@ -15,7 +15,7 @@ use Rattle.arithmetic.specs.declared.standing.Agreement.TheVariants.{Unmeasurabl
 
 -- the outcome of a sum, with both heights and without
 abbrev pub with_limit : Bool → Float → Agreement
-with_limit three chi2 = outcome_of (limit_of three) (finitely chi2)
+with_limit three chi2 = agreement_under (limit_of three) (finitely chi2)
 
 -- by the factor for three rows where both fixes have a height, else by that for two; nothing is measured without it
 unfoldable pub measured_of : Bool → Option Factor → Vec3 → Agreement

@@ -2,7 +2,7 @@
 
 ghost use Rattle.std.specs.Prelude.{◌≡◌, true, false, Some};
 ghost use Rattle.std.specs.Float.Ieee.Scale.{finite};
-ghost use Rattle.arithmetic.specs.Agree.{metres_of, geodetic_of, finitely, outcome_of};
+ghost use Rattle.arithmetic.specs.Agree.{metres_of, geodetic_of, finitely, agreement_under};
 ghost use Rattle.geometry.specs.declared.linalg.Factor.TheVariants.{Flat, Full};
 ghost use Rattle.arithmetic.specs.Stages.{enu_of, with_limit, measured_of, judged_of};
 
@@ -48,7 +48,7 @@ fn is_finite(x: f64) -> bool
 
 // The outcome of a sum under a limit. A sum that is not finite measures nothing.
 fn outcome(chi2: f64, limit: f64) -> Agreement
-    ensures { result ≡ outcome_of limit (finitely chi2) }
+    ensures { result ≡ agreement_under limit (finitely chi2) }
 {
     if !is_finite(chi2) {
         return Agreement::Unmeasurable;

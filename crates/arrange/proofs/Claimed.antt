@@ -14,9 +14,9 @@ use Rattle.ranges.proofs.Orders.{perm-length}
 use Rattle.shown.specs.Fix.{Fix}
 use Rattle.shown.specs.Ages.{older, older_first}
 use Rattle.shown.proofs.Ages.{older-irrefl, older-trans, older-past}
-use Rattle.shown.specs.Items.{at}
+use Rattle.shown.specs.Items.{fix_at}
 use Rattle.tracked.specs.Held.{HeldTransmission}
-use Rattle.arrange.specs.Arranged.{max_transmissions, is_some, has_fix, older_than, arranged}
+use Rattle.arrange.specs.Arranged.{max_transmissions, is_nonempty, has_fix, older_than, arranged}
 use Rattle.arrange.specs.Claims.{InOrder, none, next, ArrangedInOrder, alike, Forgotten, LatestLeft, FewAllLeft, OrderStays}
 use Rattle.arrange.proofs.Tables.{drop-in}
 use Rattle.arrange.proofs.Stable as S
@@ -25,7 +25,7 @@ use Rattle.arrange.proofs.Stable.{Weak, Ordered, sort-agree, sort-ordered, sort-
 -- ---- an order of all transmissions, which is that of those that have a fix
 
 abbrev kept : HeldTransmission → Fix
-kept t = at t.fixes 0
+kept t = fix_at t.fixes 0
 
 abbrev kept_older : HeldTransmission → HeldTransmission → Bool
 kept_older t u = older (kept t) (kept u)
@@ -40,7 +40,7 @@ weak = record {
 agree : (t u : HeldTransmission) → has_fix t ≡ true → has_fix u ≡ true → older_than t u ≡ kept_older t u
 agree t u p q = go t.fixes u.fixes p q
   where
-    go : (fs gs : List Fix) → is_some fs ≡ true → is_some gs ≡ true → older_first fs gs ≡ older (at fs 0) (at gs 0)
+    go : (fs gs : List Fix) → is_nonempty fs ≡ true → is_nonempty gs ≡ true → older_first fs gs ≡ older (fix_at fs 0) (fix_at gs 0)
     go [] gs p q = absurd (false≢true p)
     go (f ∷ fs) [] p q = absurd (false≢true q)
     go (f ∷ fs) (g ∷ gs) p q = refl
@@ -114,7 +114,7 @@ module _ (ts : List HeldTransmission) where
   alike-none t [] h = refl
   alike-none t (u ∷ l) h = rw (nobody t.fixes u.fixes h) (alike-none t l h)
     where
-      nobody : (fs gs : List Fix) → is_some fs ≡ false → (not (older_first fs gs) && not (older_first gs fs)) ≡ false
+      nobody : (fs gs : List Fix) → is_nonempty fs ≡ false → (not (older_first fs gs) && not (older_first gs fs)) ≡ false
       nobody [] gs h = refl
       nobody (f ∷ fs) gs h = absurd (false≢true (sym h))
 

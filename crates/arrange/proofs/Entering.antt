@@ -27,7 +27,7 @@ use Rattle.tracked.specs.Bytes.{transmission_in}
 use Rattle.arrange.specs.Arranged.{max_transmissions}
 use Rattle.arrange.specs.Blocks.{has_fix_in, older_block, arranged_blocks, latest_blocks, block_in}
 use Rattle.arrange.specs.declared.leads.Lead.{Lead}
-use Rattle.arrange.specs.Leads.{put_behind, entered, kept_of, before, place_of, lead_of, leads_from, order_of}
+use Rattle.arrange.specs.Leads.{put_behind, put_all_behind, kept_of, before, place_of, lead_of, leads_from, order_of}
 use Rattle.arrange.proofs.Stable.{insert-none, insert-yes, insert-no, Weak}
 use Rattle.arrange.proofs.Tables.{drop-in}
 use Rattle.arrange.proofs.Values.{map-drop}
@@ -78,17 +78,17 @@ module _ {A : Type 0} (before : A → A → Bool) (o : Weak before) where
   sort_last x [] = refl
   sort_last x (y ∷ l) = ap (insert before y) (sort_last x l) ∙ commute y x (sort before l)
 
-  pub entered-sorted : (xs l : List A) → entered before (sort before l) xs ≡ sort before (l ++ xs)
-  unfolding entered
+  pub entered-sorted : (xs l : List A) → put_all_behind before (sort before l) xs ≡ sort before (l ++ xs)
+  unfolding put_all_behind
   entered-sorted [] l = ap (sort before) (sym (append-nil l))
   entered-sorted (x ∷ xs) l =
-      ap (λ (k : List A). entered before k xs) (sym (sort_last x l))
+      ap (λ (k : List A). put_all_behind before k xs) (sym (sort_last x l))
       ∙ entered-sorted xs (l ++ (x ∷ []))
       ∙ ap (sort before) (append_assoc l (x ∷ []) xs)
 
 module _ {A : Type 0} (before : A → A → Bool) where
-  pub entered-append : (l xs ys : List A) → entered before l (xs ++ ys) ≡ entered before (entered before l xs) ys
-  unfolding entered
+  pub entered-append : (l xs ys : List A) → put_all_behind before l (xs ++ ys) ≡ put_all_behind before (put_all_behind before l xs) ys
+  unfolding put_all_behind
   entered-append l [] ys = refl
   entered-append l (x ∷ xs) ys = entered-append (put_behind before x l) xs ys
 
@@ -97,8 +97,8 @@ module _ {A : Type 0} (before : A → A → Bool) where
   behind-length x [] = refl
   behind-length x (y ∷ l) = by (before x y) (λ t. rw t refl) (λ t. rw t (ap suc (behind-length x l)))
 
-  pub entered-length : (l xs : List A) → length (entered before l xs) ≡ length l + length xs
-  unfolding entered
+  pub entered-length : (l xs : List A) → length (put_all_behind before l xs) ≡ length l + length xs
+  unfolding put_all_behind
   entered-length l [] = omega arith
   entered-length l (x ∷ xs) = let e = entered-length (put_behind before x l) xs in let f = behind-length x l in omega (arith, e, f)
 
@@ -239,33 +239,33 @@ module _ (bs : List (List ℕ)) where
       go (x ∷ l) n (suc i) h = go l (λ y m. n y (Memᴰ.tail m)) i (omega arith)
 
 -- none at first
-pub none-yet : [] ≡ entered before [] (leads_from 0 [])
-unfolding entered leads_from
+pub none-yet : [] ≡ put_all_behind before [] (leads_from 0 [])
+unfolding put_all_behind leads_from
 none-yet = refl
 
 -- all of them
-pub entered-all : (ts : List HeldTransmission) → entered before [] (leads_from 0 ts) ≡ sort before (leads_from 0 ts)
+pub entered-all : (ts : List HeldTransmission) → put_all_behind before [] (leads_from 0 ts) ≡ sort before (leads_from 0 ts)
 unfolding sort
 entered-all ts = entered-sorted before weak (leads_from 0 ts) []
 
 -- one more, where it has a fix
-module _ (l m : List Lead) (ts : List HeldTransmission) (i : ℕ) (d : HeldTransmission) (h : i < length ts) (before-it : l ≡ entered before [] (leads_from 0 (take i ts))) where
-  pub one-more : m ≡ entered before l (lead_of i (kept_of (get_or ts i d))) → m ≡ entered before [] (leads_from 0 (take (i + 1) ts))
+module _ (l m : List Lead) (ts : List HeldTransmission) (i : ℕ) (d : HeldTransmission) (h : i < length ts) (before-it : l ≡ put_all_behind before [] (leads_from 0 (take i ts))) where
+  pub one-more : m ≡ put_all_behind before l (lead_of i (kept_of (get_or ts i d))) → m ≡ put_all_behind before [] (leads_from 0 (take (i + 1) ts))
   one-more e =
-      e ∙ ap (λ (x : List Lead). entered before x (lead_of i (kept_of (get_or ts i d)))) before-it
+      e ∙ ap (λ (x : List Lead). put_all_behind before x (lead_of i (kept_of (get_or ts i d)))) before-it
       ∙ sym (entered-append before [] (leads_from 0 (take i ts)) (lead_of i (kept_of (get_or ts i d))))
-      ∙ ap (entered before []) (sym (leads-more ts i d h))
+      ∙ ap (put_all_behind before []) (sym (leads-more ts i d h))
 
-  pub one-entered : (f : Fix) → Some f ≡ kept_of (get_or ts i d) → m ≡ put_behind before (record { place = i; kept = f }) l → m ≡ entered before [] (leads_from 0 (take (i + 1) ts))
-  unfolding entered
-  one-entered f q e = one-more (e ∙ ap (λ (z : Option Fix). entered before l (lead_of i z)) q)
+  pub one-entered : (f : Fix) → Some f ≡ kept_of (get_or ts i d) → m ≡ put_behind before (record { place = i; kept = f }) l → m ≡ put_all_behind before [] (leads_from 0 (take (i + 1) ts))
+  unfolding put_all_behind
+  one-entered f q e = one-more (e ∙ ap (λ (z : Option Fix). put_all_behind before l (lead_of i z)) q)
 
-  pub none-entered : ◌≡◌ {A = Option Fix} None (kept_of (get_or ts i d)) → m ≡ l → m ≡ entered before [] (leads_from 0 (take (i + 1) ts))
-  unfolding entered
-  none-entered q e = one-more (e ∙ ap (λ (z : Option Fix). entered before l (lead_of i z)) q)
+  pub none-entered : ◌≡◌ {A = Option Fix} None (kept_of (get_or ts i d)) → m ≡ l → m ≡ put_all_behind before [] (leads_from 0 (take (i + 1) ts))
+  unfolding put_all_behind
+  none-entered q e = one-more (e ∙ ap (λ (z : Option Fix). put_all_behind before l (lead_of i z)) q)
 
 -- there is room for each
-pub entered-few : (l : List Lead) (ts : List HeldTransmission) → l ≡ entered before [] (leads_from 0 ts) → length l ≤ length ts
+pub entered-few : (l : List Lead) (ts : List HeldTransmission) → l ≡ put_all_behind before [] (leads_from 0 ts) → length l ≤ length ts
 entered-few l ts e = let a = ap length e ∙ entered-length before [] (leads_from 0 ts) in let b = leads-few 0 ts in omega (arith, a, b)
 
 -- where one goes in

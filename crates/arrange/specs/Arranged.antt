@@ -10,12 +10,12 @@ use Rattle.tracked.specs.Held.{HeldTransmission}
 abbrev pub max_transmissions : ℕ
 max_transmissions = 8
 
-abbrev pub is_some : {A : Type 0} → List A → Bool
-is_some [] = false
-is_some (x ∷ l) = true
+abbrev pub is_nonempty : {A : Type 0} → List A → Bool
+is_nonempty [] = false
+is_nonempty (x ∷ l) = true
 
 abbrev pub has_fix : HeldTransmission → Bool
-has_fix t = is_some t.fixes
+has_fix t = is_nonempty t.fixes
 
 abbrev pub older_than : HeldTransmission → HeldTransmission → Bool
 older_than t u = older_first t.fixes u.fixes

@@ -60,5 +60,5 @@ abbrev pub put_block : ℕ → List ℕ → List ℕ → List ℕ
 put_block i b t = take (i * transmission_size) t ++ (b ++ drop (i * transmission_size + transmission_size) t)
 
 -- a table to whose front the transmissions of these places went, among n and further ones behind them
-abbrev pub moved : ℕ → List (List ℕ) → List ℕ → List ℕ → List ℕ
-moved n further order t = flat (map (block_of n t further) order) ++ drop (length order * transmission_size) t
+abbrev pub moved_table : ℕ → List (List ℕ) → List ℕ → List ℕ → List ℕ
+moved_table n further order t = flat (map (block_of n t further) order) ++ drop (length order * transmission_size) t

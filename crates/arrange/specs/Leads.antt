@@ -15,9 +15,9 @@ module _ {A : Type 0} (before : A → A → Bool) where
   put_behind x (y ∷ l) = let rest = put_behind x l in cond (before x y) (x ∷ (y ∷ l)) (y ∷ rest)
 
   -- members put in, one after another
-  unfoldable pub entered : List A → List A → List A
-  entered l [] = l
-  entered l (x ∷ xs) = entered (put_behind x l) xs
+  unfoldable pub put_all_behind : List A → List A → List A
+  put_all_behind l [] = l
+  put_all_behind l (x ∷ xs) = put_all_behind (put_behind x l) xs
 
 -- the fix that is kept of a transmission, where it has one
 abbrev pub kept_of : HeldTransmission → Option Fix

@@ -5,7 +5,7 @@ ghost use Rattle.arrayvec.specs.ArrayVec.{array_vec_len};
 ghost use Rattle.shown.specs.Ages.{time_of, older};
 ghost use Rattle.ranges.specs.Lists.{last_of};
 ghost use Rattle.arrange.specs.Arranged.{max_transmissions};
-ghost use Rattle.arrange.specs.Leads.{before, put_behind, entered, leads_from, order_of, place_of};
+ghost use Rattle.arrange.specs.Leads.{before, put_behind, put_all_behind, leads_from, order_of, place_of};
 
 use crate::{Blocks, MAX_LEADS, MAX_TRANSMISSIONS};
 use arrayvec::ArrayVec;
@@ -79,7 +79,7 @@ fn enter<'a>(leads: &mut Leads<'a>, lead: Lead<'a>)
 // Enters transmissions, but for those without a fix.
 fn enter_all<'a>(leads: &mut Leads<'a>, blocks: &Blocks<'a>)
     requires { leads.old.items ≡ [] }
-    ensures { leads.new.items ≡ entered before [] (leads_from 0 blocks.now.items) }
+    ensures { leads.new.items ≡ put_all_behind before [] (leads_from 0 blocks.now.items) }
 {
     let blocks = blocks.as_slice();
     for (place, block) in blocks.iter().enumerate() {

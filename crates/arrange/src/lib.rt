@@ -140,7 +140,7 @@ impl Moves<'_> {
     // Writes all. They come down, so each is in the table still when it is asked for.
     fn write_down(self, t: &mut [u8; TABLE_SIZE])
         requires { (i : ℕ) → i < length self.order.now → i ≤ slice_index self.order.now i }
-        ensures { t.new ≡ B.moved self.entry.n self.entry.further.now self.entry.order.now t.old }
+        ensures { t.new ≡ B.moved_table self.entry.n self.entry.further.now self.entry.order.now t.old }
     {
         for i in 0..self.order.len() {
             self.put(t, i);
@@ -150,7 +150,7 @@ impl Moves<'_> {
     // The same from the last to the first, where they go up.
     fn write_up(self, t: &mut [u8; TABLE_SIZE])
         requires { (i : ℕ) → i < length self.order.now → slice_index self.order.now i < self.n → slice_index self.order.now i ≤ i }
-        ensures { t.new ≡ B.moved self.entry.n self.entry.further.now self.entry.order.now t.old }
+        ensures { t.new ≡ B.moved_table self.entry.n self.entry.further.now self.entry.order.now t.old }
     {
         for i in (0..self.order.len()).rev() {
             self.put(t, i);
@@ -159,7 +159,7 @@ impl Moves<'_> {
 
     // The same of any, which are read in a copy of the table.
     fn write_anew(self, t: &mut [u8; TABLE_SIZE])
-        ensures { t.new ≡ B.moved self.entry.n self.entry.further.now self.entry.order.now t.old }
+        ensures { t.new ≡ B.moved_table self.entry.n self.entry.further.now self.entry.order.now t.old }
     {
         let was = *t;
         let places = places::table::places_of::<TRANSMISSION_SIZE>(&was, self.n);
@@ -171,7 +171,7 @@ impl Moves<'_> {
 
     // The same, in place where it can be.
     fn write(self, t: &mut [u8; TABLE_SIZE])
-        ensures { t.new ≡ B.moved self.entry.n self.entry.further.now self.entry.order.now t.old }
+        ensures { t.new ≡ B.moved_table self.entry.n self.entry.further.now self.entry.order.now t.old }
     {
         if self.all_come_down() {
             self.write_down(t);

@@ -11,7 +11,7 @@ use Rattle.shown.specs.Items.{AllFormed}
 use Rattle.items.specs.Layout.{max_items}
 use Rattle.ranges.specs.Lists.{sort}
 use Rattle.links.specs.Transmissions.{transmissions_of}
-use Rattle.fixes.specs.Order.{ascends}
+use Rattle.fixes.specs.Order.{identities_ascend}
 use Rattle.transmissions.specs.Picture.{older_than, latest_of, max_shown}
 use Rattle.drawing.specs.Text.{text_of, text_from, board_text}
 use Rattle.transmissions.specs.Parts.{AllParts}
@@ -53,7 +53,7 @@ end a b ts ls i h e =
 
 -- ---- the latest of all, as they are lent
 
-module _ (fs : List Fix) (w : AllFormed fs) (o : ascends fs ≡ true) (few : length fs ≤ max_items) (ts : List (List Fix)) (is : ts ≡ transmissions_of fs)
+module _ (fs : List Fix) (w : AllFormed fs) (o : identities_ascend fs ≡ true) (few : length fs ≤ max_items) (ts : List (List Fix)) (is : ts ≡ transmissions_of fs)
     (l : List Lead) (sorted : l ≡ sort before (leads_of ts)) (xs : List Lead) (lent : xs ≡ l) (k : ℕ) where
   pub parts : AllParts ts
   parts = subst AllParts (sym is) (parts-of fs w o few)

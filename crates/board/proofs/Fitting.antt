@@ -16,7 +16,7 @@ use Rattle.decision.specs.Claims.{listed_in}
 use Rattle.decision.proofs.Laws.{listed-once}
 use Rattle.fixes.specs.Slots.{max_fixes}
 use Rattle.shown.specs.Fix.{Fix}
-use Rattle.shown.specs.Items.{at, AllFormed, Apart}
+use Rattle.shown.specs.Items.{fix_at, AllFormed, Apart}
 use Rattle.shown.specs.Shown.{Transmission, shown}
 use Rattle.shown.specs.Claims.{fix_relations}
 use Rattle.shown.proofs.Plainly.{shown-is-decided}
@@ -126,10 +126,10 @@ module _ (fs : List Fix) (w : AllFormed fs) (a : Apart fs) (few : length fs ≤ 
   parted =
       let heads = filt (first_at fs) 0 n in
       let e = ap (total (λ (c : List Fix). length c)) (transmissions-are fs self) in
-      let f = total-map (λ (c : List Fix). length c) (λ s. map (at fs) (filt (together_at fs s) 0 n)) heads in
-      let g = total-same (λ s. length (map (at fs) (filt (together_at fs s) 0 n))) (λ s. length (filter (has lab s) (up_to n))) heads
+      let f = total-map (λ (c : List Fix). length c) (λ s. map (fix_at fs) (filt (together_at fs s) 0 n)) heads in
+      let g = total-same (λ s. length (map (fix_at fs) (filt (together_at fs s) 0 n))) (λ s. length (filter (has lab s) (up_to n))) heads
       (λ s m. let z = filt-at (first_at fs) 0 n s m in
-      length-map (filt (together_at fs s) 0 n) (at fs) ∙ ap (λ (l : List ℕ). length l) (filt-ext (together_at fs s) (has lab s) 0 n (λ j _ k. labelled s j (omega arith) (omega arith) z.2) ∙ sym (filter_range (has lab s) 0 n))) in
+      length-map (filt (together_at fs s) 0 n) (fix_at fs) ∙ ap (λ (l : List ℕ). length l) (filt-ext (together_at fs s) (has lab s) 0 n (λ j _ k. labelled s j (omega arith) (omega arith) z.2) ∙ sym (filter_range (has lab s) 0 n))) in
       let h = several lab (first_at fs) 0 n (up_to n) in
       let k = count-length 0 n in
       omega (arith, e, f, g, h, k)

@@ -14,7 +14,7 @@ use Rattle.held.proofs.Testing.{all-weaken}
 use Rattle.shown.specs.Fix.{Fix}
 use Rattle.shown.specs.Items.{AllFormed}
 use Rattle.fixes.specs.Fixes.{fixes_of}
-use Rattle.fixes.specs.Order.{ascends}
+use Rattle.fixes.specs.Order.{identities_ascend}
 use Rattle.fixes.proofs.Kept.{fixes-formed, fixes-ascend, fixes-apart, fixes-few}
 use Rattle.transmissions.specs.Picture.{picture}
 use Rattle.drawing.specs.Text.{board_text, board_size}
@@ -82,7 +82,7 @@ module _ (m : List ℕ) (w : well_formed m ≡ true) where
     pub all-formed : AllFormed fs
     all-formed = subst AllFormed (sym fixes-are) (fixes-formed (decode m).summaries (decode m).records formed-held)
 
-    pub in-order : ascends fs ≡ true
+    pub in-order : identities_ascend fs ≡ true
     in-order = rw fixes-are (fixes-ascend (decode m).summaries (decode m).records formed-held)
 
     -- and of the board that they show

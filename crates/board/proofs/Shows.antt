@@ -21,7 +21,7 @@ use Rattle.decision.specs.Claims.{listed_in}
 use Rattle.decision.proofs.Laws.{Sound, listed-once, some_ranked}
 use Rattle.shown.specs.Fix.{Fix}
 use Rattle.fixes.specs.Fixes.{fixes_of}
-use Rattle.shown.specs.Items.{no_fix, at, Apart}
+use Rattle.shown.specs.Items.{no_fix, fix_at, Apart}
 use Rattle.shown.proofs.Indexed.{in-at}
 use Rattle.links.specs.Transmissions.{transmission_of, leads, is_first, transmissions_of}
 use Rattle.links.specs.Claims.{Partition}
@@ -96,7 +96,7 @@ same-fix fs d f g m k e =
     let r = in-at no_fix fs f m in
     let q = in-at no_fix fs g k in
     let z = d r.0 q.0 r.1 q.1 (ap (λ (h : Fix). h.identity) r.2 ∙ e ∙ ap (λ (h : Fix). h.identity) (sym q.2)) in
-    sym r.2 ∙ ap (at fs) z ∙ q.2
+    sym r.2 ∙ ap (fix_at fs) z ∙ q.2
 
 -- ---- the transmissions of fixes
 

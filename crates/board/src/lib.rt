@@ -4,7 +4,7 @@
 ghost use Rattle.std.specs.Prelude.{◌≡◌, true, ◌≤◌, length};
 ghost use Rattle.octets.specs.Put.{Put};
 ghost use Rattle.shown.specs.Items.{AllFormed};
-ghost use Rattle.fixes.specs.Order.{ascends};
+ghost use Rattle.fixes.specs.Order.{identities_ascend};
 ghost use Rattle.drawing.specs.Text.{board_size, board_text};
 ghost use Rattle.held.specs.After.{after};
 ghost use Rattle.register.specs.Memory.{well_formed, decode};
@@ -32,7 +32,7 @@ const MAX_SHOWN: usize = 8;
 fn draw_fixes(fixes: &[Fix<'_>], out: &mut [u8]) -> usize
     requires few { length fixes.now ≤ MAX_FIXES }
     requires formed { AllFormed fixes.now }
-    requires in_order { ascends fixes.now ≡ true }
+    requires in_order { identities_ascend fixes.now ≡ true }
     requires room { length (board_text (latest_over fixes.now)) ≤ length out.old }
     ensures { Put out.old 0 (board_text (latest_over fixes.now)) result out.new }
 {

@@ -12,9 +12,9 @@ use Rattle.ranges.proofs.Lists.{count-length, up_in}
 use Rattle.ranges.proofs.Orders.{perm-length, perm-mem}
 use Rattle.items.specs.Layout.{item_size}
 use Rattle.rule.specs.Outcome.{Refused, Outcome}
-use Rattle.decision.specs.Answer.{bad, outcome, decision, indices, refusals}
+use Rattle.decision.specs.Answer.{is_bad, outcome, arrays_of, indices, refusals}
 use Rattle.decision.specs.Claims.{listed_in}
-use Rattle.decision.specs.Working.{plainly}
+use Rattle.decision.specs.Working.{plain_decision}
 use Rattle.decision.proofs.Decided.{lawful}
 use Rattle.arithmetic.specs.declared.standing.ChiSquare.{ChiSquare}
 
@@ -45,18 +45,18 @@ module _ (n : ℕ) (few : n ≤ 1) where
   only (r ∷ []) (d ∷ ds) xs p e = let t = total (r ∷ []) (d ∷ ds) xs p in absurd (omega arith)
   only (r ∷ []) [] (x ∷ xs) p e = let t = total (r ∷ []) [] (x ∷ xs) p in absurd (omega arith)
 
-ranks : (n : ℕ) → n ≤ 1 → (o : Outcome ℕ ChiSquare) → (o.ranked ≡ up_to n) × (o.dominated ≡ []) × (o.refused ≡ []) → plainly 0 n ≡ decision o
-unfolding plainly decision indices refusals count_from
+ranks : (n : ℕ) → n ≤ 1 → (o : Outcome ℕ ChiSquare) → (o.ranked ≡ up_to n) × (o.dominated ≡ []) × (o.refused ≡ []) → plain_decision 0 n ≡ arrays_of o
+unfolding plain_decision arrays_of indices refusals count_from
 ranks zero h o (a, b, c) = rw (a, b, c) refl
 ranks (suc zero) h o (a, b, c) = rw (a, b, c) refl
 ranks (suc (suc n)) h o w = absurd (omega arith)
 
 module _ (s : List ℕ) (n : ℕ) (long : length s ≡ n * item_size) (few : n ≤ 1) where
-  pub ranked-alone : bad s ≡ false → ((outcome s).ranked ≡ up_to n) × ((outcome s).dominated ≡ []) × ((outcome s).refused ≡ [])
+  pub ranked-alone : is_bad s ≡ false → ((outcome s).ranked ≡ up_to n) × ((outcome s).dominated ≡ []) × ((outcome s).refused ≡ [])
   ranked-alone e =
       let l = lawful s e in
       let z : length s / item_size ≡ n = omega arith in
       only n few (outcome s).ranked (outcome s).dominated (outcome s).refused (subst (λ (k : ℕ). Permᴰ (listed_in (outcome s)) (up_to k)) z l.each_once) (λ q. sym z ∙ l.some_ranked q)
 
-  pub alone : bad s ≡ false → plainly 0 n ≡ decision (outcome s)
+  pub alone : is_bad s ≡ false → plain_decision 0 n ≡ arrays_of (outcome s)
   alone e = ranks n few (outcome s) (ranked-alone e)

@@ -15,7 +15,7 @@ use Rattle.items.proofs.Reading.{same-record, same_inputs, same-identity, same-s
 use Rattle.rule.specs.Standing.{decide}
 use Rattle.rule.specs.Outcome.{Refused, Outcome}
 use Rattle.rule.specs.Related.{item_relations}
-use Rattle.decision.specs.Answer.{bad, outcome}
+use Rattle.decision.specs.Answer.{is_bad, outcome}
 use Rattle.decision.specs.Claims.{EachOnce, Names, contest, succession, DecisionsLawful, item_count, item_at, Reordered, SameDecision, OrderFree}
 use Rattle.decision.proofs.Carried.{Alike, carried, carried_outcome}
 use Rattle.decision.proofs.Laws.{Named, opponent, successor, listed-once, refused-names, some_ranked, same-ranked, same-dominated, same-refused}
@@ -101,7 +101,7 @@ module _ (s t : List ℕ) (to : ℕ → ℕ) (w : Reordered s t to) where
   moved-over : decide (item_relations t) (map to (up_to n)) ≡ carried_outcome to (λ c. c) (outcome s)
   moved-over = carried (item_relations s) (item_relations t) to (λ c. c) (up_to n) alike
 
-  module _ (good : bad t ≡ false) where
+  module _ (good : is_bad t ≡ false) where
     -- identity and rank order the items of t, in either order
     turned : {before : ℕ → ℕ → Bool} → Strict before (up_to (item_count t)) → Strict before (map to (up_to n))
     turned {before} o = strict-sub before (λ i m. perm-mem (Permᴰ.symm w.places) m) o

@@ -12,7 +12,7 @@ use Rattle.std.specs.Prelude.{Option, None, Some, is_some, unwrap_or}
 use Rattle.rule.specs.Outcome as O
 use Rattle.rule.specs.Standing as S
 use Rattle.rule.specs.Standing.{Relations, replaces, is_superseded, opposes, is_contested, is_refused, replaced, opposed, refusal_of}
-use Rattle.rule.specs.First.{first_of}
+use Rattle.rule.specs.First.{foremost_of}
 use Rattle.decision.specs.declared.Refusal.{Refusal}
 use Rattle.decision.specs.Answer.{refusal, no_refusal}
 use Rattle.decision.specs.Working.{finding}
@@ -28,23 +28,23 @@ module _ (r : Relations ℕ ChiSquare) (all : List ℕ) (i : ℕ) where
   some-same : {j k : ℕ} → Some j ≡ Some k → j ≡ k
   some-same {j} e = ap (λ o. unwrap_or o j) e
 
-  pub none-replaces : (l : List ℕ) → first_of r.lower l ≡ None → None ≡ finding (replaced r all i l)
+  pub none-replaces : (l : List ℕ) → foremost_of r.lower l ≡ None → None ≡ finding (replaced r all i l)
   unfolding finding
   none-replaces [] e = refl
   none-replaces (x ∷ l) e = absurd (some-none e)
 
-  pub none-opposes : (l : List ℕ) → first_of r.lower l ≡ None → None ≡ finding (opposed r all i l)
+  pub none-opposes : (l : List ℕ) → foremost_of r.lower l ≡ None → None ≡ finding (opposed r all i l)
   unfolding finding
   none-opposes [] e = refl
   none-opposes (x ∷ l) e = absurd (some-none e)
 
-  pub one-replaces : (l : List ℕ) (k : ℕ) (c : ChiSquare) → first_of r.lower l ≡ Some k → c ≡ r.chi_square k i
+  pub one-replaces : (l : List ℕ) (k : ℕ) (c : ChiSquare) → foremost_of r.lower l ≡ Some k → c ≡ r.chi_square k i
       → Some (record { refused = i; kept = k; chi2 = c; superseded = true }) ≡ finding (replaced r all i l)
   unfolding finding
   one-replaces [] k c e q = absurd (some-none (sym e))
   one-replaces (x ∷ l) k c e q = let z : foremost r.lower x l ≡ k = some-same e in rw (q, z) refl
 
-  pub one-opposes : (l : List ℕ) (k : ℕ) (c : ChiSquare) → first_of r.lower l ≡ Some k → c ≡ r.chi_square i k
+  pub one-opposes : (l : List ℕ) (k : ℕ) (c : ChiSquare) → foremost_of r.lower l ≡ Some k → c ≡ r.chi_square i k
       → Some (record { refused = i; kept = k; chi2 = c; superseded = false }) ≡ finding (opposed r all i l)
   unfolding finding
   one-opposes [] k c e q = absurd (some-none (sym e))

@@ -27,7 +27,7 @@ use Rattle.rule.specs.Related.{item_relations}
 use Rattle.rule.specs.Listed.{relations}
 use Rattle.rule.specs.Rows.{all}
 use Rattle.rule.proofs.Known.{some-here}
-use Rattle.decision.specs.Answer.{bad, outcome}
+use Rattle.decision.specs.Answer.{is_bad, outcome}
 use Rattle.decision.specs.Each.{Each, DecidesEach}
 use Rattle.decision.specs.declared.Decision.{Decision}
 use Rattle.decision.specs.Answered.{Says}
@@ -134,5 +134,5 @@ module _ (s : List ℕ) (l : List Item) (w : Each (IsItem s) l (length l)) where
       ∙ ap (λ n. decide (item_relations s) (up_to n)) z
 
 -- what is decided of items that were given by their places is what is decided of their bytes
-pub says-of : {N : ℕ} {d : Decision N} (s : List ℕ) → bad s ≡ false → (l : List Item) → length l ≡ length s / item_size → Each (IsItem s) l (length l) → Says d (among l) → Says d (outcome s)
+pub says-of : {N : ℕ} {d : Decision N} (s : List ℕ) → is_bad s ≡ false → (l : List Item) → length l ≡ length s / item_size → Each (IsItem s) l (length l) → Says d (among l) → Says d (outcome s)
 says-of {d = d} s good l long w = subst (Says d) (same-outcome s l w (long-items s good ∙ ap (λ n. n * item_size) (sym long)))

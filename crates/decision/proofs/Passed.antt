@@ -17,11 +17,11 @@ use Rattle.items.specs.Items.{item_record, same_identity}
 use Rattle.items.specs.Values.{Whole}
 use Rattle.rule.specs.Standing.{decide}
 use Rattle.rule.specs.Related.{item_relations}
-use Rattle.decision.specs.Answer.{bad_at, bad, outcome}
+use Rattle.decision.specs.Answer.{bad_at, is_bad, outcome}
 
 -- they are not too many
-pub few-items : (s : List ℕ) → bad s ≡ false → length s / item_size ≤ max_items
-unfolding bad
+pub few-items : (s : List ℕ) → is_bad s ≡ false → length s / item_size ≤ max_items
+unfolding is_bad
 few-items s e = let l = ltb-false (max_items * item_size) (length s) (neither_left (ltb (max_items * item_size) (length s)) _ e) in omega arith
 
 pub whole_of : (s : List ℕ) (n : ℕ) → n ≤ max_items → length s ≡ n * item_size → list_any (bad_at s) (up_to n) ≡ false → Whole s n
@@ -33,8 +33,8 @@ whole_of s n h l e = record {
 }
 
 -- and none of them is bad
-pub good-items : (s : List ℕ) → bad s ≡ false → list_any (bad_at s) (up_to (length s / item_size)) ≡ false
-unfolding bad
+pub good-items : (s : List ℕ) → is_bad s ≡ false → list_any (bad_at s) (up_to (length s / item_size)) ≡ false
+unfolding is_bad
 good-items s e =
     let a = ltb (max_items * item_size) (length s) in
     let b = not (eqb (length s % item_size) 0) in
@@ -42,8 +42,8 @@ good-items s e =
     neither_right b r (neither_right a (b || r) e)
 
 -- they fill the bytes
-pub long-items : (s : List ℕ) → bad s ≡ false → length s ≡ length s / item_size * item_size
-unfolding bad
+pub long-items : (s : List ℕ) → is_bad s ≡ false → length s ≡ length s / item_size * item_size
+unfolding is_bad
 long-items s e =
     let a = ltb (max_items * item_size) (length s) in
     let b = eqb (length s % item_size) 0 in
@@ -57,10 +57,10 @@ module _ (s : List ℕ) (n : ℕ) (long : length s ≡ n * item_size) where
   count-is : length s / item_size ≡ n
   count-is = omega arith
 
-  pub good_of : bad s ≡ false → list_any (bad_at s) (up_to n) ≡ false
+  pub good_of : is_bad s ≡ false → list_any (bad_at s) (up_to n) ≡ false
   good_of e = ap (λ (k : ℕ). list_any (bad_at s) (up_to k)) (sym count-is) ∙ good-items s e
 
-  pub whole-items : bad s ≡ false → Whole s n
+  pub whole-items : is_bad s ≡ false → Whole s n
   whole-items e = let f = few-items s e in whole_of s n (omega arith) long (good_of e)
 
   pub outcome-is : outcome s ≡ decide (item_relations s) (up_to n)

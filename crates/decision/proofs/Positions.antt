@@ -10,24 +10,24 @@ use Rattle.floats.specs.Root.{isqrt, digits_of, root_of, root_finite, root_bits,
 use Rattle.geometry.specs.Numbers.{from_decimal}
 use Rattle.geometry.specs.Angles.{degree, radians_of, factorial, coefficient, sine_series, cosine_series, sincos_of}
 use Rattle.geometry.specs.Geodesy.{flattening, eccentricity2, to_ecef, enu_basis, sub_of, dot_of}
-use Rattle.geometry.specs.Linalg.{less, rows_below, columns, cholesky_of, forwards, forward, backwards, backward, solve_of, plus}
-use Rattle.arithmetic.specs.Agree.{limit_of, geodetic_of, matrix_of, sum_under, finitely, length_under, chi_square_of, difference_of, outcome_of, agreement_of, agrees_of, chi_square_in}
+use Rattle.geometry.specs.Linalg.{minus_each, rows_below, columns, cholesky_of, forwards, forward, backwards, backward, solve_of, sum_to}
+use Rattle.arithmetic.specs.Agree.{limit_of, geodetic_of, matrix_of, sum_under, finitely, length_under, chi_square_of, difference_of, agreement_under, agreement_of, agrees_of, chi_square_in}
 use Rattle.octets.specs.Order.{same, is_before}
-use Rattle.octets.specs.Masks.{bits}
+use Rattle.octets.specs.Masks.{bit_count}
 use Rattle.octets.specs.Runs.{all_zero}
 use Rattle.record.specs.Relations.{subset, all_in, member}
 use Rattle.ranges.specs.Lists.{insert, sort, foremost, count_from}
 use Rattle.items.specs.Items.{disagrees_at, within_at, subset_at, agreement_at, ahead_at, ahead_by_standing, ahead_by_weight}
 use Rattle.items.specs.Claimed.{claim_of}
 use Rattle.rule.specs.Standing.{supersedes, is_superseded, is_contested, is_refused, is_covered, refusal_of, decide}
-use Rattle.decision.specs.Answer.{decided, decision, bad, bad_at, indices, refusals}
+use Rattle.decision.specs.Answer.{decided_arrays, arrays_of, is_bad, bad_at, indices, refusals}
 use Rattle.decision.specs.Claims.{OnlyTheEndsDisagree, Position3}
 
 -- only S and L disagree
 pub ends-only : OnlyTheEndsDisagree
-unfolding claim_of word_bytes word limit_of geodetic_of matrix_of sum_under finitely length_under chi_square_of difference_of outcome_of agreement_of agrees_of chi_square_in degree radians_of factorial coefficient sine_series cosine_series sincos_of flattening eccentricity2 to_ecef enu_basis sub_of dot_of less rows_below columns cholesky_of forwards forward backwards backward solve_of plus from_decimal isqrt digits_of root_of root_finite root_bits root count_leading_zeros of_bits to_bits round le lt eq of_int div mul add sub neg is_nan
+unfolding claim_of word_bytes word limit_of geodetic_of matrix_of sum_under finitely length_under chi_square_of difference_of agreement_under agreement_of agrees_of chi_square_in degree radians_of factorial coefficient sine_series cosine_series sincos_of flattening eccentricity2 to_ecef enu_basis sub_of dot_of minus_each rows_below columns cholesky_of forwards forward backwards backward solve_of sum_to from_decimal isqrt digits_of root_of root_finite root_bits root count_leading_zeros of_bits to_bits round le lt eq of_int div mul add sub neg is_nan
 ends-only = (refl, refl, refl)
 
 pub position-3 : Position3
-unfolding decided decision bad bad_at indices refusals insert sort foremost count_from flat_map decide is_superseded is_contested is_refused is_covered refusal_of supersedes disagrees_at within_at subset_at agreement_at ahead_at ahead_by_standing ahead_by_weight subset all_in member same is_before bits all_zero well_formed ascends ascends_from all_up_to tags_from claim_of word_bytes word limit_of geodetic_of matrix_of sum_under finitely length_under chi_square_of difference_of outcome_of agreement_of agrees_of chi_square_in degree radians_of factorial coefficient sine_series cosine_series sincos_of flattening eccentricity2 to_ecef enu_basis sub_of dot_of less rows_below columns cholesky_of forwards forward backwards backward solve_of plus from_decimal isqrt digits_of root_of root_finite root_bits root count_leading_zeros of_bits to_bits round le lt eq of_int div mul add sub neg is_nan
+unfolding decided_arrays arrays_of is_bad bad_at indices refusals insert sort foremost count_from flat_map decide is_superseded is_contested is_refused is_covered refusal_of supersedes disagrees_at within_at subset_at agreement_at ahead_at ahead_by_standing ahead_by_weight subset all_in member same is_before bit_count all_zero well_formed ascends ascends_from all_up_to tags_from claim_of word_bytes word limit_of geodetic_of matrix_of sum_under finitely length_under chi_square_of difference_of agreement_under agreement_of agrees_of chi_square_in degree radians_of factorial coefficient sine_series cosine_series sincos_of flattening eccentricity2 to_ecef enu_basis sub_of dot_of minus_each rows_below columns cholesky_of forwards forward backwards backward solve_of sum_to from_decimal isqrt digits_of root_of root_finite root_bits root count_leading_zeros of_bits to_bits round le lt eq of_int div mul add sub neg is_nan
 position-3 = refl

@@ -8,7 +8,7 @@ use Rattle.ranges.proofs.Bools.{by}
 use Rattle.ranges.proofs.Lists.{filter-in, filter-few, count-in, count-length, sort-in, sort-perm}
 use Rattle.ranges.proofs.Orders.{perm-length}
 use Rattle.ranges.proofs.Searches.{count_turn}
-use Rattle.decision.specs.Working.{AllBelow}
+use Rattle.decision.specs.Working.{MembersBelow}
 
 module _ {A : Type 0} (before : A → A → Bool) (x : A) where
   -- x put in behind those that come before it
@@ -48,7 +48,7 @@ module _ (before : ℕ → ℕ → Bool) (test : ℕ → Bool) (n : ℕ) where
       let c : count_from (i - 1) (n - (i - 1)) ≡ (i - 1) ∷ count_from i (n - i) = count_turn (i - 1) n (omega arith) ∙ ap (λ (j : ℕ). (i - 1) ∷ count_from j (n - j)) z in
       rw (c, e) refl
 
-  pub sorted-below : {l : List ℕ} (i : ℕ) → i ≤ n → l ≡ sorted_from i → AllBelow n l
+  pub sorted-below : {l : List ℕ} (i : ℕ) → i ≤ n → l ≡ sorted_from i → MembersBelow n l
   sorted-below i h e j m =
       let a = sort-in before (filter test (count_from i (n - i))) j (rw e at m) in
       let b = count-in i (n - i) j (filter-in test (count_from i (n - i)) j a).0 in

@@ -10,7 +10,7 @@ use Rattle.rule.specs.Standing.{decide}
 use Rattle.rule.specs.Outcome.{Refused, Outcome}
 use Rattle.rule.specs.Related.{item_relations}
 use Rattle.decision.specs.declared.Refusal.{Refusal}
-use Rattle.decision.specs.Arrays.{Refusals, Indices, Decision}
+use Rattle.decision.specs.Arrays.{Refusals, Indices, DecisionArrays}
 use Rattle.arithmetic.specs.declared.standing.ChiSquare.{ChiSquare}
 use Rattle.arithmetic.specs.declared.standing.ChiSquare.TheVariants.{Unmeasured}
 
@@ -19,8 +19,8 @@ unfoldable pub bad_at : List ℕ → ℕ → Bool
 bad_at s i = not (well_formed (item_record s i)) || list_any (same_identity s i) (up_to i)
 
 -- over 96 items, no whole number of items, a malformed one, or two with one identity
-unfoldable pub bad : List ℕ → Bool
-bad s =
+unfoldable pub is_bad : List ℕ → Bool
+is_bad s =
     ltb (max_items * item_size) (length s)
     || (not (eqb (length s % item_size) 0) || list_any (bad_at s) (up_to (length s / item_size)))
 
@@ -41,12 +41,12 @@ no_refusal = record { refused = 0; kept = 0; chi2 = Unmeasured; superseded = fal
 unfoldable pub refusals : List Refusal → Refusals
 refusals l = record { list = l ++ replicate (max_items - length l) no_refusal; count = length l }
 
-unfoldable pub decision : Outcome ℕ ChiSquare → Decision
-decision o =
+unfoldable pub arrays_of : Outcome ℕ ChiSquare → DecisionArrays
+arrays_of o =
     record { answer = 0; ranked = indices o.ranked; dominated = indices o.dominated; refusals = refusals (map refusal o.refused) }
 
-unfoldable pub refused_decision : Decision
+unfoldable pub refused_decision : DecisionArrays
 refused_decision = record { answer = 8; ranked = indices []; dominated = indices []; refusals = refusals [] }
 
-unfoldable pub decided : List ℕ → Decision
-decided s = cond (bad s) refused_decision (decision (outcome s))
+unfoldable pub decided_arrays : List ℕ → DecisionArrays
+decided_arrays s = cond (is_bad s) refused_decision (arrays_of (outcome s))

@@ -13,7 +13,7 @@ pub record Refusals : Type 0 where
   pub count : ℕ
 
 -- the answer is 0, or 8 with nothing decided
-pub record Decision : Type 0 where
+pub record DecisionArrays : Type 0 where
   pub answer : ℕ
   pub ranked : Indices
   pub dominated : Indices

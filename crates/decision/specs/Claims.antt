@@ -10,7 +10,7 @@ use Rattle.items.specs.Claimed.{claim_of}
 use Rattle.rule.specs.Standing.{Relations, is_superseded, decide}
 use Rattle.rule.specs.Outcome.{Refused, Outcome}
 use Rattle.rule.specs.Related.{item_relations}
-use Rattle.decision.specs.Answer.{bad, outcome, decided, indices, refusals}
+use Rattle.decision.specs.Answer.{is_bad, outcome, decided_arrays, indices, refusals}
 use Rattle.decision.specs.Positions.{item, S, M, L}
 use Rattle.arithmetic.specs.declared.standing.ChiSquare.{ChiSquare}
 
@@ -59,7 +59,7 @@ pub record Lawful (s : List ℕ) : Type 0 where
 
 -- Every decision that is not refused keeps these laws.
 abbrev pub DecisionsLawful : Type 0
-DecisionsLawful = (s : List ℕ) → bad s ≡ false → Lawful s
+DecisionsLawful = (s : List ℕ) → is_bad s ≡ false → Lawful s
 
 -- ---- the order of the items
 
@@ -73,18 +73,18 @@ pub record Reordered (s t : List ℕ) (to : ℕ → ℕ) : Type 0 where
   pub items : (i : ℕ) → i < item_count s → item_at t (to i) ≡ item_at s i
 
 -- a refusal with its items at their new places
-abbrev pub moved : (ℕ → ℕ) → Refused ℕ ChiSquare → Refused ℕ ChiSquare
-moved to x = record { item = to x.item; against = to x.against; chi2 = x.chi2; superseded = x.superseded }
+abbrev pub renumbered : (ℕ → ℕ) → Refused ℕ ChiSquare → Refused ℕ ChiSquare
+renumbered to x = record { item = to x.item; against = to x.against; chi2 = x.chi2; superseded = x.superseded }
 
 -- what is decided is the same, at the new places: ranked in the same order, the others in that of the new places
 pub record SameDecision (s t : List ℕ) (to : ℕ → ℕ) : Type 0 where
   pub ranked : (outcome t).ranked ≡ map to (outcome s).ranked
   pub dominated : Permᴰ (outcome t).dominated (map to (outcome s).dominated)
-  pub refused : Permᴰ (outcome t).refused (map (moved to) (outcome s).refused)
+  pub refused : Permᴰ (outcome t).refused (map (renumbered to) (outcome s).refused)
 
 -- What is decided does not depend on the order of the items.
 abbrev pub OrderFree : Type 0
-OrderFree = (s t : List ℕ) (to : ℕ → ℕ) → bad s ≡ false → bad t ≡ false → Reordered s t to → SameDecision s t to
+OrderFree = (s t : List ℕ) (to : ℕ → ℕ) → is_bad s ≡ false → is_bad t ≡ false → Reordered s t to → SameDecision s t to
 
 -- ---- three nested sets
 
@@ -97,7 +97,7 @@ OnlyTheEndsDisagree =
 
 abbrev pub Position3 : Type 0
 Position3 =
-    decided (item S 1 ++ item M 2 ++ item L 3)
+    decided_arrays (item S 1 ++ item M 2 ++ item L 3)
     ≡ record {
       answer = 0;
       ranked = indices (1 ∷ []);

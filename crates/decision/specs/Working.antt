@@ -9,7 +9,7 @@ use Rattle.rule.specs.Standing as S
 use Rattle.rule.specs.Standing.{decide}
 use Rattle.rule.specs.Listed.{relations}
 use Rattle.rule.specs.Rows.{all, replaces, opposes}
-use Rattle.decision.specs.Arrays.{Decision}
+use Rattle.decision.specs.Arrays.{DecisionArrays}
 use Rattle.decision.specs.declared.Refusal.{Refusal}
 use Rattle.decision.specs.Answer.{indices, refusal, refusals}
 use Rattle.arithmetic.specs.declared.standing.ChiSquare.{ChiSquare}
@@ -29,8 +29,8 @@ abbrev pub refusal_in : List Item → ℕ → List (O.Refused ℕ ChiSquare)
 refusal_in l = S.refusal_of (relations l) (all l)
 
 -- the members of a list are below n
-abbrev pub AllBelow : ℕ → List ℕ → Type 0
-AllBelow n l = (i : ℕ) → Memᴰ i l → i < n
+abbrev pub MembersBelow : ℕ → List ℕ → Type 0
+MembersBelow n l = (i : ℕ) → Memᴰ i l → i < n
 
 -- a refusal, if there is one
 unfoldable pub finding : List (O.Refused ℕ ChiSquare) → Option Refusal
@@ -38,6 +38,6 @@ finding [] = None
 finding (x ∷ l) = Some (refusal x)
 
 -- the first n of at most one item ranked, and no other listed
-unfoldable pub plainly : ℕ → ℕ → Decision
-plainly answer n =
+unfoldable pub plain_decision : ℕ → ℕ → DecisionArrays
+plain_decision answer n =
     record { answer = answer; ranked = record { list = replicate max_items 0; count = n }; dominated = indices []; refusals = refusals [] }

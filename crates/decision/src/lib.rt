@@ -7,7 +7,7 @@
 ghost use Rattle.std.specs.Prelude.{◌≡◌, ℕ, false, [], ◌+◌, ◌*◌, ◌≤◌, ◌<◌, length};
 ghost use Rattle.ranges.specs.Lists.{up_to};
 ghost use Rattle.items.specs.Layout.{item_size, max_items};
-ghost use Rattle.decision.specs.Answer.{decided};
+ghost use Rattle.decision.specs.Answer.{decided_arrays};
 ghost use Rattle.decision.specs.Answered.{Says, answered};
 ghost use Rattle.rule.specs.Phases.{items_of};
 ghost use Rattle.decision.specs.Working.{among};
@@ -202,7 +202,7 @@ pub fn decide_alone<const N: usize>(n: usize) -> Decision<N>
 /// What is decided of items in bytes, of `items::layout::ITEM_SIZE` each: any bytes may be lent. Nothing is decided of bad items
 /// (`Items::parse`).
 pub fn decide(s: &[u8]) -> Option<Decision<MAX_ITEMS>>
-    ensures { answered result ≡ decided s.now }
+    ensures { answered result ≡ decided_arrays s.now }
 {
     let items = Items::parse(s)?;
     let n = items.len();

@@ -7,7 +7,7 @@ ghost use Rattle.arrayvec.specs.ArrayVec.{array_vec_len};
 ghost use Rattle.rule.specs.Listed.{relations};
 ghost use Rattle.decision.specs.Answer.{refusal};
 ghost use Rattle.rule.specs.Phases.{items_of};
-ghost use Rattle.decision.specs.Working.{among, replaced_in, opposed_in, refusal_in, finding, AllBelow};
+ghost use Rattle.decision.specs.Working.{among, replaced_in, opposed_in, refusal_in, finding, MembersBelow};
 
 use crate::Refusal;
 use arrayvec::ArrayVec;
@@ -85,7 +85,7 @@ pub fn list_dominated<const N: usize>(settled: &Settled<'_>, list: &mut ArrayVec
 
 // How many items at the front of a list rank before item i.
 fn place_of(settled: &Settled<'_>, list: &[u8], i: usize) -> usize
-    requires below { AllBelow (length (items_of settled.now)) list.now }
+    requires below { MembersBelow (length (items_of settled.now)) list.now }
     requires i_below { i < length (items_of settled.now) }
     ensures { result ≡ prefix_len (λ j. (relations (items_of settled.now)).ahead j i) list.now }
 {
@@ -99,7 +99,7 @@ fn place_of(settled: &Settled<'_>, list: &[u8], i: usize) -> usize
 
 // Puts item i in behind those that rank before it.
 fn enter<const N: usize>(settled: &Settled<'_>, list: &mut ArrayVec<u8, N>, i: usize)
-    requires below { AllBelow (length (items_of settled.now)) list.old.items }
+    requires below { MembersBelow (length (items_of settled.now)) list.old.items }
     requires i_below { i < length (items_of settled.now) }
     requires room { array_vec_len list.old < N }
     ensures items { list.new.items ≡ insert (relations (items_of settled.now)).ahead i list.old.items }

@@ -7,7 +7,7 @@ ghost use Rattle.ranges.specs.Lists.{up_to};
 ghost use Rattle.items.specs.Layout.{item_size, max_items};
 ghost use Rattle.items.specs.Items.{same_identity};
 ghost use Rattle.items.specs.Values.{IsItem};
-ghost use Rattle.decision.specs.Answer.{bad_at, bad};
+ghost use Rattle.decision.specs.Answer.{bad_at, is_bad};
 
 use items::Item;
 use items::layout::{ITEM_SIZE, MAX_ITEMS};
@@ -17,7 +17,7 @@ use places::table::places_of;
 #[derive(Clone, Copy)]
 pub struct Items<'a> {
     bytes: &'a [u8],
-    ghost good: { bad bytes.now ≡ false },
+    ghost good: { is_bad bytes.now ≡ false },
     ghost whole: { length bytes.now ≡ length bytes.now / item_size * item_size },
     ghost few: { length bytes.now / item_size ≤ max_items },
 }
@@ -57,7 +57,7 @@ fn any_bad(s: &[u8], n: u8) -> bool
 
 // Over 96 items, no whole number of items, a malformed one, or two with one identity.
 fn is_bad(s: &[u8]) -> bool
-    ensures { result ≡ bad s.now }
+    ensures { result ≡ is_bad s.now }
 {
     if MAX_ITEMS * ITEM_SIZE < s.len() {
         return true;
@@ -72,7 +72,7 @@ impl<'a> Items<'a> {
     /// The items that bytes are. There are none where they are bad: over 96 items, no whole number of items, a malformed one, or two with
     /// one identity.
     pub fn parse(bytes: &'a [u8]) -> Option<Items<'a>>
-        ensures good { is_some result ≡ not (bad bytes.now) }
+        ensures good { is_some result ≡ not (is_bad bytes.now) }
         ensures same { IfSome result (λ items. items.bytes.now ≡ bytes.now) }
     {
         if is_bad(bytes) {

@@ -1,19 +1,19 @@
 -- How long lines are: what a buffer must have room for, and that no board is so short that its length could be a refusal's number.
 use Rattle.std.proofs.Common.{◌≡◌, refl, ap, Option, Some, None, List, ℕ, suc, ◌≤◌, arith, ℤ, pos, negsuc, length, length-append}
 use lib.Ieee.{binary64, to_bits}
-use Rattle.text.specs.Numbers.{signed, hex}
+use Rattle.text.specs.Numbers.{signed_decimal, hex}
 use Rattle.text.specs.Heights.{metres}
 use Rattle.text.proofs.Readback.{digits-width, hex-width}
 use Rattle.record.specs.Fields.{time, latitude, longitude, height, weight}
 use Rattle.octets.specs.Ascii.{ascii}
-use Rattle.drawing.specs.Lines.{header, where_when, metres_text, height_text, fix_text, line, chi_square_text, refused_line}
+use Rattle.drawing.specs.Lines.{header, where_when, metres_text, height_text, fix_text, fix_line, chi_square_text, refused_line}
 use Rattle.arithmetic.specs.declared.standing.ChiSquare.{ChiSquare}
 use Rattle.arithmetic.specs.declared.standing.ChiSquare.TheVariants.{Measured, Unmeasured}
 use Rattle.drawing.specs.Claims.{NoneExactlyWhen}
 use Rattle.drawing.specs.Widths.{role_width, header_width, line_width, refused_width}
 
-signed-width : (v : ℤ) → length (signed v) ≤ 11
-unfolding signed
+signed-width : (v : ℤ) → length (signed_decimal v) ≤ 11
+unfolding signed_decimal
 signed-width (pos n) = let w = digits-width 9 n in omega arith
 signed-width (negsuc n) = let w = digits-width 9 (suc n) in omega arith
 
@@ -66,8 +66,8 @@ fix-width role r s h =
     let k : length (ascii " signers=") ≡ 9 = unfold ascii in refl in
     simp length-append (omega arith)
 
-pub line-width : (role r : List ℕ) (s : ℕ) → length role ≤ role_width → length (line role r s) ≤ line_width
-unfolding line
+pub line-width : (role r : List ℕ) (s : ℕ) → length role ≤ role_width → length (fix_line role r s) ≤ line_width
+unfolding fix_line
 line-width role r s h =
     let p = fix-width role r s h in
     let m : length (ascii "\n") ≡ 1 = unfold ascii in refl in

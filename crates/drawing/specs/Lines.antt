@@ -3,7 +3,7 @@
 use Rattle.std.specs.Prelude.{ℕ, ℤ, List, ◌++◌, Option, Some, None}
 use Rattle.std.specs.Float.{binary64}
 use Rattle.std.specs.Float.Ieee.{to_bits}
-use Rattle.text.specs.Numbers.{decimal, signed, hex}
+use Rattle.text.specs.Numbers.{decimal, signed_decimal, hex}
 use Rattle.text.specs.Heights.{metres}
 use Rattle.record.specs.Fields.{time, latitude, longitude, height, weight}
 use Rattle.octets.specs.Ascii.{ascii}
@@ -21,12 +21,12 @@ header number ranked dominated refused =
 
 -- time=1000 lat=500000000 lon=100000000
 unfoldable pub where_when : List ℕ → List ℕ
-where_when r = (ascii " time=" ++ decimal (time r)) ++ ((ascii " lat=" ++ signed (latitude r)) ++ (ascii " lon=" ++ signed (longitude r)))
+where_when r = (ascii " time=" ++ decimal (time r)) ++ ((ascii " lat=" ++ signed_decimal (latitude r)) ++ (ascii " lon=" ++ signed_decimal (longitude r)))
 
 -- a height in whole metres, or `none`; the rule of rounding is that of text specs/Heights
 unfoldable pub metres_text : Option ℤ → List ℕ
 metres_text None = ascii "none"
-metres_text (Some h) = signed (metres h)
+metres_text (Some h) = signed_decimal (metres h)
 
 unfoldable pub height_text : List ℕ → List ℕ
 height_text r = ascii " height=" ++ metres_text (height r)
@@ -41,14 +41,14 @@ fix_text role r signers =
     ++ (ascii " signers=" ++ hex 8 signers))))
 
 -- a line of a ranked or dominated fix
-unfoldable pub line : List ℕ → List ℕ → ℕ → List ℕ
-line role r signers = fix_text role r signers ++ ascii "\n"
+unfoldable pub fix_line : List ℕ → List ℕ → ℕ → List ℕ
+fix_line role r signers = fix_text role r signers ++ ascii "\n"
 
 abbrev pub ranked_line : List ℕ → ℕ → List ℕ
-ranked_line r signers = line (ascii "ranked") r signers
+ranked_line r signers = fix_line (ascii "ranked") r signers
 
 abbrev pub dominated_line : List ℕ → ℕ → List ℕ
-dominated_line r signers = line (ascii "dominated") r signers
+dominated_line r signers = fix_line (ascii "dominated") r signers
 
 -- the bits of a chi-square in 16 hex digits, and `none` where there is no number
 unfoldable pub chi_square_text : ChiSquare → List ℕ

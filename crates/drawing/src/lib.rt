@@ -4,7 +4,7 @@
 ghost use Rattle.std.specs.Prelude.{◌≡◌, ◌++◌};
 ghost use Rattle.octets.specs.Ascii.{ascii};
 ghost use Rattle.record.specs.Fields as F;
-ghost use Rattle.text.specs.Numbers.{decimal, signed};
+ghost use Rattle.text.specs.Numbers.{decimal, signed_decimal};
 ghost use Rattle.text.specs.Texts.{append};
 ghost use Rattle.drawing.specs.Lines as L;
 ghost use Rattle.drawing.specs.Roles.{role_name};
@@ -45,14 +45,14 @@ fn push_time(out: &mut Text, report: Record)
 
 #[tactic(auto, unfolding(octets::specs::Ascii::ascii))]
 fn push_latitude(out: &mut Text, report: Record)
-    ensures { out.new ≡ append out.old (ascii " lat=" ++ signed (F.latitude report.entry.bytes.now)) }
+    ensures { out.new ≡ append out.old (ascii " lat=" ++ signed_decimal (F.latitude report.entry.bytes.now)) }
 {
     out.push_field(" lat=", &report.latitude());
 }
 
 #[tactic(auto, unfolding(octets::specs::Ascii::ascii))]
 fn push_longitude(out: &mut Text, report: Record)
-    ensures { out.new ≡ append out.old (ascii " lon=" ++ signed (F.longitude report.entry.bytes.now)) }
+    ensures { out.new ≡ append out.old (ascii " lon=" ++ signed_decimal (F.longitude report.entry.bytes.now)) }
 {
     out.push_field(" lon=", &report.longitude());
 }
@@ -96,7 +96,7 @@ fn push_fix(out: &mut Text, role: Role, report: Record, signers: u32)
 
 /// The line of a fix that is ranked or dominated.
 pub fn push_line(out: &mut Text, role: Role, report: Record, signers: u32)
-    ensures { out.new ≡ append out.old (L.line (role_name role) report.entry.bytes.now signers) }
+    ensures { out.new ≡ append out.old (L.fix_line (role_name role) report.entry.bytes.now signers) }
 {
     push_fix(out, role, report, signers);
     out.push_str("\n");

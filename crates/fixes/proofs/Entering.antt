@@ -11,7 +11,7 @@ use Rattle.ranges.proofs.Bools.{by, and_left, and_right}
 use Rattle.shown.specs.Fix.{Fix}
 use Rattle.shown.specs.Shown.{lower}
 use Rattle.fixes.specs.Fixes.{unite, enter}
-use Rattle.fixes.specs.Order.{order, ascends_from, ascends}
+use Rattle.fixes.specs.Order.{order, identities_ascend_from, identities_ascend}
 
 -- ---- entering keeps the order
 
@@ -21,20 +21,20 @@ unite-identity g f e = by (is_before f.record_bytes g.record_bytes) (λ h. rw h 
 same-identity : (f g : Fix) → lower g f ≡ false → lower f g ≡ false → g.identity ≡ f.identity
 same-identity f g a b = before_same g.identity f.identity a b
 
-enter-from : (f : Fix) (key : List ℕ) (gs : List Fix) → is_before key f.identity ≡ true → ascends_from key gs ≡ true → ascends_from key (enter f gs) ≡ true
-unfolding ascends_from enter
+enter-from : (f : Fix) (key : List ℕ) (gs : List Fix) → is_before key f.identity ≡ true → identities_ascend_from key gs ≡ true → identities_ascend_from key (enter f gs) ≡ true
+unfolding identities_ascend_from enter
 enter-from f key [] h a = rw h refl
 enter-from f key (g ∷ gs) h a =
-    let k : is_before key g.identity ≡ true = and_left (is_before key g.identity) (ascends_from g.identity gs) a in
-    let r : ascends_from g.identity gs ≡ true = and_right (is_before key g.identity) (ascends_from g.identity gs) a in
+    let k : is_before key g.identity ≡ true = and_left (is_before key g.identity) (identities_ascend_from g.identity gs) a in
+    let r : identities_ascend_from g.identity gs ≡ true = and_right (is_before key g.identity) (identities_ascend_from g.identity gs) a in
     by (lower g f)
     (λ u. rw (u, k) (enter-from f g.identity gs u r))
     (λ u. by (lower f g)
     (λ v. rw (u, v, h, v) r)
     (λ v. rw (u, v, unite-identity g f (same-identity f g u v), k) r))
 
-pub enter-ascends : (f : Fix) (gs : List Fix) → ascends gs ≡ true → ascends (enter f gs) ≡ true
-unfolding ascends ascends_from enter
+pub enter-ascends : (f : Fix) (gs : List Fix) → identities_ascend gs ≡ true → identities_ascend (enter f gs) ≡ true
+unfolding identities_ascend identities_ascend_from enter
 enter-ascends f [] a = refl
 enter-ascends f (g ∷ gs) a =
     by (lower g f)
@@ -45,21 +45,21 @@ enter-ascends f (g ∷ gs) a =
 
 -- ---- an earlier fix is the lower
 
-from-key : (key : List ℕ) (gs : List Fix) → ascends_from key gs ≡ true → (j : ℕ) (d : Fix) → j < length gs → is_before key (get_or gs j d).identity ≡ true
-unfolding ascends_from
+from-key : (key : List ℕ) (gs : List Fix) → identities_ascend_from key gs ≡ true → (j : ℕ) (d : Fix) → j < length gs → is_before key (get_or gs j d).identity ≡ true
+unfolding identities_ascend_from
 from-key key [] a j d h = absurd (omega arith)
-from-key key (g ∷ gs) a zero d h = and_left (is_before key g.identity) (ascends_from g.identity gs) a
+from-key key (g ∷ gs) a zero d h = and_left (is_before key g.identity) (identities_ascend_from g.identity gs) a
 from-key key (g ∷ gs) a (suc j) d h =
-    before-trans key g.identity (get_or gs j d).identity (and_left (is_before key g.identity) (ascends_from g.identity gs) a)
-    (from-key g.identity gs (and_right (is_before key g.identity) (ascends_from g.identity gs) a) j d (omega arith))
+    before-trans key g.identity (get_or gs j d).identity (and_left (is_before key g.identity) (identities_ascend_from g.identity gs) a)
+    (from-key g.identity gs (and_right (is_before key g.identity) (identities_ascend_from g.identity gs) a) j d (omega arith))
 
-pub rest-ascends : (key : List ℕ) (gs : List Fix) → ascends_from key gs ≡ true → ascends gs ≡ true
-unfolding ascends_from ascends
+pub rest-ascends : (key : List ℕ) (gs : List Fix) → identities_ascend_from key gs ≡ true → identities_ascend gs ≡ true
+unfolding identities_ascend_from identities_ascend
 rest-ascends key [] a = refl
-rest-ascends key (g ∷ gs) a = and_right (is_before key g.identity) (ascends_from g.identity gs) a
+rest-ascends key (g ∷ gs) a = and_right (is_before key g.identity) (identities_ascend_from g.identity gs) a
 
-pub earlier-lower : (gs : List Fix) → ascends gs ≡ true → (i j : ℕ) (d : Fix) → i < j → j < length gs → lower (get_or gs i d) (get_or gs j d) ≡ true
-unfolding ascends
+pub earlier-lower : (gs : List Fix) → identities_ascend gs ≡ true → (i j : ℕ) (d : Fix) → i < j → j < length gs → lower (get_or gs i d) (get_or gs j d) ≡ true
+unfolding identities_ascend
 earlier-lower [] a i j d h l = absurd (omega arith)
 earlier-lower (g ∷ gs) a i zero d h l = absurd (omega arith)
 earlier-lower (g ∷ gs) a zero (suc j) d h l = from-key g.identity gs a j d (omega arith)
@@ -76,7 +76,7 @@ stands-greater g f e = by (lower g f) (λ u. let z = rw u at e in cc) (λ u. by 
 stands-equal : (g f : Fix) → order g f ≡ Equal → (lower g f ≡ false) × (lower f g ≡ false)
 stands-equal g f e = by (lower g f) (λ u. let z = rw u at e in cc) (λ u. by (lower f g) (λ v. let z = rw (u, v) at e in cc) (λ v. (u, v)))
 
-searchable : (gs : List Fix) (f : Fix) → ascends gs ≡ true → IsNonDecreasingBy (λ y. ordering_index (order y f)) gs
+searchable : (gs : List Fix) (f : Fix) → identities_ascend gs ≡ true → IsNonDecreasingBy (λ y. ordering_index (order y f)) gs
 searchable gs f a i j d h l =
     by (ltb i j)
     (λ t. let e = earlier-lower gs a i j d (ltb-true i j t) l in
@@ -112,7 +112,7 @@ enter-at f (g ∷ gs) (suc i) x h a b =
     let z = a 0 f (omega arith) (omega arith) in
     rw z (ap (λ (ys : List Fix). g ∷ ys) (enter-at f gs i x (omega arith) (λ k d p q. a (suc k) d (omega arith) (omega arith)) (λ d. b d)))
 
-enter-held : (f : Fix) (gs : List Fix) (i : ℕ) (x : Fix) → ascends gs ≡ true → i < length gs → HoldsAt (λ y. order y f ≡ Equal) gs i → enter f gs ≡ set gs i (unite (get_or gs i x) f)
+enter-held : (f : Fix) (gs : List Fix) (i : ℕ) (x : Fix) → identities_ascend gs ≡ true → i < length gs → HoldsAt (λ y. order y f ≡ Equal) gs i → enter f gs ≡ set gs i (unite (get_or gs i x) f)
 enter-held f gs i x a h e =
     enter-at f gs i x h
     (λ k d p q. let z = stands-equal (get_or gs i d) f (e d) in rw (before_same (get_or gs i d).identity f.identity z.0 z.1) at (earlier-lower gs a k i d q h))
@@ -127,13 +127,13 @@ refilled n old new e = take-append-le n new (drop (length new) old) (omega arith
 
 -- ---- the two ways out of a search
 
-pub united-there : (f : Fix) (gs xs ys : List Fix) (i n : ℕ) (x new : Fix) → ascends gs ≡ true → n ≡ length gs → xs ≡ gs → ys ≡ gs → i < length xs → HoldsAt (λ y. order y f ≡ Equal) xs i → new ≡ unite (get_or ys i x) f
+pub united-there : (f : Fix) (gs xs ys : List Fix) (i n : ℕ) (x new : Fix) → identities_ascend gs ≡ true → n ≡ length gs → xs ≡ gs → ys ≡ gs → i < length xs → HoldsAt (λ y. order y f ≡ Equal) xs i → new ≡ unite (get_or ys i x) f
     → refill n gs (set ys i new) ≡ enter f gs
 united-there f gs xs ys i n x new a en ex ey h e u =
     let z : refill n gs (set ys i new) ≡ set gs i (unite (get_or gs i x) f) = rw (u, ey) (refilled n gs (set gs i (unite (get_or gs i x) f)) (length-set gs i _ ∙ sym en)) in
     z ∙ sym (enter-held f gs i x a (rw ex at h) (rw ex at e))
 
-pub put-there : (f : Fix) (gs xs new : List Fix) (i : ℕ) → ascends gs ≡ true → xs ≡ gs → i ≤ length xs
+pub put-there : (f : Fix) (gs xs new : List Fix) (i : ℕ) → identities_ascend gs ≡ true → xs ≡ gs → i ≤ length xs
     → (IsNonDecreasingBy (λ y. ordering_index (order y f)) xs → AllWithin (λ y. order y f ≡ Less) xs 0 i × AllWithin (λ y. order y f ≡ Greater) xs i (length xs)) → new ≡ insert gs i f → new ≡ enter f gs
 put-there f gs xs new i a ex h p u =
     let both = p (rw ex (searchable gs f a)) in

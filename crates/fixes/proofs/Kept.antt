@@ -11,21 +11,21 @@ use Rattle.models.specs.Identity.{set_hash, cited_inputs}
 use Rattle.models.proofs.Sets.{cited-length, identity-length}
 use Rattle.shown.specs.Fix.{Fix, with_signers}
 use Rattle.shown.specs.Shown.{lower}
-use Rattle.shown.specs.Items.{no_fix, at, Formed, AllFormed, Apart}
+use Rattle.shown.specs.Items.{no_fix, fix_at, Formed, AllFormed, Apart}
 use Rattle.fixes.specs.Slots.{slot_formed}
 use Rattle.fixes.specs.Fixes.{record_in, fix_of_place, unite, enter, enter_all, fixes_of}
-use Rattle.fixes.specs.Order.{ascends}
+use Rattle.fixes.specs.Order.{identities_ascend}
 use Rattle.fixes.proofs.Entering.{enter-ascends, enter-length, earlier-lower}
 use Rattle.fixes.proofs.Representing.{counted}
 
 -- ---- no two have one identity
 
-pub apart : (gs : List Fix) → ascends gs ≡ true → Apart gs
+pub apart : (gs : List Fix) → identities_ascend gs ≡ true → Apart gs
 apart gs a i j h k e =
     by (ltb i j)
-    (λ t. clash (earlier-lower gs a i j no_fix (ltb-true i j t) k) (rw e (before-irrefl (at gs j).identity)))
+    (λ t. clash (earlier-lower gs a i j no_fix (ltb-true i j t) k) (rw e (before-irrefl (fix_at gs j).identity)))
     (λ t. by (ltb j i)
-    (λ u. clash (earlier-lower gs a j i no_fix (ltb-true j i u) h) (rw e (before-irrefl (at gs j).identity)))
+    (λ u. clash (earlier-lower gs a j i no_fix (ltb-true j i u) h) (rw e (before-irrefl (fix_at gs j).identity)))
     (λ u. let x = ltb-false i j t in let y = ltb-false j i u in omega arith))
 
 -- ---- each is formed
@@ -57,7 +57,7 @@ slot-formed ss p h = record { key = identity-length (set_hash (record_in p)) (ci
 -- ---- the fixes of summaries and records
 
 record Kept (fs : List Fix) (n : ℕ) : Type 0 where
-  in_order : ascends fs ≡ true
+  in_order : identities_ascend fs ≡ true
   formed : AllFormed fs
   few : length fs ≤ n
 
@@ -80,10 +80,10 @@ all-kept ss (p ∷ ps) fs n h k =
 
 module _ (ss ps : List (List ℕ)) (h : list_all slot_formed ps ≡ true) where
   all : Kept (fixes_of ss ps) (0 + length ps)
-  unfolding fixes_of ascends
+  unfolding fixes_of identities_ascend
   all = all-kept ss ps [] 0 h (record { in_order = refl; formed = λ y m. absurd (Memᴰ.not-nil m); few = omega arith })
 
-  pub fixes-ascend : ascends (fixes_of ss ps) ≡ true
+  pub fixes-ascend : identities_ascend (fixes_of ss ps) ≡ true
   fixes-ascend = all.in_order
 
   pub fixes-apart : Apart (fixes_of ss ps)

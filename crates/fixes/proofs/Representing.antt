@@ -8,10 +8,10 @@ use Rattle.places.specs.Places.{places}
 use Rattle.places.proofs.Walks.{places-next, places-end, step-at, room}
 use Rattle.record.specs.Layout.{record_size}
 use Rattle.models.specs.Models.{counts}
-use Rattle.fixes.specs.Slots.{slot_formed, fix_of}
+use Rattle.fixes.specs.Slots.{slot_formed, fix_of_record}
 use Rattle.shown.specs.Fix.{Fix}
 use Rattle.fixes.specs.Fixes.{record_in, fix_of_place, enter, enter_all, fixes_of}
-use Rattle.fixes.specs.Order.{ascends}
+use Rattle.fixes.specs.Order.{identities_ascend}
 use Rattle.fixes.proofs.Entering.{enter-ascends, enter-length}
 
 module _ (ss : List (List ℕ)) (recs : List ℕ) (nr : ℕ) where
@@ -25,12 +25,12 @@ module _ (ss : List (List ℕ)) (recs : List ℕ) (nr : ℕ) where
   -- i places were gone through, and the fixes so far are fs
   pub record Walked (i : ℕ) (fs : List Fix) : Type 0 where
     pub few : length fs ≤ i
-    pub in_order : ascends fs ≡ true
+    pub in_order : identities_ascend fs ≡ true
     pub formed : list_all slot_formed (left i) ≡ true
     pub whole : enter_all fs (counted (left i)) ≡ fixes_of ss (places (record_size + 4) nr recs)
 
   pub walked-start : (fs : List Fix) → fs ≡ [] → list_all slot_formed (places (record_size + 4) nr recs) ≡ true → Walked 0 fs
-  unfolding ascends fixes_of
+  unfolding identities_ascend fixes_of
   walked-start fs e h = record { few = rw e (omega arith); in_order = rw e refl; formed = rw sub-zero h; whole = rw (sub-zero, e) refl }
 
   module _ (i : ℕ) (fs : List Fix) (k : Walked i fs) (l : i < nr) where
@@ -68,7 +68,7 @@ module _ (ss : List (List ℕ)) (recs : List ℕ) (nr : ℕ) where
     whole-record h = let q = next-long h in sym (length-take-le record_size next (omega arith))
 
     -- the fix of its record with its signers
-    pub next-fix : nr * (record_size + 4) ≤ length recs → (r : List ℕ) (s : ℕ) (f : Fix) → r ≡ take record_size next → s ≡ word_at 4 record_size next → f ≡ fix_of ss r s → f ≡ fix_of_place ss next
+    pub next-fix : nr * (record_size + 4) ≤ length recs → (r : List ℕ) (s : ℕ) (f : Fix) → r ≡ take record_size next → s ≡ word_at 4 record_size next → f ≡ fix_of_record ss r s → f ≡ fix_of_place ss next
     next-fix h r s f p q e =
         let k = next-long h in
         let few : length (drop record_size next) ≤ 4 = rw (length-drop record_size next) (omega arith) in

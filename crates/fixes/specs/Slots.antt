@@ -15,5 +15,5 @@ abbrev pub slot_formed : List ℕ → Bool
 slot_formed p = well_formed (take record_size p)
 
 -- the fix of a record alone, with its signers
-abbrev pub fix_of : List (List ℕ) → List ℕ → ℕ → Fix
-fix_of ss r signers = record { identity = identity_of ss r; record_bytes = r; inputs = cited_inputs ss r; signers = signers }
+abbrev pub fix_of_record : List (List ℕ) → List ℕ → ℕ → Fix
+fix_of_record ss r signers = record { identity = identity_of ss r; record_bytes = r; inputs = cited_inputs ss r; signers = signers }

@@ -1,10 +1,10 @@
 //! A fix: a record that is lent, what it is known by, and who signed it.
 
 ghost use Rattle.std.specs.Prelude.{◌≡◌};
-ghost use Rattle.models.specs.Answers.{listed};
+ghost use Rattle.models.specs.Answers.{summary_places};
 ghost use Rattle.fixes.specs.Fixes as F;
 ghost use Rattle.fixes.specs.Order.{order};
-ghost use Rattle.fixes.specs.Slots.{fix_of};
+ghost use Rattle.fixes.specs.Slots.{fix_of_record};
 
 use models::hashes::{Identity, Inputs, precedes};
 use models::summaries::Summaries;
@@ -37,7 +37,7 @@ impl<'a> Model for Fix<'a> {
 impl<'a> Fix<'a> {
     /// A record alone as a fix, with its signers.
     pub fn of_record(all: Summaries, report: Record<'a>, signers: u32) -> Fix<'a>
-        ensures { result ≡ fix_of (listed all.entry) report.entry.bytes.now signers }
+        ensures { result ≡ fix_of_record (summary_places all.entry) report.entry.bytes.now signers }
     {
         let inputs = citations::cited_inputs(all, report);
         let set = identities::set_hash(report);

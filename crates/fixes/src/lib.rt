@@ -6,10 +6,10 @@ ghost use Rattle.arrayvec.specs.ArrayVec.{array_vec_len};
 ghost use Rattle.std.specs.List.{list_all};
 ghost use Rattle.places.specs.Places.{places};
 ghost use Rattle.record.specs.Layout.{record_size};
-ghost use Rattle.models.specs.Answers.{listed};
+ghost use Rattle.models.specs.Answers.{summary_places};
 ghost use Rattle.fixes.specs.Slots.{slot_formed};
 ghost use Rattle.fixes.specs.Fixes as F;
-ghost use Rattle.fixes.specs.Order.{ascends};
+ghost use Rattle.fixes.specs.Order.{identities_ascend};
 
 mod fix;
 
@@ -33,7 +33,7 @@ const PLACE_SIZE: usize = RECORD_SIZE + 4;
 // Puts a further fix among fixes in ascending identity.
 fn enter<'a>(fixes: &mut Fixes<'a>, fix: Fix<'a>)
     requires room { array_vec_len fixes.old < MAX_FIXES }
-    requires in_order { ascends fixes.old.items ≡ true }
+    requires in_order { identities_ascend fixes.old.items ≡ true }
     ensures { fixes.new.items ≡ F.enter fix.entry fixes.old.items }
 {
     match fixes.binary_search_by(|held| held.compare(&fix)) {
@@ -48,7 +48,7 @@ pub fn represent<'a>(all: Summaries, recs: &'a [u8], nr: usize, fixes: &mut Fixe
     requires few { nr ≤ MAX_FIXES }
     requires recs_formed { list_all slot_formed (places (record_size + 4) nr recs.now) ≡ true }
     requires none { fixes.old.items ≡ [] }
-    ensures { fixes.new.items ≡ F.fixes_of (listed all.entry) (places (record_size + 4) nr recs.now) }
+    ensures { fixes.new.items ≡ F.fixes_of (summary_places all.entry) (places (record_size + 4) nr recs.now) }
 {
     for i in 0..nr {
         let at = i * PLACE_SIZE;

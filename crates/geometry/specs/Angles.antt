@@ -51,12 +51,12 @@ unfoldable pub coefficient : ℕ → Float
 coefficient n = whole 1 ⊘ whole (factorial n)
 
 -- one step: times u, then plus the next lower coefficient
-abbrev pub step : Float → Float → Float → Float
-step u sum next = sum ⊗ u ⊕ next
+abbrev pub horner_step : Float → Float → Float → Float
+horner_step u sum next = sum ⊗ u ⊕ next
 
 unfoldable pub sine_series : Float → Float
 sine_series u =
-    foldl (step u) (coefficient 17)
+    foldl (horner_step u) (coefficient 17)
     (neg (coefficient 15)
     ∷ coefficient 13
     ∷ neg (coefficient 11)
@@ -69,7 +69,7 @@ sine_series u =
 
 unfoldable pub cosine_series : Float → Float
 cosine_series u =
-    foldl (step u) (coefficient 16)
+    foldl (horner_step u) (coefficient 16)
     (neg (coefficient 14)
     ∷ coefficient 12
     ∷ neg (coefficient 10)

@@ -6,28 +6,28 @@ use Rattle.floats.specs.Root.{root}
 use Rattle.geometry.specs.Numbers.{◌⊕◌, ◌⊖◌, ◌⊗◌, ◌⊘◌, whole, not_above}
 
 -- what stands at an index, which is always below the length here
-abbrev pub item : List Float → ℕ → Float
-item l i = get_or l i nan
+abbrev pub element : List Float → ℕ → Float
+element l i = get_or l i nan
 
 abbrev pub entry : ℕ → List Float → ℕ → ℕ → Float
-entry n m row column = item m (row * n + column)
+entry n m row column = element m (row * n + column)
 
 -- for k in 0..j { value -= p(k); }
-unfoldable pub less : Float → (ℕ → Float) → ℕ → Float
-less value p zero = value
-less value p (suc k) = less value p k ⊖ p k
+unfoldable pub minus_each : Float → (ℕ → Float) → ℕ → Float
+minus_each value p zero = value
+minus_each value p (suc k) = minus_each value p k ⊖ p k
 
 -- for i in i..i + d { value = a[i][j]; for k in 0..j { value -= l[i][k] * l[j][k]; } l[i][j] = value / root; }
 unfoldable pub rows_below : ℕ → List Float → Float → ℕ → ℕ → ℕ → List Float → List Float
 rows_below n a r j i zero l = l
 rows_below n a r j i (suc d) l =
-    rows_below n a r j (suc i) d (set l (i * n + j) (less (entry n a i j) (λ k. entry n l i k ⊗ entry n l j k) j ⊘ r))
+    rows_below n a r j (suc i) d (set l (i * n + j) (minus_each (entry n a i j) (λ k. entry n l i k ⊗ entry n l j k) j ⊘ r))
 
 -- for j in j..j + d: the diagonal less its squares, refused where it is a NaN or not above zero; its root; the rows below it
 unfoldable pub columns : ℕ → List Float → ℕ → ℕ → List Float → Option (List Float)
 columns n a j zero l = Some l
 columns n a j (suc d) l =
-    let diagonal = less (entry n a j j) (λ k. entry n l j k ⊗ entry n l j k) j in
+    let diagonal = minus_each (entry n a j j) (λ k. entry n l j k ⊗ entry n l j k) j in
     let r = root diagonal in
     cond (not_above diagonal) None (columns n a (suc j) d (rows_below n a r j (suc j) d (set l (j * n + j) r)))
 
@@ -38,7 +38,7 @@ cholesky_of n a = columns n a 0 n (replicate (n * n) (whole 0))
 unfoldable pub forwards : ℕ → List Float → List Float → ℕ → ℕ → List Float → List Float
 forwards n l b i zero y = y
 forwards n l b i (suc d) y =
-    forwards n l b (suc i) d (set y i (less (item b i) (λ k. entry n l i k ⊗ item y k) i ⊘ entry n l i i))
+    forwards n l b (suc i) d (set y i (minus_each (element b i) (λ k. entry n l i k ⊗ element y k) i ⊘ entry n l i i))
 
 unfoldable pub forward : ℕ → List Float → List Float → List Float
 forward n l b = forwards n l b 0 n (replicate n (whole 0))
@@ -48,7 +48,7 @@ unfoldable pub backwards : ℕ → List Float → List Float → ℕ → List Fl
 backwards n l y zero x = x
 backwards n l y (suc i) x =
     backwards n l y i
-    (set x i (less (item y i) (λ k. entry n l (suc i + k) i ⊗ item x (suc i + k)) (n - suc i) ⊘ entry n l i i))
+    (set x i (minus_each (element y i) (λ k. entry n l (suc i + k) i ⊗ element x (suc i + k)) (n - suc i) ⊘ entry n l i i))
 
 unfoldable pub backward : ℕ → List Float → List Float → List Float
 backward n l y = backwards n l y n (replicate n (whole 0))
@@ -57,6 +57,6 @@ unfoldable pub solve_of : ℕ → List Float → List Float → List Float
 solve_of n l b = backward n l (forward n l b)
 
 -- p(0) + p(1) + .. + p(k), in this order. (Rust's `sum` begins at -0.0, and -0.0 + x is x.)
-unfoldable pub plus : (ℕ → Float) → ℕ → Float
-plus p zero = p 0
-plus p (suc k) = plus p k ⊕ p (suc k)
+unfoldable pub sum_to : (ℕ → Float) → ℕ → Float
+sum_to p zero = p 0
+sum_to p (suc k) = sum_to p k ⊕ p (suc k)

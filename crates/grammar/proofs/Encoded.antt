@@ -5,7 +5,7 @@ use Rattle.std.proofs.lemmas.List.{drop-replicate, take_all, length-replicate}
 use Rattle.record.specs.Layout.{record_size, long_message, max_tags, max_models}
 use Rattle.octets.proofs.Numbers.{length-word-bytes}
 use Rattle.grammar.specs.declared.lines.Report.{Report}
-use Rattle.grammar.specs.Records.{bits, pad, words, height_bytes, message_bytes, place_bytes, sighting_bytes, cited_bytes}
+use Rattle.grammar.specs.Records.{unsigned_of, pad, words, height_bytes, message_bytes, place_bytes, sighting_bytes, cited_bytes}
 use Rattle.grammar.specs.Gives.{record_bytes}
 use Rattle.std.specs.Int.{to_le_bytes, byte_at, bytes_low_first}
 use native.Mathlib.Nat.{div-div-eq-div-mul}
@@ -69,7 +69,7 @@ cited-length models cov count spec e f = simp (length-append, length-word-bytes,
 pub record-length : (r : Report) → length r.message.items ≤ long_message → length r.tags.items ≤ max_tags → length r.models.items ≤ max_models → length r.covariance ≡ 48
     → length (record_bytes r) ≡ record_size
 record-length r m t k c =
-    let place = place_bytes r.time (bits r.lat) (bits r.lon) (height_bytes r.height) in
+    let place = place_bytes r.time (unsigned_of r.lat) (unsigned_of r.lon) (height_bytes r.height) in
     let sighting = sighting_bytes (message_bytes r.message.items) (length r.tags.items) r.used (pad max_tags r.tags.items) in
     let cited = cited_bytes (length r.models.items) (pad max_models r.models.items) r.spec r.covariance in
     let n : length (message_bytes r.message.items) ≡ 15 = ap (λ (n : ℕ). suc n) (length-pad long_message r.message.items m) in
@@ -77,7 +77,7 @@ record-length r m t k c =
     ∙ omega (
       arith,
       length-append sighting cited,
-      place-length r.time (bits r.lat) (bits r.lon) (height_bytes r.height) (height-length r.height),
+      place-length r.time (unsigned_of r.lat) (unsigned_of r.lon) (height_bytes r.height) (height-length r.height),
       sighting-length (message_bytes r.message.items) (pad max_tags r.tags.items) (length r.tags.items) r.used n (length-pad max_tags r.tags.items t),
       cited-length (pad max_models r.models.items) r.covariance (length r.models.items) r.spec (length-pad max_models r.models.items k) c,
     )

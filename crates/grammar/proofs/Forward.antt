@@ -15,7 +15,7 @@ use Rattle.grammar.specs.Numbers.{split_once, strip_prefix}
 use Rattle.grammar.specs.Numbers as Val
 use Rattle.grammar.specs.Session.{operations_at, session_at, bad_of, calls_by, calls_at, calls_from}
 use Rattle.grammar.specs.Claims.{and_then, DueHere, DueLater}
-use Rattle.grammar.specs.Lines.{At, Reading, ◌>>=◌, bad, cut, text, value}
+use Rattle.grammar.specs.Lines.{At, Reading, ◌>>=◌, bad_line, cut, text, value}
 use Rattle.grammar.specs.Operations.{conviction_at, summary_at, report_at, operands_at, operation_at, kind_of}
 
 -- what is left has fewer than n bytes
@@ -52,12 +52,12 @@ value_below : {A : Type 0} (due : Due) (read : List ℕ → Option A) (s : At) (
 unfolding value text
 value_below {A} due read s n h = go (cut (key_of due) s.rest) (cut_shorter (key_of due) s.rest)
   where
-    end : (p : List ℕ × List ℕ) → length p.1 < length s.rest → (o : Option A) → Below n (ok_or o (bad due s) >>= λ (a : A). Ok (a, record { rest = p.1; line = s.line + 1 }))
+    end : (p : List ℕ × List ℕ) → length p.1 < length s.rest → (o : Option A) → Below n (ok_or o (bad_line due s) >>= λ (a : A). Ok (a, record { rest = p.1; line = s.line + 1 }))
     end p q None = tt
     end p q (Some a) = omega arith
 
     go : (o : Option (List ℕ × List ℕ)) → Shorter (length (key_of due)) (length s.rest) o
-        → Below n ((ok_or o (bad due s) >>= λ (t : List ℕ × List ℕ). Ok (t.0, record { rest = t.1; line = s.line + 1 })) >>= λ (t : List ℕ × At). ok_or (read t.0) (bad due s) >>= λ (a : A). Ok (a, t.1))
+        → Below n ((ok_or o (bad_line due s) >>= λ (t : List ℕ × List ℕ). Ok (t.0, record { rest = t.1; line = s.line + 1 })) >>= λ (t : List ℕ × At). ok_or (read t.0) (bad_line due s) >>= λ (a : A). Ok (a, t.1))
     go None q = tt
     go (Some p) q = end p (omega arith) (read p.0)
 

@@ -7,7 +7,7 @@ use Rattle.grammar.specs.declared.lines.Due.TheVariants as due
 use Rattle.grammar.specs.declared.lines.Kind.{Kind}
 use Rattle.grammar.specs.declared.lines.Kind.TheVariants as kind
 use Rattle.grammar.specs.Numbers as Val
-use Rattle.grammar.specs.Lines.{At, Reading, ◌>>=◌, bad, cut, text, value}
+use Rattle.grammar.specs.Lines.{At, Reading, ◌>>=◌, bad_line, cut, text, value}
 use Rattle.grammar.specs.Keys.{key_of}
 use Rattle.grammar.specs.Operations.{conviction_at, summary_at, report_at, kind_of, operands_at, operation_at}
 use Rattle.grammar.specs.Claims.{is_value, lines_after, lines_only, pass_line, pass_lines, FirstLine, LinesAfter, lines_by, BadAfter, DueIsBad}
@@ -22,12 +22,12 @@ line-passes : {A : Type 0} (d : Due) (read : List ℕ → Option A) → Reads d 
 unfolding value
 line-passes {A} d read h s = go (text d s)
   where
-    end : (t : List ℕ × At) (o : Option A) (b : Bool) → b ≡ is_some o → lines_only (ok_or o (bad d s) >>= λ (a : A). Ok (a, t.1)) ≡ cond b (Ok t.1) (Err (bad d s))
+    end : (t : List ℕ × At) (o : Option A) (b : Bool) → b ≡ is_some o → lines_only (ok_or o (bad_line d s) >>= λ (a : A). Ok (a, t.1)) ≡ cond b (Ok t.1) (Err (bad_line d s))
     end t None b e = rw e refl
     end t (Some a) b e = rw e refl
 
     go : (m : Reading (List ℕ))
-        → lines_only (m >>= λ (t : List ℕ × At). ok_or (read t.0) (bad d s) >>= λ (a : A). Ok (a, t.1)) ≡ (m >>= λ (t : List ℕ × At). cond (is_value d t.0) (Ok t.1) (Err (bad d s)))
+        → lines_only (m >>= λ (t : List ℕ × At). ok_or (read t.0) (bad_line d s) >>= λ (a : A). Ok (a, t.1)) ≡ (m >>= λ (t : List ℕ × At). cond (is_value d t.0) (Ok t.1) (Err (bad_line d s)))
     go (Ok t) = end t (read t.0) (is_value d t.0) (h t.0)
     go (Err e) = refl
 
@@ -87,25 +87,25 @@ lines-after kind.Report s = report-passes s
 -- a good line is one line, and a bad one says where it is and what was due
 abbrev OneLine : Due → At → Result At BadLine → Type 0
 OneLine d s (Ok r) = r.line ≡ s.line + 1
-OneLine d s (Err e) = e ≡ bad d s
+OneLine d s (Err e) = e ≡ bad_line d s
 
 pass-one : (d : Due) (s : At) → OneLine d s (pass_line d s)
 unfolding text
 pass-one d s = go (cut (key_of d) s.rest)
   where
-    end : (t : List ℕ × At) → (t.1).line ≡ s.line + 1 → (b : Bool) → OneLine d s (cond b (Ok t.1) (Err (bad d s)))
+    end : (t : List ℕ × At) → (t.1).line ≡ s.line + 1 → (b : Bool) → OneLine d s (cond b (Ok t.1) (Err (bad_line d s)))
     end t h true = h
     end t h false = refl
 
     go : (o : Option (List ℕ × List ℕ))
-        → OneLine d s ((ok_or o (bad d s) >>= λ (t : List ℕ × List ℕ). Ok (t.0, record { rest = t.1; line = s.line + 1 })) >>= λ (t : List ℕ × At). cond (is_value d t.0) (Ok t.1) (Err (bad d s)))
+        → OneLine d s ((ok_or o (bad_line d s) >>= λ (t : List ℕ × List ℕ). Ok (t.0, record { rest = t.1; line = s.line + 1 })) >>= λ (t : List ℕ × At). cond (is_value d t.0) (Ok t.1) (Err (bad_line d s)))
     go None = refl
     go (Some p) = end (p.0, record { rest = p.1; line = s.line + 1 }) refl (is_value d p.0)
 
 at_once : (d : Due) (ds : List Due) (s : At) (e : BadLine) → pass_line d s ≡ Err e → BadAfter (d ∷ ds) e s
 unfolding pass_lines
 at_once d ds s e q =
-    let o : e ≡ bad d s = rw q at (pass-one d s) in
+    let o : e ≡ bad_line d s = rw q at (pass-one d s) in
     record {
       before = [];
       behind = ds;

@@ -2,10 +2,10 @@
 use Rattle.std.proofs.Common.{ℕ, zero, suc, ◌+◌, ◌-◌, ◌*◌, ◌/◌, ◌%◌, ◌^◌, ◌≤◌, ◌<◌, ◌≡◌, refl, sym, ap, ◌∙◌, Bool, true, false, ◌&&◌, ◌||◌, List, [], ◌∷◌, ◌++◌, append_assoc, append-nil, arith, add-suc, le-ltb, ne_eqb, ltb, eqb, pos, negsuc, length, get_or, Some, option_map, option_and_then}
 use lib.ListN.{get_or-append}
 use Rattle.ranges.proofs.Bools.{neither_left, neither_right, by}
-use Rattle.text.specs.Numbers.{digits, signed, decimal_value}
+use Rattle.text.specs.Numbers.{digits, signed_decimal, decimal_value}
 use Rattle.text.proofs.Shapes.{digits-one}
 use Rattle.text.proofs.Readback.{digits_value, digits-width, no-leading-zero, zero-text}
-use Rattle.grammar.specs.Numbers.{is_digit, all_digits, digits_after, read_number, read_signed, negative}
+use Rattle.grammar.specs.Numbers.{is_digit, all_digits, digits_after, read_number, read_signed, negated}
 use Rattle.grammar.specs.Claims.{ReadAsItself, OneText, SignedReadAsItself}
 
 abbrev leading_zero : List ℕ → Bool
@@ -53,12 +53,12 @@ unfolding read_signed
 signed-plain [] f = refl
 signed-plain (d ∷ t) f = grind arith
 
-signed-minus : (t : List ℕ) → read_signed (45 ∷ t) ≡ option_and_then negative (read_number 0x8000_0000 t)
+signed-minus : (t : List ℕ) → read_signed (45 ∷ t) ≡ option_and_then negated (read_number 0x8000_0000 t)
 unfolding read_signed
 signed-minus t = refl
 
 pub signed-printed : SignedReadAsItself
-unfolding signed
+unfolding signed_decimal
 signed-printed (pos n) h =
     let f = first-digit 9 n in
     rw (signed-plain (digits 9 n) (λ z. omega arith), number-printed 0x7fff_ffff 9 n (omega arith) (omega arith)) refl

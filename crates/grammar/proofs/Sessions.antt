@@ -5,7 +5,7 @@ use Rattle.register.specs.Calls.{Call}
 use Rattle.grammar.specs.declared.lines.BadLine.{BadLine}
 use Rattle.grammar.specs.Lines.{At, Reading, ◌>>=◌}
 use Rattle.grammar.specs.Operations.{operation_at}
-use Rattle.grammar.specs.Session.{start, operations_at, session_at}
+use Rattle.grammar.specs.Session.{at_start, operations_at, session_at}
 use Rattle.grammar.specs.Claims.{and_then, ReadsSessions, SessionsRead, NoOtherReading, OthersHaveCalls, some_operations, OnlyEmptyMoved}
 use Rattle.grammar.proofs.Forward.{Below, operation_below, left_less, nothing_left, one_more, later, session-empty, session-here, session-step}
 
@@ -46,7 +46,7 @@ begun s h (Ok c) q k = some-call c.0 (session_at c.1) (sym (session-step s c.0 c
 
 pub others-have-calls : OthersHaveCalls
 others-have-calls [] h = refl
-others-have-calls (b ∷ s) h = absurd (begun (start (b ∷ s)) (omega arith) (operation_at (start (b ∷ s))) refl h)
+others-have-calls (b ∷ s) h = absurd (begun (at_start (b ∷ s)) (omega arith) (operation_at (at_start (b ∷ s))) refl h)
 
 -- after an operation, nothing or another
 rest-same : (k : ℕ) (c : Call × At) → (0 < length (c.1).rest → some_operations k c.1 ≡ operations_at k c.1)
@@ -65,4 +65,4 @@ some-same (suc k) s h e = go (λ r p q. some-same k r p (omega arith)) (operatio
 
 pub only-empty-moved : OnlyEmptyMoved
 unfolding session_at
-only-empty-moved s h = ap (λ (m : Reading (List Call)). m >>= λ (cs : List Call × At). Ok cs.0) (sym (some-same (length s) (start s) h (omega arith)))
+only-empty-moved s h = ap (λ (m : Reading (List Call)). m >>= λ (cs : List Call × At). Ok cs.0) (sym (some-same (length s) (at_start s) h (omega arith)))

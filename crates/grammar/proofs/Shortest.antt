@@ -5,7 +5,7 @@ use Rattle.register.specs.Calls.{Call}
 use Rattle.grammar.specs.declared.lines.Due.TheVariants as due
 use Rattle.grammar.specs.declared.lines.Kind.{Kind}
 use Rattle.grammar.specs.Keys.{key_of}
-use Rattle.grammar.specs.Lines.{At, Reading, ◌>>=◌, bad, cut, text, value}
+use Rattle.grammar.specs.Lines.{At, Reading, ◌>>=◌, bad_line, cut, text, value}
 use Rattle.grammar.specs.Operations.{operands_at, operation_at, kind_of}
 use Rattle.grammar.specs.Session.{calls_by, calls_at}
 use Rattle.grammar.proofs.Forward.{Below, Shorter, cut_shorter, operands_below}
@@ -29,13 +29,13 @@ unfolding value text
 first-takes s = go (cut (key_of due.Op) s.rest) (cut_shorter (key_of due.Op) s.rest)
   where
     end : (p : List ℕ × List ℕ) → 3 + length p.0 + length p.1 < length s.rest → (o : Option Kind) → kind_of p.0 ≡ o
-        → Takes (length s.rest) (ok_or o (bad due.Op s) >>= λ (k : Kind). Ok (k, record { rest = p.1; line = s.line + 1 }))
+        → Takes (length s.rest) (ok_or o (bad_line due.Op s) >>= λ (k : Kind). Ok (k, record { rest = p.1; line = s.line + 1 }))
     end p q None h = tt
     end p q (Some k) h = let w = kind-wide p.0 k h in omega arith
 
     go : (o : Option (List ℕ × List ℕ)) → Shorter 3 (length s.rest) o
         → Takes (length s.rest)
-        ((ok_or o (bad due.Op s) >>= λ (t : List ℕ × List ℕ). Ok (t.0, record { rest = t.1; line = s.line + 1 })) >>= λ (t : List ℕ × At). ok_or (kind_of t.0) (bad due.Op s) >>= λ (k : Kind). Ok (k, t.1))
+        ((ok_or o (bad_line due.Op s) >>= λ (t : List ℕ × List ℕ). Ok (t.0, record { rest = t.1; line = s.line + 1 })) >>= λ (t : List ℕ × At). ok_or (kind_of t.0) (bad_line due.Op s) >>= λ (k : Kind). Ok (k, t.1))
     go None q = tt
     go (Some p) q = end p q (kind_of p.0) refl
 

@@ -1,7 +1,7 @@
 -- What is claimed of how a session is read, of what is due in it, and of its numbers. The contracts of src/claims.rt name it; the proofs are in
 -- proofs/Forward, proofs/Sessions, proofs/Named and proofs/Printed.
 use Rattle.std.specs.Prelude.{ℕ, zero, suc, ◌+◌, ◌≤◌, ◌<◌, ◌≡◌, Bool, cond, List, [], ◌∷◌, ◌++◌, ◌==◌, length, Some, is_some, Result, Ok, Err, ℤ, pos, negsuc}
-use Rattle.text.specs.Numbers.{decimal, signed}
+use Rattle.text.specs.Numbers.{decimal, signed_decimal}
 use Rattle.models.specs.Summary.{inputs_size}
 use Rattle.register.specs.Calls.{Call}
 use Rattle.grammar.specs.declared.lines.BadLine.{BadLine}
@@ -10,9 +10,9 @@ use Rattle.grammar.specs.declared.lines.Due.TheVariants as due
 use Rattle.grammar.specs.declared.lines.Kind.{Kind}
 use Rattle.grammar.specs.declared.lines.Kind.TheVariants as kind
 use Rattle.grammar.specs.Numbers.{u8, u16, u64, read_number, read_signed, read_height, read_message, read_tags, read_models, read_hex, read_covariance}
-use Rattle.grammar.specs.Lines.{At, Reading, ◌>>=◌, bad, text, value}
+use Rattle.grammar.specs.Lines.{At, Reading, ◌>>=◌, bad_line, text, value}
 use Rattle.grammar.specs.Operations.{kind_of, operands_at, operation_at}
-use Rattle.grammar.specs.Session.{start, session_at, session_of, bad_of}
+use Rattle.grammar.specs.Session.{at_start, session_at, session_of, bad_of}
 
 -- ---- what a session says, operation by operation
 
@@ -44,14 +44,14 @@ OthersHaveCalls = (s : List ℕ) → session_of s ≡ Ok [] → s ≡ []
 
 -- another reading of sessions: one operation, then the others until no byte is left, so that an empty file is bad at line 1
 unfoldable pub some_operations : ℕ → At → Reading (List Call)
-some_operations zero s = Err (bad due.Op s)
+some_operations zero s = Err (bad_line due.Op s)
 some_operations (suc most) s = do
   c ← operation_at s
   cond (length (c.1).rest == 0) (Ok (c.0 ∷ [], c.1)) (some_operations most c.1 >>= λ (cs : List Call × At). Ok (c.0 ∷ cs.0, cs.1))
 
 -- every file but the empty one is read so too
 abbrev pub OnlyEmptyMoved : Type 0
-OnlyEmptyMoved = (s : List ℕ) → 0 < length s → session_of s ≡ (some_operations (length s) (start s) >>= λ (cs : List Call × At). Ok cs.0)
+OnlyEmptyMoved = (s : List ℕ) → 0 < length s → session_of s ≡ (some_operations (length s) (at_start s) >>= λ (cs : List Call × At). Ok cs.0)
 
 -- ---- what is due
 
@@ -86,7 +86,7 @@ lines_only (Err e) = Err e
 
 -- a line is good where its key stands and a value of it
 abbrev pub pass_line : Due → At → Result At BadLine
-pass_line d s = text d s >>= λ (t : List ℕ × At). cond (is_value d t.0) (Ok t.1) (Err (bad d s))
+pass_line d s = text d s >>= λ (t : List ℕ × At). cond (is_value d t.0) (Ok t.1) (Err (bad_line d s))
 
 unfoldable pub pass_lines : List Due → At → Result At BadLine
 pass_lines [] s = Ok s
@@ -136,10 +136,10 @@ abbrev pub OneText : Type 0
 OneText = (most n : ℕ) (t u : List ℕ) → read_number most t ≡ Some n → read_number most u ≡ Some n → t ≡ u
 
 -- a signed number of 32 bits is one from -2 ^ 31 to 2 ^ 31 - 1
-abbrev pub InRange : ℤ → Type 0
-InRange (pos n) = n < 0x8000_0000
-InRange (negsuc n) = n < 0x8000_0000
+abbrev pub FitsI32 : ℤ → Type 0
+FitsI32 (pos n) = n < 0x8000_0000
+FitsI32 (negsuc n) = n < 0x8000_0000
 
 -- and is read from its text as itself
 abbrev pub SignedReadAsItself : Type 0
-SignedReadAsItself = (v : ℤ) → InRange v → read_signed (signed v) ≡ Some v
+SignedReadAsItself = (v : ℤ) → FitsI32 v → read_signed (signed_decimal v) ≡ Some v

@@ -19,8 +19,8 @@ abbrev pub ◌>>=◌ : {A B : Type 0} → Result A BadLine → (A → Result B B
 (Ok x) >>= f = f x
 (Err e) >>= f = Err e
 
-abbrev pub bad : Due → At → BadLine
-bad due s = record { line = s.line; due = due }
+abbrev pub bad_line : Due → At → BadLine
+bad_line due s = record { line = s.line; due = due }
 
 -- the text between a key and the first line feed after it, and the bytes that follow
 unfoldable pub cut : List ℕ → List ℕ → Option (List ℕ × List ℕ)
@@ -29,12 +29,12 @@ cut key s = option_and_then (split_once 10) (strip_prefix key s)
 -- the text of the line due
 unfoldable pub text : Due → At → Reading (List ℕ)
 text due s = do
-  t ← ok_or (cut (key_of due) s.rest) (bad due s)
+  t ← ok_or (cut (key_of due) s.rest) (bad_line due s)
   Ok (t.0, record { rest = t.1; line = s.line + 1 })
 
 -- its value
 unfoldable pub value : {A : Type 0} → Due → (List ℕ → Option A) → At → Reading A
 value due read s = do
   t ← text due s
-  a ← ok_or (read t.0) (bad due s)
+  a ← ok_or (read t.0) (bad_line due s)
   Ok (a, t.1)

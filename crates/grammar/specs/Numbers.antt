@@ -46,18 +46,18 @@ unfoldable pub read_number : ℕ → List ℕ → Option ℕ
 read_number most t = cond (length t == 0 || (nat_lt 1 (length t) && get_or t 0 0 == 48)) None (digits_after most 0 t)
 
 -- a minus stands only before a number that is not zero
-abbrev pub negative : ℕ → Option ℤ
-negative n = if n == 0 then None else Some (neg_ℤ (pos n))
+abbrev pub negated : ℕ → Option ℤ
+negated n = if n == 0 then None else Some (neg_ℤ (pos n))
 
 -- a signed number of 32 bits
-abbrev pub signed_by : List ℕ → Option (List ℕ) → Option ℤ
-signed_by t None = option_map pos (read_number 0x7fff_ffff t)
-signed_by t (Some magnitude) = do
+abbrev pub read_signed_by : List ℕ → Option (List ℕ) → Option ℤ
+read_signed_by t None = option_map pos (read_number 0x7fff_ffff t)
+read_signed_by t (Some magnitude) = do
   n ← read_number 0x8000_0000 magnitude
-  negative n
+  negated n
 
 unfoldable pub read_signed : List ℕ → Option ℤ
-read_signed t = signed_by t (strip_prefix (codes "-") t)
+read_signed t = read_signed_by t (strip_prefix (codes "-") t)
 
 -- a height may be unknown
 unfoldable pub read_height : List ℕ → Option (Option ℤ)

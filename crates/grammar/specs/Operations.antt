@@ -4,7 +4,7 @@ use Rattle.std.specs.Str.{bytes_eq}
 use Rattle.record.specs.Layout.{max_tags, max_models}
 use Rattle.models.specs.Summary.{inputs_size}
 use Rattle.register.specs.Calls.{Call, report, summary, conviction}
-use Rattle.grammar.specs.Records.{bits, pad, height_bytes, message_bytes, place_bytes, sighting_bytes, cited_bytes}
+use Rattle.grammar.specs.Records.{unsigned_of, pad, height_bytes, message_bytes, place_bytes, sighting_bytes, cited_bytes}
 use Rattle.grammar.specs.declared.lines.Due.TheVariants as due
 use Rattle.grammar.specs.declared.lines.Kind.{Kind}
 use Rattle.grammar.specs.declared.lines.Kind.TheVariants as kind
@@ -38,7 +38,7 @@ report_at s = do
   spec ← value due.Spec (Val.read_number Val.u16) models.1
   cov ← value due.Cov Val.read_covariance spec.1
   Ok (
-    report engine.0 (place_bytes time.0 (bits lat.0) (bits lon.0) (height_bytes height.0)
+    report engine.0 (place_bytes time.0 (unsigned_of lat.0) (unsigned_of lon.0) (height_bytes height.0)
         ++ (sighting_bytes (message_bytes message.0) (length tags.0) used.0 (pad max_tags tags.0)
         ++ cited_bytes (length models.0) (pad max_models models.0) spec.0 cov.0)),
     cov.1,

@@ -5,8 +5,8 @@ use Rattle.octets.specs.Words.{word_bytes}
 use Rattle.record.specs.Layout.{long_message}
 
 -- a signed number of 32 bits as the number that its bits are
-abbrev pub bits : ℤ → ℕ
-bits z = cast_unsigned w32 z
+abbrev pub unsigned_of : ℤ → ℕ
+unsigned_of z = cast_unsigned w32 z
 
 -- l and zeros behind it, n numbers in all
 abbrev pub pad : ℕ → List ℕ → List ℕ
@@ -19,7 +19,7 @@ words w xs = flat_map (word_bytes w) xs
 -- a height's flag and number: zeros where it is unknown
 abbrev pub height_bytes : Option ℤ → List ℕ
 height_bytes None = replicate 5 0
-height_bytes (Some z) = 1 ∷ word_bytes 4 (bits z)
+height_bytes (Some z) = 1 ∷ word_bytes 4 (unsigned_of z)
 
 -- a message's length and its bytes
 abbrev pub message_bytes : List ℕ → List ℕ

@@ -5,8 +5,8 @@ use Rattle.grammar.specs.declared.lines.BadLine.{BadLine}
 use Rattle.grammar.specs.Lines.{At, Reading, ◌>>=◌}
 use Rattle.grammar.specs.Operations.{operation_at}
 
-abbrev pub start : List ℕ → At
-start bytes = record { rest = bytes; line = 1 }
+abbrev pub at_start : List ℕ → At
+at_start bytes = record { rest = bytes; line = 1 }
 
 -- operations until no byte is left, and at most so many
 unfoldable pub operations_at : ℕ → At → Reading (List Call)
@@ -24,7 +24,7 @@ session_at s = do
 
 -- the same of a whole session, whose first line has the number 1
 abbrev pub session_of : List ℕ → Result (List Call) BadLine
-session_of bytes = session_at (start bytes)
+session_of bytes = session_at (at_start bytes)
 
 -- the first bad line
 abbrev pub bad_of : {A : Type 0} → Result A BadLine → Option BadLine

@@ -5,8 +5,8 @@ ghost use Rattle.models.specs.Summary.{inputs_size};
 ghost use Rattle.grammar.specs.Numbers as Val;
 ghost use Rattle.grammar.specs.Operations as G;
 ghost use Rattle.grammar.specs.Lines as R;
-ghost use Rattle.grammar.specs.Gives.{Gives, at, call_of};
-ghost use Rattle.grammar.specs.Keys.{key_of, words_of};
+ghost use Rattle.grammar.specs.Gives.{Gives, lines_left, call_of};
+ghost use Rattle.grammar.specs.Keys.{key_of, value_in_words};
 
 use crate::lines::{BadLine, Call, Due, Kind, Lines, Report};
 use crate::numbers;
@@ -37,7 +37,7 @@ impl Due {
 
     /// What the value of the line is to be, in words.
     pub fn words(self) -> &'static [u8]
-        ensures { result.now ≡ words_of self }
+        ensures { result.now ≡ value_in_words self }
     {
         match self {
             Due::Op => b"summary, convict or report",
@@ -72,7 +72,7 @@ impl<'a> Lines<'a> {
     }
 
     fn bad(&self, due: Due) -> BadLine
-        ensures { result ≡ R.bad due (at self.now) }
+        ensures { result ≡ R.bad_line due (lines_left self.now) }
     {
         BadLine {
             line: self.line,
@@ -83,7 +83,7 @@ impl<'a> Lines<'a> {
     // The text of the line due.
     #[tactic(auto, unfolding(crate::specs::Lines::text, crate::specs::Lines::cut))]
     fn text(&mut self, due: Due) -> Result<&'a [u8], BadLine>
-        ensures { Gives (λ t. t.now) result self.new (R.text due (at self.old)) }
+        ensures { Gives (λ t. t.now) result self.new (R.text due (lines_left self.old)) }
     {
         let bad = self.bad(due);
         let rest = self.rest;
@@ -97,7 +97,7 @@ impl<'a> Lines<'a> {
     // The number of at most `most` on the line due.
     #[tactic(auto, unfolding(crate::specs::Lines::value))]
     fn number(&mut self, due: Due, most: u64) -> Result<u64, BadLine>
-        ensures value { Gives (λ n. n) result self.new (R.value due (Val.read_number most) (at self.old)) }
+        ensures value { Gives (λ n. n) result self.new (R.value due (Val.read_number most) (lines_left self.old)) }
         ensures bound { IfOk result (λ n. n ≤ most) }
     {
         let bad = self.bad(due);
@@ -108,7 +108,7 @@ impl<'a> Lines<'a> {
     // The signed number on the line due.
     #[tactic(auto, unfolding(crate::specs::Lines::value))]
     fn signed(&mut self, due: Due) -> Result<i32, BadLine>
-        ensures { Gives (λ z. z) result self.new (R.value due Val.read_signed (at self.old)) }
+        ensures { Gives (λ z. z) result self.new (R.value due Val.read_signed (lines_left self.old)) }
     {
         let bad = self.bad(due);
         let text = self.text(due)?;
@@ -118,7 +118,7 @@ impl<'a> Lines<'a> {
     // The height on the line due.
     #[tactic(auto, unfolding(crate::specs::Lines::value))]
     fn height(&mut self, due: Due) -> Result<Option<i32>, BadLine>
-        ensures { Gives (λ h. h) result self.new (R.value due Val.read_height (at self.old)) }
+        ensures { Gives (λ h. h) result self.new (R.value due Val.read_height (lines_left self.old)) }
     {
         let bad = self.bad(due);
         let text = self.text(due)?;
@@ -128,7 +128,7 @@ impl<'a> Lines<'a> {
     // The message on the line due.
     #[tactic(auto, unfolding(crate::specs::Lines::value))]
     fn message(&mut self, due: Due) -> Result<ArrayVec<u8, 14>, BadLine>
-        ensures { Gives (λ v. v.items) result self.new (R.value due Val.read_message (at self.old)) }
+        ensures { Gives (λ v. v.items) result self.new (R.value due Val.read_message (lines_left self.old)) }
     {
         let bad = self.bad(due);
         let text = self.text(due)?;
@@ -138,7 +138,7 @@ impl<'a> Lines<'a> {
     // The tags on the line due.
     #[tactic(auto, unfolding(crate::specs::Lines::value))]
     fn tags(&mut self, due: Due) -> Result<ArrayVec<u64, 16>, BadLine>
-        ensures { Gives (λ v. v.items) result self.new (R.value due Val.read_tags (at self.old)) }
+        ensures { Gives (λ v. v.items) result self.new (R.value due Val.read_tags (lines_left self.old)) }
     {
         let bad = self.bad(due);
         let text = self.text(due)?;
@@ -148,7 +148,7 @@ impl<'a> Lines<'a> {
     // The models on the line due.
     #[tactic(auto, unfolding(crate::specs::Lines::value))]
     fn models(&mut self, due: Due) -> Result<ArrayVec<u64, 4>, BadLine>
-        ensures { Gives (λ v. v.items) result self.new (R.value due Val.read_models (at self.old)) }
+        ensures { Gives (λ v. v.items) result self.new (R.value due Val.read_models (lines_left self.old)) }
     {
         let bad = self.bad(due);
         let text = self.text(due)?;
@@ -158,7 +158,7 @@ impl<'a> Lines<'a> {
     // The inputs on the line due.
     #[tactic(auto, unfolding(crate::specs::Lines::value))]
     fn inputs(&mut self, due: Due) -> Result<[u8; 32], BadLine>
-        ensures { Gives (λ v. v) result self.new (R.value due (Val.read_hex inputs_size) (at self.old)) }
+        ensures { Gives (λ v. v) result self.new (R.value due (Val.read_hex inputs_size) (lines_left self.old)) }
     {
         let bad = self.bad(due);
         let text = self.text(due)?;
@@ -168,7 +168,7 @@ impl<'a> Lines<'a> {
     // The covariance on the line due.
     #[tactic(auto, unfolding(crate::specs::Lines::value))]
     fn covariance(&mut self, due: Due) -> Result<[u8; 48], BadLine>
-        ensures { Gives (λ v. v) result self.new (R.value due Val.read_covariance (at self.old)) }
+        ensures { Gives (λ v. v) result self.new (R.value due Val.read_covariance (lines_left self.old)) }
     {
         let bad = self.bad(due);
         let text = self.text(due)?;
@@ -178,7 +178,7 @@ impl<'a> Lines<'a> {
     // The operation on the line due.
     #[tactic(auto, unfolding(crate::specs::Lines::value))]
     fn kind(&mut self, due: Due) -> Result<Kind, BadLine>
-        ensures { Gives (λ k. k) result self.new (R.value due G.kind_of (at self.old)) }
+        ensures { Gives (λ k. k) result self.new (R.value due G.kind_of (lines_left self.old)) }
     {
         let bad = self.bad(due);
         let text = self.text(due)?;
@@ -187,7 +187,7 @@ impl<'a> Lines<'a> {
 
     #[tactic(auto, unfolding(crate::specs::Operations::conviction_at))]
     fn conviction(&mut self) -> Result<Call, BadLine>
-        ensures { Gives call_of result self.new (G.conviction_at (at self.old)) }
+        ensures { Gives call_of result self.new (G.conviction_at (lines_left self.old)) }
     {
         let engine = self.number(Due::Engine, 255)? as u8;
         Ok(Call::Conviction { engine })
@@ -195,7 +195,7 @@ impl<'a> Lines<'a> {
 
     #[tactic(auto, unfolding(crate::specs::Operations::summary_at))]
     fn summary(&mut self) -> Result<Call, BadLine>
-        ensures { Gives call_of result self.new (G.summary_at (at self.old)) }
+        ensures { Gives call_of result self.new (G.summary_at (lines_left self.old)) }
     {
         let engine = self.number(Due::Engine, 255)? as u8;
         let model = self.number(Due::Model, 255)? as u8;
@@ -211,7 +211,7 @@ impl<'a> Lines<'a> {
 
     #[tactic(auto, unfolding(crate::specs::Operations::report_at))]
     fn report(&mut self) -> Result<Call, BadLine>
-        ensures { Gives call_of result self.new (G.report_at (at self.old)) }
+        ensures { Gives call_of result self.new (G.report_at (lines_left self.old)) }
     {
         let engine = self.number(Due::Engine, 255)? as u8;
         let time = self.number(Due::Time, u64::MAX)?;
@@ -244,7 +244,7 @@ impl<'a> Lines<'a> {
     /// The operation whose first line is due.
     #[tactic(auto, unfolding(crate::specs::Operations::operation_at))]
     pub fn operation(&mut self) -> Result<Call, BadLine>
-        ensures { Gives call_of result self.new (G.operation_at (at self.old)) }
+        ensures { Gives call_of result self.new (G.operation_at (lines_left self.old)) }
     {
         match self.kind(Due::Op)? {
             Kind::Summary => self.summary(),

@@ -3,7 +3,7 @@
 ghost use Rattle.std.specs.Prelude.{◌≡◌, ◌≤◌, ◌∷◌, ◌++◌, length};
 ghost use Rattle.octets.specs.Words.{word_bytes};
 ghost use Rattle.text.specs.Texts.{append};
-ghost use Rattle.grammar.specs.Records.{bits, pad, words, height_bytes, message_bytes};
+ghost use Rattle.grammar.specs.Records.{unsigned_of, pad, words, height_bytes, message_bytes};
 ghost use Rattle.grammar.specs.Gives.{record_bytes};
 ghost use Rattle.record.specs.Layout.{record_size, max_tags, max_models, long_message};
 
@@ -14,7 +14,7 @@ use text::Text;
 
 // A signed number, as its bits.
 fn push_signed(out: &mut Text, value: &i32)
-    ensures { out.new ≡ append out.old (word_bytes 4 (bits value.now)) }
+    ensures { out.new ≡ append out.old (word_bytes 4 (unsigned_of value.now)) }
 {
     out.push_bytes(&value.to_le_bytes());
 }

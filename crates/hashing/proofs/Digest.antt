@@ -5,7 +5,7 @@ use Rattle.octets.specs.Words.{word_bytes}
 use Rattle.octets.specs.Writes.{put_word}
 use Rattle.octets.specs.Bytes.{Bytes}
 use Rattle.octets.proofs.Numbers.{bytes-append, bytes-word-bytes, length-word-bytes}
-use Rattle.hashing.specs.Blake2s.{at, compress_block, hash_words, bytes_of_words, blake2s256}
+use Rattle.hashing.specs.Blake2s.{nth, compress_block, hash_words, bytes_of_words, blake2s256}
 
 pub length-bytes-of : (ws : List ℕ) → length (bytes_of_words ws) ≡ length ws * 4
 unfolding bytes_of_words
@@ -34,14 +34,14 @@ bytes-of-append (u ∷ us) ws = rw (bytes-of-append us ws, append_assoc)
 
 -- the words before i are written, and then word i
 module _ (ws out : List ℕ) (i : ℕ) (h : i < length ws) where
-  more : bytes_of_words (take (i + 1) ws) ≡ bytes_of_words (take i ws) ++ word_bytes 4 (at ws i)
+  more : bytes_of_words (take (i + 1) ws) ≡ bytes_of_words (take i ws) ++ word_bytes 4 (nth ws i)
   unfolding bytes_of_words
   more = rw (add-one i, take-suc ws i 0 h, bytes-of-append, append-nil)
 
   done : length (bytes_of_words (take i ws)) ≡ i * 4
   done = length-bytes-of (take i ws) ∙ ap (λ (n : ℕ). n * 4) (length-take-le i ws (omega arith))
 
-  pub written : put_word 4 (i * 4) (at ws i) (bytes_of_words (take i ws) ++ drop (i * 4) out) ≡ bytes_of_words (take (i + 1) ws) ++ drop ((i + 1) * 4) out
+  pub written : put_word 4 (i * 4) (nth ws i) (bytes_of_words (take i ws) ++ drop (i * 4) out) ≡ bytes_of_words (take (i + 1) ws) ++ drop ((i + 1) * 4) out
   written =
       let d = done in
       let e : (i + 1) * 4 ≡ i * 4 + 4 = omega arith in

@@ -1,7 +1,7 @@
 //! The mixing function G and the halves of a round (RFC 7693, 3.1 and 3.2).
 
 ghost use Rattle.std.specs.Prelude.{◌≡◌, ◌<◌};
-ghost use Rattle.hashing.specs.Blake2s.{at, rotate_right, add_word, turn_word, half_mix, mix_words, mix_columns, mix_diagonals};
+ghost use Rattle.hashing.specs.Blake2s.{nth, rotate_right, add_word, turn_word, half_mix, mix_words, mix_columns, mix_diagonals};
 
 // The rotations of G (2.1).
 const R1: u32 = 16;
@@ -49,7 +49,7 @@ fn half_mix(v: &mut [u32; 16], a: usize, b: usize, c: usize, d: usize, x: u32, r
 // G with the words i and j of the message.
 fn mix(v: &mut [u32; 16], m: &[u32; 16], a: usize, b: usize, c: usize, d: usize, i: usize, j: usize)
     requires { (a < 16) × (b < 16) × (c < 16) × (d < 16) × (i < 16) × (j < 16) }
-    ensures { v.new ≡ mix_words v.old a b c d (at m.now i) (at m.now j) }
+    ensures { v.new ≡ mix_words v.old a b c d (nth m.now i) (nth m.now j) }
 {
     half_mix(v, a, b, c, d, m[i], R1, R2);
     half_mix(v, a, b, c, d, m[j], R3, R4);

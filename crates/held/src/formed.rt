@@ -3,7 +3,7 @@
 ghost use Rattle.std.specs.Prelude.{◌≡◌, ◌&&◌, ◌*◌, ◌≤◌, length};
 ghost use Rattle.std.specs.List.{list_all};
 ghost use Rattle.places.specs.Places.{places, is_table};
-ghost use Rattle.models.specs.Answers.{listed};
+ghost use Rattle.models.specs.Answers.{summary_places};
 ghost use Rattle.models.specs.Summary.{summary_size};
 ghost use Rattle.held.specs.Limits.{place_size};
 ghost use Rattle.held.specs.Summaries.{summary_formed};
@@ -28,14 +28,14 @@ fn summary_formed(s: Summary, convicted: Signers) -> bool
 
 // Whether all of these summaries are.
 fn summaries_formed(mut all: Summaries, convicted: Signers) -> bool
-    ensures { result ≡ list_all (summary_formed convicted.0) (listed all.entry) }
+    ensures { result ≡ list_all (summary_formed convicted.0) (summary_places all.entry) }
 {
     all.all(|s| summary_formed(s, convicted))
 }
 
 /// Whether these summaries are, they are ordered by their first KEY bytes, and the rest of their table is zero.
 pub fn summary_table_formed<const KEY: usize>(all: Summaries, convicted: Signers) -> bool
-    ensures { result ≡ (is_table KEY summary_size all.entry.count all.entry.table.now && list_all (summary_formed convicted.0) (listed all.entry)) }
+    ensures { result ≡ (is_table KEY summary_size all.entry.count all.entry.table.now && list_all (summary_formed convicted.0) (summary_places all.entry)) }
 {
     is_table::<SUMMARY_SIZE, KEY>(all.table, all.count) && summaries_formed(all, convicted)
 }

@@ -6,12 +6,12 @@ use Rattle.record.specs.Fields as F
 use Rattle.arithmetic.specs.declared.standing.Claimed.{Claimed}
 use Rattle.geometry.specs.declared.linalg.Covariance.{Covariance}
 
-abbrev pub variance_at : List ℕ → ℕ → Float
-variance_at r k = of_bits binary64 (F.covariance_bits r k)
+abbrev pub covariance_value : List ℕ → ℕ → Float
+covariance_value r k = of_bits binary64 (F.covariance_bits r k)
 
 abbrev pub covariance_of : List ℕ → Covariance
 covariance_of r =
-    record { xx = variance_at r 0; xy = variance_at r 1; xz = variance_at r 2; yy = variance_at r 3; yz = variance_at r 4; zz = variance_at r 5 }
+    record { xx = covariance_value r 0; xy = covariance_value r 1; xz = covariance_value r 2; yy = covariance_value r 3; yz = covariance_value r 4; zz = covariance_value r 5 }
 
 unfoldable pub claim_of : List ℕ → Claimed
 claim_of r =

@@ -10,7 +10,7 @@ use record::Record;
 // The k-th number of the covariance.
 fn number(r: Record, k: usize) -> f64
     requires { k < 6 }
-    ensures { result ≡ C.variance_at r.entry.bytes.now k }
+    ensures { result ≡ C.covariance_value r.entry.bytes.now k }
 {
     floats::of_bits(r.covariance_bits(k))
 }

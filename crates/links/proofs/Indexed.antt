@@ -7,7 +7,7 @@ use Rattle.ranges.specs.Range.{filt}
 use Rattle.ranges.proofs.Range.{filt-at}
 use Rattle.ranges.proofs.Bools.{by}
 use Rattle.shown.specs.Fix.{Fix}
-use Rattle.shown.specs.Items.{no_fix, at}
+use Rattle.shown.specs.Items.{no_fix, fix_at}
 use Rattle.shown.proofs.Indexed.{at_in}
 use Rattle.links.specs.Transmissions.{Chain, transmission_of, leads, is_first, transmissions_of}
 use Rattle.links.proofs.Reaching.{SelfLinked, together, together-is, transmission-tested}
@@ -48,27 +48,27 @@ map-map f g (x ∷ l) = ap (λ ys. f (g x) ∷ ys) (map-map f g l)
 
 -- fixes i and j are of one transmission
 abbrev pub together_at : List Fix → ℕ → ℕ → Bool
-together_at fs i j = together fs (at fs i) (at fs j)
+together_at fs i j = together fs (fix_at fs i) (fix_at fs j)
 
 -- fix i is the first of its own
 abbrev pub first_at : List Fix → ℕ → Bool
-first_at fs i = is_first fs (at fs i)
+first_at fs i = is_first fs (fix_at fs i)
 
 module _ (fs : List Fix) (self : SelfLinked fs) where
-  pub together-at-is : (i j : ℕ) → i < length fs → j < length fs → (together_at fs i j ≡ true) ↔ Chain fs (at fs i) (at fs j)
-  together-at-is i j h k = together-is fs self (at fs i) (at fs j) (at_in no_fix fs i h) (at_in no_fix fs j k)
+  pub together-at-is : (i j : ℕ) → i < length fs → j < length fs → (together_at fs i j ≡ true) ↔ Chain fs (fix_at fs i) (fix_at fs j)
+  together-at-is i j h k = together-is fs self (fix_at fs i) (fix_at fs j) (at_in no_fix fs i h) (at_in no_fix fs j k)
 
-  pub transmissions-are : transmissions_of fs ≡ map (λ i. map (at fs) (filt (together_at fs i) 0 (length fs))) (filt (first_at fs) 0 (length fs))
+  pub transmissions-are : transmissions_of fs ≡ map (λ i. map (fix_at fs) (filt (together_at fs i) 0 (length fs))) (filt (first_at fs) 0 (length fs))
   unfolding transmissions_of
   transmissions-are =
       ap (map (transmission_of fs)) (filter-places no_fix (is_first fs) fs)
-      ∙ map-map (transmission_of fs) (at fs) (filt (first_at fs) 0 (length fs))
-      ∙ map_same (λ i. transmission_of fs (at fs i)) (λ i. map (at fs) (filt (together_at fs i) 0 (length fs))) (filt (first_at fs) 0 (length fs))
-      (λ i m. let z = filt-at (first_at fs) 0 (length fs) i m in transmission-tested fs (at fs i) (at_in no_fix fs i (omega arith)) ∙ filter-places no_fix (together fs (at fs i)) fs)
+      ∙ map-map (transmission_of fs) (fix_at fs) (filt (first_at fs) 0 (length fs))
+      ∙ map_same (λ i. transmission_of fs (fix_at fs i)) (λ i. map (fix_at fs) (filt (together_at fs i) 0 (length fs))) (filt (first_at fs) 0 (length fs))
+      (λ i m. let z = filt-at (first_at fs) 0 (length fs) i m in transmission-tested fs (fix_at fs i) (at_in no_fix fs i (omega arith)) ∙ filter-places no_fix (together fs (fix_at fs i)) fs)
 
   -- the first of a transmission is no later than any of it
-  pub first-of : (s k : ℕ) → s < length fs → k < length fs → Chain fs (at fs s) (at fs k) → (i : ℕ) × (i ≤ k) × Chain fs (at fs s) (at fs i) × (first_at fs s ≡ same (at fs s).identity (at fs i).identity)
+  pub first-of : (s k : ℕ) → s < length fs → k < length fs → Chain fs (fix_at fs s) (fix_at fs k) → (i : ℕ) × (i ≤ k) × Chain fs (fix_at fs s) (fix_at fs i) × (first_at fs s ≡ same (fix_at fs s).identity (fix_at fs i).identity)
   first-of s k h b c =
-      let r = first-place no_fix (together fs (at fs s)) fs k b ((together-at-is s k h b).1 c) in
+      let r = first-place no_fix (together fs (fix_at fs s)) fs k b ((together-at-is s k h b).1 c) in
       let l = r.1 in
-      (r.0, l, (together-at-is s r.0 h (omega arith)).0 r.2, ap (leads (at fs s)) (transmission-tested fs (at fs s) (at_in no_fix fs s h) ∙ r.3.1))
+      (r.0, l, (together-at-is s r.0 h (omega arith)).0 r.2, ap (leads (fix_at fs s)) (transmission-tested fs (fix_at fs s) (at_in no_fix fs s h) ∙ r.3.1))

@@ -10,7 +10,7 @@ use Rattle.std.specs.List.{filter, list_any}
 use Rattle.shown.specs.Fix.{Fix}
 use Rattle.shown.specs.Ages.{time_of}
 use Rattle.shown.specs.Shown.{Transmission, shown}
-use Rattle.links.specs.Transmissions.{link_span, difference, records_link, linked, reach, transmission_of, leads, is_first, transmissions_of}
+use Rattle.links.specs.Transmissions.{link_span, time_difference, records_link, linked, reach, transmission_of, leads, is_first, transmissions_of}
 use Rattle.links.specs.Bursts.{LinkExactlyWhen, Limit, ChainsJoin, ranks_alone, FarSubset}
 use Rattle.links.proofs.Symmetry.{linked-turned}
 use Rattle.links.proofs.Fitness.{self-linked}
@@ -38,7 +38,7 @@ chains-join = record { by_tags = record { all = refl; ends = refl }; by_times = 
 
 -- ---- further apart
 
-far-unlinked : (f g : Fix) → link_span < difference (time_of f) (time_of g) → linked f g ≡ false
+far-unlinked : (f g : Fix) → link_span < time_difference (time_of f) (time_of g) → linked f g ≡ false
 unfolding records_link
 far-unlinked f g h = grind arith
 

@@ -4,7 +4,7 @@ use Rattle.std.proofs.Common.{ℕ, ◌<◌, ◌≡◌, ap₂, ◌∙◌, Bool, t
 use Rattle.record.specs.Fields.{time}
 use Rattle.record.specs.Relations.{tied}
 use Rattle.shown.specs.Fix.{Fix}
-use Rattle.shown.specs.Items.{no_fix, at}
+use Rattle.shown.specs.Items.{no_fix, fix_at}
 use Rattle.links.specs.Transmissions.{near_in_time, records_link, linked}
 use Rattle.links.specs.Links.{link_at}
 
@@ -19,7 +19,7 @@ module _ (f g : Fix) (a b : List ℕ) (x y : ℕ) (near : Bool) (of_f : a ≡ f.
 
 -- ---- fixes by their indices
 
-pub at_is : (fs : List Fix) (i : ℕ) (x : Fix) → i < length fs → x ≡ get_or fs i x → x ≡ at fs i
+pub at_is : (fs : List Fix) (i : ℕ) (x : Fix) → i < length fs → x ≡ get_or fs i x → x ≡ fix_at fs i
 at_is fs i x h e = e ∙ get_or_default fs i x no_fix h
 
 pub linked-there : (fs : List Fix) (i j : ℕ) (x y : Fix) (b : Bool) → i < length fs → j < length fs → x ≡ get_or fs i x → y ≡ get_or fs j y → b ≡ linked x y → b ≡ link_at fs i j

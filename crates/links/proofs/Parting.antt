@@ -7,10 +7,10 @@ use Rattle.ranges.proofs.Range.{filt-ext, filt-few, filt-at}
 use Rattle.ranges.proofs.Bools.{by, or, clash, no_true, same_test}
 use Rattle.fixes.specs.Slots.{max_fixes}
 use Rattle.shown.specs.Fix.{Fix}
-use Rattle.shown.specs.Items.{no_fix, at, AllFormed, Apart}
+use Rattle.shown.specs.Items.{no_fix, fix_at, AllFormed, Apart}
 use Rattle.shown.proofs.Indexed.{at_in}
 use Rattle.links.specs.Transmissions.{Chain, here, is_first, transmissions_of}
-use Rattle.links.specs.Links.{link_at, has, having}
+use Rattle.links.specs.Links.{link_at, has_label, fixes_labelled}
 use Rattle.links.specs.Labels.{relabel}
 use Rattle.links.specs.Walk.{no_marks, unmarked, visit}
 use Rattle.links.proofs.Fitness.{self-linked}
@@ -52,15 +52,15 @@ le_of_lt_suc i h = omega arith
 -- fix j is of the transmission whose first fix is k, and that comes before s
 pub record Led (fs : List Fix) (s k j : ℕ) : Type 0 where
   pub below : k < s
-  pub first : is_first fs (at fs k) ≡ true
-  pub chain : Chain fs (at fs k) (at fs j)
+  pub first : is_first fs (fix_at fs k) ≡ true
+  pub chain : Chain fs (fix_at fs k) (fix_at fs j)
 
 -- the walks from the fixes before s, the first fixes among these, and their labels
 pub record Walked (fs : List Fix) (s : ℕ) (m : List Bool) (l firsts : List ℕ) : Type 0 where
   pub wide : length m ≡ max_fixes
   pub long : length l ≡ max_fixes
   pub led : (j : ℕ) → j < length fs → marked m j ≡ true → Led fs s (get_or l j 0) j
-  pub seen : (i j : ℕ) → i < s → j < length fs → Chain fs (at fs i) (at fs j) → marked m j ≡ true
+  pub seen : (i j : ℕ) → i < s → j < length fs → Chain fs (fix_at fs i) (fix_at fs j) → marked m j ≡ true
   pub firsts_are : firsts ≡ filt (first_at fs) 0 s
 
 pub walked-none : (fs : List Fix) → Walked fs 0 no_marks (replicate max_fixes 0) []
@@ -78,7 +78,7 @@ module _ (fs : List Fix) (few : length fs ≤ max_fixes) (formed : AllFormed fs)
   self f m = self-linked f.record_bytes (formed f m).form
 
   -- that of which two fixes are first is one
-  pub first-once : (i j : ℕ) → i < length fs → j < length fs → is_first fs (at fs i) ≡ true → is_first fs (at fs j) ≡ true → Chain fs (at fs i) (at fs j) → i ≡ j
+  pub first-once : (i j : ℕ) → i < length fs → j < length fs → is_first fs (fix_at fs i) ≡ true → is_first fs (fix_at fs j) ≡ true → Chain fs (fix_at fs i) (fix_at fs j) → i ≡ j
   first-once i j h k p q c =
       let r = first-of fs self i i h h (here (at_in no_fix fs i h)) in
       let s = first-of fs self j i k h (chain-turned c) in
@@ -102,7 +102,7 @@ module _ (fs : List Fix) (few : length fs ≤ max_fixes) (formed : AllFormed fs)
           long = w.long;
           led = λ j t p. let q = w.led j t p in record { below = let c = q.below in omega arith; first = q.first; chain = q.chain };
           seen = λ i j t u c. or (eq-or-lt_of_le (le_of_lt_suc i t))
-              (λ z. w.seen k j b u (chain-joined d.chain (subst (λ (x : ℕ). Chain fs (at fs x) (at fs j)) z c)))
+              (λ z. w.seen k j b u (chain-joined d.chain (subst (λ (x : ℕ). Chain fs (fix_at fs x) (fix_at fs j)) z c)))
               (λ z. w.seen i j z u c);
           firsts_are = passed-by (first_at fs) s firsts w.firsts_are (no_true _ (λ t. let z = apart s r.0 h (omega arith) (same-eq _ _ (sym r.3 ∙ t)) in absurd (omega arith)));
         }
@@ -120,7 +120,7 @@ module _ (fs : List Fix) (few : length fs ≤ max_fixes) (formed : AllFormed fs)
           (λ c. let d = w.led j t c in rw c (record { below = let x = d.below in omega arith; first = d.first; chain = d.chain }))
           (λ c. rw c (record { below = omega arith; first = is-first; chain = or (v.sound j u) (λ d. clash d c) (λ d. d) })));
       seen = λ i j t u c. or (eq-or-lt_of_le (le_of_lt_suc i t))
-          (λ z. complete fs apart s h m r unseen v (subst (λ (x : ℕ). Chain fs (at fs x) (at fs j)) z c) j u refl)
+          (λ z. complete fs apart s h m r unseen v (subst (λ (x : ℕ). Chain fs (fix_at fs x) (fix_at fs j)) z c) j u refl)
           (λ z. g.kept j (w.seen i j z u c));
       firsts_are = passed-in (first_at fs) s firsts w.firsts_are fs' is-first p;
     }
@@ -131,27 +131,27 @@ module _ (fs : List Fix) (few : length fs ≤ max_fixes) (formed : AllFormed fs)
         v : Visited fs s m r
         v = let wd = w.wide in rw a (visit-visited fs (unmarked m) s m (omega arith) h e (omega arith))
 
-        unseen : (j : ℕ) → j < length fs → Chain fs (at fs s) (at fs j) → marked m j ≡ false
+        unseen : (j : ℕ) → j < length fs → Chain fs (fix_at fs s) (fix_at fs j) → marked m j ≡ false
         unseen j t c = no_true (marked m j) (λ u. let d = w.led j t u in clash (w.seen (get_or l j 0) s d.below h (chain-joined d.chain (chain-turned c))) e)
 
-        is-first : is_first fs (at fs s) ≡ true
+        is-first : is_first fs (fix_at fs s) ≡ true
         is-first =
             let f = first-of fs self s s h h (here (at_in no_fix fs s h)) in
             or (eq-or-lt_of_le f.1)
-            (λ z. f.3 ∙ rw z (same_refl (at fs s).identity))
+            (λ z. f.3 ∙ rw z (same_refl (fix_at fs s).identity))
             (λ z. clash (w.seen f.0 s z h (chain-turned f.2)) e)
 
   -- at their end
-  pub parts-are : (s : ℕ) (m : List Bool) (l firsts : List ℕ) → Walked fs s m l firsts → s ≤ length fs → length fs ≤ s → map (having fs l) firsts ≡ transmissions_of fs
+  pub parts-are : (s : ℕ) (m : List Bool) (l firsts : List ℕ) → Walked fs s m l firsts → s ≤ length fs → length fs ≤ s → map (fixes_labelled fs l) firsts ≡ transmissions_of fs
   parts-are s m l firsts w most all =
       let z : s ≡ length fs = omega arith in
-      ap (map (having fs l)) (w.firsts_are ∙ ap (filt (first_at fs) 0) z)
-      ∙ map_same (having fs l) (λ k. map (at fs) (filt (together_at fs k) 0 (length fs))) (filt (first_at fs) 0 (length fs)) (λ k n.
+      ap (map (fixes_labelled fs l)) (w.firsts_are ∙ ap (filt (first_at fs) 0) z)
+      ∙ map_same (fixes_labelled fs l) (λ k. map (fix_at fs) (filt (together_at fs k) 0 (length fs))) (filt (first_at fs) 0 (length fs)) (λ k n.
       let t = filt-at (first_at fs) 0 (length fs) k n in
-      ap (map (at fs)) (filt-ext (has l k) (together_at fs k) 0 (length fs) (λ j _ b.
+      ap (map (fix_at fs)) (filt-ext (has_label l k) (together_at fs k) 0 (length fs) (λ j _ b.
       let d = w.led j (omega arith) (w.seen j j (omega arith) (omega arith) (here (at_in no_fix fs j (omega arith)))) in
       let e = d.below in
-      same_test (has l k j) (together_at fs k j)
+      same_test (has_label l k j) (together_at fs k j)
       (λ u. (together-at-is fs self k j (omega arith) (omega arith)).1 (rw (← eqb-true (get_or l j 0) k u) d.chain))
       (λ u. eq-eqb (get_or l j 0) k (first-once (get_or l j 0) k (omega arith) (omega arith) d.first t.2 (chain-joined d.chain (chain-turned ((together-at-is fs self k j (omega arith) (omega arith)).0 u))))))))
       ∙ sym (transmissions-are fs self)

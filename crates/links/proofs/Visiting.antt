@@ -3,7 +3,7 @@ use Rattle.std.proofs.Common.{◌≡◌, sym, ap, ap₂, ◌∙◌, subst, Bool,
 use Rattle.ranges.proofs.Bools.{by, or, clash}
 use Rattle.ranges.specs.Tables.{marked}
 use Rattle.shown.specs.Fix.{Fix}
-use Rattle.shown.specs.Items.{no_fix, at, Apart}
+use Rattle.shown.specs.Items.{no_fix, fix_at, Apart}
 use Rattle.shown.proofs.Indexed.{at_in, in-at}
 use Rattle.links.specs.Transmissions.{linked, Chain, here, more}
 use Rattle.links.specs.Links.{link_at}
@@ -14,18 +14,18 @@ use Rattle.links.proofs.Marks.{unmarked-set, set-marks, Grown, next, next-old, n
 
 -- a link between the fixes at two places, turned round
 turned : (fs : List Fix) (i j : ℕ) → link_at fs i j ≡ link_at fs j i
-turned fs i j = linked-turned (at fs i).record_bytes (at fs j).record_bytes
+turned fs i j = linked-turned (fix_at fs i).record_bytes (fix_at fs j).record_bytes
 
 -- what a visit of i makes of the marks m
 pub record Visited (fs : List Fix) (i : ℕ) (m r : List Bool) : Type 0 where
   pub start : marked r i ≡ true
-  pub sound : (k : ℕ) → marked r k ≡ true → (marked m k ≡ true) ⊎ Chain fs (at fs i) (at fs k)
+  pub sound : (k : ℕ) → marked r k ≡ true → (marked m k ≡ true) ⊎ Chain fs (fix_at fs i) (fix_at fs k)
   pub closed : (k l : ℕ) → marked m k ≡ false → marked r k ≡ true → l < length fs → link_at fs k l ≡ true → marked r l ≡ true
 
 -- and what it has made of them before index j
 record Visiting (fs : List Fix) (i : ℕ) (m r : List Bool) (j : ℕ) : Type 0 where
   start : marked r i ≡ true
-  sound : (k : ℕ) → marked r k ≡ true → (marked m k ≡ true) ⊎ Chain fs (at fs i) (at fs k)
+  sound : (k : ℕ) → marked r k ≡ true → (marked m k ≡ true) ⊎ Chain fs (fix_at fs i) (fix_at fs k)
   closed : (k l : ℕ) → marked m k ≡ false → marked r k ≡ true → l < length fs → link_at fs k l ≡ true → (k ≡ i → l < j) → marked r l ≡ true
 
 module _ (fs : List Fix) where
@@ -77,7 +77,7 @@ module _ (fs : List Fix) where
       let z = unmarked-set m i (omega arith) e in
       let b : Visiting fs i m (set m i true) 0 = record {
         start = get_or-set_same m i true false (omega arith);
-        sound = λ k p. or (set-marks m k i true p) (λ q. inr (subst (λ (x : ℕ). Chain fs (at fs i) (at fs x)) (sym q.0) (here (at_in no_fix fs i h)))) (λ q. inl q);
+        sound = λ k p. or (set-marks m k i true p) (λ q. inr (subst (λ (x : ℕ). Chain fs (fix_at fs i) (fix_at fs x)) (sym q.0) (here (at_in no_fix fs i h)))) (λ q. inl q);
         closed = λ k l a p c t d. or (set-marks m k i true p) (λ q. let y = d q.0 in absurd (omega arith)) (λ q. clash q a);
       } in
       let r = turns i h m (visit link n f) (visit-grown link n f) (length m) f
@@ -86,9 +86,9 @@ module _ (fs : List Fix) where
       record { start = r.start; sound = r.sound; closed = λ k l a p c t. r.closed k l a p c t (λ _. c) }
 
   -- where all that a chain leads to had no mark, it has one now
-  pub complete : Apart fs → (s : ℕ) → s < n → (m r : List Bool) → ((j : ℕ) → j < n → Chain fs (at fs s) (at fs j) → marked m j ≡ false) → Visited fs s m r
-      → {x : Fix} → Chain fs (at fs s) x → (j : ℕ) → j < n → at fs j ≡ x → marked r j ≡ true
+  pub complete : Apart fs → (s : ℕ) → s < n → (m r : List Bool) → ((j : ℕ) → j < n → Chain fs (fix_at fs s) (fix_at fs j) → marked m j ≡ false) → Visited fs s m r
+      → {x : Fix} → Chain fs (fix_at fs s) x → (j : ℕ) → j < n → fix_at fs j ≡ x → marked r j ≡ true
   complete apart s h m r f w (here k) j b e = ap (marked r) (apart j s b h (ap (λ (g : Fix). g.identity) e)) ∙ w.start
   complete apart s h m r f w (more {f = a} {g} c k t) j b e =
       let q = in-at no_fix fs a (chain-in c) in
-      w.closed q.0 j (f q.0 q.1 (subst (Chain fs (at fs s)) (sym q.2) c)) (complete apart s h m r f w c q.0 q.1 q.2) b (turned fs q.0 j ∙ ap₂ linked e q.2 ∙ t)
+      w.closed q.0 j (f q.0 q.1 (subst (Chain fs (fix_at fs s)) (sym q.2) c)) (complete apart s h m r f w c q.0 q.1 q.2) b (turned fs q.0 j ∙ ap₂ linked e q.2 ∙ t)

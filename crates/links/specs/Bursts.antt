@@ -9,7 +9,7 @@ use Rattle.std.specs.List.{filter}
 use Rattle.shown.specs.Fix.{Fix}
 use Rattle.shown.specs.Ages.{time_of}
 use Rattle.shown.specs.Shown.{Transmission, shown}
-use Rattle.links.specs.Transmissions.{link_span, difference, records_link, linked, transmission_of, transmissions_of}
+use Rattle.links.specs.Transmissions.{link_span, time_difference, records_link, linked, transmission_of, transmissions_of}
 use Rattle.links.specs.Claims.{Partition}
 use Rattle.links.specs.Positions.{sent}
 
@@ -92,5 +92,5 @@ ranks_alone f = record { ranked = f ∷ []; dominated = []; refused = [] }
 -- Of two fixes further apart than a link each ranks alone, whatever tags and positions they have: a subset an hour away is not dominated, and refuses nobody.
 abbrev pub FarSubset : Type 0
 FarSubset =
-    (f g : Fix) → well_formed f.record_bytes ≡ true → well_formed g.record_bytes ≡ true → link_span < difference (time_of f) (time_of g)
+    (f g : Fix) → well_formed f.record_bytes ≡ true → well_formed g.record_bytes ≡ true → link_span < time_difference (time_of f) (time_of g)
     → map shown (transmissions_of (f ∷ g ∷ [])) ≡ ranks_alone f ∷ ranks_alone g ∷ []

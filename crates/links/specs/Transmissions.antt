@@ -13,12 +13,12 @@ abbrev pub link_span : ℕ
 link_span = 2_000_000_000
 
 -- by how much two times differ: the larger less the smaller
-abbrev pub difference : ℕ → ℕ → ℕ
-difference s t = cond (ltb s t) (t - s) (s - t)
+abbrev pub time_difference : ℕ → ℕ → ℕ
+time_difference s t = cond (ltb s t) (t - s) (s - t)
 
 -- two times differ by at most link_span
 abbrev pub near_in_time : ℕ → ℕ → Bool
-near_in_time s t = leb (difference s t) link_span
+near_in_time s t = leb (time_difference s t) link_span
 
 -- message and at least one tag are common, and the times are near
 unfoldable pub records_link : List ℕ → List ℕ → Bool

@@ -20,11 +20,11 @@ pub struct Transmissions<'s, 'a> {
 impl<'s, 'a> Model for Transmissions<'s, 'a> {
     ghost use Rattle.std.specs.Prelude.{List, ◌≤◌, length, map};
     ghost use Rattle.shown.specs.Fix as S;
-    ghost use Rattle.links.specs.Links.{having};
+    ghost use Rattle.links.specs.Links.{fixes_labelled};
 
     ghost Value = { List (List S.Fix) };
 
-    ghost view = { λ t. map (having t.fixes.now t.labels) t.firsts.items };
+    ghost view = { λ t. map (fixes_labelled t.fixes.now t.labels) t.firsts.items };
 
     ghost invariant = { λ t. length t.fixes.now ≤ 96 };
 }
@@ -39,14 +39,14 @@ pub struct Transmission<'s, 'a> {
 impl<'s, 'a> Model for Transmission<'s, 'a> {
     ghost use Rattle.std.specs.Prelude.{List, map};
     ghost use Rattle.shown.specs.Fix as S;
-    ghost use Rattle.shown.specs.Items.{at};
-    ghost use Rattle.links.specs.Links.{AllBelow};
+    ghost use Rattle.shown.specs.Items.{fix_at};
+    ghost use Rattle.links.specs.Links.{AllIndices};
 
     ghost Value = { List S.Fix };
 
-    ghost view = { λ t. map (at t.fixes.now) t.members.items };
+    ghost view = { λ t. map (fix_at t.fixes.now) t.members.items };
 
-    ghost invariant = { λ t. AllBelow t.fixes.now t.members.items };
+    ghost invariant = { λ t. AllIndices t.fixes.now t.members.items };
 }
 
 impl<'s, 'a> Transmissions<'s, 'a> {

@@ -11,9 +11,9 @@ use lib.IntN.{ℤ, pos, negsuc, neg_ℤ}
 use lib.ListN.{length, length-append, length-map}
 use Rattle.ranges.proofs.Bools.{by}
 use Rattle.octets.specs.Ascii.{ascii}
-use Rattle.octets.specs.Masks.{bits}
+use Rattle.octets.specs.Masks.{bit_count}
 use Rattle.octets.specs.Words.{signed_of, word_at}
-use Rattle.text.specs.Numbers.{digits, decimal, signed}
+use Rattle.text.specs.Numbers.{digits, decimal, signed_decimal}
 use Rattle.text.specs.Heights.{metres, rounded_metres}
 use Rattle.text.proofs.Shapes.{digits-one}
 use Rattle.text.proofs.Readback.{digits-width, hex-width}
@@ -27,7 +27,7 @@ use Rattle.tracked.specs.Parts.{Sound}
 use Rattle.arithmetic.specs.Bits.{stored_chi_square}
 use Rattle.arithmetic.specs.declared.standing.ChiSquare.{ChiSquare}
 use Rattle.drawing.proofs.Widths.{chi-square-width}
-use Rattle.drawing.specs.Lines.{header, where_when, metres_text, height_text, fix_text, line, refused_line}
+use Rattle.drawing.specs.Lines.{header, where_when, metres_text, height_text, fix_text, fix_line, refused_line}
 use Rattle.drawing.specs.Text.{ranked_text}
 use Rattle.arrange.specs.Arranged.{max_transmissions}
 use Rattle.stored.specs.Track.{Track}
@@ -47,29 +47,29 @@ digits-short (suc k) (suc j) n h =
     (λ p. rw p (omega arith))
     (λ p. let r = digits-short k j (n / 10) ((div-lt_iff_lt-mul (omega arith)).1 (rw (pow-suc 10 (suc j)) at h)) in rw (p, length-append) (omega arith))
 
-signed-width : (v : ℤ) → length (signed v) ≤ 11
-unfolding signed
+signed-width : (v : ℤ) → length (signed_decimal v) ≤ 11
+unfolding signed_decimal
 signed-width (pos n) = let w = digits-width 9 n in omega arith
 signed-width (negsuc n) = let w = digits-width 9 (suc n) in omega arith
 
-minus-width : (n : ℕ) → n < 10 ^ 7 → length (signed (neg_ℤ (pos n))) ≤ 8
-unfolding signed
+minus-width : (n : ℕ) → n < 10 ^ 7 → length (signed_decimal (neg_ℤ (pos n))) ≤ 8
+unfolding signed_decimal
 minus-width zero h = let w = digits-short 9 6 0 h in omega arith
 minus-width (suc n) h = let w = digits-short 9 6 (suc n) h in omega arith
 
-plain-width : (n : ℕ) → n < 10 ^ 7 → length (signed (pos n)) ≤ 8
-unfolding signed
+plain-width : (n : ℕ) → n < 10 ^ 7 → length (signed_decimal (pos n)) ≤ 8
+unfolding signed_decimal
 plain-width n h = let w = digits-short 9 6 n h in omega arith
 
 -- whole metres of a number of 32 bits
-metres-width : (x : ℕ) → length (signed (metres (signed_of x))) ≤ 8
+metres-width : (x : ℕ) → length (signed_decimal (metres (signed_of x))) ≤ 8
 metres-width x =
     by (ltb x 0x8000_0000)
     (λ p. let l = ltb-true x 0x8000_0000 p in rw p (plain-width (rounded_metres x) (omega arith)))
     (λ p. let l = ltb-false x 0x8000_0000 p in rw p (minus-width (rounded_metres (suc (0xffff_ffff - x))) (omega arith)))
 
-bits-few : (n mask : ℕ) → bits n mask ≤ n
-unfolding bits
+bits-few : (n mask : ℕ) → bit_count n mask ≤ n
+unfolding bit_count
 bits-few zero mask = omega arith
 bits-few (suc n) mask = let r = bits-few n (mask / 2) in omega arith
 
@@ -100,8 +100,8 @@ module _ (r : List ℕ) where
       let x = hex-width 8 s in
       simp length-append (omega arith)
 
-  ranked-width : (s : ℕ) → length (line (ascii "ranked") r s) ≤ length widest_ranked
-  unfolding line ascii
+  ranked-width : (s : ℕ) → length (fix_line (ascii "ranked") r s) ≤ length widest_ranked
+  unfolding fix_line ascii
   ranked-width s = let w = fix-width (ascii "ranked") s in simp length-append (omega arith)
 
   refused-width : (s : ℕ) (c : ChiSquare) → length (refused_line r s c) ≤ length widest_refused

@@ -16,7 +16,7 @@ use Rattle.tracked.specs.Held.{HeldTransmission, fix_of, held_in, is_of, tied_to
 use Rattle.normalize.specs.Joining.{with_fix, refuses, upholds, entered}
 use Rattle.normalize.proofs.Distinct.{sign-keeps}
 use Rattle.normalize.proofs.Claimed.{few-kept}
-use Rattle.arrange.specs.Arranged.{is_some, has_fix, older_than}
+use Rattle.arrange.specs.Arranged.{is_nonempty, has_fix, older_than}
 use Rattle.arrange.specs.Claims.{InOrder, none, next}
 use Rattle.arrange.proofs.Claimed.{arranged-in-order}
 use Rattle.merge.specs.Merged.{opened, in_place, sign_in, joined, merged_into, merged}
@@ -77,10 +77,10 @@ few-enter f ts = few f ts (filter (tied_to f) ts)
 abbrev key_of : HeldTransmission → List Fix
 key_of t = map (with_signers 0) t.fixes
 
-key-fix : (t : HeldTransmission) → has_fix t ≡ is_some (key_of t)
+key-fix : (t : HeldTransmission) → has_fix t ≡ is_nonempty (key_of t)
 key-fix t = go t.fixes
   where
-    go : (fs : List Fix) → is_some fs ≡ is_some (map (with_signers 0) fs)
+    go : (fs : List Fix) → is_nonempty fs ≡ is_nonempty (map (with_signers 0) fs)
     go [] = refl
     go (f ∷ fs) = refl
 
@@ -97,7 +97,7 @@ module _ (h : HeldTransmission → HeldTransmission) where
   map-order [] k none = none
   map-order (t ∷ ts) k (next p f w) =
       let e = k t (Memᴰ.head refl) in
-      next (key-fix (h t) ∙ ap is_some e ∙ sym (key-fix t) ∙ p)
+      next (key-fix (h t) ∙ ap is_nonempty e ∙ sym (key-fix t) ∙ p)
       (λ v m.
       let r = Memᴰ.of_map h ts m in
       let u = r.0 in

@@ -15,7 +15,7 @@ use Rattle.tracked.specs.Parts.{Sound, Steady}
 use Rattle.normalize.specs.declared.Joined.{Joined}
 use Rattle.normalize.specs.Joining.{with_fix, entered, sign_in}
 use Rattle.normalize.specs.Taking.{taken_in, told_of}
-use Rattle.normalize.specs.Did.{did}
+use Rattle.normalize.specs.Did.{joined_as}
 use Rattle.normalize.proofs.Validity.{Holdable, with-holdable, normalized-read, normalized-steady}
 use Rattle.arrange.specs.Arranged.{arranged}
 use Rattle.merge.specs.declared.Merged.TheVariants.{Duplicate}
@@ -29,7 +29,7 @@ module _ (f : Fix) (t : HeldTransmission) where
   pub told-none : ◌≡◌ {A = Option Joined} None (told_of f t) → list_any (is_of f) (held_in t) ≡ true
   told-none e = by (list_any (is_of f) (held_in t)) (λ h. h) (λ h. absurd (let d = rw h at e in cc))
 
-  pub told-some : (j : Joined) → Some j ≡ told_of f t → (list_any (is_of f) (held_in t) ≡ false) × (j ≡ did f t (with_fix f t))
+  pub told-some : (j : Joined) → Some j ≡ told_of f t → (list_any (is_of f) (held_in t) ≡ false) × (j ≡ joined_as f t (with_fix f t))
   told-some j e = by (list_any (is_of f) (held_in t)) (λ h. absurd (let d = rw h at e in cc)) (λ h. (h, let d = rw h at e in cc))
 
   pub told-held : list_any (is_of f) (held_in t) ≡ true → ◌≡◌ {A = Option Joined} None (told_of f t)

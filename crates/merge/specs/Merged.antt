@@ -12,11 +12,11 @@ use Rattle.merge.specs.declared.Merged.{Merged}
 use Rattle.merge.specs.declared.Merged.TheVariants.{Changed, Contested, Duplicate, Dropped}
 
 -- their numbers, apart from those of what is done or refused (docs/REFERENCE.md, 'Operations')
-abbrev pub number_of : Merged → ℕ
-number_of Changed = 20
-number_of Contested = 21
-number_of Duplicate = 22
-number_of Dropped = 23
+abbrev pub merged_number : Merged → ℕ
+merged_number Changed = 20
+merged_number Contested = 21
+merged_number Duplicate = 22
+merged_number Dropped = 23
 
 -- what is answered, how many fixes entered a list of refused, and the transmissions that are held then
 pub record Step : Type 0 where

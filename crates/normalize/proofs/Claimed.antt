@@ -28,7 +28,7 @@ use Rattle.tracked.specs.Held.{fix_of, held_in, is_of}
 use Rattle.normalize.proofs.Lowest.{front-in}
 use Rattle.std.proofs.lemmas.List.{take-map}
 use Rattle.normalize.specs.Normal.{gather_all, distinct, refused_fix, lower_refused, normalized}
-use Rattle.normalize.specs.Claims.{SomeStand, FewKept, Differ, identity_of, IdentitiesDiffer, SignersUnited, AloneStands}
+use Rattle.normalize.specs.Claims.{SomeStand, FewKept, Differ, fix_identity, IdentitiesDiffer, SignersUnited, AloneStands}
 use Rattle.normalize.proofs.Differing.{perm-differ, take-differ, both-differ, front-differ, back-differ, cross-differ}
 use Rattle.normalize.proofs.United.{Gathered, gathered-all, gathered_none}
 use Rattle.arithmetic.specs.declared.standing.ChiSquare.{ChiSquare}
@@ -74,40 +74,40 @@ module _ (fs : List Fix) where
   -- ---- their identities differ
 
   abbrev ranks : List (List ℕ)
-  ranks = map identity_of o.ranked
+  ranks = map fix_identity o.ranked
 
   abbrev falls : List (List ℕ)
-  falls = map identity_of (map item_of o.refused)
+  falls = map fix_identity (map item_of o.refused)
 
-  parted : map identity_of (listed_in o) ≡ ranks ++ (map identity_of o.dominated ++ falls)
+  parted : map fix_identity (listed_in o) ≡ ranks ++ (map fix_identity o.dominated ++ falls)
   parted =
-      map-append identity_of o.ranked (o.dominated ++ map item_of o.refused)
-      ∙ ap (λ (l : List (List ℕ)). ranks ++ l) (map-append identity_of o.dominated (map item_of o.refused))
+      map-append fix_identity o.ranked (o.dominated ++ map item_of o.refused)
+      ∙ ap (λ (l : List (List ℕ)). ranks ++ l) (map-append fix_identity o.dominated (map item_of o.refused))
 
-  all-differ : Differ (ranks ++ (map identity_of o.dominated ++ falls))
-  all-differ = subst Differ parted (perm-differ (perm-map identity_of (Permᴰ.symm (once (distinct fs)))) gathered.differ)
+  all-differ : Differ (ranks ++ (map fix_identity o.dominated ++ falls))
+  all-differ = subst Differ parted (perm-differ (perm-map fix_identity (Permᴰ.symm (once (distinct fs)))) gathered.differ)
 
   abbrev sorted : List (List ℕ)
-  sorted = map identity_of (map item_of (sort lower_refused o.refused))
+  sorted = map fix_identity (map item_of (sort lower_refused o.refused))
 
   same-falls : Permᴰ falls sorted
-  same-falls = perm-map identity_of (perm-map item_of (Permᴰ.symm (sort-perm lower_refused o.refused)))
+  same-falls = perm-map fix_identity (perm-map item_of (Permᴰ.symm (sort-perm lower_refused o.refused)))
 
   differ : Differ (take max_standing ranks ++ take max_refused sorted)
   differ =
-      let d = map identity_of o.dominated in
+      let d = map fix_identity o.dominated in
       both-differ (take max_standing ranks) (take max_refused sorted)
       (take-differ max_standing ranks (front-differ ranks (d ++ falls) all-differ))
       (take-differ max_refused sorted (perm-differ same-falls (back-differ d falls (back-differ ranks (d ++ falls) all-differ))))
       (λ x y p q e.
       cross-differ ranks (d ++ falls) all-differ x y (front-in max_standing ranks p) (Memᴰ.append_right d (perm-mem same-falls (front-in max_refused sorted q))) e)
 
-  pub kept-identities : map identity_of (held_in (normalized fs)) ≡ take max_standing ranks ++ take max_refused sorted
+  pub kept-identities : map fix_identity (held_in (normalized fs)) ≡ take max_standing ranks ++ take max_refused sorted
   kept-identities =
-      ap (map identity_of) kept-are
-      ∙ map-append identity_of (take max_standing o.ranked) (map item_of lows)
-      ∙ ap₂ ◌++◌ (sym (take-map identity_of max_standing o.ranked))
-      (ap (map identity_of) (sym (take-map item_of max_refused (sort lower_refused o.refused))) ∙ sym (take-map identity_of max_refused (map item_of (sort lower_refused o.refused))))
+      ap (map fix_identity) kept-are
+      ∙ map-append fix_identity (take max_standing o.ranked) (map item_of lows)
+      ∙ ap₂ ◌++◌ (sym (take-map fix_identity max_standing o.ranked))
+      (ap (map fix_identity) (sym (take-map item_of max_refused (sort lower_refused o.refused))) ∙ sym (take-map fix_identity max_refused (map item_of (sort lower_refused o.refused))))
 
 pub identities-differ : IdentitiesDiffer
 identities-differ fs = subst Differ (sym (kept-identities fs)) (differ fs)

@@ -20,7 +20,7 @@ use Rattle.shown.proofs.Indexed.{at_in}
 use Rattle.tracked.specs.Held.{RefusedFix, fix_of, held_in, is_of}
 use Rattle.normalize.specs.Normal.{signed_by, sign_first, gather, gather_all, distinct, normalized}
 use Rattle.normalize.proofs.Distinct.{gather-held, gather-new, all_append}
-use Rattle.normalize.specs.Deciding.{kept}
+use Rattle.normalize.specs.Deciding.{normalized_distinct}
 
 -- the first that has it gains its signers
 pub sign-set : (f : Fix) (ks : List Fix) (i : ℕ) (d : Fix) → i < length ks
@@ -72,7 +72,7 @@ none-yet ks = refl
 
 -- ---- what is known of fixes that are gathered
 
-pub kept_distinct : (fs : List Fix) → kept (distinct fs) ≡ normalized fs
+pub kept_distinct : (fs : List Fix) → normalized_distinct (distinct fs) ≡ normalized fs
 unfolding normalized
 kept_distinct fs = refl
 

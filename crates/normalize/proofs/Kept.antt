@@ -10,16 +10,16 @@ use Rattle.ranges.proofs.Lists.{sort-map}
 use Rattle.decision.specs.declared.Refusal.{Refusal}
 use Rattle.decision.specs.declared.Decision.{Decision}
 use Rattle.shown.specs.Fix.{Fix}
-use Rattle.shown.specs.Items.{at}
+use Rattle.shown.specs.Items.{fix_at}
 use Rattle.shown.specs.Shown.{Transmission, shown}
-use Rattle.shown.specs.Decided.{refused_by, refused_of, Shows}
+use Rattle.shown.specs.Decided.{refused_by, refused_of, ShowsFixes}
 use Rattle.shown.proofs.Showing.{get_or-default}
 use Rattle.tracked.specs.Layout.{max_standing, max_refused}
 use Rattle.tracked.specs.Held.{RefusedFix}
 use Rattle.normalize.specs.Normal.{refused_fix, lower_refused}
-use Rattle.normalize.specs.Deciding.{kept, refused_at, lower_held}
+use Rattle.normalize.specs.Deciding.{normalized_distinct, named_refused, lower_held}
 
-module _ {N : ℕ} (ks : List Fix) (d : Decision N) (w : Shows ks d) where
+module _ {N : ℕ} (ks : List Fix) (d : Decision N) (w : ShowsFixes ks d) where
   -- each index is that of a fix
   pub ranked-in : (l : List ℕ) → l ≡ d.ranked.items → All (λ i. i < length ks) l
   ranked-in l e =
@@ -31,7 +31,7 @@ module _ {N : ℕ} (ks : List Fix) (d : Decision N) (w : Shows ks d) where
   pub refusals-in : (l : List Refusal) → l ≡ d.refusals.items → All Names l
   refusals-in l e = subst (All Names) (sym e) (λ k z h. (w.within.refused k z h, w.within.against k z h))
 
-  refused-are : map (refused_at ks) d.refusals.items ≡ map refused_fix (shown ks).refused
+  refused-are : map (named_refused ks) d.refusals.items ≡ map refused_fix (shown ks).refused
   refused-are =
       sym (map-map refused_fix (λ r. refused_of ks (refused_by r)) d.refusals.items)
       ∙ ap (map refused_fix) (sym (map-map (refused_of ks) refused_by d.refusals.items))
@@ -39,12 +39,12 @@ module _ {N : ℕ} (ks : List Fix) (d : Decision N) (w : Shows ks d) where
 
   -- what is kept
   pub kept-are : (ranked : List ℕ) (refused : List Refusal) → ranked ≡ d.ranked.items → refused ≡ d.refusals.items → (fs : List Fix) (xs : List RefusedFix)
-      → fs ≡ take max_standing (map (at ks) ranked) → xs ≡ take max_refused (sort lower_held (map (refused_at ks) refused))
-      → (record { fixes = fs; refused = xs }) ≡ kept ks
+      → fs ≡ take max_standing (map (fix_at ks) ranked) → xs ≡ take max_refused (sort lower_held (map (named_refused ks) refused))
+      → (record { fixes = fs; refused = xs }) ≡ normalized_distinct ks
   kept-are ranked refused e r fs xs p u =
-      let f = p ∙ ap (λ (l : List ℕ). take max_standing (map (at ks) l)) e ∙ ap (λ (t : Transmission). take max_standing t.ranked) w.shown in
+      let f = p ∙ ap (λ (l : List ℕ). take max_standing (map (fix_at ks) l)) e ∙ ap (λ (t : Transmission). take max_standing t.ranked) w.shown in
       let x =
-      u ∙ ap (λ (l : List Refusal). take max_refused (sort lower_held (map (refused_at ks) l))) r
+      u ∙ ap (λ (l : List Refusal). take max_refused (sort lower_held (map (named_refused ks) l))) r
       ∙ ap (λ (l : List RefusedFix). take max_refused (sort lower_held l)) refused-are
       ∙ ap (take max_refused) (sort-map refused_fix lower_refused lower_held (shown ks).refused (λ x y m k. refl))
       ∙ take-map refused_fix max_refused (sort lower_refused (shown ks).refused)

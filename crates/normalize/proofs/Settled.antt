@@ -25,9 +25,9 @@ use Rattle.shown.proofs.Plainly.{shown-is-decided}
 use Rattle.tracked.specs.Layout.{max_standing, max_refused}
 use Rattle.tracked.specs.Held.{HeldTransmission, fix_of, held_in, is_of}
 use Rattle.normalize.specs.Normal.{gather_all, distinct, refused_fix, lower_refused, normalized}
-use Rattle.normalize.specs.Deciding.{kept}
+use Rattle.normalize.specs.Deciding.{normalized_distinct}
 use Rattle.normalize.specs.Taking.{Settled}
-use Rattle.normalize.specs.Claims.{Differ, next, identity_of, forgotten_of}
+use Rattle.normalize.specs.Claims.{Differ, next, fix_identity, forgotten_of}
 use Rattle.normalize.proofs.Differing.{cross-differ}
 use Rattle.normalize.proofs.Distinct.{gather-new}
 use Rattle.normalize.proofs.Claimed.{identities-differ}
@@ -58,12 +58,12 @@ refusal : (f : Fix) (l : List Fix) (x : Refused Fix ChiSquare) → Memᴰ x (ref
 refusal f [] x m = absurd (Memᴰ.not-nil m)
 refusal f (g ∷ l) x m = let e = Memᴰ.eq_of_singleton m in (ap (λ (y : Refused Fix ChiSquare). y ∷ []) (sym e), ap (λ (y : Refused Fix ChiSquare). y.item) e)
 
-module _ (l : List Fix) (d : Differ (map identity_of l)) where
+module _ (l : List Fix) (d : Differ (map fix_identity l)) where
   by-identity : Strict lower l
   by-identity = record {
     irrefl = λ f. before-irrefl f.identity;
     trans = λ f g h. before-trans f.identity g.identity h.identity;
-    total = λ f g p q. or (tri f.identity g.identity) (λ a. inr (inl a)) (λ b. or b (λ e. inl (differ-same identity_of l d f g p q e)) (λ c. inr (inr c)));
+    total = λ f g p q. or (tri f.identity g.identity) (λ a. inr (inl a)) (λ b. or b (λ e. inl (differ-same fix_identity l d f g p q e)) (λ c. inr (inr c)));
   }
 
   by_rank : Strict ahead l
@@ -96,18 +96,18 @@ module _ (l : List Fix) (d : Differ (map identity_of l)) where
 
 -- ---- gathered again
 
-all-new : (ks fs : List Fix) → Differ (map identity_of (ks ++ fs)) → gather_all ks fs ≡ ks ++ fs
+all-new : (ks fs : List Fix) → Differ (map fix_identity (ks ++ fs)) → gather_all ks fs ≡ ks ++ fs
 unfolding gather_all
 all-new ks [] d = sym (append-nil ks)
 all-new ks (f ∷ fs) d =
     ap (λ (l : List Fix). gather_all l fs) (gather-new f ks (any_none (is_of f) ks (λ g m. no_true (is_of f g) (λ t. other g m (same-eq g.identity f.identity t)))))
-    ∙ all-new (ks ++ (f ∷ [])) fs (subst (λ (l : List Fix). Differ (map identity_of l)) (sym (append_assoc ks (f ∷ []) fs)) d)
+    ∙ all-new (ks ++ (f ∷ [])) fs (subst (λ (l : List Fix). Differ (map fix_identity l)) (sym (append_assoc ks (f ∷ []) fs)) d)
     ∙ append_assoc ks (f ∷ []) fs
   where
     other : (g : Fix) → Memᴰ g ks → g.identity ≡ f.identity → ⊥
     other g m e =
-        cross-differ (map identity_of ks) (map identity_of (f ∷ fs)) (subst Differ (map-append identity_of ks (f ∷ fs)) d) g.identity f.identity
-        (Memᴰ.map identity_of m) (Memᴰ.head refl) e
+        cross-differ (map fix_identity ks) (map fix_identity (f ∷ fs)) (subst Differ (map-append fix_identity ks (f ∷ fs)) d) g.identity f.identity
+        (Memᴰ.map fix_identity m) (Memᴰ.head refl) e
 
 none-behind : {A : Type 0} (l m : List A) → length (l ++ m) ≡ length l → l ++ m ≡ l
 none-behind l [] e = append-nil l
@@ -117,7 +117,7 @@ module _ (fs : List Fix) (all : length (held_in (normalized fs)) ≡ length (dis
   abbrev held : List Fix
   held = held_in (normalized fs)
 
-  d : Differ (map identity_of held)
+  d : Differ (map fix_identity held)
   d = identities-differ fs
 
   same-fixes : Permᴰ held (distinct fs)
@@ -141,7 +141,7 @@ module _ (fs : List Fix) (all : length (held_in (normalized fs)) ≡ length (dis
       (subst (λ (t : Transmission). Permᴰ (decide fix_relations held).refused t.refused) (sym (shown-is-decided ks)) (same-refused fix_relations held ks same-fixes w))
       in
       let lowest = sort-same lower_refused refused (refused-strict held d) in
-      ap kept a ∙ (λ i. record { fixes = take max_standing (ranked i); refused = map refused_fix (take max_refused (lowest i)) })
+      ap normalized_distinct a ∙ (λ i. record { fixes = take max_standing (ranked i); refused = map refused_fix (take max_refused (lowest i)) })
 
 -- what is kept of fixes, of which there are as many with different identities
 pub settled-all : (t : HeldTransmission) (fs : List Fix) → t ≡ normalized fs → length t.fixes + length t.refused ≡ length (distinct fs) → Settled t

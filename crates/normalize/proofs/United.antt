@@ -15,7 +15,7 @@ use Rattle.ranges.proofs.Lists.{any-no, any_none, any-map}
 use Rattle.shown.specs.Fix.{Fix}
 use Rattle.tracked.specs.Held.{is_of}
 use Rattle.normalize.specs.Normal.{signed_by, sign_first, gather, gather_all}
-use Rattle.normalize.specs.Claims.{Differ, none, next, identity_of}
+use Rattle.normalize.specs.Claims.{Differ, none, next, fix_identity}
 use Rattle.normalize.proofs.Distinct.{sign-keeps, gather-held, gather-new}
 use Rattle.normalize.proofs.Differing.{both-differ}
 
@@ -33,13 +33,13 @@ any_append test [] x = by (test x) (λ t. rw t refl) (λ t. rw t refl)
 any_append test (y ∷ l) x = by (test y) (λ t. rw t refl) (λ t. rw t (any_append test l x))
 
 -- whether an identity is held depends on the identities alone
-any_identity : (f : Fix) (ks : List Fix) → list_any (is_of f) ks ≡ list_any (λ i. same i f.identity) (map identity_of ks)
-any_identity f ks = sym (any-map identity_of (is_of f) (λ i. same i f.identity) ks (λ g m. refl))
+any_identity : (f : Fix) (ks : List Fix) → list_any (is_of f) ks ≡ list_any (λ i. same i f.identity) (map fix_identity ks)
+any_identity f ks = sym (any-map fix_identity (is_of f) (λ i. same i f.identity) ks (λ g m. refl))
 
 -- ---- who is changed where the first of an identity is signed
 
 module _ (f : Fix) where
-  pub sign-in : (ks : List Fix) → Differ (map identity_of ks) → (x : Fix) → Memᴰ x (sign_first f ks)
+  pub sign-in : (ks : List Fix) → Differ (map fix_identity ks) → (x : Fix) → Memᴰ x (sign_first f ks)
       → ((g : Fix) × Memᴰ g ks × (x ≡ signed_by f g) × (is_of f g ≡ true)) ⊎ (Memᴰ x ks × (is_of f x ≡ false))
   unfolding sign_first
   sign-in [] d x m = absurd (Memᴰ.not-nil m)
@@ -47,7 +47,7 @@ module _ (f : Fix) where
       by (is_of f g)
       (λ t. or (Memᴰ.cases_cons (rw t at m))
       (λ q. inl (g, Memᴰ.head refl, q, t))
-      (λ k. inr (Memᴰ.tail k, not_same x.identity f.identity (λ q. e x.identity (Memᴰ.map identity_of k) (same-eq g.identity f.identity t ∙ sym q)))))
+      (λ k. inr (Memᴰ.tail k, not_same x.identity f.identity (λ q. e x.identity (Memᴰ.map fix_identity k) (same-eq g.identity f.identity t ∙ sym q)))))
       (λ t. or (Memᴰ.cases_cons (rw t at m))
       (λ q. inr (Memᴰ.head q, ap (is_of f) q ∙ t))
       (λ k. or (sign-in ks d x k)
@@ -60,7 +60,7 @@ abbrev signed_in : Fix → ℕ → Fix → Bool
 signed_in g n f = is_of g f && bit f.signers n
 
 pub record Gathered (ps ks : List Fix) : Type 0 where
-  pub differ : Differ (map identity_of ks)
+  pub differ : Differ (map fix_identity ks)
   pub united : (g : Fix) → Memᴰ g ks → (n : ℕ) → bit g.signers n ≡ list_any (signed_in g n) ps
   pub covered : (f : Fix) → Memᴰ f ps → list_any (is_of f) ks ≡ true
 
@@ -83,10 +83,10 @@ module _ (ps ks : List Fix) (f : Fix) (w : Gathered ps ks) where
 
     held-gathered : Gathered (ps ++ (f ∷ [])) (sign_first f ks)
     held-gathered = record {
-      differ = subst Differ (sym (sign-keeps f identity_of (λ g. refl) ks)) w.differ;
+      differ = subst Differ (sym (sign-keeps f fix_identity (λ g. refl) ks)) w.differ;
       united = held-united;
       covered = λ x m.
-          any_identity x (sign_first f ks) ∙ ap (list_any (λ i. same i x.identity)) (sign-keeps f identity_of (λ g. refl) ks) ∙ sym (any_identity x ks)
+          any_identity x (sign_first f ks) ∙ ap (list_any (λ i. same i x.identity)) (sign-keeps f fix_identity (λ g. refl) ks) ∙ sym (any_identity x ks)
           ∙ or (Memᴰ.append_cases ps m) (λ k. w.covered x k) (λ k. ap (λ (y : Fix). list_any (is_of y) ks) (Memᴰ.eq_of_singleton k) ∙ held);
     }
 
@@ -110,10 +110,10 @@ module _ (ps ks : List Fix) (f : Fix) (w : Gathered ps ks) where
     new-gathered : Gathered (ps ++ (f ∷ [])) (ks ++ (f ∷ []))
     new-gathered = record {
       differ =
-          subst Differ (sym (map-append identity_of ks (f ∷ [])))
-          (both-differ (map identity_of ks) (f.identity ∷ []) w.differ (next (λ y m q. Memᴰ.not-nil m) none)
+          subst Differ (sym (map-append fix_identity ks (f ∷ [])))
+          (both-differ (map fix_identity ks) (f.identity ∷ []) w.differ (next (λ y m q. Memᴰ.not-nil m) none)
           (λ x y p q e.
-          let r = Memᴰ.of_map identity_of ks p in
+          let r = Memᴰ.of_map fix_identity ks p in
           let z = r.2 ∙ e ∙ Memᴰ.eq_of_singleton q in
           clash (ap (λ (i : List ℕ). same i f.identity) z ∙ same_refl f.identity) (any-no (is_of f) ks r.0 new r.1)));
       united = new-united;

@@ -25,11 +25,11 @@ pub data Differ {A : Type 0} : List A → Type 0 where
   none : Differ []
   next : {x : A} {l : List A} → ((y : A) → Memᴰ y l → x ≡ y → ⊥) → Differ l → Differ (x ∷ l)
 
-abbrev pub identity_of : Fix → List ℕ
-identity_of f = f.identity
+abbrev pub fix_identity : Fix → List ℕ
+fix_identity f = f.identity
 
 abbrev pub IdentitiesDiffer : Type 0
-IdentitiesDiffer = (fs : List Fix) → Differ (map identity_of (held_in (normalized fs)))
+IdentitiesDiffer = (fs : List Fix) → Differ (map fix_identity (held_in (normalized fs)))
 
 -- an engine signed a fix that is kept exactly where it signed one of those given that have its identity
 abbrev pub SignersUnited : Type 0
@@ -43,7 +43,7 @@ AloneStands = (f : Fix) → normalized (f ∷ []) ≡ record { fixes = f ∷ [];
 
 -- of the fixes that are given `distinct` has one of every identity
 abbrev pub OneOfEach : Type 0
-OneOfEach = (fs : List Fix) → Differ (map identity_of (distinct fs)) × ((f : Fix) → Memᴰ f fs → list_any (is_of f) (distinct fs) ≡ true)
+OneOfEach = (fs : List Fix) → Differ (map fix_identity (distinct fs)) × ((f : Fix) → Memᴰ f fs → list_any (is_of f) (distinct fs) ≡ true)
 
 -- which are forgotten: those ranked behind the best five, the dominated, and those refused behind the four of lowest identity
 abbrev pub forgotten_of : List Fix → List Fix

@@ -5,7 +5,7 @@ use Rattle.ranges.specs.Lists.{sort}
 use Rattle.models.specs.declared.hashes.Identity.{Identity}
 use Rattle.decision.specs.declared.Refusal.{Refusal}
 use Rattle.shown.specs.Fix.{Fix}
-use Rattle.shown.specs.Items.{at}
+use Rattle.shown.specs.Items.{fix_at}
 use Rattle.shown.specs.Shown.{lower, shown}
 use Rattle.tracked.specs.Layout.{max_standing, max_refused}
 use Rattle.tracked.specs.Held.{RefusedFix, HeldTransmission}
@@ -20,12 +20,12 @@ abbrev pub digest_of : Identity → List ℕ
 digest_of id = id.0
 
 -- what is kept of fixes with different identities
-abbrev pub kept : List Fix → HeldTransmission
-kept ks = record { fixes = take max_standing (shown ks).ranked; refused = map refused_fix (take max_refused (sort lower_refused (shown ks).refused)) }
+abbrev pub normalized_distinct : List Fix → HeldTransmission
+normalized_distinct ks = record { fixes = take max_standing (shown ks).ranked; refused = map refused_fix (take max_refused (sort lower_refused (shown ks).refused)) }
 
 -- the refused fix that a refusal names
-abbrev pub refused_at : List Fix → Refusal → RefusedFix
-refused_at fs x = record { fix = at fs x.refused; against = (at fs x.kept).identity; chi2 = stored_bits x.chi2 }
+abbrev pub named_refused : List Fix → Refusal → RefusedFix
+named_refused fs x = record { fix = fix_at fs x.refused; against = (fix_at fs x.kept).identity; chi2 = stored_bits x.chi2 }
 
 abbrev pub lower_held : RefusedFix → RefusedFix → Bool
 lower_held x y = lower x.fix y.fix

@@ -5,5 +5,5 @@ use Rattle.normalize.specs.declared.Joined.{Joined}
 use Rattle.normalize.specs.Joining.{refuses, upholds, entered, moved}
 
 -- f joined t, and u is what became of it
-abbrev pub did : Fix → HeldTransmission → HeldTransmission → Joined
-did f t u = record { refused = refuses u f; moved = moved t.fixes u.fixes; upheld = upholds u f; entered = entered t u }
+abbrev pub joined_as : Fix → HeldTransmission → HeldTransmission → Joined
+joined_as f t u = record { refused = refuses u f; moved = moved t.fixes u.fixes; upheld = upholds u f; entered = entered t u }

@@ -6,7 +6,7 @@ use Rattle.tracked.specs.Held.{HeldTransmission, fix_of, held_in, is_of}
 use Rattle.normalize.specs.Normal.{normalized}
 use Rattle.normalize.specs.Signed.{is_signed}
 use Rattle.normalize.specs.Joining.{with_fix, sign_in}
-use Rattle.normalize.specs.Did.{did}
+use Rattle.normalize.specs.Did.{joined_as}
 use Rattle.normalize.specs.declared.Joined.{Joined}
 
 -- the fixes that some engine signed
@@ -19,7 +19,7 @@ taken_in f t = cond (list_any (is_of f) (held_in t)) (sign_in f t) (with_fix f t
 
 -- nothing is told of a fix whose identity was held
 abbrev pub told_of : Fix → HeldTransmission → Option Joined
-told_of f t = cond (list_any (is_of f) (held_in t)) None (Some (did f t (with_fix f t)))
+told_of f t = cond (list_any (is_of f) (held_in t)) None (Some (joined_as f t (with_fix f t)))
 
 -- its fixes decided again, it is as it was
 abbrev pub Settled : HeldTransmission → Type 0

@@ -8,7 +8,7 @@ ghost use Rattle.tracked.specs.Bytes.{transmission_in, transmission_bytes};
 ghost use Rattle.tracked.specs.Parts.{Sound};
 ghost use Rattle.normalize.specs.Normal.{normalized};
 ghost use Rattle.normalize.specs.Joining.{with_fix};
-ghost use Rattle.normalize.specs.Did.{did};
+ghost use Rattle.normalize.specs.Did.{joined_as};
 ghost use Rattle.normalize.specs.Signed.{is_signed};
 ghost use Rattle.normalize.specs.Taking.{Settled, signed_only, taken_in, told_of};
 
@@ -45,7 +45,7 @@ fn write_joined<'a>(
     b: &mut [u8; TRANSMISSION_SIZE],
 ) -> Joined
     ensures left { b.new ≡ transmission_bytes (with_fix fix.now held.now) }
-    ensures told { result ≡ did fix.now held.now (with_fix fix.now held.now) }
+    ensures told { result ≡ joined_as fix.now held.now (with_fix fix.now held.now) }
 {
     let mut kept = Transmission::new();
     let told = joining::join(held, fix, &mut kept);

@@ -3,13 +3,13 @@
 
 ghost use Rattle.std.specs.Prelude.{◌≡◌, not, map, position, All, IsTrue, ◌<◌, length, take};
 ghost use Rattle.ranges.specs.Lists.{insert, sort};
-ghost use Rattle.shown.specs.Items.{at};
+ghost use Rattle.shown.specs.Items.{fix_at};
 ghost use Rattle.tracked.specs.Layout.{max_standing, max_refused};
 ghost use Rattle.tracked.specs.Held.{held_in};
 ghost use Rattle.normalize.specs.Normal.{normalized};
 ghost use Rattle.normalize.specs.Taking.{Settled};
 ghost use Rattle.normalize.specs.Joining.{with_fix};
-ghost use Rattle.normalize.specs.Deciding.{kept, refused_at, lower_held};
+ghost use Rattle.normalize.specs.Deciding.{normalized_distinct, named_refused, lower_held};
 
 use crate::gathering::{Gathered, gather, gather_all, gather_refused};
 use crate::outcome::outcome;
@@ -27,7 +27,7 @@ fn list_standing<'a>(
     standing: &mut ArrayVec<Fix<'a>, MAX_STANDING>,
 )
     requires { All (λ i. i < length fixes.now) ranked.now }
-    ensures { standing.new.items ≡ take max_standing (map (at fixes.now) ranked.now) }
+    ensures { standing.new.items ≡ take max_standing (map (fix_at fixes.now) ranked.now) }
 {
     standing.clear();
     for i in ranked {
@@ -63,7 +63,7 @@ fn list_refused<'a>(
     refused: &mut ArrayVec<RefusedFix<'a>, MAX_REFUSED>,
 )
     requires { All (λ x. (x.refused < length fixes.now) × (x.kept < length fixes.now)) refusals.now }
-    ensures { refused.new.items ≡ take max_refused (sort lower_held (map (refused_at fixes.now) refusals.now)) }
+    ensures { refused.new.items ≡ take max_refused (sort lower_held (map (named_refused fixes.now) refusals.now)) }
 {
     refused.clear();
     for k in (0..refusals.len()).rev() {
@@ -81,7 +81,7 @@ fn list_refused<'a>(
 
 // Puts what is kept of fixes in the place of what a transmission holds.
 fn decide<'a>(fixes: &Gathered<'a>, into: &mut Transmission<'a>)
-    ensures { into.new ≡ kept fixes.now.items }
+    ensures { into.new ≡ normalized_distinct fixes.now.items }
 {
     let fixes = fixes.as_slice();
     let decided = outcome(fixes);

@@ -4,7 +4,7 @@ ghost use Rattle.std.specs.Prelude.{◌≡◌, cond, count_by, position, not};
 ghost use Rattle.std.specs.List.{list_any};
 ghost use Rattle.tracked.specs.Held.{fix_of, held_in, is_of};
 ghost use Rattle.normalize.specs.Joining as J;
-ghost use Rattle.normalize.specs.Did.{did};
+ghost use Rattle.normalize.specs.Did.{joined_as};
 
 use crate::Joined;
 use crate::deciding::decide_with;
@@ -60,7 +60,7 @@ fn place_of(refused: &[RefusedFix<'_>], fix: &Fix<'_>) -> Option<usize>
 /// Decides the fixes of a transmission and a further one, puts what is kept in the place of what another holds, and tells what the fix did.
 pub fn join<'a>(held: &Transmission<'a>, fix: &Fix<'a>, into: &mut Transmission<'a>) -> Joined
     ensures left { into.new ≡ J.with_fix fix.now held.now }
-    ensures told { result ≡ did fix.now held.now into.new }
+    ensures told { result ≡ joined_as fix.now held.now into.new }
 {
     decide_with(held, fix, into);
     Joined {

@@ -1,9 +1,9 @@
 //! What is decided of fixes: each is an item of the decision.
 
 ghost use Rattle.std.specs.Prelude.{◌≡◌, map, ◌<◌, ◌≤◌, length};
-ghost use Rattle.shown.specs.Items.{at};
-ghost use Rattle.shown.specs.Decided.{IsFix, Shows};
-ghost use Rattle.normalize.specs.Claims.{identity_of};
+ghost use Rattle.shown.specs.Items.{fix_at};
+ghost use Rattle.shown.specs.Decided.{IsFix, ShowsFixes};
+ghost use Rattle.normalize.specs.Claims.{fix_identity};
 ghost use Rattle.normalize.specs.Deciding.{max_gathered, digest_of};
 
 use crate::gathering::MAX_GATHERED;
@@ -16,7 +16,7 @@ use tracked::fix::Fix;
 // The identities of fixes, in their order.
 fn identities(fixes: &[Fix<'_>]) -> ArrayVec<Identity, MAX_GATHERED>
     requires few { length fixes.now ≤ max_gathered }
-    ensures { map digest_of result.items ≡ map identity_of fixes.now }
+    ensures { map digest_of result.items ≡ map fix_identity fixes.now }
 {
     let mut identities = ArrayVec::new();
     for fix in fixes {
@@ -28,8 +28,8 @@ fn identities(fixes: &[Fix<'_>]) -> ArrayVec<Identity, MAX_GATHERED>
 // A fix, of which these are the identities, as an item.
 fn item_at<'s>(fixes: &'s [Fix<'_>], identities: &'s [Identity], i: usize) -> Item<'s>
     requires here { i < length fixes.now }
-    requires identified { map digest_of identities.now ≡ map identity_of fixes.now }
-    ensures { IsFix (at fixes.now i) result }
+    requires identified { map digest_of identities.now ≡ map fix_identity fixes.now }
+    ensures { IsFix (fix_at fixes.now i) result }
 {
     let fix = &fixes[i];
     shown::item_of(fix.report, &fix.inputs.0, &identities[i].0)
@@ -39,8 +39,8 @@ fn item_at<'s>(fixes: &'s [Fix<'_>], identities: &'s [Identity], i: usize) -> It
 fn decide<'s>(fixes: &'s [Fix<'_>], identities: &'s [Identity]) -> Decision<MAX_GATHERED>
     requires some { 0 < length fixes.now }
     requires few { length fixes.now ≤ max_gathered }
-    requires identified { map digest_of identities.now ≡ map identity_of fixes.now }
-    ensures { Shows fixes.now result }
+    requires identified { map digest_of identities.now ≡ map fix_identity fixes.now }
+    ensures { ShowsFixes fixes.now result }
 {
     decide_few(fixes.len(), |i| item_at(fixes, identities, i))
 }
@@ -48,7 +48,7 @@ fn decide<'s>(fixes: &'s [Fix<'_>], identities: &'s [Identity]) -> Decision<MAX_
 /// What is decided of fixes.
 pub fn outcome(fixes: &[Fix<'_>]) -> Decision<MAX_GATHERED>
     requires few { length fixes.now ≤ max_gathered }
-    ensures { Shows fixes.now result }
+    ensures { ShowsFixes fixes.now result }
 {
     if fixes.len() <= 1 {
         return decide_alone(fixes.len());

@@ -12,7 +12,7 @@ use lib.Arith.{bin_ind}
 use lib.Count.{ones, ones_in, ones_step}
 use Rattle.ranges.proofs.Bools.{by}
 use borrow.Author.Tests.{ne_eqb, eqb-false, ltb-true, ltb-false}
-use Rattle.octets.specs.Masks.{bit, with_bit, without_bit, bits}
+use Rattle.octets.specs.Masks.{bit, with_bit, without_bit, bit_count}
 
 -- ---- the machine's operations
 
@@ -94,8 +94,8 @@ bit-ext = bin_ind (λ (s : ℕ). (t : ℕ) → ((k : ℕ) → bit s k ≡ bit t 
 
 -- ---- how many bits are set
 
-pub count_ones : (n m : ℕ) → m < 2 ^ n → ones m ≡ bits n m
-unfolding bits
+pub count_ones : (n m : ℕ) → m < 2 ^ n → ones m ≡ bit_count n m
+unfolding bit_count
 count_ones zero m h = let z : m ≡ 0 = omega arith in rw z (unfold ones ones_in in refl)
 count_ones (suc n) m h = ones_step m ∙ ap (λ (k : ℕ). m % 2 + k) (count_ones n (m / 2) (omega (arith, pow-suc 2 n)))
 
@@ -116,14 +116,14 @@ pub bit_below : (w m e : ℕ) → m < 2 ^ w → bit m e ≡ true → e < w
 bit_below w m e h z = by (ltb e w) (λ q. ltb-true e w q) (λ q. let p : 2 ^ w ≤ 2 ^ e = pow_mono (ltb-false e w q) in omega (arith, p, clear-set m e z, h))
 
 -- setting a bit that is clear counts one more, and one that is set no more
-pub bits-with : (n m e : ℕ) → e < n → bits n (with_bit m e) ≡ bits n m + cond (bit m e) 0 1
-unfolding bits with_bit bit
+pub bits-with : (n m e : ℕ) → e < n → bit_count n (with_bit m e) ≡ bit_count n m + cond (bit m e) 0 1
+unfolding bit_count with_bit bit
 bits-with zero m e h = absurd (omega arith)
 bits-with (suc n) m zero h = let q : (m / 2 * 2 + 1) / 2 ≡ m / 2 = omega arith in rw q (grind arith)
 bits-with (suc n) m (suc e) h = let q : (with_bit (m / 2) e * 2 + m % 2) / 2 ≡ with_bit (m / 2) e = omega arith in rw (q, bits-with n (m / 2) e (omega arith)) (omega arith)
 
-pub bits-without : (n m e : ℕ) → e < n → bits n (without_bit m e) + cond (bit m e) 1 0 ≡ bits n m
-unfolding bits without_bit bit
+pub bits-without : (n m e : ℕ) → e < n → bit_count n (without_bit m e) + cond (bit m e) 1 0 ≡ bit_count n m
+unfolding bit_count without_bit bit
 bits-without zero m e h = absurd (omega arith)
 bits-without (suc n) m zero h = let q : m / 2 * 2 / 2 ≡ m / 2 = omega arith in rw q (grind arith)
 bits-without (suc n) m (suc e) h =

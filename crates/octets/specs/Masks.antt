@@ -17,6 +17,6 @@ without_bit mask zero = mask / 2 * 2
 without_bit mask (suc n) = without_bit (mask / 2) n * 2 + mask % 2
 
 -- how many of the n lowest bits are set
-unfoldable pub bits : ℕ → ℕ → ℕ
-bits zero mask = 0
-bits (suc n) mask = mask % 2 + bits n (mask / 2)
+unfoldable pub bit_count : ℕ → ℕ → ℕ
+bit_count zero mask = 0
+bit_count (suc n) mask = mask % 2 + bit_count n (mask / 2)

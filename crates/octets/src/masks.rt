@@ -2,7 +2,7 @@
 //! one of 32 whose upper half is zero.
 
 ghost use Rattle.std.specs.Prelude.{◌≡◌, ◌<◌};
-ghost use Rattle.octets.specs.Masks.{bit, with_bit, without_bit, bits};
+ghost use Rattle.octets.specs.Masks.{bit, with_bit, without_bit, bit_count};
 
 /// Whether bit n is set.
 pub fn has_u32(mask: u32, n: u32) -> bool
@@ -34,7 +34,7 @@ pub fn without_u32(mask: u32, n: u32) -> u32
 
 /// How many bits are set.
 pub fn count_u16(mask: u16) -> u32
-    ensures { result ≡ bits 16 mask }
+    ensures { result ≡ bit_count 16 mask }
 {
     u16::count_ones(mask)
 }

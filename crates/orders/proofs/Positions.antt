@@ -21,13 +21,13 @@ use Rattle.held.specs.Limits.{summaries_size}
 use Rattle.decision.specs.Positions.{S, M, L}
 use Rattle.shown.specs.Fix.{Fix}
 use Rattle.tracked.specs.Held.{HeldTransmission}
-use Rattle.merge.specs.Merged.{Step, number_of, merged}
+use Rattle.merge.specs.Merged.{Step, merged_number, merged}
 use Rattle.merge.specs.declared.Merged.TheVariants.{Changed}
 use Rattle.stored.specs.Layout.{summaries_at, transmissions_size}
 use Rattle.stored.specs.Track.{Track, done}
 use Rattle.stored.specs.Memory.{fresh, decode, encode, commit, on_memory}
 use Rattle.stored.proofs.Valid.{Valid, decode-encode, on-encode}
-use Rattle.track.specs.Track.{fix_from, track_report}
+use Rattle.track.specs.Track.{reported_fix, track_report}
 use Rattle.track.specs.Calls.{runs}
 use Rattle.track.proofs.Merging.{stepped-valid}
 use Rattle.track.proofs.Ordered.{fresh-is, start-valid}
@@ -47,7 +47,7 @@ none = []
 record Known (r : List ℕ) (f : Fix) : Type 0 where
   formed : well_formed r ≡ true
   cites_none : models r ≡ none
-  its_fix : (n : ℕ) (ts : List HeldTransmission) → fix_from 1 r (holding n ts) ≡ f
+  its_fix : (n : ℕ) (ts : List HeldTransmission) → reported_fix 1 r (holding n ts) ≡ f
 
 module _ (r identity : List ℕ) (p : (well_formed r ≡ true) × (models r ≡ none)) (e : identity_of [] r ≡ identity) where
   same_inputs : cited_inputs [] r ≡ no_inputs
@@ -91,7 +91,7 @@ abbrev after_step : ℕ → Step → Track
 after_step n x = holding ((n + x.entered) % 2 ^ 64) x.left
 
 module _ {r : List ℕ} {f : Fix} (k : Known r f) (n : ℕ) (ts : List HeldTransmission) {x : Step} (e : merged f ts ≡ x) where
-  is-step : merged (fix_from 1 r (holding n ts)) ts ≡ x
+  is-step : merged (reported_fix 1 r (holding n ts)) ts ≡ x
   is-step = ap (λ (g : Fix). merged g ts) (k.its_fix n ts) ∙ e
 
   none-missing : cites_missing [] r ≡ false
@@ -102,15 +102,15 @@ module _ {r : List ℕ} {f : Fix} (k : Known r f) (n : ℕ) (ts : List HeldTrans
   unfolding all_agreed
   it-counts = ap (λ (l : List ℕ). all_agreed (spec r) l []) k.cites_none
 
-  taken : track_report 1 r (holding n ts) ≡ done (number_of x.answer) (after_step n x)
+  taken : track_report 1 r (holding n ts) ≡ done (merged_number x.answer) (after_step n x)
   unfolding bit
   taken = rw (k.formed, none-missing, it-counts, is-step) refl
 
   module _ {m : List ℕ} (h : Holds m (holding n ts)) where
-    called : on_memory (track_report 1 r) m ≡ after (number_of x.answer) (encode (after_step n x))
+    called : on_memory (track_report 1 r) m ≡ after (merged_number x.answer) (encode (after_step n x))
     called = ap (on_memory (track_report 1 r)) h.is ∙ on-encode (holding n ts) h.valid (track_report 1 r) ∙ ap (commit (encode (holding n ts))) taken
 
-    answered : (on_memory (track_report 1 r) m).answer ≡ number_of x.answer
+    answered : (on_memory (track_report 1 r) m).answer ≡ merged_number x.answer
     answered = ap (λ (a : After (List ℕ)). a.answer) called
 
     left : Holds (on_memory (track_report 1 r) m).left (after_step n x)
@@ -151,7 +151,7 @@ after-largest-first = left known-m 1 (one (refusing fix_s)) last-m after-l-s
 
 -- ---- what is answered, and what is left
 
-growing_answers : track_answers fresh growing ≡ number_of Changed ∷ number_of Changed ∷ number_of Changed ∷ []
+growing_answers : track_answers fresh growing ≡ merged_number Changed ∷ merged_number Changed ∷ merged_number Changed ∷ []
 unfolding track_answers
 growing_answers = λ i.
     answered known-s 0 [] first-s after_none i
@@ -159,7 +159,7 @@ growing_answers = λ i.
     ∷ answered known-l 0 (one (alone fix_m)) then-l after-s-m i
     ∷ []
 
-largest_first_answers : track_answers fresh largest_first ≡ number_of Changed ∷ number_of Changed ∷ number_of Changed ∷ []
+largest_first_answers : track_answers fresh largest_first ≡ merged_number Changed ∷ merged_number Changed ∷ merged_number Changed ∷ []
 unfolding track_answers
 largest_first_answers = λ i.
     answered known-l 0 [] first-l after_none i

@@ -7,7 +7,7 @@ use lib.Ieee.{of_bits, to_bits, round, le, lt, eq, of_int, div, mul, add, sub, n
 use Rattle.octets.specs.Ascii.{ascii}
 use Rattle.octets.specs.Words.{word_bytes, word}
 use Rattle.octets.specs.Order.{same, is_before}
-use Rattle.octets.specs.Masks.{bits}
+use Rattle.octets.specs.Masks.{bit_count}
 use Rattle.arithmetic.specs.Bits.{stored_bits}
 use Rattle.std.specs.List.{filter, list_any}
 use Rattle.ranges.specs.Lists.{insert, sort, foremost}
@@ -18,8 +18,8 @@ use Rattle.floats.specs.Root.{isqrt, digits_of, root_of, root_finite, root_bits,
 use Rattle.geometry.specs.Numbers.{from_decimal}
 use Rattle.geometry.specs.Angles.{degree, radians_of, factorial, coefficient, sine_series, cosine_series, sincos_of}
 use Rattle.geometry.specs.Geodesy.{flattening, eccentricity2, to_ecef, enu_basis, sub_of, dot_of}
-use Rattle.geometry.specs.Linalg.{less, rows_below, columns, cholesky_of, forwards, forward, backwards, backward, solve_of, plus}
-use Rattle.arithmetic.specs.Agree.{limit_of, geodetic_of, matrix_of, sum_under, finitely, length_under, chi_square_of, difference_of, outcome_of, agreement_of, agrees_of, chi_square_in}
+use Rattle.geometry.specs.Linalg.{minus_each, rows_below, columns, cholesky_of, forwards, forward, backwards, backward, solve_of, sum_to}
+use Rattle.arithmetic.specs.Agree.{limit_of, geodetic_of, matrix_of, sum_under, finitely, length_under, chi_square_of, difference_of, agreement_under, agreement_of, agrees_of, chi_square_in}
 use Rattle.items.specs.Claimed.{claim_of}
 use Rattle.models.specs.Identity.{cited_domain, cited_inputs, set_hash, identity_from, identity_of, inputs_in_order}
 use Rattle.decision.specs.Positions.{S, M, L}
@@ -38,7 +38,7 @@ unfolding ascii inputs_in_order cited_inputs set_hash identity_from word_bytes B
 of-hash = tt
 
 of-step : Unit {0}
-unfolding opened joined merged gather_all sign_first normalized arranged shown insert sort foremost flat_map tied shares_tag any_in subset all_in member same is_before bits tags_from claim_of word_bytes word limit_of geodetic_of matrix_of sum_under finitely length_under chi_square_of difference_of outcome_of agreement_of agrees_of chi_square_in stored_bits degree radians_of factorial coefficient sine_series cosine_series sincos_of flattening eccentricity2 to_ecef enu_basis sub_of dot_of less rows_below columns cholesky_of forwards forward backwards backward solve_of plus from_decimal isqrt digits_of root_of root_finite root_bits root count_leading_zeros of_bits to_bits round le lt eq of_int div mul add sub neg is_nan
+unfolding opened joined merged gather_all sign_first normalized arranged shown insert sort foremost flat_map tied shares_tag any_in subset all_in member same is_before bit_count tags_from claim_of word_bytes word limit_of geodetic_of matrix_of sum_under finitely length_under chi_square_of difference_of agreement_under agreement_of agrees_of chi_square_in stored_bits degree radians_of factorial coefficient sine_series cosine_series sincos_of flattening eccentricity2 to_ecef enu_basis sub_of dot_of minus_each rows_below columns cholesky_of forwards forward backwards backward solve_of sum_to from_decimal isqrt digits_of root_of root_finite root_bits root count_leading_zeros of_bits to_bits round le lt eq of_int div mul add sub neg is_nan
 of-step = tt
 
 -- ---- the three fixes

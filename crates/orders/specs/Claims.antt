@@ -7,7 +7,7 @@ use Rattle.decision.specs.Positions.{S, M, L}
 use Rattle.register.specs.Layout.{max_records}
 use Rattle.register.specs.Calls.{Call, report, summary, conviction, none_full}
 use Rattle.register.specs.Memory as R
-use Rattle.merge.specs.Merged.{number_of}
+use Rattle.merge.specs.Merged.{merged_number}
 use Rattle.merge.specs.declared.Merged.TheVariants.{Changed}
 use Rattle.stored.specs.Track.{Track}
 use Rattle.stored.specs.Memory as T
@@ -56,8 +56,8 @@ pub record Position9 : Type 0 where
   pub none_contested : (track_after growing).contested ≡ 0
   pub one_contested : (track_after largest_first).contested ≡ 1
   -- the answers do not tell: each is Changed
-  pub growing_answers : track_answers T.fresh growing ≡ number_of Changed ∷ number_of Changed ∷ number_of Changed ∷ []
-  pub largest_first_answers : track_answers T.fresh largest_first ≡ number_of Changed ∷ number_of Changed ∷ number_of Changed ∷ []
+  pub growing_answers : track_answers T.fresh growing ≡ merged_number Changed ∷ merged_number Changed ∷ merged_number Changed ∷ []
+  pub largest_first_answers : track_answers T.fresh largest_first ≡ merged_number Changed ∷ merged_number Changed ∷ merged_number Changed ∷ []
 
 -- ---- the claim
 

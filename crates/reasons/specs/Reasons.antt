@@ -5,13 +5,13 @@ use Rattle.text.specs.Numbers.{decimal}
 use Rattle.register.specs.Calls.{Call}
 use Rattle.grammar.specs.declared.lines.Due.{Due}
 use Rattle.grammar.specs.declared.lines.BadLine.{BadLine}
-use Rattle.grammar.specs.Keys.{key_of, words_of}
+use Rattle.grammar.specs.Keys.{key_of, value_in_words}
 use Rattle.sessions.specs.declared.refusals.Refusal.{Refusal}
 use Rattle.sessions.specs.declared.refusals.Refusal.TheVariants as refusal
 use Rattle.sessions.specs.Output.{calls_of}
 
 abbrev pub line_text : Due → List ℕ
-line_text due = (key_of due ++ ascii " is due, then ") ++ words_of due
+line_text due = (key_of due ++ ascii " is due, then ") ++ value_in_words due
 
 unfoldable pub bad_line_reason : BadLine → List ℕ
 bad_line_reason bad = (((ascii "line " ++ decimal bad.line) ++ ascii ": ") ++ line_text bad.due) ++ ascii ", then a line feed\n"

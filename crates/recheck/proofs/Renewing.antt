@@ -31,7 +31,7 @@ use Rattle.normalize.specs.Signed.{is_signed}
 use Rattle.normalize.proofs.Claimed.{kept_in, signers-united}
 use Rattle.normalize.proofs.Validity.{Holdable, all-distinct, kept-holdable, normalized-valid, normalized-bounded}
 use Rattle.arrange.proofs.Tables.{drop-in}
-use Rattle.arrange.specs.Arranged.{max_transmissions, is_some, has_fix, older_than, arranged}
+use Rattle.arrange.specs.Arranged.{max_transmissions, is_nonempty, has_fix, older_than, arranged}
 use Rattle.stored.specs.Layout.{pair_size}
 use Rattle.stored.specs.Track.{Track}
 use Rattle.stored.proofs.Blocks.{Upheld, Kept, Held, of_map}
@@ -118,7 +118,7 @@ arranged-from ts t m =
 some-fixes : (t : HeldTransmission) → has_fix t ≡ true → 1 ≤ length t.fixes
 some-fixes t h = go t.fixes h
   where
-    go : (fs : List Fix) → is_some fs ≡ true → 1 ≤ length fs
+    go : (fs : List Fix) → is_nonempty fs ≡ true → 1 ≤ length fs
     go [] h = absurd (false≢true h)
     go (f ∷ fs) h = omega arith
 

@@ -2,7 +2,7 @@
 
 ghost use Rattle.std.specs.Prelude.{◌≡◌, true, IsTrue, map};
 ghost use Rattle.std.specs.List.{list_any};
-ghost use Rattle.models.specs.Answers.{listed};
+ghost use Rattle.models.specs.Answers.{summary_places};
 ghost use Rattle.tracked.specs.Bytes.{transmission_in};
 ghost use Rattle.tracked.specs.Parts.{Sound, Steady};
 ghost use Rattle.normalize.specs.Taking.{Settled};
@@ -24,7 +24,7 @@ use tracked::transmission::Transmission;
 
 // Whether the models of a fix still say what it was checked under.
 fn stands(summaries: Summaries, fix: &Fix<'_>) -> bool
-    ensures { result ≡ T.stands (listed summaries.entry) fix.now }
+    ensures { result ≡ T.stands (summary_places summaries.entry) fix.now }
 {
     if !counts(summaries, fix.report) {
         return false;
@@ -35,7 +35,7 @@ fn stands(summaries: Summaries, fix: &Fix<'_>) -> bool
 
 // Whether some fix that a transmission holds does not stand.
 fn has_stale(summaries: Summaries, block: &Block<'_>) -> bool
-    ensures { result ≡ T.has_stale (listed summaries.entry) block.now }
+    ensures { result ≡ T.has_stale (summary_places summaries.entry) block.now }
 {
     for k in 0..block.held_count() {
         if !stands(summaries, &block.held_fix(k)) {
@@ -47,7 +47,7 @@ fn has_stale(summaries: Summaries, block: &Block<'_>) -> bool
 
 // Whether some of these transmissions holds one that does not.
 fn any_has_stale(summaries: Summaries, blocks: &[Block<'_>]) -> bool
-    ensures { result ≡ list_any (T.has_stale (listed summaries.entry)) blocks.now }
+    ensures { result ≡ list_any (T.has_stale (summary_places summaries.entry)) blocks.now }
 {
     blocks.iter().any(|block| has_stale(summaries, block))
 }
@@ -62,7 +62,7 @@ fn any_stale(memory: &[u8]) -> bool
 
 // Drops the fixes of a transmission that do not stand.
 fn drop_stale(held: &mut Transmission<'_>, summaries: Summaries)
-    ensures { held.new ≡ S.passing (T.stands (listed summaries.entry)) held.old }
+    ensures { held.new ≡ S.passing (T.stands (summary_places summaries.entry)) held.old }
 {
     held.fixes.retain(|fix| stands(summaries, fix));
     held.refused
@@ -73,7 +73,7 @@ fn drop_stale(held: &mut Transmission<'_>, summaries: Summaries)
 fn decide_standing(b: &mut [u8; TRANSMISSION_SIZE], summaries: Summaries)
     requires { Sound b.old }
     ensures steady { Steady b.new }
-    ensures held { transmission_in b.new ≡ T.standing (listed summaries.entry) (transmission_in b.old) }
+    ensures held { transmission_in b.new ≡ T.standing (summary_places summaries.entry) (transmission_in b.old) }
 {
     let was = *b;
     let mut held = Transmission::read(&Block::of(&was));
@@ -88,7 +88,7 @@ fn renew(b: &mut [u8], summaries: Summaries, settled: bool)
     requires steady { Steady b.old }
     requires settled { IsTrue settled → Settled (transmission_in b.old) }
     ensures steady { Steady b.new }
-    ensures held { transmission_in b.new ≡ T.standing (listed summaries.entry) (transmission_in b.old) }
+    ensures held { transmission_in b.new ≡ T.standing (summary_places summaries.entry) (transmission_in b.old) }
 {
     let b = b.as_mut_array().unwrap();
     if settled {
@@ -104,7 +104,7 @@ fn renew_all(t: &mut [u8], n: usize, summaries: Summaries, settled: bool)
     requires filled { Filled t.old n }
     requires settled { IsTrue settled → S.AllSettled (B.held n t.old) }
     ensures filled { Filled t.new n }
-    ensures held { B.held n t.new ≡ map (T.standing (listed summaries.entry)) (B.held n t.old) }
+    ensures held { B.held n t.new ≡ map (T.standing (summary_places summaries.entry)) (B.held n t.old) }
 {
     for i in 0..n {
         let at = i * TRANSMISSION_SIZE;

@@ -7,7 +7,7 @@ ghost use Rattle.held.specs.After.{after};
 ghost use Rattle.held.specs.Limits.{place_size};
 ghost use Rattle.held.specs.Signed.{drop_signer, has_another_signer};
 ghost use Rattle.held.specs.Strikes.{Struck};
-ghost use Rattle.register.specs.Refusals.{number_of};
+ghost use Rattle.register.specs.Refusals.{answer_number};
 ghost use Rattle.register.specs.Register.{strike_engine, take_conviction};
 ghost use Rattle.register.specs.Memory.{well_formed, decode, on_memory};
 ghost use Rattle.register.specs.Strikes.{kept_at};
@@ -73,7 +73,7 @@ impl<'a> Register<'a> {
     /// Convicts an engine.
     pub fn conviction(&mut self, engine: u32) -> Result<(), Refusal>
         ensures same_reference { self.new.memory.ghost_name ≡ self.old.memory.ghost_name }
-        ensures convicted { after (number_of result) (decode self.new.memory.now) ≡ take_conviction engine (decode self.old.memory.now) }
+        ensures convicted { after (answer_number result) (decode self.new.memory.now) ≡ take_conviction engine (decode self.old.memory.now) }
     {
         let Some(engine) = Engine::new(engine) else {
             return Err(Refusal::NoEngine);

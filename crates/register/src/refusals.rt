@@ -1,7 +1,7 @@
 //! Why a register takes no call.
 
 ghost use Rattle.std.specs.Prelude.{◌≡◌};
-ghost use Rattle.register.specs.Refusals.{number_of};
+ghost use Rattle.register.specs.Refusals.{answer_number};
 
 /// Why a register does not take a call.
 #[derive(Clone, Copy)]
@@ -20,7 +20,7 @@ pub enum Refusal {
 
 /// The number of an answer.
 pub fn number(answer: Result<(), Refusal>) -> u32
-    ensures { result ≡ number_of answer }
+    ensures { result ≡ answer_number answer }
 {
     match answer {
         Ok(()) => 0,

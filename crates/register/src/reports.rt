@@ -4,7 +4,7 @@ ghost use Rattle.std.specs.Prelude.{◌≡◌, ◌<◌, ◌++◌, true, false, l
 ghost use Rattle.octets.specs.Masks.{bit, with_bit};
 ghost use Rattle.octets.specs.Words.{word_bytes};
 ghost use Rattle.held.specs.After.{after};
-ghost use Rattle.register.specs.Refusals.{number_of};
+ghost use Rattle.register.specs.Refusals.{answer_number};
 ghost use Rattle.register.specs.Signers.{signers_found};
 ghost use Rattle.register.specs.Register.{sign_record, take_report};
 ghost use Rattle.register.specs.Memory.{well_formed, decode, on_memory};
@@ -65,7 +65,7 @@ fn signers_with(
 fn sign(memory: &mut [u8], engine: Engine, r: Record) -> Result<(), Refusal>
     requires register { well_formed memory.old ≡ true }
     requires free { bit (decode memory.old).convicted engine.number ≡ false }
-    ensures signed { after (number_of result) (decode memory.new) ≡ sign_record engine.number r.entry.bytes.now (decode memory.old) }
+    ensures signed { after (answer_number result) (decode memory.new) ≡ sign_record engine.number r.entry.bytes.now (decode memory.old) }
     ensures formed { well_formed memory.new ≡ true }
 {
     let (header, tables) = memory.split_at_mut(SUMMARIES_AT);
@@ -85,7 +85,7 @@ impl<'a> Register<'a> {
     /// Reports a record for an engine.
     pub fn report(&mut self, engine: u32, r: &[u8]) -> Result<(), Refusal>
         ensures same_reference { self.new.memory.ghost_name ≡ self.old.memory.ghost_name }
-        ensures reported { after (number_of result) (decode self.new.memory.now) ≡ take_report engine r.now (decode self.old.memory.now) }
+        ensures reported { after (answer_number result) (decode self.new.memory.now) ≡ take_report engine r.now (decode self.old.memory.now) }
     {
         let Some(engine) = Engine::new(engine) else {
             return Err(Refusal::NoEngine);

@@ -3,7 +3,7 @@
 ghost use Rattle.std.specs.Prelude.{◌≡◌, true};
 ghost use Rattle.held.specs.After.{after};
 ghost use Rattle.held.specs.Summaries.{summary_formed};
-ghost use Rattle.register.specs.Refusals.{number_of};
+ghost use Rattle.register.specs.Refusals.{answer_number};
 ghost use Rattle.register.specs.Register.{hold_summary, take_summary};
 ghost use Rattle.register.specs.Memory.{well_formed, decode, on_memory};
 
@@ -27,7 +27,7 @@ type Summaries<'a> = Table<'a, SUMMARY_SIZE, SUMMARY_SIZE, MAX_SUMMARIES>;
 fn hold(memory: &mut [u8], summary: &[u8; SUMMARY_SIZE]) -> Result<(), Refusal>
     requires register { well_formed memory.old ≡ true }
     requires summary { summary_formed (decode memory.old).convicted summary.now ≡ true }
-    ensures held { after (number_of result) (decode memory.new) ≡ hold_summary summary.now (decode memory.old) }
+    ensures held { after (answer_number result) (decode memory.new) ≡ hold_summary summary.now (decode memory.old) }
     ensures formed { well_formed memory.new ≡ true }
 {
     let (header, tables) = memory.split_at_mut(SUMMARIES_AT);
@@ -52,7 +52,7 @@ impl<'a> Register<'a> {
         inputs: &[u8],
     ) -> Result<(), Refusal>
         ensures same_reference { self.new.memory.ghost_name ≡ self.old.memory.ghost_name }
-        ensures summarized { after (number_of result) (decode self.new.memory.now) ≡ take_summary engine model spec inputs.now (decode self.old.memory.now) }
+        ensures summarized { after (answer_number result) (decode self.new.memory.now) ≡ take_summary engine model spec inputs.now (decode self.old.memory.now) }
     {
         let Some(engine) = Engine::new(engine) else {
             return Err(Refusal::NoEngine);

@@ -14,7 +14,7 @@ use Rattle.items.specs.declared.item.Item.{Item}
 use Rattle.rule.specs.Listed as L
 use Rattle.rule.specs.Listed.{relations}
 use Rattle.rule.specs.Rows as R
-use Rattle.rule.specs.Places.{has, set}
+use Rattle.rule.specs.Places.{has_place, set_of}
 use Rattle.rule.proofs.Sets.{has-set}
 
 pub here : (l : List Item) (i : ℕ) (x : Item) → i < length l → x ≡ get_or l i x → slice_get l i ≡ Some x
@@ -36,7 +36,7 @@ some-here l i h = go (slice_get_cases l i).1
 pub two-at : {B : Type 0} (d : B) (f : Item → Item → B) (l : List Item) (i j : ℕ) (x y : Item) → i < length l → j < length l → f (get_or l i x) (get_or l j y) ≡ L.at_two d f l i j
 two-at d f l i j x y h k = rw (there l i x h, there l j y k) refl
 
-pub within-at : (l : List Item) (i j : ℕ) → i < length l → j < length l → (relations l).within j i ≡ (L.subset_of l i j && L.same_at l j i)
+pub within-at : (l : List Item) (i j : ℕ) → i < length l → j < length l → (relations l).within j i ≡ (L.has_subset l i j && L.have_same_inputs l j i)
 within-at l i j h k = let (x, e) = some-here l i h in let (y, d) = some-here l j k in rw (e, d) refl
 
 pub both : {b c : Bool} {p q : Bool} → b ≡ p → b ≡ true → c ≡ q → c ≡ true → (p && q) ≡ true
@@ -66,12 +66,12 @@ pub refused-not : (s p a : Bool) → s ≡ false → p ≡ true → false ≡ (s
 refused-not s p a f g = rw (f, g) refl
 
 pub disagrees-at : (l : List Item) (i j : ℕ) → i < length l → j < length l
-    → (relations l).disagrees i j ≡ (L.consistent_at l j && (L.subset_of l i j && L.apart_at l i j))
+    → (relations l).disagrees i j ≡ (L.is_consistent l j && (L.has_subset l i j && L.apart_at l i j))
 unfolding V.disagrees
 disagrees-at l i j h k = let (x, e) = some-here l i h in let (y, d) = some-here l j k in rw (e, d) refl
 
-pub apart-no : (l : List Item) (i j : ℕ) → i < length l → j < length l → L.subset_of l i j ≡ false → (relations l).disagrees i j ≡ false
-apart-no l i j h k e = disagrees-at l i j h k ∙ rw e (by (L.consistent_at l j) (λ t. rw t refl) (λ t. rw t refl))
+pub apart-no : (l : List Item) (i j : ℕ) → i < length l → j < length l → L.has_subset l i j ≡ false → (relations l).disagrees i j ≡ false
+apart-no l i j h k e = disagrees-at l i j h k ∙ rw e (by (L.is_consistent l j) (λ t. rw t refl) (λ t. rw t refl))
 
 pub resists-no : (l : List Item) (i j : ℕ) → (relations l).disagrees i j ≡ false → R.resists l i j ≡ false
 resists-no l i j e = rw e refl
@@ -87,7 +87,7 @@ pub row-none : (l : List Item) (i : ℕ) → record { disagreeing = record { wor
 unfolding count_from
 row-none l i = refl
 
-pub row-of : {d q s : ℕ} (l : List Item) (i m : ℕ) → d ≡ set ((relations l).disagrees i) m → q ≡ set (R.resists l i) m → s ≡ set (L.subset_of l i) m
+pub row-of : {d q s : ℕ} (l : List Item) (i m : ℕ) → d ≡ set_of ((relations l).disagrees i) m → q ≡ set_of (R.resists l i) m → s ≡ set_of (L.has_subset l i) m
     → record { disagreeing = record { word = d }; resisting = record { word = q }; subsets = record { word = s } } ≡ R.row l i m
 row-of l i m a b c = rw (a, b, c) refl
 
@@ -97,20 +97,20 @@ unfolding foremost
 snoc-first before x [] k = refl
 snoc-first before x (y ∷ l) k = snoc-first before (cond (before y x) y x) l k
 
-first-snoc : (before : ℕ → ℕ → Bool) (l : List ℕ) (k : ℕ) → F.better before (F.first_of before l) k ≡ F.first_of before (l ++ (k ∷ []))
+first-snoc : (before : ℕ → ℕ → Bool) (l : List ℕ) (k : ℕ) → F.better before (F.foremost_of before l) k ≡ F.foremost_of before (l ++ (k ∷ []))
 unfolding foremost
 first-snoc before [] k = refl
 first-snoc before (x ∷ l) k = ap Some (sym (snoc-first before x l k))
 
-pub first-hit : {b : Option ℕ} (before : ℕ → ℕ → Bool) (test : ℕ → Bool) (i : ℕ) → b ≡ F.first_of before (filter test (up_to i)) → test i ≡ true
-    → F.better before b i ≡ F.first_of before (filter test (up_to (i + 1)))
-first-hit before test i e t = ap (λ o. F.better before o i) e ∙ first-snoc before (filter test (up_to i)) i ∙ ap (F.first_of before) (sym (filter-hit test i t))
+pub first-hit : {b : Option ℕ} (before : ℕ → ℕ → Bool) (test : ℕ → Bool) (i : ℕ) → b ≡ F.foremost_of before (filter test (up_to i)) → test i ≡ true
+    → F.better before b i ≡ F.foremost_of before (filter test (up_to (i + 1)))
+first-hit before test i e t = ap (λ o. F.better before o i) e ∙ first-snoc before (filter test (up_to i)) i ∙ ap (F.foremost_of before) (sym (filter-hit test i t))
 
-pub first-miss : {b : Option ℕ} (before : ℕ → ℕ → Bool) (test : ℕ → Bool) (i : ℕ) → b ≡ F.first_of before (filter test (up_to i)) → test i ≡ false
-    → b ≡ F.first_of before (filter test (up_to (i + 1)))
-first-miss before test i e t = e ∙ ap (F.first_of before) (sym (filter-miss test i t))
+pub first-miss : {b : Option ℕ} (before : ℕ → ℕ → Bool) (test : ℕ → Bool) (i : ℕ) → b ≡ F.foremost_of before (filter test (up_to i)) → test i ≡ false
+    → b ≡ F.foremost_of before (filter test (up_to (i + 1)))
+first-miss before test i e t = e ∙ ap (F.foremost_of before) (sym (filter-miss test i t))
 
-pub first-none : (before : ℕ → ℕ → Bool) (test : ℕ → Bool) → None ≡ F.first_of before (filter test (up_to 0))
+pub first-none : (before : ℕ → ℕ → Bool) (test : ℕ → Bool) → None ≡ F.foremost_of before (filter test (up_to 0))
 unfolding count_from
 first-none before test = refl
 
@@ -124,5 +124,5 @@ unfolding count_from
 filter-ext p q k zero e = refl
 filter-ext p q k (suc n) e = rw (e k (omega arith), filter-ext p q (suc k) n (λ i h. e i (omega arith))) refl
 
-pub members : {w : ℕ} (p : ℕ → Bool) (n : ℕ) → w ≡ set p n → filter (has w) (up_to n) ≡ filter p (up_to n)
-members {w} p n e = filter-ext (has w) p 0 n (λ i h. let k : i < n = omega arith in ap (λ v. has v i) e ∙ has-set p n i k)
+pub members : {w : ℕ} (p : ℕ → Bool) (n : ℕ) → w ≡ set_of p n → filter (has_place w) (up_to n) ≡ filter p (up_to n)
+members {w} p n e = filter-ext (has_place w) p 0 n (λ i h. let k : i < n = omega arith in ap (λ v. has_place v i) e ∙ has-set p n i k)

@@ -7,6 +7,6 @@ abbrev pub better : (ℕ → ℕ → Bool) → Option ℕ → ℕ → Option ℕ
 better before None k = Some k
 better before (Some b) k = Some (cond (before k b) k b)
 
-abbrev pub first_of : (ℕ → ℕ → Bool) → List ℕ → Option ℕ
-first_of before [] = None
-first_of before (x ∷ l) = Some (foremost before x l)
+abbrev pub foremost_of : (ℕ → ℕ → Bool) → List ℕ → Option ℕ
+foremost_of before [] = None
+foremost_of before (x ∷ l) = Some (foremost before x l)

@@ -21,18 +21,18 @@ of_two d f (Some x) (Some y) = f x y
 abbrev pub at_two : {B : Type 0} → B → (Item → Item → B) → List Item → ℕ → ℕ → B
 at_two d f l i j = of_two d f (slice_get l i) (slice_get l j)
 
-abbrev pub consistent_at : List Item → ℕ → Bool
-consistent_at l i = of_one (λ x. x.candidate.consistent) (slice_get l i)
+abbrev pub is_consistent : List Item → ℕ → Bool
+is_consistent l i = of_one (λ x. x.candidate.consistent) (slice_get l i)
 
 abbrev pub apart_at : List Item → ℕ → ℕ → Bool
 apart_at l i j = at_two false V.is_apart l i j
 
 -- the item at j is a subset of that at i
-abbrev pub subset_of : List Item → ℕ → ℕ → Bool
-subset_of l i j = at_two false V.is_subset l j i
+abbrev pub has_subset : List Item → ℕ → ℕ → Bool
+has_subset l i j = at_two false V.is_subset l j i
 
-abbrev pub same_at : List Item → ℕ → ℕ → Bool
-same_at l i j = at_two false (λ x y. same x.inputs.now y.inputs.now) l i j
+abbrev pub have_same_inputs : List Item → ℕ → ℕ → Bool
+have_same_inputs l i j = at_two false (λ x y. same x.inputs.now y.inputs.now) l i j
 
 -- the relations of the items of a list, by their places
 abbrev pub relations : List Item → Relations ℕ ChiSquare

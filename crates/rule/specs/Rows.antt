@@ -5,10 +5,10 @@ use Rattle.ranges.specs.Lists.{up_to}
 use Rattle.items.specs.declared.item.Item.{Item}
 use Rattle.rule.specs.Standing as S
 use Rattle.rule.specs.declared.row.Row.{Row}
-use Rattle.rule.specs.First.{first_of}
+use Rattle.rule.specs.First.{foremost_of}
 use Rattle.rule.specs.Listed as L
 use Rattle.rule.specs.Listed.{relations}
-use Rattle.rule.specs.Places.{set}
+use Rattle.rule.specs.Places.{set_of}
 
 module _ (l : List Item) where
   -- the places of all
@@ -22,9 +22,9 @@ module _ (l : List Item) where
   -- how item i stands to the first m of the others
   abbrev pub row : ℕ → ℕ → Row
   row i m = record {
-    disagreeing = record { word = set ((relations l).disagrees i) m };
-    resisting = record { word = set (resists i) m };
-    subsets = record { word = set (L.subset_of l i) m };
+    disagreeing = record { word = set_of ((relations l).disagrees i) m };
+    resisting = record { word = set_of (resists i) m };
+    subsets = record { word = set_of (L.has_subset l i) m };
   }
 
   -- the rows of the first m items
@@ -56,9 +56,9 @@ module _ (l : List Item) where
   is_ranked i = not (is_refused i) && not (is_covered i)
 
 -- those of a list that pass a test, as a set of places
-abbrev pub who : (List Item → ℕ → Bool) → List Item → ℕ
-who test l = set (test l) (length l)
+abbrev pub set_where : (List Item → ℕ → Bool) → List Item → ℕ
+set_where test l = set_of (test l) (length l)
 
 -- the lowest identity of those that pass a test
 abbrev pub lowest : List Item → (ℕ → Bool) → Option ℕ
-lowest l test = first_of (relations l).lower (filter test (all l))
+lowest l test = foremost_of (relations l).lower (filter test (all l))

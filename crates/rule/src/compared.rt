@@ -28,7 +28,7 @@ pub struct Compared<'a> {
 
 impl<'a> Compared<'a> {
     ghost use Rattle.rule.specs.Rows as R;
-    ghost use Rattle.rule.specs.Places.{set};
+    ghost use Rattle.rule.specs.Places.{set_of};
     ghost use Rattle.rule.specs.Phases.{compared_items as items_of};
 
     /// Compares each two of the items, in lent rows: one for each.
@@ -64,7 +64,7 @@ impl<'a> Compared<'a> {
 
     /// Who supersedes.
     pub fn superseding(&self) -> Places
-        ensures { result.word ≡ R.who R.supersedes (items_of self.now) }
+        ensures { result.word ≡ R.set_where R.supersedes (items_of self.now) }
     {
         let mut some = Places::none();
         for i in 0..self.rows.len() {
@@ -78,8 +78,8 @@ impl<'a> Compared<'a> {
 
     /// Who is superseded.
     pub fn superseded(&self, superseding: Places) -> Places
-        requires { superseding.word ≡ R.who R.supersedes (items_of self.now) }
-        ensures { result.word ≡ R.who R.is_superseded (items_of self.now) }
+        requires { superseding.word ≡ R.set_where R.supersedes (items_of self.now) }
+        ensures { result.word ≡ R.set_where R.is_superseded (items_of self.now) }
     {
         let mut some = Places::none();
         for i in 0..self.rows.len() {
@@ -95,8 +95,8 @@ impl<'a> Compared<'a> {
     // Whether item i is refused.
     fn is_refused(&self, superseding: Places, superseded: Places, i: usize) -> bool
         requires i_below { i < length (items_of self.now) }
-        requires superseding { superseding.word ≡ R.who R.supersedes (items_of self.now) }
-        requires superseded { superseded.word ≡ R.who R.is_superseded (items_of self.now) }
+        requires superseding { superseding.word ≡ R.set_where R.supersedes (items_of self.now) }
+        requires superseded { superseded.word ≡ R.set_where R.is_superseded (items_of self.now) }
         ensures { result ≡ R.is_refused (items_of self.now) i }
     {
         if superseded.contains(i) {
@@ -111,8 +111,8 @@ impl<'a> Compared<'a> {
 
     /// Who is refused.
     pub fn refused(&self, superseding: Places, superseded: Places) -> Places
-        requires { (superseding.word ≡ R.who R.supersedes (items_of self.now)) × (superseded.word ≡ R.who R.is_superseded (items_of self.now)) }
-        ensures { result.word ≡ R.who R.is_refused (items_of self.now) }
+        requires { (superseding.word ≡ R.set_where R.supersedes (items_of self.now)) × (superseded.word ≡ R.set_where R.is_superseded (items_of self.now)) }
+        ensures { result.word ≡ R.set_where R.is_refused (items_of self.now) }
     {
         let mut some = Places::none();
         for i in 0..self.rows.len() {
@@ -126,8 +126,8 @@ impl<'a> Compared<'a> {
 
     /// Who is a subset, with its model inputs, of one that is not refused.
     pub fn covered(&self, refused: Places) -> Places
-        requires { refused.word ≡ R.who R.is_refused (items_of self.now) }
-        ensures { result.word ≡ R.who R.is_covered (items_of self.now) }
+        requires { refused.word ≡ R.set_where R.is_refused (items_of self.now) }
+        ensures { result.word ≡ R.set_where R.is_covered (items_of self.now) }
     {
         let mut some = Places::none();
         for i in 0..self.rows.len() {
@@ -146,8 +146,8 @@ impl<'a> Compared<'a> {
 
     // Who takes the place of item i.
     fn replacing(&self, superseding: Places, i: usize) -> Places
-        requires { (i < length (items_of self.now)) × (superseding.word ≡ R.who R.supersedes (items_of self.now)) }
-        ensures { result.word ≡ set (R.replaces (items_of self.now) i) (length (items_of self.now)) }
+        requires { (i < length (items_of self.now)) × (superseding.word ≡ R.set_where R.supersedes (items_of self.now)) }
+        ensures { result.word ≡ set_of (R.replaces (items_of self.now) i) (length (items_of self.now)) }
     {
         let mut some = Places::none();
         let mut left = superseding;
@@ -166,8 +166,8 @@ impl<'a> Compared<'a> {
 
     // Who opposes item i.
     fn opposing(&self, superseded: Places, i: usize) -> Places
-        requires { (i < length (items_of self.now)) × (superseded.word ≡ R.who R.is_superseded (items_of self.now)) }
-        ensures { result.word ≡ set (R.opposes (items_of self.now) i) (length (items_of self.now)) }
+        requires { (i < length (items_of self.now)) × (superseded.word ≡ R.set_where R.is_superseded (items_of self.now)) }
+        ensures { result.word ≡ set_of (R.opposes (items_of self.now) i) (length (items_of self.now)) }
     {
         let row = self.row(i);
         row.disagreeing.without(superseded)
@@ -175,7 +175,7 @@ impl<'a> Compared<'a> {
 
     /// Of those that take the place of item i the lowest identity.
     pub fn first_replacing(&self, superseding: Places, i: usize) -> Option<usize>
-        requires { (i < length (items_of self.now)) × (superseding.word ≡ R.who R.supersedes (items_of self.now)) }
+        requires { (i < length (items_of self.now)) × (superseding.word ≡ R.set_where R.supersedes (items_of self.now)) }
         ensures first { result ≡ R.lowest (items_of self.now) (R.replaces (items_of self.now) i) }
         ensures within { IfSome result (λ k. k < length (items_of self.now)) }
     {
@@ -184,7 +184,7 @@ impl<'a> Compared<'a> {
 
     /// Of those that oppose item i the lowest identity.
     pub fn first_opposing(&self, superseded: Places, i: usize) -> Option<usize>
-        requires { (i < length (items_of self.now)) × (superseded.word ≡ R.who R.is_superseded (items_of self.now)) }
+        requires { (i < length (items_of self.now)) × (superseded.word ≡ R.set_where R.is_superseded (items_of self.now)) }
         ensures first { result ≡ R.lowest (items_of self.now) (R.opposes (items_of self.now) i) }
         ensures within { IfSome result (λ k. k < length (items_of self.now)) }
     {

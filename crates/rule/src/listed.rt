@@ -32,7 +32,7 @@ impl<'a> Listed<'a> {
     ghost use Rattle.rule.specs.Rows as R;
     ghost use Rattle.rule.specs.Listed as L;
     ghost use Rattle.rule.specs.First as F;
-    ghost use Rattle.rule.specs.Places.{has, set};
+    ghost use Rattle.rule.specs.Places.{has_place, set_of};
 
     /// The items of a list.
     pub fn of(items: &'a [Item<'a>]) -> Listed<'a>
@@ -89,7 +89,7 @@ impl<'a> Listed<'a> {
 
     /// The lowest identity of some items.
     pub fn lowest(&self, of: Places) -> Option<usize>
-        ensures first { result ≡ R.lowest self.now.items.now (has of.word) }
+        ensures first { result ≡ R.lowest self.now.items.now (has_place of.word) }
         ensures within { IfSome result (λ b. b < length self.now.items.now) }
     {
         let mut best = None;
@@ -106,7 +106,7 @@ impl<'a> Listed<'a> {
     /// Of some items those that have the model inputs of item i.
     pub fn alike(&self, of: Places, i: usize) -> Places
         requires { i < length self.now.items.now }
-        ensures { result.word ≡ set (λ j. has of.word j && L.same_at self.now.items.now j i) (length self.now.items.now) }
+        ensures { result.word ≡ set_of (λ j. has_place of.word j && L.have_same_inputs self.now.items.now j i) (length self.now.items.now) }
     {
         let item = &self.items[i];
         let mut some = Places::none();

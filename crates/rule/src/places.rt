@@ -2,7 +2,7 @@
 
 ghost use Rattle.std.specs.Prelude.{◌≡◌, ◌&&◌, ◌*◌, ◌/◌, ◌^◌, ◌<◌, nat_eq, nat_lt, bit_or, bit_and};
 ghost use Rattle.std.specs.Int.{bit_not, w128};
-ghost use Rattle.rule.specs.Places.{has};
+ghost use Rattle.rule.specs.Places.{has_place};
 
 /// Some of the places 0 to 95.
 #[derive(Clone, Copy)]
@@ -18,7 +18,7 @@ impl Places {
     }
 
     pub fn contains(self, i: usize) -> bool
-        ensures { result ≡ nat_lt i 96 && has self.word i }
+        ensures { result ≡ nat_lt i 96 && has_place self.word i }
     {
         i < 96 && (self.word >> i) & 1 == 1
     }
@@ -33,7 +33,7 @@ impl Places {
 
     /// Whether place 0 is one of them; then each other is a place lower.
     pub fn shift(&mut self) -> bool
-        ensures { (result ≡ has self.old.word 0) × (self.new.word ≡ self.old.word / 2) }
+        ensures { (result ≡ has_place self.old.word 0) × (self.new.word ≡ self.old.word / 2) }
     {
         let is_first = self.word & 1 == 1;
         self.word >>= 1;

@@ -17,10 +17,10 @@ pub struct Settled<'a> {
     superseded: Places,
     refused: Places,
     covered: Places,
-    ghost supersede: { superseding.word ≡ R.who R.supersedes compared.listed.items.now },
-    ghost are_superseded: { superseded.word ≡ R.who R.is_superseded compared.listed.items.now },
-    ghost are_refused: { refused.word ≡ R.who R.is_refused compared.listed.items.now },
-    ghost are_covered: { covered.word ≡ R.who R.is_covered compared.listed.items.now },
+    ghost supersede: { superseding.word ≡ R.set_where R.supersedes compared.listed.items.now },
+    ghost are_superseded: { superseded.word ≡ R.set_where R.is_superseded compared.listed.items.now },
+    ghost are_refused: { refused.word ≡ R.set_where R.is_refused compared.listed.items.now },
+    ghost are_covered: { covered.word ≡ R.set_where R.is_covered compared.listed.items.now },
 }
 
 impl<'a> Settled<'a> {

@@ -9,7 +9,7 @@ use Rattle.register.specs.Calls.{Call, act, runs}
 use Rattle.grammar.specs.declared.lines.BadLine.{BadLine}
 use Rattle.grammar.specs.Lines.{At}
 use Rattle.grammar.specs.Operations.{operation_at}
-use Rattle.grammar.specs.Session.{start, calls_from}
+use Rattle.grammar.specs.Session.{at_start, calls_from}
 use Rattle.grammar.proofs.Forward.{calls-step, calls-end}
 use Rattle.grammar.proofs.Shortest.{calls-short}
 use Rattle.sessions.specs.Output.{answer_line, answers}
@@ -24,8 +24,8 @@ answers-short m (c ∷ cs) =
     simp length-append (omega arith)
 
 -- a line of an answer is shorter than the shortest operation
-pub answers-fit : (m s : List ℕ) → length (answers m (calls_from (start s))) ≤ length s
-answers-fit m s = let a = answers-short m (calls_from (start s)) in let b = calls-short (length s) (start s) in omega arith
+pub answers-fit : (m s : List ℕ) → length (answers m (calls_from (at_start s))) ≤ length s
+answers-fit m s = let a = answers-short m (calls_from (at_start s)) in let b = calls-short (length s) (at_start s) in omega arith
 
 -- the text and the register after what is left of a session are those of the whole
 pub record Answered (whole : Text) (end : List ℕ) (m : List ℕ) (text : Text) (s : At) : Type 0 where

@@ -7,22 +7,22 @@ use Rattle.text.proofs.Readback.{decimal-width}
 use Rattle.register.specs.Memory.{fresh}
 use Rattle.register.specs.Calls.{Call}
 use Rattle.grammar.specs.declared.lines.BadLine.{BadLine}
-use Rattle.grammar.specs.Session.{start, session_of, calls_from}
+use Rattle.grammar.specs.Session.{at_start, session_of, calls_from}
 use Rattle.grammar.proofs.Forward.{calls-good}
 use Rattle.sessions.specs.declared.refusals.Refusal.{Refusal}
 use Rattle.sessions.specs.declared.refusals.Refusal.TheVariants as refusal
 use Rattle.sessions.specs.Output.{max_input, calls_of, answers_then_board, refusal_text, text_by, output_of}
 
 -- not refused
-pub output-good : (s : List ℕ) → None ≡ result_err (calls_of s) → (length s ≤ max_input) × (output_of s ≡ answers_then_board fresh (calls_from (start s)))
+pub output-good : (s : List ℕ) → None ≡ result_err (calls_of s) → (length s ≤ max_input) × (output_of s ≡ answers_then_board fresh (calls_from (at_start s)))
 unfolding calls_of output_of
 output-good s e =
     by (ltb max_input (length s)) (λ h. let f : None ≡ Some refusal.TooLong = rw h at e in cc)
     (λ h. (ltb-false max_input (length s) h, rw h (go (session_of s) refl (rw h at e))))
   where
     go : (m : Result (List Call) BadLine) → session_of s ≡ m → None ≡ result_err (result_map_both (λ (cs : List Call). cs) refusal.BadLine m)
-        → text_by (result_map_both (λ (cs : List Call). cs) refusal.BadLine m) ≡ answers_then_board fresh (calls_from (start s))
-    go (Ok cs) q e = ap (answers_then_board fresh) (sym (calls-good (start s) cs q))
+        → text_by (result_map_both (λ (cs : List Call). cs) refusal.BadLine m) ≡ answers_then_board fresh (calls_from (at_start s))
+    go (Ok cs) q e = ap (answers_then_board fresh) (sym (calls-good (at_start s) cs q))
     go (Err b) q e = cc
 
 -- refused

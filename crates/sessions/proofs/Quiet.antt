@@ -13,7 +13,7 @@ use Rattle.board.specs.Board.{board_in}
 use Rattle.board.proofs.Fitting.{long}
 use Rattle.board.proofs.Nothing.{no_bytes}
 use Rattle.grammar.specs.declared.lines.BadLine.{BadLine}
-use Rattle.grammar.specs.Session.{start, session_of}
+use Rattle.grammar.specs.Session.{at_start, session_of}
 use Rattle.grammar.proofs.Forward.{session-empty}
 use Rattle.grammar.proofs.Sessions.{others-have-calls}
 use Rattle.sessions.specs.declared.refusals.Refusal.{Refusal}
@@ -69,7 +69,7 @@ empty-text = ap printed fresh-board
 
 pub empty-is-quiet : EmptyIsQuiet
 unfolding output_of
-empty-is-quiet = ap text_by (calls_good [] (Ok []) (omega arith) (session-empty (start []) refl)) ∙ empty-text
+empty-is-quiet = ap text_by (calls_good [] (Ok []) (omega arith) (session-empty (at_start []) refl)) ∙ empty-text
 
 -- ---- no other input
 

@@ -10,7 +10,7 @@ ghost use Rattle.register.specs.Memory.{well_formed, decode, on_memory, fresh};
 ghost use Rattle.register.specs.Calls.{act, runs};
 ghost use Rattle.board.specs.Board.{board_in};
 ghost use Rattle.grammar.specs.Gives.{call_of};
-ghost use Rattle.grammar.specs.Session.{start, calls_from};
+ghost use Rattle.grammar.specs.Session.{at_start, calls_from};
 ghost use Rattle.sessions.specs.Output as O;
 
 use grammar::{Call, Lines};
@@ -56,8 +56,8 @@ fn perform(memory: &mut [u8], call: &Call) -> u32
 
 // Performs the operations of a session up to its first bad line, and appends their answers.
 fn answer_all(input: &[u8], memory: &mut [u8], out: &mut Text)
-    ensures text { out.new ≡ append out.old (O.answers memory.old (calls_from (start input.now))) }
-    ensures left { memory.new ≡ runs memory.old (calls_from (start input.now)) }
+    ensures text { out.new ≡ append out.old (O.answers memory.old (calls_from (at_start input.now))) }
+    ensures left { memory.new ≡ runs memory.old (calls_from (at_start input.now)) }
 {
     let mut lines = Lines::new(input);
     while let Ok(call) = lines.operation() {
@@ -69,9 +69,9 @@ fn answer_all(input: &[u8], memory: &mut [u8], out: &mut Text)
 // Their answers at the start of `out`.
 fn write_answers(input: &[u8], memory: &mut [u8], out: &mut [u8]) -> usize
     requires { length input.now ≤ length out.old }
-    ensures text { Put out.old 0 (O.answers memory.old (calls_from (start input.now))) result out.new }
+    ensures text { Put out.old 0 (O.answers memory.old (calls_from (at_start input.now))) result out.new }
     ensures bound { result ≤ length input.now }
-    ensures left { memory.new ≡ runs memory.old (calls_from (start input.now)) }
+    ensures left { memory.new ≡ runs memory.old (calls_from (at_start input.now)) }
 {
     let mut text = Text::new(out);
     answer_all(input, memory, &mut text);
@@ -94,7 +94,7 @@ fn write_board(memory: &[u8], out: &mut [u8]) -> usize
 // Performs the operations of a session up to its first bad line on a fresh register: the answers, then the board.
 fn perform_all(input: &[u8], out: &mut [u8]) -> usize
     requires { length input.now + board_size ≤ length out.old }
-    ensures text { Put out.old 0 (O.answers_then_board fresh (calls_from (start input.now))) result out.new }
+    ensures text { Put out.old 0 (O.answers_then_board fresh (calls_from (at_start input.now))) result out.new }
     ensures bound { result ≤ length input.now + board_size }
 {
     let mut memory = [0u8; REGISTER_SIZE];

@@ -36,11 +36,11 @@ use Rattle.decision.proofs.Carried.{Alike, carried, carried_outcome}
 use Rattle.decision.proofs.Laws.{Sound, opponent, successor, listed-once, refused-names, some_ranked}
 use Rattle.shown.specs.Fix.{Fix}
 use Rattle.shown.specs.Shown.{subset_of, agreement, shown}
-use Rattle.shown.specs.Items.{no_fix, at}
+use Rattle.shown.specs.Items.{no_fix, fix_at}
 use Rattle.shown.specs.Claims.{fix_relations}
 use Rattle.shown.proofs.Indexed.{at_in}
 use Rattle.shown.proofs.Plainly.{shown-is-decided}
-use Rattle.shown.specs.Decided.{IsFix, refused_by, refused_of, outcome_in, shown_by, AllBelow, Within, Shows}
+use Rattle.shown.specs.Decided.{IsFix, refused_by, refused_of, outcome_in, shown_by, AllBelow, Within, ShowsFixes}
 
 -- ---- a decision says its outcome
 
@@ -51,14 +51,14 @@ map-back (r ∷ rs) = ap (λ (l : List (Refused ℕ ChiSquare)). r ∷ l) (map-b
 outcome-is : {N : ℕ} (d : Decision N) (o : Outcome ℕ ChiSquare) → Says d o → outcome_in d ≡ o
 outcome-is d o w = rw (w.ranked, w.dominated, w.refusals, map-back o.refused) refl
 
-module _ (gs : List Fix) (l : List Item) (long : length l ≡ length gs) (w : Each (λ i x. IsFix (at gs i) x) l (length l)) where
+module _ (gs : List Fix) (l : List Item) (long : length l ≡ length gs) (w : Each (λ i x. IsFix (fix_at gs i) x) l (length l)) where
   abbrev o : Outcome ℕ ChiSquare
   o = decide (relations l) (all l)
 
-  item : (i : ℕ) → Memᴰ i (all l) → (x : Item) × (slice_get l i ≡ Some x) × IsFix (at gs i) x
+  item : (i : ℕ) → Memᴰ i (all l) → (x : Item) × (slice_get l i ≡ Some x) × IsFix (fix_at gs i) x
   item i m = let h = up_in (length l) i m in let r = some-here l i h in (r.0, r.1, w i r.0 h r.1)
 
-  alike : Alike (relations l) fix_relations (at gs) (λ c. c) (all l)
+  alike : Alike (relations l) fix_relations (fix_at gs) (λ c. c) (all l)
   unfolding V.disagrees V.ahead
   alike = record {
     disagrees = λ i j m n. let a = item i m in let b = item j n in sym (rw (a.1, b.1, a.2.report, b.2.report, b.2.candidate) refl);
@@ -71,12 +71,12 @@ module _ (gs : List Fix) (l : List Item) (long : length l ≡ length gs) (w : Ea
   }
 
   -- what is shown of the fixes is what is decided of their items, each index standing for its fix
-  shown-of-items : shown gs ≡ carried_outcome (at gs) (λ c. c) o
+  shown-of-items : shown gs ≡ carried_outcome (fix_at gs) (λ c. c) o
   shown-of-items =
       shown-is-decided gs
       ∙ ap (decide fix_relations) (sym (by-places no_fix gs))
-      ∙ ap (λ (n : ℕ). decide fix_relations (map (at gs) (up_to n))) (sym long)
-      ∙ carried (relations l) fix_relations (at gs) (λ c. c) (all l) alike
+      ∙ ap (λ (n : ℕ). decide fix_relations (map (fix_at gs) (up_to n))) (sym long)
+      ∙ carried (relations l) fix_relations (fix_at gs) (λ c. c) (all l) alike
 
   -- ---- it names fixes only
 
@@ -117,11 +117,11 @@ module _ (gs : List Fix) (l : List Item) (long : length l ≡ length gs) (w : Ea
               omega (arith, z, e, long);
         }
 
-    shows : Shows gs d
-    shows = record { shown = ap (carried_outcome (at gs) (λ c. c)) (outcome-is d o says) ∙ sym shown-of-items; within = within }
+    shows : ShowsFixes gs d
+    shows = record { shown = ap (carried_outcome (fix_at gs) (λ c. c)) (outcome-is d o says) ∙ sym shown-of-items; within = within }
 
 -- of items that were given by their places
-pub shows-each : {N : ℕ} {d : Decision N} (gs : List Fix) (l : List Item) → length l ≡ length gs → Each (λ i x. IsFix (at gs i) x) l (length l) → Says d (among l) → Shows gs d
+pub shows-each : {N : ℕ} {d : Decision N} (gs : List Fix) (l : List Item) → length l ≡ length gs → Each (λ i x. IsFix (fix_at gs i) x) l (length l) → Says d (among l) → ShowsFixes gs d
 shows-each {N} {d} gs l long w says = shows gs l long w d says
 
 -- ---- some fix is ranked
@@ -170,7 +170,7 @@ ranking n d q r a = record {
 }
 
 -- nothing opposes at most one
-pub shows-few : {N : ℕ} (gs : List Fix) (d : Decision N) → length gs ≤ 1 → d.ranked.items ≡ up_to (length gs) → d.dominated.items ≡ [] → d.refusals.items ≡ [] → Shows gs d
+pub shows-few : {N : ℕ} (gs : List Fix) (d : Decision N) → length gs ≤ 1 → d.ranked.items ≡ up_to (length gs) → d.dominated.items ≡ [] → d.refusals.items ≡ [] → ShowsFixes gs d
 unfolding shown sort flat_map count_from
 shows-few [] d h p q r = record { shown = rw (p, q, r) refl; within = ranking 0 d q r (rw p (λ i k. absurd (omega (arith, k)))) }
 shows-few (f ∷ []) d h p q r = record { shown = rw (p, q, r, alone-shown f) refl; within = ranking 1 d q r (rw p (λ i k. let z : i ≡ 0 = omega (arith, k) in rw z (omega arith))) }
@@ -186,13 +186,13 @@ get_or-default l i x y h = get_or_default l i x y h
 
 module _ (gs : List Fix) where
   -- what an index in a list stands for; m is the list as it is lent
-  module _ (l m : List ℕ) (e : m ≡ l) (i : ℕ) (b : AllBelow (length gs) l) (h : i < length (map (at gs) l)) where
+  module _ (l m : List ℕ) (e : m ≡ l) (i : ℕ) (b : AllBelow (length gs) l) (h : i < length (map (fix_at gs) l)) where
     pub named : (i < length m) × (get_or m i 0 < length gs)
-    named = let k : i < length l = rw (length-map l (at gs)) at h in (rw e k, rw e (b i k))
+    named = let k : i < length l = rw (length-map l (fix_at gs)) at h in (rw e k, rw e (b i k))
 
-    pub named-is : (f : Fix) → f ≡ get_or gs (get_or m i 0) f → (x : Fix) → get_or (map (at gs) l) i x ≡ f
+    pub named-is : (f : Fix) → f ≡ get_or gs (get_or m i 0) f → (x : Fix) → get_or (map (fix_at gs) l) i x ≡ f
     named-is f q x =
-        at-map (at gs) l i 0 x (rw e at named.0) ∙ ap (λ (k : List ℕ). at gs (get_or k i 0)) (sym e) ∙ get_or-default gs (get_or m i 0) no_fix f named.1 ∙ sym q
+        at-map (fix_at gs) l i 0 x (rw e at named.0) ∙ ap (λ (k : List ℕ). fix_at gs (get_or k i 0)) (sym e) ∙ get_or-default gs (get_or m i 0) no_fix f named.1 ∙ sym q
 
   -- and in a refusal
   module _ {N : ℕ} (d : Decision N) (w : Within (length gs) d) (m : List Refusal) (e : m ≡ d.refusals.items) (i : ℕ) (h : i < length (shown_by gs d).refused) where

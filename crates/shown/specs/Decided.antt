@@ -6,7 +6,7 @@ use Rattle.items.specs.declared.Candidate.{Candidate}
 use Rattle.items.specs.declared.Verified.TheVariants.{Unjudged}
 use Rattle.rule.specs.Outcome.{Refused, Outcome}
 use Rattle.shown.specs.Fix.{Fix}
-use Rattle.shown.specs.Items.{at}
+use Rattle.shown.specs.Items.{fix_at}
 use Rattle.shown.specs.Shown.{Transmission, shown}
 use Rattle.arithmetic.specs.declared.standing.ChiSquare.{ChiSquare}
 use Rattle.decision.specs.declared.Refusal.{Refusal}
@@ -34,11 +34,11 @@ abbrev pub outcome_in : {N : ℕ} → Decision N → Outcome ℕ ChiSquare
 outcome_in d = record { ranked = d.ranked.items; dominated = d.dominated.items; refused = map refused_by d.refusals.items }
 
 abbrev pub refused_of : List Fix → Refused ℕ ChiSquare → Refused Fix ChiSquare
-refused_of gs r = record { item = at gs r.item; against = at gs r.against; chi2 = r.chi2; superseded = r.superseded }
+refused_of gs r = record { item = fix_at gs r.item; against = fix_at gs r.against; chi2 = r.chi2; superseded = r.superseded }
 
 -- each index stands for its fix
 abbrev pub shown_by : {N : ℕ} → List Fix → Decision N → Transmission
-shown_by gs d = let o = outcome_in d in record { ranked = map (at gs) o.ranked; dominated = map (at gs) o.dominated; refused = map (refused_of gs) o.refused }
+shown_by gs d = let o = outcome_in d in record { ranked = map (fix_at gs) o.ranked; dominated = map (fix_at gs) o.dominated; refused = map (refused_of gs) o.refused }
 
 abbrev pub AllBelow : ℕ → List ℕ → Type 0
 AllBelow n l = (i : ℕ) → i < length l → get_or l i 0 < n
@@ -51,6 +51,6 @@ pub record Within {N : ℕ} (n : ℕ) (d : Decision N) : Type 0 where
   pub against : (i : ℕ) (r : Refusal) → i < length d.refusals.items → (get_or d.refusals.items i r).kept < n
 
 -- it is what is shown of these fixes
-pub record Shows {N : ℕ} (gs : List Fix) (d : Decision N) : Type 0 where
+pub record ShowsFixes {N : ℕ} (gs : List Fix) (d : Decision N) : Type 0 where
   pub shown : shown_by gs d ≡ shown gs
   pub within : Within (length gs) d

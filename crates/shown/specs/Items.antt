@@ -18,9 +18,9 @@ AllFormed fs = (f : Fix) → Memᴰ f fs → Formed f
 abbrev pub no_fix : Fix
 no_fix = record { identity = []; record_bytes = []; inputs = []; signers = 0 }
 
-abbrev pub at : List Fix → ℕ → Fix
-at fs i = get_or fs i no_fix
+abbrev pub fix_at : List Fix → ℕ → Fix
+fix_at fs i = get_or fs i no_fix
 
 -- no two fixes of a list have one identity
 abbrev pub Apart : List Fix → Type 0
-Apart fs = (i j : ℕ) → i < length fs → j < length fs → (at fs i).identity ≡ (at fs j).identity → i ≡ j
+Apart fs = (i j : ℕ) → i < length fs → j < length fs → (fix_at fs i).identity ≡ (fix_at fs j).identity → i ≡ j

@@ -23,7 +23,7 @@ use Rattle.tracked.specs.Bytes.{filled_by, transmission_formed, transmission_in,
 use Rattle.tracked.proofs.Encoding as E
 use Rattle.arrange.specs.Arranged.{max_transmissions}
 use Rattle.stored.specs.Layout.{pair_size, zero_at, contested_at, transmissions_size, track_size}
-use Rattle.stored.specs.Track.{Track, Outcome}
+use Rattle.stored.specs.Track.{Track, Transition}
 use Rattle.stored.specs.Memory.{convicted_in, summary_count, transmission_count, contested_in, summary_table, transmission_table, summaries_in, transmission_places, well_formed, decode, encode, commit, on_memory}
 use Rattle.stored.proofs.Frames.{frame-length, read-convicted, read-summary-count, read-transmission-count, read-zero, read-contested, frame-summaries, frame-transmissions}
 use Rattle.stored.proofs.Blocks.{all_pass, of_map, filled_of, Held, block-formed}
@@ -151,7 +151,7 @@ module _ (s : Track) (v : Valid s) where
       (and_both a₄ (a₅ && (a₆ && a₇)) (eq-eqb (get_or (encode s) zero_at 0) 0 zero-back) (and_both a₅ (a₆ && a₇) summary-table (and_both a₆ a₇ formed-summaries formed-transmissions)))))
 
   -- an operation on its bytes is the operation on it
-  pub on-encode : (f : Track → Outcome) → on_memory f (encode s) ≡ commit (encode s) (f s)
+  pub on-encode : (f : Track → Transition) → on_memory f (encode s) ≡ commit (encode s) (f s)
   unfolding on_memory
   on-encode f = rw (formed-encode, decode-encode) refl
 

@@ -11,9 +11,9 @@ pub record Track : Type 0 where
   pub transmissions : List HeldTransmission
 
 -- an operation is refused with a number, or it answers one and leaves a track
-pub data Outcome : Type 0 where
-  refused : ℕ → Outcome
-  done : ℕ → Track → Outcome
+pub data Transition : Type 0 where
+  refused : ℕ → Transition
+  done : ℕ → Track → Transition
 
 abbrev pub with_transmissions : List HeldTransmission → Track → Track
 with_transmissions ts s = record { convicted = s.convicted; contested = s.contested; summaries = s.summaries; transmissions = ts }

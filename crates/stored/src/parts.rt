@@ -1,7 +1,7 @@
 //! What a track holds, read where it stands.
 
 ghost use Rattle.std.specs.Prelude.{◌≡◌, true};
-ghost use Rattle.models.specs.Answers.{listed};
+ghost use Rattle.models.specs.Answers.{summary_places};
 ghost use Rattle.stored.specs.Memory.{well_formed, decode};
 
 use crate::layout;
@@ -23,7 +23,7 @@ pub fn convicted(memory: &[u8]) -> Signers
 #[tactic(auto, unfolding(crate::specs::Memory::decode))]
 pub fn summaries(memory: &[u8]) -> Summaries
     requires { well_formed memory.now ≡ true }
-    ensures { listed result ≡ (decode memory.now).summaries }
+    ensures { summary_places result ≡ (decode memory.now).summaries }
 {
     Summaries {
         table: &memory[layout::SUMMARIES_AT..layout::TRANSMISSIONS_AT],

@@ -10,7 +10,7 @@ use Rattle.std.specs.Borrow.{MutBor}
 use Rattle.octets.specs.Put.{Put}
 use Rattle.octets.proofs.Puts.{sets-append}
 use Rattle.text.specs.declared.Text.{Text}
-use Rattle.text.specs.Texts.{start, append, fitting, bytes_after, length_after}
+use Rattle.text.specs.Texts.{empty_text, append, fitting, bytes_after, length_after}
 
 -- a part of two texts is a part of the first, and of the second what there is still room for
 take-append : (n : ℕ) (t u : List ℕ) → take n (t ++ u) ≡ take n t ++ take (n - length (take n t)) u
@@ -51,11 +51,11 @@ pub fitting_whole : (text : Text) (t : List ℕ) → text.len + length t ≤ len
 fitting_whole text t h = take_all (length text.out.now - text.len) t (omega arith)
 
 -- what a buffer holds when it is back, after one text was written into it: n bytes were, and l is what stands behind the reference that the text held
-pub put_whole : (buffer : MutBor (List ℕ)) (t : List ℕ) (text : Text) (n : ℕ) (l : List ℕ) → text ≡ append (start buffer) t → n ≡ text.len
+pub put_whole : (buffer : MutBor (List ℕ)) (t : List ℕ) (text : Text) (n : ℕ) (l : List ℕ) → text ≡ append (empty_text buffer) t → n ≡ text.len
     → (buffer.ghost_name ≡ text.out.ghost_name → l ≡ text.out.now) → length t ≤ length buffer.now → Put buffer.now 0 t n l
 unfolding bytes_after length_after
 put_whole buffer t text n l e len back h =
-    let whole = fitting_whole (start buffer) t (omega arith) in record {
+    let whole = fitting_whole (empty_text buffer) t (omega arith) in record {
       next = len ∙ ap (λ (x : Text). x.len) e ∙ ap (λ (s : List ℕ). 0 + length s) whole;
       bytes = back (sym (ap (λ (x : Text). x.out.ghost_name) e)) ∙ ap (λ (x : Text). x.out.now) e ∙ ap (sets buffer.now 0) whole;
     }

@@ -11,7 +11,7 @@ use lib.Signed.{mag}
 use lib.ListN.{length, get_or, length-append, get_or-append}
 use Rattle.ranges.proofs.Bools.{by}
 use Rattle.octets.specs.Ascii.{ascii}
-use Rattle.text.specs.Numbers.{digits, signed, hex, hex_digit, decimal_value}
+use Rattle.text.specs.Numbers.{digits, signed_decimal, hex, hex_digit, decimal_value}
 use Rattle.text.specs.Heights.{metres}
 use Rattle.text.specs.Claims.{hex_value, hex_digit_value, DecimalReadsBack, NoLeadingZero, NoMinusZero, DecimalWidth, HexReadsBack, HeightNotMinusZero, HeightTexts}
 use Rattle.text.proofs.Shapes.{digits-one, metres-fits}
@@ -56,14 +56,14 @@ no-leading-zero (suc k) n h p e =
 pub zero-text : (k : ℕ) → digits k 0 ≡ 48 ∷ []
 zero-text k = digits-one k 0 (omega arith)
 
-pub no-minus-zero : (n : ℕ) → suc n < 10 ^ 10 → signed (negsuc n) ≡ 45 ∷ 48 ∷ [] → ⊥
-unfolding signed
+pub no-minus-zero : (n : ℕ) → suc n < 10 ^ 10 → signed_decimal (negsuc n) ≡ 45 ∷ 48 ∷ [] → ⊥
+unfolding signed_decimal
 no-minus-zero n h e = no-leading-zero 9 (suc n) h (omega arith) (ap (λ (t : List ℕ). get_or t 1 0) e)
 
 -- so no number of 32 bits is '-0'
-pub never-minus-zero : (v : ℤ) → mag v < 2 ^ 31 → signed v ≡ 45 ∷ 48 ∷ [] → ⊥
+pub never-minus-zero : (v : ℤ) → mag v < 2 ^ 31 → signed_decimal v ≡ 45 ∷ 48 ∷ [] → ⊥
 never-minus-zero (negsuc n) h e = no-minus-zero n (omega arith) e
-never-minus-zero (pos n) h e = unfold signed decimal_value in zero-is-one-digit (sym (digits_value 9 n (omega arith)) ∙ ap (decimal_value 0) e) e
+never-minus-zero (pos n) h e = unfold signed_decimal decimal_value in zero-is-one-digit (sym (digits_value 9 n (omega arith)) ∙ ap (decimal_value 0) e) e
   where
     zero-is-one-digit : n ≡ 0 → digits 9 n ≡ 45 ∷ 48 ∷ [] → ⊥
     zero-is-one-digit z e = let l : 45 < 48 = omega arith in not-le_of_lt l (le_of_eq (ap (λ (t : List ℕ). get_or t 0 0) (sym (zero-text 9) ∙ (rw z at e))))
@@ -120,7 +120,7 @@ unfolding ascii
 height-not-minus-zero h f = never-minus-zero (metres h) (metres-fits h f)
 
 pub height-texts : HeightTexts
-unfolding signed digits ascii
+unfolding signed_decimal digits ascii
 height-texts =
     record {
       under_half = refl;

@@ -8,7 +8,7 @@ use borrow.Author.Tests.{ltb-true, ltb-false}
 use lib.Dec.{ltb}
 use lib.IntN.{ℤ, pos, negsuc, neg_ℤ, nat_abs, sub_ℕ, ◌+ℤ◌, ◌-ℤ◌, ◌*ℤ◌, neg_ℤ-neg_ℤ, neg_ℤ-+ℤ}
 use Rattle.ranges.proofs.Bools.{by}
-use Rattle.text.specs.Heights.{apart, Even, NearestMetre, rounded_metres, metres}
+use Rattle.text.specs.Heights.{distance, Even, NearestMetre, rounded_metres, metres}
 use Rattle.text.specs.Claims.{MetresAreNearest, OnlyHalvesMoved}
 
 -- ---- at a height from zero up
@@ -27,10 +27,10 @@ minus-gap : (a b : ℕ) → nat_abs (pos a -ℤ pos b) ≡ gap a b
 minus-gap a zero = omega arith
 minus-gap a (suc b) = sub-gap a (suc b)
 
-apart_above : (n j : ℕ) → apart (pos n) (pos j) ≡ gap n (1000 * j)
+apart_above : (n j : ℕ) → distance (pos n) (pos j) ≡ gap n (1000 * j)
 apart_above n j = minus-gap n (1000 * j)
 
-apart-across : (n j : ℕ) → apart (pos n) (negsuc j) ≡ n + 1000 * suc j
+apart-across : (n j : ℕ) → distance (pos n) (negsuc j) ≡ n + 1000 * suc j
 apart-across n j = ap (λ (z : ℤ). nat_abs (pos n +ℤ z)) (neg_ℤ-neg_ℤ (pos (1000 * suc j)))
 
 nearest-above : (n j : ℕ) → gap n (1000 * rounded_metres n) ≤ gap n (1000 * j)
@@ -65,11 +65,11 @@ half-even n h = let e : rounded_metres n ≡ n / 1000 + n / 1000 % 2 = omega ari
 asked-above : (n : ℕ) → NearestMetre (pos n) (pos (rounded_metres n))
 asked-above n = record { nearest = near; even = tie }
   where
-    near : (k : ℤ) → apart (pos n) (pos (rounded_metres n)) ≤ apart (pos n) k
+    near : (k : ℤ) → distance (pos n) (pos (rounded_metres n)) ≤ distance (pos n) k
     near (pos j) = rw (apart_above n (rounded_metres n), apart_above n j) (nearest-above n j)
     near (negsuc j) = rw (apart_above n (rounded_metres n), apart-across n j) (le_of_lt (nearest-across n j))
 
-    tie : (k : ℤ) → (k ≡ pos (rounded_metres n) → ⊥) → apart (pos n) k ≡ apart (pos n) (pos (rounded_metres n)) → Even (pos (rounded_metres n))
+    tie : (k : ℤ) → (k ≡ pos (rounded_metres n) → ⊥) → distance (pos n) k ≡ distance (pos n) (pos (rounded_metres n)) → Even (pos (rounded_metres n))
     tie (pos j) d e = half-even n (equally-near n j (rounded_metres n) (λ q. d (ap pos q)) (sym (apart_above n j) ∙ e ∙ apart_above n (rounded_metres n)) (within-half n)).0
     tie (negsuc j) d e = absurd (not-le_of_lt (nearest-across n j) (le_of_eq (sym (apart-across n j) ∙ e ∙ apart_above n (rounded_metres n))))
 
@@ -85,20 +85,20 @@ times-neg (pos zero) = refl
 times-neg (pos (suc n)) = refl
 times-neg (negsuc n) = sym (neg_ℤ-neg_ℤ (pos (1000 * suc n)))
 
-apart-neg : (h m : ℤ) → apart (neg_ℤ h) (neg_ℤ m) ≡ apart h m
+apart-neg : (h m : ℤ) → distance (neg_ℤ h) (neg_ℤ m) ≡ distance h m
 apart-neg h m =
     ap (λ (z : ℤ). nat_abs (neg_ℤ h -ℤ z)) (times-neg m) ∙ ap nat_abs (sym (neg_ℤ-+ℤ h (neg_ℤ (pos 1000 *ℤ m)))) ∙ abs_neg (h -ℤ pos 1000 *ℤ m)
 
 mirrored : (h m : ℤ) → NearestMetre h m → NearestMetre (neg_ℤ h) (neg_ℤ m)
 mirrored h m a = record { nearest = near; even = tie }
   where
-    opposite : (k : ℤ) → apart (neg_ℤ h) k ≡ apart h (neg_ℤ k)
-    opposite k = ap (apart (neg_ℤ h)) (sym (neg_ℤ-neg_ℤ k)) ∙ apart-neg h (neg_ℤ k)
+    opposite : (k : ℤ) → distance (neg_ℤ h) k ≡ distance h (neg_ℤ k)
+    opposite k = ap (distance (neg_ℤ h)) (sym (neg_ℤ-neg_ℤ k)) ∙ apart-neg h (neg_ℤ k)
 
-    near : (k : ℤ) → apart (neg_ℤ h) (neg_ℤ m) ≤ apart (neg_ℤ h) k
+    near : (k : ℤ) → distance (neg_ℤ h) (neg_ℤ m) ≤ distance (neg_ℤ h) k
     near k = rw (apart-neg h m, opposite k) (a.nearest (neg_ℤ k))
 
-    tie : (k : ℤ) → (k ≡ neg_ℤ m → ⊥) → apart (neg_ℤ h) k ≡ apart (neg_ℤ h) (neg_ℤ m) → Even (neg_ℤ m)
+    tie : (k : ℤ) → (k ≡ neg_ℤ m → ⊥) → distance (neg_ℤ h) k ≡ distance (neg_ℤ h) (neg_ℤ m) → Even (neg_ℤ m)
     tie k d e =
         rw (abs_neg m)
         (a.even (neg_ℤ k) (λ q. d (sym (neg_ℤ-neg_ℤ k) ∙ ap neg_ℤ q)) (sym (opposite k) ∙ e ∙ apart-neg h m))
@@ -118,7 +118,7 @@ only_above n (pos j) a = go (ℕ_discrete j (rounded_metres n))
     not-both-even : (a b : ℕ) → (a + b) % 2 ≡ 1 → a % 2 ≡ 0 → b % 2 ≡ 0 → ⊥
     not-both-even a b h e f = omega arith
 
-    same : apart (pos n) (pos j) ≡ apart (pos n) (pos r)
+    same : distance (pos n) (pos j) ≡ distance (pos n) (pos r)
     same = le_antisymm (a.nearest (pos r)) ((asked-above n).nearest (pos j))
 
     go : Dec (j ≡ r) → pos j ≡ pos r

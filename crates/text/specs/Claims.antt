@@ -4,7 +4,7 @@ use Rattle.std.specs.Prelude.{ℕ, suc, ◌+◌, ◌-◌, ◌*◌, ◌/◌, ◌%
 use Prim.Native.String.{String}
 use Rattle.std.specs.Int.Signed.{mag}
 use Rattle.octets.specs.Ascii.{ascii}
-use Rattle.text.specs.Numbers.{decimal, signed, hex, decimal_value}
+use Rattle.text.specs.Numbers.{decimal, signed_decimal, hex, decimal_value}
 use Rattle.text.specs.Heights.{NearestMetre, metres}
 
 -- the number that hex digits stand for, after those that stand for a
@@ -25,7 +25,7 @@ NoLeadingZero = (decimal 0 ≡ ascii "0") × ((n : ℕ) → n < 2 ^ 64 → 0 < n
 
 -- a minus stands only before a number of 32 bits that is not zero
 abbrev pub NoMinusZero : Type 0
-NoMinusZero = (n : ℕ) → n < 2 ^ 31 → signed (negsuc n) ≡ ascii "-0" → ⊥
+NoMinusZero = (n : ℕ) → n < 2 ^ 31 → signed_decimal (negsuc n) ≡ ascii "-0" → ⊥
 
 -- a number of 64 bits takes 1 to 20 digits
 abbrev pub DecimalWidth : Type 0
@@ -53,11 +53,11 @@ OnlyHalvesMoved = (h : ℤ) → (nat_abs h % 1000 ≡ 500 → ⊥) → metres h 
 
 -- no height of 32 bits is written '-0'
 abbrev pub HeightNotMinusZero : Type 0
-HeightNotMinusZero = (h : ℤ) → mag h < 2 ^ 31 → signed (metres h) ≡ ascii "-0" → ⊥
+HeightNotMinusZero = (h : ℤ) → mag h < 2 ^ 31 → signed_decimal (metres h) ≡ ascii "-0" → ⊥
 
 -- a height of h millimetres is written so
 abbrev pub Written : ℤ → String → Type 0
-Written h text = signed (metres h) ≡ ascii text
+Written h text = signed_decimal (metres h) ≡ ascii text
 
 pub record HeightTexts : Type 0 where
   -- exact halves, and a height below one

@@ -2,16 +2,16 @@
 use Rattle.std.specs.Prelude.{ℕ, suc, ◌+◌, ◌/◌, ◌%◌, ◌≤◌, ◌≡◌, ℤ, pos, negsuc, neg_ℤ, nat_abs, ◌-ℤ◌, ◌*ℤ◌}
 
 -- how many millimetres lie between a height of h millimetres and one of m metres
-abbrev pub apart : ℤ → ℤ → ℕ
-apart h m = nat_abs (h -ℤ pos 1000 *ℤ m)
+abbrev pub distance : ℤ → ℤ → ℕ
+distance h m = nat_abs (h -ℤ pos 1000 *ℤ m)
 
 abbrev pub Even : ℤ → Type 0
 Even m = nat_abs m % 2 ≡ 0
 
 -- the rounding rule: m is the nearest whole metre to a height of h millimetres; of two equally near the even one
 pub record NearestMetre (h m : ℤ) : Type 0 where
-  pub nearest : (k : ℤ) → apart h m ≤ apart h k
-  pub even : (k : ℤ) → (k ≡ m → ⊥) → apart h k ≡ apart h m → Even m
+  pub nearest : (k : ℤ) → distance h m ≤ distance h k
+  pub even : (k : ℤ) → (k ≡ m → ⊥) → distance h k ≡ distance h m → Even m
 
 -- ---- the way to compute it: what it gives is that metre, and there is no other (`MetresAreNearest` of Claims)
 

@@ -12,9 +12,9 @@ abbrev pub decimal : ℕ → List ℕ
 decimal n = digits 19 n
 
 -- a signed number of 32 bits, which has at most 10 digits
-unfoldable pub signed : ℤ → List ℕ
-signed (pos n) = digits 9 n
-signed (negsuc n) = 45 ∷ digits 9 (suc n)
+unfoldable pub signed_decimal : ℤ → List ℕ
+signed_decimal (pos n) = digits 9 n
+signed_decimal (negsuc n) = 45 ∷ digits 9 (suc n)
 
 abbrev pub hex_digit : ℕ → ℕ
 hex_digit d = cond (ltb d 10) (48 + d) (87 + d)

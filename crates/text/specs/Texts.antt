@@ -5,8 +5,8 @@ use Rattle.std.proofs.lemmas.List.Edits.{sets}
 use Rattle.text.specs.declared.Text.{Text}
 
 -- no text yet, in this buffer
-abbrev pub start : MutBor (List ℕ) → Text
-start buffer = record { out = buffer; len = 0 }
+abbrev pub empty_text : MutBor (List ℕ) → Text
+empty_text buffer = record { out = buffer; len = 0 }
 
 -- as much of a text as there is room for
 abbrev pub fitting : Text → List ℕ → List ℕ

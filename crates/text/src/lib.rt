@@ -3,7 +3,7 @@
 #![tactic(auto)]
 
 ghost use Rattle.std.specs.Prelude.{◌≡◌, ◌+◌, ◌≤◌, ◌<◌, ◌++◌, [], ◌∷◌, length, take, drop};
-ghost use Rattle.text.specs.Numbers.{decimal, signed, hex_digit, hex};
+ghost use Rattle.text.specs.Numbers.{decimal, signed_decimal, hex_digit, hex};
 ghost use Rattle.text.specs.Heights.{rounded_metres, metres};
 
 use itoa::Buffer;
@@ -21,11 +21,11 @@ pub struct Text<'a> {
 }
 
 impl<'a> Text<'a> {
-    ghost use Rattle.text.specs.Texts.{start, append};
+    ghost use Rattle.text.specs.Texts.{empty_text, append};
 
     /// No text yet, in this buffer.
     pub fn new(out: &'a mut [u8]) -> Text<'a>
-        ensures { result ≡ start out.entry }
+        ensures { result ≡ empty_text out.entry }
     {
         Text { out, len: 0 }
     }
@@ -80,14 +80,14 @@ impl<'a> Text<'a> {
 
     /// v in decimal, with a minus where it is negative.
     pub fn push_i32(&mut self, v: i32)
-        ensures { self.new ≡ append self.old (signed v) }
+        ensures { self.new ≡ append self.old (signed_decimal v) }
     {
         self.push_str(Buffer::new().format(v));
     }
 
     /// The whole metres of a height in millimetres, in decimal.
     pub fn push_metres(&mut self, height: i32)
-        ensures { self.new ≡ append self.old (signed (metres height)) }
+        ensures { self.new ≡ append self.old (signed_decimal (metres height)) }
     {
         self.push_i32(whole_metres(height));
     }

@@ -2,7 +2,7 @@
 
 ghost use Rattle.std.specs.Prelude.{◌≡◌, ◌≤◌, ◌++◌, ℕ, List, flat_map, length};
 ghost use Rattle.octets.specs.Put.{Put};
-ghost use Rattle.text.specs.Numbers.{decimal, signed, hex};
+ghost use Rattle.text.specs.Numbers.{decimal, signed_decimal, hex};
 ghost use Rattle.text.specs.Heights.{metres};
 ghost use Rattle.text.specs.declared.Text.{Text as Written};
 ghost use Rattle.text.specs.Texts.{append};
@@ -29,7 +29,7 @@ impl Append for u64 {
 
 // In decimal, with a minus where it is negative.
 impl Append for i32 {
-    ghost text = { signed };
+    ghost text = { signed_decimal };
 
     fn append_to(&self, out: &mut Text) {
         out.push_i32(*self);
@@ -41,7 +41,7 @@ impl Append for i32 {
 pub struct Metres(pub i32);
 
 impl Append for Metres {
-    ghost text = { λ m. signed (metres m.0) };
+    ghost text = { λ m. signed_decimal (metres m.0) };
 
     fn append_to(&self, out: &mut Text) {
         out.push_metres(self.0);

@@ -4,7 +4,7 @@ use Rattle.geometry.specs.declared.linalg.Covariance.{Covariance}
 use Rattle.arithmetic.specs.declared.standing.Claimed.{Claimed}
 use Rattle.arithmetic.specs.declared.standing.Measure.{Measure}
 use Rattle.arithmetic.specs.declared.standing.Agreement.{Agreement}
-use Rattle.arithmetic.specs.Agree.{number_of, measure_in}
+use Rattle.arithmetic.specs.Agree.{agreement_number, measure_in}
 use Rattle.held.specs.After.{After, after}
 
 abbrev pub covariance_from : Float → Float → Float → Float → Float → Float → Covariance
@@ -21,4 +21,4 @@ measure_or found (Some m) = m
 
 -- what is answered of an agreement, and what the two lent numbers hold then
 unfoldable pub agreement_out : Agreement → Measure → After Measure
-agreement_out g found = after (number_of g) (measure_or found (measure_in g))
+agreement_out g found = after (agreement_number g) (measure_or found (measure_in g))

@@ -6,7 +6,7 @@ ghost use Rattle.std.specs.Prelude.{◌≡◌};
 ghost use Rattle.hashing.specs.Blake2s as Hash;
 ghost use Rattle.floats.specs.Root as Root;
 ghost use Rattle.arithmetic.specs.Agree.{agreement_of, sigma_of};
-ghost use Rattle.decision.specs.Answer.{decided};
+ghost use Rattle.decision.specs.Answer.{decided_arrays};
 ghost use Rattle.held.specs.After.{after};
 ghost use Rattle.register.specs.Register.{take_report, take_summary, take_conviction};
 ghost use Rattle.register.specs.Memory.{on_memory};
@@ -166,7 +166,7 @@ pub extern "C" fn tl_agreement(
 /// Decides items in bytes. The array is written where something is decided, and stays as it is on a refusal.
 #[unsafe(no_mangle)]
 pub extern "C" fn tl_decide(items: &[u8], answer: &mut [u8; ANSWER_SIZE]) -> u32
-    ensures { after result answer.new ≡ hand_out (decided items.now) answer.old }
+    ensures { after result answer.new ≡ hand_out (decided_arrays items.now) answer.old }
 {
     answers::decide(items, answer)
 }

@@ -3,9 +3,9 @@ use Rattle.std.proofs.Common.{◌≡◌, ℕ, ◌+◌, ◌%◌, ◌^◌, refl, a
 use Rattle.std.specs.List.{list_any}
 use Rattle.ranges.proofs.Bools.{by}
 use Rattle.merge.specs.Merged.{merged}
-use Rattle.stored.specs.Track.{Track, Outcome}
+use Rattle.stored.specs.Track.{Track, Transition}
 use Rattle.recheck.specs.Recheck.{has_stale, recheck, strike_engine}
-use Rattle.track.specs.Track.{fix_from, track_summary, track_conviction}
+use Rattle.track.specs.Track.{reported_fix, track_summary, track_conviction}
 use Rattle.track.specs.Calls.{left_by}
 use Rattle.track.specs.Claims.{ReportCounts, RefusalCountsNone, SummaryCountsNone, ConvictionCountsNone}
 use Rattle.track.proofs.Leaving.{Leaves, report-leaves, summary-leaves, conviction-leaves, left_after}
@@ -27,12 +27,12 @@ module _ (s : Track) where
 
 pub report-counts : ReportCounts
 report-counts e r s t n q =
-    let k = (merged (fix_from e r s) s.transmissions).entered in
+    let k = (merged (reported_fix e r s) s.transmissions).entered in
     let P : Track → Type 0 = λ u. u.contested ≡ (s.contested + k) % 2 ^ 64 in
     subst (Leaves P) q (report-leaves P e r s (λ h w c. refl))
 
 pub refusal-counts-none : RefusalCountsNone
-refusal-counts-none c s n q = ap (λ (o : Outcome). (left_by s o).contested) q
+refusal-counts-none c s n q = ap (λ (o : Transition). (left_by s o).contested) q
 
 pub summary-counts-none : SummaryCountsNone
 summary-counts-none e model spec inputs s =

@@ -6,7 +6,7 @@ use Rattle.record.specs.Layout.{max_model}
 use Rattle.models.specs.Summary.{summary_of}
 use Rattle.held.specs.Limits.{max_engine}
 use Rattle.held.proofs.Summarized.{summary-length}
-use Rattle.stored.specs.Track.{Track, Outcome, refused, done}
+use Rattle.stored.specs.Track.{Track, Transition, refused, done}
 use Rattle.stored.specs.Memory.{well_formed, decode, commit, on_memory}
 use Rattle.stored.proofs.Opened as O
 use Rattle.stored.proofs.Opened.{opened}
@@ -35,11 +35,11 @@ pub encode-decode : EncodeDecode
 encode-decode m b h = O.encode-decode m (opened m h) b
 
 module _ (m : List ℕ) (b : Bytes m) (h : well_formed m ≡ true) where
-  left-formed : (o : Outcome) → Leaves Valid o → well_formed (commit m o).left ≡ true
+  left-formed : (o : Transition) → Leaves Valid o → well_formed (commit m o).left ≡ true
   left-formed (refused n) v = h
   left-formed (done n t) v = formed-encode t v
 
-  left-holds : (o : Outcome) → Leaves Valid o → decode (commit m o).left ≡ left_by (decode m) o
+  left-holds : (o : Transition) → Leaves Valid o → decode (commit m o).left ≡ left_by (decode m) o
   left-holds (refused n) v = refl
   left-holds (done n t) v = decode-encode t v
 

@@ -12,23 +12,23 @@ use Rattle.models.specs.Missing.{cites_missing}
 use Rattle.held.specs.Limits.{max_engine, max_summaries}
 use Rattle.merge.specs.Merged.{merged}
 use Rattle.stored.specs.Layout.{pair_size}
-use Rattle.stored.specs.Track.{Track, Outcome, refused, done}
+use Rattle.stored.specs.Track.{Track, Transition, refused, done}
 use Rattle.stored.specs.Steps.{with_pair}
 use Rattle.recheck.specs.Recheck.{recheck, strike_engine}
-use Rattle.track.specs.Track.{fix_from, stepped, track_report, becomes_disputed, put_summary, track_summary, track_conviction}
+use Rattle.track.specs.Track.{reported_fix, stepped, track_report, becomes_disputed, put_summary, track_summary, track_conviction}
 use Rattle.track.specs.Calls.{left_by}
 
 module _ (P : Track → Type 0) where
-  abbrev pub Leaves : Outcome → Type 0
+  abbrev pub Leaves : Transition → Type 0
   Leaves (refused n) = Unit {0}
   Leaves (done n t) = P t
 
   -- of the track after it, if it held before
-  pub left_after : (s : Track) (o : Outcome) → P s → Leaves o → P (left_by s o)
+  pub left_after : (s : Track) (o : Transition) → P s → Leaves o → P (left_by s o)
   left_after s (refused n) p q = p
   left_after s (done n t) p q = q
 
-  pub report-leaves : (e : ℕ) (r : List ℕ) (s : Track) → (e ≤ max_engine → R.well_formed r ≡ true → bit s.convicted e ≡ false → P (stepped (merged (fix_from e r s) s.transmissions) s)) → Leaves (track_report e r s)
+  pub report-leaves : (e : ℕ) (r : List ℕ) (s : Track) → (e ≤ max_engine → R.well_formed r ≡ true → bit s.convicted e ≡ false → P (stepped (merged (reported_fix e r s) s.transmissions) s)) → Leaves (track_report e r s)
   report-leaves e r s p =
       by (ltb max_engine e)
       (λ a. rw a tt)

@@ -26,7 +26,7 @@ use Rattle.stored.specs.Track.{Track}
 use Rattle.stored.proofs.Blocks.{Upheld, Kept, Held, of_map}
 use Rattle.stored.proofs.Valid.{Valid}
 use Rattle.recheck.proofs.Renewing.{Fit, normalized-kept, held-fit, arranged-held, arranged-at-most}
-use Rattle.track.specs.Track.{fix_from, stepped}
+use Rattle.track.specs.Track.{reported_fix, stepped}
 
 -- ---- a fix that gains signers
 
@@ -153,7 +153,7 @@ module _ (c : ℕ) (f : Fix) (p : Fit c f) where
 -- ---- a fix that is reported
 
 -- by an engine that is not convicted
-pub reported-fit : (e : ℕ) (r : List ℕ) (s : Track) → e ≤ max_engine → R.well_formed r ≡ true → bit s.convicted e ≡ false → Fit s.convicted (fix_from e r s)
+pub reported-fit : (e : ℕ) (r : List ℕ) (s : Track) → e ≤ max_engine → R.well_formed r ≡ true → bit s.convicted e ≡ false → Fit s.convicted (reported_fix e r s)
 reported-fit e r s h w z = record {
   valid = record {
     record-size = record-length r w;
@@ -164,9 +164,9 @@ reported-fit e r s h w z = record {
   upheld = record { formed = w; signed = with-some 0 e; free = with-apart 0 s.convicted e (nothing-apart s.convicted) z };
 }
 
-pub stepped-valid : (s : Track) → Valid s → (e : ℕ) (r : List ℕ) → e ≤ max_engine → R.well_formed r ≡ true → bit s.convicted e ≡ false → Valid (stepped (merged (fix_from e r s) s.transmissions) s)
+pub stepped-valid : (s : Track) → Valid s → (e : ℕ) (r : List ℕ) → e ≤ max_engine → R.well_formed r ≡ true → bit s.convicted e ≡ false → Valid (stepped (merged (reported_fix e r s) s.transmissions) s)
 stepped-valid s v e r h w z =
-    let m = merged-whole s.convicted (fix_from e r s) (reported-fit e r s h w z) s.transmissions (record { few = v.few; held = v.held }) in
+    let m = merged-whole s.convicted (reported_fix e r s) (reported-fit e r s h w z) s.transmissions (record { few = v.few; held = v.held }) in
     record {
       small = v.small;
       counted = omega arith;

@@ -16,17 +16,17 @@ use Rattle.shown.specs.Fix.{Fix}
 use Rattle.shown.specs.Ages.{older, older_first}
 use Rattle.shown.proofs.Ages.{older-irrefl}
 use Rattle.tracked.specs.Held.{HeldTransmission}
-use Rattle.arrange.specs.Arranged.{is_some, has_fix, older_than}
+use Rattle.arrange.specs.Arranged.{is_nonempty, has_fix, older_than}
 use Rattle.arrange.specs.Claims.{InOrder, none, next}
 use Rattle.arrange.proofs.Tables.{drop-in}
 use Rattle.arrange.proofs.Claimed.{arranged-in-order}
 use Rattle.merge.proofs.Claimed.{order-kept}
 use Rattle.stored.specs.Layout.{summaries_at, transmissions_size}
-use Rattle.stored.specs.Track.{Track, Outcome, refused, done}
+use Rattle.stored.specs.Track.{Track, Transition, refused, done}
 use Rattle.stored.specs.Memory.{encode, fresh, commit, on_memory}
 use Rattle.stored.proofs.Valid.{Valid, formed-encode, decode-encode, on-encode}
 use Rattle.recheck.specs.Recheck.{has_stale, recheck, strike_engine}
-use Rattle.track.specs.Track.{fix_from}
+use Rattle.track.specs.Track.{reported_fix}
 use Rattle.track.specs.Served.{kept_of}
 use Rattle.track.specs.Calls.{Call, report, summary, conviction, act, runs}
 use Rattle.track.specs.Claims.{StaysInOrder, ReachedInOrder, OneServed, LatestServed}
@@ -47,7 +47,7 @@ unfolding strike_engine
 strike-order e s = arranged-in-order _
 
 act-leaves : (c : Call) (s : Track) → Ordered s → Leaves Ordered (act c s)
-act-leaves (report e r) s w = report-leaves Ordered e r s (λ h v c. order-kept (fix_from e r s) s.transmissions w)
+act-leaves (report e r) s w = report-leaves Ordered e r s (λ h v c. order-kept (reported_fix e r s) s.transmissions w)
 act-leaves (summary e model spec inputs) s w = summary-leaves Ordered e model spec inputs s (λ h g l c d. w) recheck-order
 act-leaves (conviction e) s w = conviction-leaves Ordered e s (λ h. recheck-order (strike_engine e s) (strike-order e s))
 
@@ -92,7 +92,7 @@ call-reaches c m x =
     subst Reached (sym (ap (λ (k : List ℕ). (on_memory (act c) k).left) x.is ∙ ap (λ (a : After (List ℕ)). a.left) (on-encode s x.valid (act c))))
     (go (act c s) (act-sound c s x.valid) (act-leaves c s x.order))
   where
-    go : (o : Outcome) → Leaves Valid o → Leaves Ordered o → Reached (commit (encode x.track) o).left
+    go : (o : Transition) → Leaves Valid o → Leaves Ordered o → Reached (commit (encode x.track) o).left
     go (refused n) v w = record { track = x.track; valid = x.valid; order = x.order; is = refl }
     go (done n t) v w = record { track = t; valid = v; order = w; is = refl }
 
@@ -117,7 +117,7 @@ last-behind x y l = let e : length (x ∷ (y ∷ l)) - 1 ≡ suc (length (y ∷ 
 not_itself : (t : HeldTransmission) → has_fix t ≡ true → older_than t t ≡ false
 not_itself t p = go t.fixes p
   where
-    go : (fs : List Fix) → is_some fs ≡ true → older_first fs fs ≡ false
+    go : (fs : List Fix) → is_nonempty fs ≡ true → older_first fs fs ≡ false
     go [] p = absurd (false≢true p)
     go (f ∷ fs) p = older-irrefl f
 
@@ -146,7 +146,7 @@ pub one-served : OneServed
 unfolding flat_map
 one-served s w h = go s.transmissions w h
   where
-    kept : (fs : List Fix) → is_some fs ≡ true → length (take 1 fs ++ []) ≡ 1
+    kept : (fs : List Fix) → is_nonempty fs ≡ true → length (take 1 fs ++ []) ≡ 1
     kept [] p = absurd (false≢true p)
     kept (f ∷ fs) p = refl
 

@@ -1,6 +1,6 @@
 -- The calls of a track (docs/REFERENCE.md, 'Operations'), and the track that a call leaves.
 use Rattle.std.specs.Prelude.{ℕ, List, [], ◌∷◌}
-use Rattle.stored.specs.Track.{Track, Outcome, refused, done}
+use Rattle.stored.specs.Track.{Track, Transition, refused, done}
 use Rattle.stored.specs.Memory.{on_memory}
 use Rattle.track.specs.Track.{track_report, track_summary, track_conviction}
 
@@ -10,13 +10,13 @@ pub data Call : Type 0 where
   summary : ℕ → ℕ → ℕ → List ℕ → Call
   conviction : ℕ → Call
 
-abbrev pub act : Call → Track → Outcome
+abbrev pub act : Call → Track → Transition
 act (report e r) = track_report e r
 act (summary e model spec inputs) = track_summary e model spec inputs
 act (conviction e) = track_conviction e
 
 -- a refusal leaves the track as it is
-abbrev pub left_by : Track → Outcome → Track
+abbrev pub left_by : Track → Transition → Track
 left_by s (refused n) = s
 left_by s (done n t) = t
 

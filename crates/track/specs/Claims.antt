@@ -8,9 +8,9 @@ use Rattle.shown.specs.Ages.{older}
 use Rattle.tracked.specs.Held.{HeldTransmission}
 use Rattle.arrange.specs.Claims.{InOrder}
 use Rattle.merge.specs.Merged.{merged}
-use Rattle.stored.specs.Track.{Track, Outcome, refused, done}
+use Rattle.stored.specs.Track.{Track, Transition, refused, done}
 use Rattle.stored.specs.Memory.{well_formed, decode, encode, fresh, on_memory}
-use Rattle.track.specs.Track.{fix_from}
+use Rattle.track.specs.Track.{reported_fix}
 use Rattle.track.specs.Served.{kept_of, served}
 use Rattle.track.specs.Calls.{Call, report, summary, conviction, act, left_by, runs}
 
@@ -28,17 +28,17 @@ HoldsLeft = (c : Call) (m : List ℕ) → Bytes m → well_formed m ≡ true →
 
 -- a call that is refused, or on bytes that are no track, leaves the bytes
 abbrev pub RefusalLeaves : Type 0
-RefusalLeaves = (f : Track → Outcome) (m : List ℕ) (n : ℕ) → f (decode m) ≡ refused n → (on_memory f m).left ≡ m
+RefusalLeaves = (f : Track → Transition) (m : List ℕ) (n : ℕ) → f (decode m) ≡ refused n → (on_memory f m).left ≡ m
 
 abbrev pub MalformedLeaves : Type 0
-MalformedLeaves = (f : Track → Outcome) (m : List ℕ) → well_formed m ≡ false → (on_memory f m).left ≡ m
+MalformedLeaves = (f : Track → Transition) (m : List ℕ) → well_formed m ≡ false → (on_memory f m).left ≡ m
 
 -- ---- the contested count
 
 -- the count is modulo 2^64: a report that is not refused adds the fixes that entered a list of refused
 abbrev pub ReportCounts : Type 0
 ReportCounts = (e : ℕ) (r : List ℕ) (s t : Track) (n : ℕ) → act (report e r) s ≡ done n t
-    → t.contested ≡ (s.contested + (merged (fix_from e r s) s.transmissions).entered) % 2 ^ 64
+    → t.contested ≡ (s.contested + (merged (reported_fix e r s) s.transmissions).entered) % 2 ^ 64
 
 -- a call that is refused, a summary and a conviction leave the count
 abbrev pub RefusalCountsNone : Type 0

@@ -11,29 +11,29 @@ use Rattle.models.specs.Missing.{cites_missing}
 use Rattle.models.specs.Identity.{cited_inputs, identity_of}
 use Rattle.held.specs.Limits.{max_engine, max_summaries}
 use Rattle.shown.specs.Fix.{Fix}
-use Rattle.merge.specs.Merged.{Step, number_of, merged}
+use Rattle.merge.specs.Merged.{Step, merged_number, merged}
 use Rattle.stored.specs.Layout.{pair_size}
-use Rattle.stored.specs.Track.{Track, Outcome, refused, done, with_summaries}
+use Rattle.stored.specs.Track.{Track, Transition, refused, done, with_summaries}
 use Rattle.recheck.specs.Recheck.{recheck, strike_engine}
 
 -- ---- report
 
 -- the fix of a record that an engine reports
-abbrev pub fix_from : ℕ → List ℕ → Track → Fix
-fix_from e r s = record { identity = identity_of s.summaries r; record_bytes = r; inputs = cited_inputs s.summaries r; signers = with_bit 0 e }
+abbrev pub reported_fix : ℕ → List ℕ → Track → Fix
+reported_fix e r s = record { identity = identity_of s.summaries r; record_bytes = r; inputs = cited_inputs s.summaries r; signers = with_bit 0 e }
 
 -- `contested` is counted modulo 2^64
 abbrev pub stepped : Step → Track → Track
 stepped x s = record { convicted = s.convicted; contested = (s.contested + x.entered) % 2 ^ 64; summaries = s.summaries; transmissions = x.left }
 
 -- a record none of whose models is missing: 7 where a cited model is disputed or of another spec, else Changed, Contested, Duplicate or Dropped
-abbrev pub take_cited : ℕ → List ℕ → Track → Outcome
+abbrev pub take_cited : ℕ → List ℕ → Track → Transition
 take_cited e r s =
-    let x = merged (fix_from e r s) s.transmissions in
-    cond (counts s.summaries r) (done (number_of x.answer) (stepped x s)) (refused 7)
+    let x = merged (reported_fix e r s) s.transmissions in
+    cond (counts s.summaries r) (done (merged_number x.answer) (stepped x s)) (refused 7)
 
 -- 2, 3 or 4; 6 where a cited model has no summary
-abbrev pub track_report : ℕ → List ℕ → Track → Outcome
+abbrev pub track_report : ℕ → List ℕ → Track → Transition
 track_report e r s =
     cond (nat_lt max_engine e) (refused 2)
     (cond (not (well_formed r)) (refused 3)
@@ -58,12 +58,12 @@ put_summary model p s =
     cond (becomes_disputed model s.summaries ss) (recheck (with_summaries ss s)) (with_summaries ss s)
 
 -- 5 where this engine and model are new and 256 pairs are held, else 0
-abbrev pub hold_pair : ℕ → List ℕ → Track → Outcome
+abbrev pub hold_pair : ℕ → List ℕ → Track → Transition
 hold_pair model p s =
     cond (not (holds pair_size (take pair_size p) s.summaries) && nat_le max_summaries (length s.summaries)) (refused 5) (done 0 (put_summary model p s))
 
 -- 2, 9 or 4
-abbrev pub track_summary : ℕ → ℕ → ℕ → List ℕ → Track → Outcome
+abbrev pub track_summary : ℕ → ℕ → ℕ → List ℕ → Track → Transition
 track_summary e model spec inputs s =
     cond (nat_lt max_engine e) (refused 2)
     (cond (nat_lt max_model model || not (length inputs == inputs_size)) (refused 9)
@@ -72,5 +72,5 @@ track_summary e model spec inputs s =
 -- ---- conviction
 
 -- 2, else 0; a repeated conviction checks the fixes again too
-abbrev pub track_conviction : ℕ → Track → Outcome
+abbrev pub track_conviction : ℕ → Track → Transition
 track_conviction e s = cond (nat_lt max_engine e) (refused 2) (done 0 (recheck (strike_engine e s)))

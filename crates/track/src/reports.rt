@@ -6,10 +6,10 @@ ghost use Rattle.octets.specs.Writes.{put_word};
 ghost use Rattle.models.specs.Models.{counts};
 ghost use Rattle.models.specs.Missing.{cites_missing};
 ghost use Rattle.held.specs.After.{after};
-ghost use Rattle.merge.specs.Merged.{number_of};
+ghost use Rattle.merge.specs.Merged.{merged_number};
 ghost use Rattle.stored.specs.Layout as L;
 ghost use Rattle.stored.specs.Memory.{well_formed, decode, commit, on_memory};
-ghost use Rattle.track.specs.Track.{fix_from, take_cited, track_report};
+ghost use Rattle.track.specs.Track.{reported_fix, take_cited, track_report};
 
 use held::engines::{Engine, Signers};
 use merge::Merged;
@@ -20,7 +20,7 @@ use tracked::fix::Fix;
 
 // The number of an answer.
 fn number_of(answer: Merged) -> u32
-    ensures { result ≡ number_of answer }
+    ensures { result ≡ merged_number answer }
 {
     match answer {
         Merged::Changed => 20,
@@ -33,7 +33,7 @@ fn number_of(answer: Merged) -> u32
 // The fix of a record that an engine reports.
 fn reported<'a>(memory: &[u8], engine: Engine, r: Record<'a>) -> Fix<'a>
     requires { well_formed memory.now ≡ true }
-    ensures { result ≡ fix_from engine.number r.entry.bytes.now (decode memory.now) }
+    ensures { result ≡ reported_fix engine.number r.entry.bytes.now (decode memory.now) }
 {
     Fix {
         report: r,

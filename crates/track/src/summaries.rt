@@ -1,7 +1,7 @@
 //! A summary into a track.
 
 ghost use Rattle.std.specs.Prelude.{◌≡◌, true, not, ◌&&◌};
-ghost use Rattle.models.specs.Answers.{listed};
+ghost use Rattle.models.specs.Answers.{summary_places};
 ghost use Rattle.models.specs.Models.{state_of};
 ghost use Rattle.held.specs.After.{after};
 ghost use Rattle.held.specs.Summaries.{summary_formed};
@@ -17,7 +17,7 @@ use stored::{formed, parts};
 
 // Whether a model's summaries are disputed.
 fn is_disputed(all: Summaries, model: u8) -> bool
-    ensures { result ≡ is_disputed (state_of model (listed all.entry)) }
+    ensures { result ≡ is_disputed (state_of model (summary_places all.entry)) }
 {
     match state(all, model) {
         ModelState::Disputed => true,

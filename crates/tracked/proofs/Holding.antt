@@ -17,7 +17,7 @@ use Rattle.record.specs.Layout.{record_size}
 use Rattle.items.specs.Layout.{hash_size}
 use Rattle.items.proofs.Pairing.{taken}
 use Rattle.shown.specs.Fix.{Fix}
-use Rattle.shown.specs.Items.{no_fix, at}
+use Rattle.shown.specs.Items.{no_fix, fix_at}
 use Rattle.std.specs.Prelude.{Some, slice_get}
 use Rattle.std.proofs.lemmas.List as S
 use Rattle.std.proofs.lemmas.Option.{slice_get-get_or}
@@ -106,11 +106,11 @@ held-number b = ap length (sym (held-are b)) ∙ length-map (held_places b) fix_
 
 -- ---- the held fix k, by the places of those that stand and of the refused
 
-pub stands-held : (ps : List (List ℕ)) (t : HeldTransmission) → map fix_in ps ≡ t.fixes → (k : ℕ) → k < length ps → fix_in (get_or ps k []) ≡ at (held_in t) k
+pub stands-held : (ps : List (List ℕ)) (t : HeldTransmission) → map fix_in ps ≡ t.fixes → (k : ℕ) → k < length ps → fix_in (get_or ps k []) ≡ fix_at (held_in t) k
 stands-held ps t e k h =
     sym (S.get_or-map fix_in ps k [] no_fix h)
     ∙ sym (get_or-append (map fix_in ps) (map fix_of t.refused) no_fix k (rw (length-map ps fix_in) h))
-    ∙ ap (λ (l : List Fix). at (l ++ map fix_of t.refused) k) e
+    ∙ ap (λ (l : List Fix). fix_at (l ++ map fix_of t.refused) k) e
 
 module _ (ps qs : List (List ℕ)) (t : HeldTransmission) (standing : map fix_in ps ≡ t.fixes) (refused : map refused_in qs ≡ t.refused) (k : ℕ) (past : length ps ≤ k) (within : k < length (held_in t)) where
   abbrev j : ℕ
@@ -128,14 +128,14 @@ module _ (ps qs : List (List ℕ)) (t : HeldTransmission) (standing : map fix_in
       let m = length-map (map refused_in qs) fix_of in
       omega (arith, l, ap length held-is, length-map ps fix_in, m, length-map qs refused_in, past, within)
 
-  pub refused-held : fix_in (get_or qs j []) ≡ at (held_in t) k
+  pub refused-held : fix_in (get_or qs j []) ≡ fix_at (held_in t) k
   refused-held =
       let z : length (map fix_in ps) + j ≡ k = omega (arith, length-map ps fix_in, past) in
       sym (ap fix_of (get_or-map refused_in qs j []))
       ∙ sym (S.get_or-map fix_of (map refused_in qs) j (refused_in []) no_fix (rw (length-map qs refused_in) refused-within))
       ∙ sym (get_or-append-add (map fix_in ps) rs j no_fix)
-      ∙ ap (at (map fix_in ps ++ rs)) z
-      ∙ ap (λ (l : List Fix). at l k) held-is
+      ∙ ap (fix_at (map fix_in ps ++ rs)) z
+      ∙ ap (λ (l : List Fix). fix_at l k) held-is
 
 -- ---- what a place holds, of all that are read
 module _ {A : Type 0} (read : List ℕ → A) (ps : List (List ℕ)) (l : List A) (e : map read ps ≡ l) (k : ℕ) (h : k < length l) where

@@ -3,7 +3,7 @@
 ghost use Rattle.std.specs.Prelude.{◌≡◌, true, Some, map, ◌<◌, ◌≤◌, length, slice_get};
 ghost use Rattle.std.specs.List.{list_all, list_any};
 ghost use Rattle.record.specs.Relations.{tied};
-ghost use Rattle.shown.specs.Items.{at};
+ghost use Rattle.shown.specs.Items.{fix_at};
 ghost use Rattle.tracked.specs.Layout as L;
 ghost use Rattle.tracked.specs.Held.{held_in};
 ghost use Rattle.tracked.specs.Bytes as B;
@@ -114,7 +114,7 @@ impl<'a> Block<'a> {
     /// The held fix k: those that stand come first, then the refused.
     pub fn held_fix(&self, k: u8) -> Fix<'a>
         requires { k < length (held_in self.now) }
-        ensures { result ≡ at (held_in self.now) k }
+        ensures { result ≡ fix_at (held_in self.now) k }
     {
         let standing = self.fix_places();
         let k = k as usize;

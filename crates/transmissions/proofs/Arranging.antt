@@ -14,14 +14,14 @@ use Rattle.links.proofs.Indexed.{map-map}
 use Rattle.links.proofs.Partition.{map-from}
 use Rattle.shown.specs.Fix.{Fix}
 use Rattle.shown.proofs.Indexed.{at_in}
-use Rattle.shown.specs.Items.{at}
+use Rattle.shown.specs.Items.{fix_at}
 use Rattle.shown.specs.Ages.{time_of, older_first}
 use Rattle.shown.specs.Shown.{shown}
 use Rattle.models.specs.declared.hashes.Identity.{Identity}
 use Rattle.transmissions.specs.Picture.{older_than, latest_of, max_shown}
 use Rattle.transmissions.specs.declared.latest.Lead.{Lead}
 use Rattle.transmissions.specs.Parts.{AllParts}
-use Rattle.transmissions.specs.Leads.{first_of, lead_of, leads_of, before, shown_at}
+use Rattle.transmissions.specs.Leads.{first_ranked, lead_of, leads_of, before, shown_at}
 use Rattle.shown.proofs.Showing.{some-first}
 
 drop-map : {A B : Type 0} (f : A → B) (k : ℕ) (l : List A) → map f (drop k l) ≡ drop k (map f l)
@@ -70,12 +70,12 @@ lead k t i = record { number = k; time = t; identity = record { 0 = i } }
 
 -- one more, of which this is kept
 pub arranged-more : (ts : List (List Fix)) (k : ℕ) (gs : List Fix) (f : Fix) (t : ℕ) (i : Identity) (l m : List Lead)
-    → 0 < k → k ≤ length ts → gs ≡ get_or ts (k - 1) [] → f ≡ first_of gs → t ≡ time_of f → i.0 ≡ f.identity
+    → 0 < k → k ≤ length ts → gs ≡ get_or ts (k - 1) [] → f ≡ first_ranked gs → t ≡ time_of f → i.0 ≡ f.identity
     → l ≡ sort before (map (lead_of ts) (count_from k (length ts - k)))
     → m ≡ insert before (record { number = k - 1; time = t; identity = i }) l
     → m ≡ sort before (map (lead_of ts) (count_from (k - 1) (length ts - (k - 1))))
 arranged-more ts k gs f t i l m some most g-is f-is t-is i-is l-is m-is =
-    let lead-is : lead (k - 1) t i.0 ≡ lead_of ts (k - 1) = ap₂ (lead (k - 1)) t-is i-is ∙ ap (λ (g : Fix). lead (k - 1) (time_of g) g.identity) (f-is ∙ ap first_of g-is) in
+    let lead-is : lead (k - 1) t i.0 ≡ lead_of ts (k - 1) = ap₂ (lead (k - 1)) t-is i-is ∙ ap (λ (g : Fix). lead (k - 1) (time_of g) g.identity) (f-is ∙ ap first_ranked g-is) in
     let z : k ≡ suc (k - 1) = omega arith in
     m-is ∙ ap₂ (insert before) lead-is (l-is ∙ ap (λ (j : ℕ). sort before (map (lead_of ts) (count_from j (length ts - j)))) z) ∙ arranged-step ts (k - 1) (length ts) (omega arith)
 
@@ -84,9 +84,9 @@ arranged-few ts k n l e = ap (λ (z : List Lead). length z) e ∙ perm-length (s
 
 -- ---- the same order
 
-first-is : (gs : List Fix) (f : Fix) (rest : List Fix) → (shown gs).ranked ≡ f ∷ rest → first_of gs ≡ f
-unfolding first_of
-first-is gs f rest e = ap (λ (l : List Fix). at l 0) e
+first-is : (gs : List Fix) (f : Fix) (rest : List Fix) → (shown gs).ranked ≡ f ∷ rest → first_ranked gs ≡ f
+unfolding first_ranked
+first-is gs f rest e = ap (λ (l : List Fix). fix_at l 0) e
 
 module _ (ts : List (List Fix)) (p : AllParts ts) where
   same-order : (j k : ℕ) → j < length ts → k < length ts → older_than (shown (get_or ts j [])) (shown (get_or ts k [])) ≡ before (lead_of ts j) (lead_of ts k)

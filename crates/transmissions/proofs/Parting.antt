@@ -14,33 +14,33 @@ use Rattle.shown.proofs.Indexed.{at_in}
 use Rattle.links.specs.Transmissions.{transmission_of, leads, is_first, transmissions_of}
 use Rattle.links.proofs.Partition.{map-from}
 use Rattle.links.proofs.Reaching.{together, transmission-tested}
-use Rattle.fixes.specs.Order.{ascends, ascends_from}
+use Rattle.fixes.specs.Order.{identities_ascend, identities_ascend_from}
 use Rattle.fixes.proofs.Entering.{rest-ascends}
 use Rattle.fixes.proofs.Kept.{apart}
 use Rattle.transmissions.specs.Parts.{Part, AllParts}
 
 -- ---- some of fixes that ascend
 
-weaker : (a b : List ℕ) (fs : List Fix) → is_before a b ≡ true → ascends_from b fs ≡ true → ascends_from a fs ≡ true
-unfolding ascends_from
+weaker : (a b : List ℕ) (fs : List Fix) → is_before a b ≡ true → identities_ascend_from b fs ≡ true → identities_ascend_from a fs ≡ true
+unfolding identities_ascend_from
 weaker a b [] h e = refl
 weaker a b (f ∷ fs) h e =
-    and_both (is_before a f.identity) (ascends_from f.identity fs)
-    (before-trans a b f.identity h (and_left (is_before b f.identity) (ascends_from f.identity fs) e))
-    (and_right (is_before b f.identity) (ascends_from f.identity fs) e)
+    and_both (is_before a f.identity) (identities_ascend_from f.identity fs)
+    (before-trans a b f.identity h (and_left (is_before b f.identity) (identities_ascend_from f.identity fs) e))
+    (and_right (is_before b f.identity) (identities_ascend_from f.identity fs) e)
 
-filter-from : (p : Fix → Bool) (key : List ℕ) (fs : List Fix) → ascends_from key fs ≡ true → ascends_from key (filter p fs) ≡ true
-unfolding ascends_from
+filter-from : (p : Fix → Bool) (key : List ℕ) (fs : List Fix) → identities_ascend_from key fs ≡ true → identities_ascend_from key (filter p fs) ≡ true
+unfolding identities_ascend_from
 filter-from p key [] e = refl
 filter-from p key (f ∷ fs) e =
-    let h = and_left (is_before key f.identity) (ascends_from f.identity fs) e in
-    let k = filter-from p f.identity fs (and_right (is_before key f.identity) (ascends_from f.identity fs) e) in
+    let h = and_left (is_before key f.identity) (identities_ascend_from f.identity fs) e in
+    let k = filter-from p f.identity fs (and_right (is_before key f.identity) (identities_ascend_from f.identity fs) e) in
     by (p f)
-    (λ t. rw t (and_both (is_before key f.identity) (ascends_from f.identity (filter p fs)) h k))
+    (λ t. rw t (and_both (is_before key f.identity) (identities_ascend_from f.identity (filter p fs)) h k))
     (λ t. rw t (weaker key f.identity (filter p fs) h k))
 
-filter-ascends : (p : Fix → Bool) (fs : List Fix) → ascends fs ≡ true → ascends (filter p fs) ≡ true
-unfolding ascends
+filter-ascends : (p : Fix → Bool) (fs : List Fix) → identities_ascend fs ≡ true → identities_ascend (filter p fs) ≡ true
+unfolding identities_ascend
 filter-ascends p [] e = refl
 filter-ascends p (f ∷ fs) e =
     let k = filter-from p f.identity fs e in
@@ -52,7 +52,7 @@ led : (a : Fix) (c : List Fix) → leads a c ≡ true → 0 < length c
 led a [] e = absurd (false≢true e)
 led a (f ∷ c) e = omega arith
 
-module _ (fs : List Fix) (w : AllFormed fs) (e : ascends fs ≡ true) (few : length fs ≤ max_items) where
+module _ (fs : List Fix) (w : AllFormed fs) (e : identities_ascend fs ≡ true) (few : length fs ≤ max_items) where
   filtered : (p : Fix → Bool) → 0 < length (filter p fs) → Part (filter p fs)
   filtered p h = record {
     formed = λ f m. w f (filter-in p fs f m).0;

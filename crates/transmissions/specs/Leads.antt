@@ -3,17 +3,17 @@ use Rattle.std.specs.Prelude.{ℕ, Bool, true, false, cond, List, [], ltb, lengt
 use Rattle.octets.specs.Order.{is_before}
 use Rattle.ranges.specs.Lists.{up_to}
 use Rattle.shown.specs.Fix.{Fix}
-use Rattle.shown.specs.Items.{at}
+use Rattle.shown.specs.Items.{fix_at}
 use Rattle.shown.specs.Ages.{time_of}
 use Rattle.shown.specs.Shown.{Transmission, shown}
 use Rattle.transmissions.specs.declared.latest.Lead.{Lead}
 
 -- the first ranked of a transmission
-unfoldable pub first_of : List Fix → Fix
-first_of gs = at (shown gs).ranked 0
+unfoldable pub first_ranked : List Fix → Fix
+first_ranked gs = fix_at (shown gs).ranked 0
 
 abbrev pub lead_of : List (List Fix) → ℕ → Lead
-lead_of ts k = let f = first_of (get_or ts k []) in record { number = k; time = time_of f; identity = record { 0 = f.identity } }
+lead_of ts k = let f = first_ranked (get_or ts k []) in record { number = k; time = time_of f; identity = record { 0 = f.identity } }
 
 abbrev pub leads_of : List (List Fix) → List Lead
 leads_of ts = map (lead_of ts) (up_to (length ts))

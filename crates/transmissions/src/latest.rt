@@ -6,7 +6,7 @@ ghost use Rattle.shown.specs.Shown.{shown};
 ghost use Rattle.shown.specs.Items.{no_fix};
 ghost use Rattle.arrayvec.specs.ArrayVec.{array_vec_len};
 ghost use Rattle.transmissions.specs.Parts.{Part, AllParts};
-ghost use Rattle.transmissions.specs.Leads.{before, lead_of, leads_of, first_of};
+ghost use Rattle.transmissions.specs.Leads.{before, lead_of, leads_of, first_ranked};
 
 use crate::Shown;
 use arrayvec::ArrayVec;
@@ -42,7 +42,7 @@ impl Lead {
 // The first ranked fix of a transmission, by what is decided of it. A function of its own, since room for a decision is cleared first.
 fn first_decided<'s, 'a>(transmission: &Transmission<'s, 'a>) -> &'s Fix<'a>
     requires { Part transmission.now }
-    ensures { result.now ≡ first_of transmission.now }
+    ensures { result.now ≡ first_ranked transmission.now }
 {
     let decision = crate::outcome(transmission);
     Shown::of(transmission, &decision).ranked(0)
@@ -51,7 +51,7 @@ fn first_decided<'s, 'a>(transmission: &Transmission<'s, 'a>) -> &'s Fix<'a>
 // The first ranked fix of a transmission; whoever is alone is that.
 fn first_ranked<'s, 'a>(transmission: Transmission<'s, 'a>) -> &'s Fix<'a>
     requires { Part transmission }
-    ensures { result.now ≡ first_of transmission.entry }
+    ensures { result.now ≡ first_ranked transmission.entry }
 {
     if transmission.len() == 1 {
         return transmission.fix(0);

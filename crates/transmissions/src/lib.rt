@@ -2,8 +2,8 @@
 #![tactic(auto)]
 
 ghost use Rattle.std.specs.Prelude.{◌≤◌, ◌<◌, length};
-ghost use Rattle.shown.specs.Items.{at};
-ghost use Rattle.shown.specs.Decided.{IsFix, Shows};
+ghost use Rattle.shown.specs.Items.{fix_at};
+ghost use Rattle.shown.specs.Decided.{IsFix, ShowsFixes};
 
 use decision::Decision;
 use fixes::MAX_FIXES;
@@ -18,7 +18,7 @@ pub use part::Shown;
 // A fix of a transmission as an item of a decision.
 fn item_at<'s>(transmission: &Transmission<'s, '_>, i: usize) -> Item<'s>
     requires { i < length transmission.now }
-    ensures { IsFix (at transmission.now i) result }
+    ensures { IsFix (fix_at transmission.now i) result }
 {
     let fix = transmission.fix(i);
     shown::item_of(fix.report, &fix.inputs.0, &fix.identity.0)
@@ -27,7 +27,7 @@ fn item_at<'s>(transmission: &Transmission<'s, '_>, i: usize) -> Item<'s>
 /// What is decided of a transmission.
 pub fn outcome(transmission: &Transmission<'_, '_>) -> Decision<MAX_FIXES>
     requires few { length transmission.now ≤ MAX_FIXES }
-    ensures { Shows transmission.now result }
+    ensures { ShowsFixes transmission.now result }
 {
     let n = transmission.len();
     if n <= 1 {

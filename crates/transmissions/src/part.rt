@@ -5,7 +5,7 @@ ghost use Rattle.rule.specs.Outcome.{Refused};
 ghost use Rattle.arithmetic.specs.declared.standing.ChiSquare.{ChiSquare as Squared};
 ghost use Rattle.shown.specs.Fix.{Fix as ShownFix};
 ghost use Rattle.shown.specs.Shown.{shown};
-ghost use Rattle.shown.specs.Decided.{Shows};
+ghost use Rattle.shown.specs.Decided.{ShowsFixes};
 
 use arithmetic::standing::ChiSquare;
 use decision::Decision;
@@ -38,7 +38,7 @@ impl<'t, 's, 'a> Shown<'t, 's, 'a> {
         transmission: &'t Transmission<'s, 'a>,
         decision: &'t Decision<MAX_FIXES>,
     ) -> Shown<'t, 's, 'a>
-        requires { Shows transmission.now decision.now }
+        requires { ShowsFixes transmission.now decision.now }
         ensures { result ≡ shown transmission.now }
     {
         Shown {

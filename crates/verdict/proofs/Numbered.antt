@@ -7,11 +7,11 @@ use Rattle.ranges.proofs.Bools.{by}
 use Rattle.record.specs.Formed.{well_formed}
 use Rattle.arithmetic.specs.Agree.{agreement_of, agrees_of, chi_square_in}
 use Rattle.items.specs.Claimed.{claim_of}
-use Rattle.verdict.specs.Supersets.{verdict_of, comparison_of, number_of, contested_by}
+use Rattle.verdict.specs.Supersets.{verdict_of, comparison_of, verdict_number, contested_by}
 
 module _ (smaller larger : List ℕ) where
   -- 3 exactly where one of the records is malformed
-  pub verdict-number : number_of (verdict_of smaller larger).verdict ≡ cond (well_formed smaller && well_formed larger) 0 3
+  pub verdict-number : verdict_number (verdict_of smaller larger).verdict ≡ cond (well_formed smaller && well_formed larger) 0 3
   unfolding verdict_of comparison_of
   verdict-number =
       by (well_formed smaller && well_formed larger)

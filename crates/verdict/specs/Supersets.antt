@@ -15,15 +15,15 @@ pub record Compared : Type 0 where
   pub added : List ℕ
 
 -- a verdict that names no tags
-abbrev pub plainly : SupersetVerdict → Compared
-plainly v = record { verdict = v; added = [] }
+abbrev pub without_tags : SupersetVerdict → Compared
+without_tags v = record { verdict = v; added = [] }
 
 -- The number and the values of each case: a malformed record is 3, as where one is reported; the other two cases are answers, and a
 -- contested one has what was measured.
-abbrev pub number_of : SupersetVerdict → ℕ
-number_of Malformed = 3
-number_of Agrees = 0
-number_of (Contested chi2) = 0
+abbrev pub verdict_number : SupersetVerdict → ℕ
+verdict_number Malformed = 3
+verdict_number Agrees = 0
+verdict_number (Contested chi2) = 0
 
 abbrev pub contested_by : SupersetVerdict → List ChiSquare
 contested_by Malformed = []
@@ -34,8 +34,8 @@ contested_by (Contested chi2) = chi2 ∷ []
 unfoldable pub comparison_of : List ℕ → List ℕ → Compared
 comparison_of smaller larger =
     let a = agreement_of (claim_of smaller) (claim_of larger) in
-    cond (agrees_of a) (plainly Agrees) (record { verdict = Contested (chi_square_in a); added = added_tags smaller larger })
+    cond (agrees_of a) (without_tags Agrees) (record { verdict = Contested (chi_square_in a); added = added_tags smaller larger })
 
 -- of any bytes
 unfoldable pub verdict_of : List ℕ → List ℕ → Compared
-verdict_of smaller larger = cond (well_formed smaller && well_formed larger) (comparison_of smaller larger) (plainly Malformed)
+verdict_of smaller larger = cond (well_formed smaller && well_formed larger) (comparison_of smaller larger) (without_tags Malformed)

@@ -5,7 +5,7 @@ ghost use Rattle.std.specs.Prelude.{◌≡◌};
 ghost use Rattle.record.specs.Fields.{tags};
 ghost use Rattle.record.specs.Relations.{member};
 ghost use Rattle.record.specs.Added.{added_tags};
-ghost use Rattle.verdict.specs.Supersets.{verdict_of, comparison_of, plainly};
+ghost use Rattle.verdict.specs.Supersets.{verdict_of, comparison_of, without_tags};
 
 use arithmetic::standing::ChiSquare;
 use arrayvec::ArrayVec;
@@ -65,7 +65,7 @@ fn added(a: Record, b: Record) -> ArrayVec<u64, MAX_TAGS>
 
 // A verdict that names no tags.
 fn plain(verdict: SupersetVerdict) -> Comparison
-    ensures { result ≡ plainly verdict }
+    ensures { result ≡ without_tags verdict }
 {
     Comparison {
         verdict,

@@ -1,7 +1,7 @@
 use Rattle.std.proofs.Common.{rules, ◌≡◌, refl, sym, ap, ◌∙◌, arith, false}
 use Rattle.std.specs.Prelude.{List, ℕ, not}
 use Rattle.held.specs.After.{after}
-use Rattle.decision.specs.Answer.{bad, outcome, decided, decision, refused_decision}
+use Rattle.decision.specs.Answer.{is_bad, outcome, decided_arrays, arrays_of, refused_decision}
 use Rattle.decision.proofs.Alone.{alone}
 use Rattle.decision.proofs.Answering.{none-bad}
 use Rattle.decision.proofs.Holding.{says-of}
@@ -10,12 +10,12 @@ use Rattle.answers.proofs.Parts.{answer-alone}
 use Rattle.answers.proofs.decide.Goals as goal
 
 -- what is handed out of bad items, and of others
-refused-out : (s found : List ℕ) → false ≡ not (bad s) → after 8 found ≡ hand_out (decided s) found
-unfolding hand_out decided refused_decision
+refused-out : (s found : List ℕ) → false ≡ not (is_bad s) → after 8 found ≡ hand_out (decided_arrays s) found
+unfolding hand_out decided_arrays refused_decision
 refused-out s found e = rw (none-bad s e) refl
 
-decided-out : (s b found l : List ℕ) → b ≡ s → bad b ≡ false → l ≡ answer_bytes (decision (outcome b)) → after 0 l ≡ hand_out (decided s) found
-unfolding hand_out decided decision
+decided-out : (s b found l : List ℕ) → b ≡ s → is_bad b ≡ false → l ≡ answer_bytes (arrays_of (outcome b)) → after 0 l ≡ hand_out (decided_arrays s) found
+unfolding hand_out decided_arrays arrays_of
 decided-out s b found l same e q = rw (sym same, e, q) refl
 
 pub returns-in_default : goal.returns-in_default

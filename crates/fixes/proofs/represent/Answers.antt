@@ -1,6 +1,6 @@
 use mathlib.Core.Path.{ap, ◌∙◌}
 use Rattle.models.specs.Models.{counts}
-use Rattle.models.specs.Answers.{listed}
+use Rattle.models.specs.Answers.{summary_places}
 use Rattle.fixes.proofs.Representing.{walked-start, next-formed, whole-record, next-fix, walked-in, walked-by, walked-end}
 use Rattle.fixes.proofs.represent.Goals.{then-counts, else-counts}
 use Rattle.fixes.proofs.represent.Goals as goal
@@ -18,7 +18,7 @@ pub loop-i-preserved : goal.loop-i-preserved
 loop-i-preserved c =
     let k = c.loop-i.invariant in
     let more = c.loop-i-test.true in
-    let counted = c.counts.ensures ∙ ap (counts (listed c.args.all)) c.of-record.ensures in
+    let counted = c.counts.ensures ∙ ap (counts (summary_places c.args.all)) c.of-record.ensures in
     elim c.if-counts.branch [
       | then-counts w ↦
           walked-in _ _ _ _ _ k more _ _ _ counted w.if-counts.true

@@ -1,16 +1,16 @@
 use Rattle.std.proofs.Common.{length}
 use Rattle.text.specs.Texts.{append}
 use Rattle.register.specs.Calls.{runs}
-use Rattle.grammar.specs.Gives.{at}
-use Rattle.grammar.specs.Session.{start, calls_from}
+use Rattle.grammar.specs.Gives.{lines_left}
+use Rattle.grammar.specs.Session.{at_start, calls_from}
 use Rattle.sessions.specs.Output.{answers}
 use Rattle.sessions.proofs.Answering.{Answered}
 use Rattle.sessions.proofs.answer_all.Given as goal
 
 abbrev pub invariant-loop-call : goal.invariant-loop-call
 invariant-loop-call l =
-    let calls = calls_from (start l.input) in
-    Answered (append l.initial.out (answers l.initial.memory calls)) (runs l.initial.memory calls) l.memory l.out (at l.lines)
+    let calls = calls_from (at_start l.input) in
+    Answered (append l.initial.out (answers l.initial.memory calls)) (runs l.initial.memory calls) l.memory l.out (lines_left l.lines)
 
 abbrev pub decreases-loop-call : goal.decreases-loop-call
 decreases-loop-call l = length l.lines.rest.now

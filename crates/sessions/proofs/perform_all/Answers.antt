@@ -4,20 +4,20 @@ use Rattle.register.specs.Memory.{decode, fresh}
 use Rattle.register.specs.Calls.{runs}
 use Rattle.register.proofs.Further.{runs-formed}
 use Rattle.board.specs.Board.{board_in}
-use Rattle.grammar.specs.Session.{start, calls_from}
+use Rattle.grammar.specs.Session.{at_start, calls_from}
 use Rattle.sessions.specs.Output.{printed, answers_then_board}
 use Rattle.sessions.proofs.Ending.{put-behind}
 use Rattle.sessions.proofs.perform_all.Goals as goal
 
 pub write_board-requires-clause-memory_value : goal.write_board-requires-clause-memory_value
-write_board-requires-clause-memory_value c = rw c.write_answers-end.ensures.left (runs-formed (calls_from (start c.args.input.now)))
+write_board-requires-clause-memory_value c = rw c.write_answers-end.ensures.left (runs-formed (calls_from (at_start c.args.input.now)))
 
 pub returns-clause-text : goal.returns-clause-text
 unfolding answers_then_board
 returns-clause-text c =
     let first = c.write_answers-end.ensures in
     let board = c.write_board.ensures in
-    let drawing : List ℕ = printed (board_in (decode (runs fresh (calls_from (start c.args.input.now))))) in
+    let drawing : List ℕ = printed (board_in (decode (runs fresh (calls_from (at_start c.args.input.now))))) in
     let later = put_as (ap (λ (m : List ℕ). printed (board_in (decode m))) first.left) board.text in
     let same = put-length first.text in
     put-put first.text (put-behind _ _ drawing _ _ (omega (arith, later.next, board.bound, first.bound, same, c.requires)) later)

@@ -3,7 +3,7 @@ use mathlib.Core.List.{[]}
 use native.Mathlib.Omega.{arith}
 use lib.ListN.{take}
 use lib.Seq.{length-take-le, take_all}
-use Rattle.arrange.specs.Leads.{before, entered, leads_from, kept_of}
+use Rattle.arrange.specs.Leads.{before, put_all_behind, leads_from, kept_of}
 use Rattle.arrange.proofs.Entering.{none-yet, one-entered, none-entered, entered-few}
 use Rattle.arrange.proofs.leads.enter_all.Goals as goal
 use Rattle.arrange.proofs.leads.enter_all.Goals.{in-Some, in_default}
@@ -33,4 +33,4 @@ loop-place-preserved c =
 pub returns : goal.returns
 returns c =
     let all = take_all c.loop-place.place c.as_slice-blocks.result.now c.loop-place-test.false ∙ c.as_slice-blocks.ensures.value in
-    c.loop-place.invariant ∙ ap (λ ts. entered before [] (leads_from 0 ts)) all
+    c.loop-place.invariant ∙ ap (λ ts. put_all_behind before [] (leads_from 0 ts)) all

@@ -7,20 +7,20 @@ use borrow.Author.Tests.{eq-eqb, ne_eqb, lt-ltb, le-ltb}
 use Rattle.std.specs.List.{list_any}
 use Rattle.ranges.specs.Lists.{up_to}
 use Rattle.items.specs.Layout.{max_items, item_size}
-use Rattle.decision.specs.Answer.{bad_at, bad}
+use Rattle.decision.specs.Answer.{bad_at, is_bad}
 use Rattle.decision.proofs.parsed.is_bad.Goals as goal
 
 module _ (s : List ℕ) where
-  too_many : max_items * item_size < length s → true ≡ bad s
-  unfolding bad
+  too_many : max_items * item_size < length s → true ≡ is_bad s
+  unfolding is_bad
   too_many h = rw (lt-ltb _ _ h) refl
 
-  not_whole : length s ≤ max_items * item_size → (length s % item_size ≡ 0 → ⊥) → true ≡ bad s
-  unfolding bad
+  not_whole : length s ≤ max_items * item_size → (length s % item_size ≡ 0 → ⊥) → true ≡ is_bad s
+  unfolding is_bad
   not_whole h e = rw (le-ltb _ _ h, ne_eqb _ _ e) refl
 
-  each_tested : length s ≤ max_items * item_size → length s % item_size ≡ 0 → list_any (bad_at s) (up_to (length s / item_size)) ≡ bad s
-  unfolding bad
+  each_tested : length s ≤ max_items * item_size → length s % item_size ≡ 0 → list_any (bad_at s) (up_to (length s / item_size)) ≡ is_bad s
+  unfolding is_bad
   each_tested h e = rw (le-ltb _ _ h, eq-eqb _ _ e) refl
 
 pub returns-then-s : goal.returns-then-s

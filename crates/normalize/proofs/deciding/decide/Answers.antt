@@ -1,5 +1,5 @@
 use mathlib.Core.Path.{ap, ◌∙◌}
-use Rattle.normalize.specs.Deciding.{kept}
+use Rattle.normalize.specs.Deciding.{normalized_distinct}
 use Rattle.normalize.proofs.Kept.{ranked-in, refusals-in, kept-are}
 use Rattle.normalize.proofs.deciding.decide.Goals as goal
 
@@ -12,4 +12,4 @@ list_refused-requires c = refusals-in c.as_slice-fixes.result.now _ c.outcome-de
 pub returns : goal.returns
 returns c =
     kept-are c.as_slice-fixes.result.now _ c.outcome-decided.ensures _ _ c.deref.ensures.0 c.deref-2.ensures.0 _ _ c.list_standing.ensures c.list_refused.ensures
-    ∙ ap kept c.as_slice-fixes.ensures.value
+    ∙ ap normalized_distinct c.as_slice-fixes.ensures.value

@@ -6,7 +6,7 @@ use Rattle.std.proofs.lemmas.Bool.{eqb-true}
 use lib.ListN.{length}
 use Rattle.tracked.specs.Held.{fix_of, held_in}
 use Rattle.normalize.specs.Normal.{gather_all, normalized}
-use Rattle.normalize.specs.Deciding.{kept}
+use Rattle.normalize.specs.Deciding.{normalized_distinct}
 use Rattle.normalize.specs.Taking.{Settled}
 use Rattle.normalize.proofs.Settled.{settled-all}
 use Rattle.normalize.proofs.Distinct.{all-few}
@@ -25,7 +25,7 @@ returns-clause-again c =
     let a = c.gather_all.ensures ∙ ap₂ gather_all c.new-gathered.ensures c.deref.ensures.0 in
     let b = c.gather_refused.ensures ∙ ap (λ l. gather_all c.gather_all.new.gathered.items (map fix_of l)) c.deref-2.ensures.0 in
     c.decide.ensures
-    ∙ ap kept (gathered-all fs xs _ _ a b)
+    ∙ ap normalized_distinct (gathered-all fs xs _ _ a b)
     ∙ kept_distinct (held_in (record { fixes = fs; refused = xs }))
     ∙ ap (λ t. normalized (held_in t)) c.held.view_is
 
@@ -36,5 +36,5 @@ returns-clause-settled c n =
     let b = c.gather_refused.ensures ∙ ap (λ l. gather_all c.gather_all.new.gathered.items (map fix_of l)) c.deref-2.ensures.0 in
     let g = gathered-all c.held.inside.fixes.items c.held.inside.refused.items _ _ a b in
     subst Settled c.held-2.view_is
-    (settled-all (record { fixes = c.held-2.inside.fixes.items; refused = c.held-2.inside.refused.items }) fs (c.held-2.view_is ∙ c.decide.ensures ∙ ap kept g ∙ kept_distinct fs)
+    (settled-all (record { fixes = c.held-2.inside.fixes.items; refused = c.held-2.inside.refused.items }) fs (c.held-2.view_is ∙ c.decide.ensures ∙ ap normalized_distinct g ∙ kept_distinct fs)
     (omega (arith, eqb-true (c.len.result + c.len-2.result) c.len-3.result n, c.len.ensures.value, c.len-2.ensures.value, c.len-3.ensures.value, ap length g)))

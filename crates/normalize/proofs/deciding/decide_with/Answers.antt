@@ -5,7 +5,7 @@ use lib.ListN.{length}
 use Rattle.tracked.specs.Held.{fix_of}
 use Rattle.normalize.specs.Normal.{gather_all}
 use Rattle.normalize.specs.Joining.{with_fix}
-use Rattle.normalize.specs.Deciding.{kept}
+use Rattle.normalize.specs.Deciding.{normalized_distinct}
 use Rattle.normalize.proofs.Distinct.{all-few, gather-few}
 use Rattle.normalize.proofs.Gathered.{kept_distinct, gathered_with}
 use Rattle.normalize.proofs.deciding.decide_with.Goals as goal
@@ -29,6 +29,6 @@ returns c =
     let a = c.gather_all.ensures ∙ ap₂ gather_all c.new-gathered.ensures c.deref.ensures.0 in
     let b = c.gather_refused.ensures ∙ ap (λ l. gather_all c.gather.new.gathered.items (map fix_of l)) c.deref-2.ensures.0 in
     c.decide.ensures
-    ∙ ap kept (gathered_with f fs xs _ _ _ a c.gather.ensures b)
+    ∙ ap normalized_distinct (gathered_with f fs xs _ _ _ a c.gather.ensures b)
     ∙ kept_distinct (fs ++ (f ∷ map fix_of xs))
     ∙ ap (λ t. with_fix f t) c.held.view_is

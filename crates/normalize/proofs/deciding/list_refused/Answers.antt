@@ -10,7 +10,7 @@ use Rattle.decision.specs.declared.Refusal.{Refusal}
 use Rattle.shown.specs.Fix.{Fix}
 use Rattle.shown.specs.Items.{no_fix}
 use Rattle.tracked.specs.Layout.{max_refused}
-use Rattle.normalize.specs.Deciding.{refused_at, lower_held}
+use Rattle.normalize.specs.Deciding.{named_refused, lower_held}
 use Rattle.normalize.proofs.Lowest.{lowest-none, lowest-turn}
 use Rattle.normalize.proofs.deciding.list_refused.Goals as goal
 
@@ -19,7 +19,7 @@ abbrev unread : Refusal
 unread = record { refused = 0; kept = 0; chi2 = Measured nan; superseded = false }
 
 pub loop-k-init : goal.loop-k-init
-loop-k-init c = c.clear.ensures ∙ lowest-none lower_held max_refused (refused_at c.args.fixes.now) c.args.refusals.now (length c.args.refusals.now) (omega arith)
+loop-k-init c = c.clear.ensures ∙ lowest-none lower_held max_refused (named_refused c.args.fixes.now) c.args.refusals.now (length c.args.refusals.now) (omega arith)
 
 pub loop-k-preserved : goal.loop-k-preserved
 loop-k-preserved c =
@@ -32,5 +32,5 @@ loop-k-preserved c =
     let a = c.identity.ensures ∙ ap (λ (g : Fix). g.identity) (c.index-fixes-x-in-loop-k.is ∙ get_or_default fs x.kept c.index-fixes-x-in-loop-k.result no_fix named.1) in
     let s = c.stored_bits.ensures in
     c.enter.ensures
-    ∙ lowest-turn lower_held max_refused (refused_at fs) xs k _ unread c.loop-k.refused.items (omega arith) (omega arith)
+    ∙ lowest-turn lower_held max_refused (named_refused fs) xs k _ unread c.loop-k.refused.items (omega arith) (omega arith)
     (λ t. record { fix = f t; against = a t; chi2 = s t }) c.loop-k.invariant

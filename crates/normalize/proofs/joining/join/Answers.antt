@@ -5,7 +5,7 @@ use lib.ListN.{length}
 use Rattle.std.specs.List.{filter, list_any}
 use Rattle.tracked.specs.Held.{fix_of, is_of}
 use Rattle.normalize.specs.Joining.{moved}
-use Rattle.normalize.specs.Did.{did}
+use Rattle.normalize.specs.Did.{joined_as}
 use Rattle.normalize.proofs.Told.{any_held, count_new}
 use Rattle.normalize.proofs.joining.join.Goals as goal
 
@@ -18,4 +18,4 @@ returns-clause-told c =
     let n = c.entered.ensures ∙ count_new c.deref-5.result.now c.deref-6.result.now
     ∙ ap₂ (λ b a. length (filter (λ g. not (list_any (is_of g) (map fix_of b))) (map fix_of a))) c.deref-5.ensures.0 c.deref-6.ensures.0
     ∙ ap (λ t. length (filter (λ g. not (list_any (is_of g) (map fix_of t.refused))) (map fix_of c.into.inside.refused.items))) c.held.view_is in
-    (λ t. record { refused = r t; moved = m t; upheld = u t; entered = n t }) ∙ ap (did f c.args.held.now) c.into.view_is
+    (λ t. record { refused = r t; moved = m t; upheld = u t; entered = n t }) ∙ ap (joined_as f c.args.held.now) c.into.view_is

@@ -1,6 +1,6 @@
 use Rattle.std.proofs.Common.{ap, ◌∙◌, rules}
 use Rattle.arrayvec.proofs.ArrayVecLemmas.{filter-from_retain}
-use Rattle.models.specs.Answers.{listed}
+use Rattle.models.specs.Answers.{summary_places}
 use Rattle.tracked.specs.Held.{fix_of}
 use Rattle.recheck.specs.Recheck.{stands}
 use Rattle.recheck.specs.Steps.{passing}
@@ -8,7 +8,7 @@ use Rattle.recheck.proofs.rechecks.drop_stale.Goals as goal
 
 pub returns : goal.returns
 returns c =
-    let test = stands (listed c.args.summaries) in
+    let test = stands (summary_places c.args.summaries) in
     let f = filter-from_retain _ test _ (λ x b f' y k. search rules) _ _ c.retain.ensures.filtered in
     let r = filter-from_retain _ (λ x. test (fix_of x)) _ (λ x b f' y k. search rules) _ _ c.retain-2.ensures.filtered in
     (λ t. record { fixes = f t; refused = r t }) ∙ ap (passing test) c.held.view_is

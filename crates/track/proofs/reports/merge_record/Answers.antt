@@ -2,7 +2,7 @@ use Rattle.std.proofs.Common.{ℕ, ◌-◌, List, ◌++◌, length, take, drop, 
 use borrow.Rule.Slice.PartMut.{same_len_mid}
 use Rattle.octets.proofs.Numbers.{all-bytes}
 use Rattle.models.specs.Models.{counts}
-use Rattle.merge.specs.Merged.{number_of}
+use Rattle.merge.specs.Merged.{merged_number}
 use Rattle.stored.specs.Layout.{transmissions_at}
 use Rattle.stored.proofs.Opened.{opened}
 use Rattle.track.proofs.Reported.{lent-filled, step-few, stepped-is, decoded-summaries}
@@ -41,4 +41,4 @@ returns c =
     let m₁ : List ℕ = take transmissions_at m ++ (c.merge-x.new.t ++ drop (length m - transmissions_at) (drop transmissions_at m)) in
     stepped-is m (opened m c.requires.track) (all-bytes m (search rules)) c.args.engine.number r c.reported-fix.result c.reported-fix.ensures c.merge-x.new.t m₁ c.merge-x.ensures.bytes refl
     (ap (λ (ss : List (List ℕ)). counts ss r) (sym (decoded-summaries m)) ∙ c.requires.counts)
-    c.number_of.result (c.number_of.ensures ∙ ap number_of c.merge-x.ensures.answer) c.merge-x.result.count c.merge-x.result.entered c.merge-x.ensures.count c.merge-x.ensures.entered _ c.put_step.ensures
+    c.number_of.result (c.number_of.ensures ∙ ap merged_number c.merge-x.ensures.answer) c.merge-x.result.count c.merge-x.result.entered c.merge-x.ensures.count c.merge-x.ensures.entered _ c.put_step.ensures

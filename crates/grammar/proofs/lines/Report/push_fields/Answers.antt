@@ -3,14 +3,14 @@ use Rattle.octets.specs.Words.{word_bytes}
 use Rattle.text.specs.Texts.{append}
 use Rattle.text.proofs.Appending.{append-then}
 use Rattle.grammar.specs.declared.lines.Report.{Report}
-use Rattle.grammar.specs.Records.{bits, height_bytes}
+use Rattle.grammar.specs.Records.{unsigned_of, height_bytes}
 use Rattle.grammar.proofs.Encoded.{bytes-of-u16, bytes-of-u64, record-length}
 use Rattle.grammar.proofs.lines.Report.push_fields.Goals as goal
 
 pub returns-clause-text : goal.returns-clause-text
 returns-clause-text c =
     let r : Report = c.args.self.now in
-    append-then _ _ _ (word_bytes 8 r.time ++ (word_bytes 4 (bits r.lat) ++ (word_bytes 4 (bits r.lon) ++ height_bytes r.height))) _
+    append-then _ _ _ (word_bytes 8 r.time ++ (word_bytes 4 (unsigned_of r.lat) ++ (word_bytes 4 (unsigned_of r.lon) ++ height_bytes r.height))) _
     (append-then _ _ _ (word_bytes 8 r.time) _ (c.push_bytes.ensures ∙ ap (append c.args.out.now) (c.to_le_bytes.ensures ∙ bytes-of-u64 _))
     (append-then _ _ _ _ _ c.push_signed.ensures (append-then _ _ _ _ _ c.push_signed-2.ensures c.push_height.ensures)))
     (append-then _ _ _ _ _ (append-then _ _ _ _ _ c.push_message.ensures.text c.push_tags.ensures.text)

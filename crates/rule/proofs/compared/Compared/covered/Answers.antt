@@ -24,7 +24,7 @@ loop-i-preserved-then-is_empty c =
     let xs = c.args.self.now.listed.items.now in
     let i = c.loop-i.i in
     let h : i < length xs = omega arith in
-    gathered-empty (λ g. not (R.is_refused xs g)) (λ g j. (relations xs).within j g) (length xs) (omega arith) (L.subset_of xs i) (λ j. L.same_at xs j i) i
+    gathered-empty (λ g. not (R.is_refused xs g)) (λ g j. (relations xs).within j g) (length xs) (omega arith) (L.has_subset xs i) (λ j. L.have_same_inputs xs j i) i
     (λ j k. within-at xs i j h k) c.loop-i.invariant
     (ap not (sym (asked (R.is_refused xs) (length xs) i c.requires (omega arith) (omega arith)) ∙ sym c.contains.ensures ∙ c.if-contains.false))
     (c.without-more.ensures ∙ ap (λ w. bit_and w.subsets.word (bit_not w128 c.loop-i.some.word)) c.row-row.ensures)
@@ -36,7 +36,7 @@ loop-i-preserved c =
     let i = c.loop-i.i in
     let h : i < length xs = omega arith in
     c.union-some.ensures
-    ∙ gathered-part (λ g. not (R.is_refused xs g)) (λ g j. (relations xs).within j g) (length xs) (omega arith) (L.subset_of xs i) (λ j. L.same_at xs j i) i
+    ∙ gathered-part (λ g. not (R.is_refused xs g)) (λ g j. (relations xs).within j g) (length xs) (omega arith) (L.has_subset xs i) (λ j. L.have_same_inputs xs j i) i
     (λ j k. within-at xs i j h k) c.loop-i.invariant
     (ap not (sym (asked (R.is_refused xs) (length xs) i c.requires (omega arith) (omega arith)) ∙ sym c.contains.ensures ∙ c.if-contains.false))
     (c.without-more.ensures ∙ ap (λ w. bit_and w.subsets.word (bit_not w128 c.loop-i.some.word)) c.row-row.ensures)

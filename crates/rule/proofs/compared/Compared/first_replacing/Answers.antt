@@ -1,6 +1,6 @@
 use Rattle.std.proofs.Common.{ap, ◌∙◌, length}
 use Rattle.rule.specs.Listed.{relations}
-use Rattle.rule.specs.First.{first_of}
+use Rattle.rule.specs.First.{foremost_of}
 use Rattle.rule.specs.Rows as R
 use Rattle.rule.proofs.Known.{members}
 use Rattle.rule.proofs.compared.Compared.first_replacing.Goals as goal
@@ -8,4 +8,4 @@ use Rattle.rule.proofs.compared.Compared.first_replacing.Goals as goal
 pub returns-clause-first : goal.returns-clause-first
 returns-clause-first c =
     let l = c.args.self.now.listed.items.now in
-    c.lowest.ensures.first ∙ ap (first_of (relations l).lower) (members (R.replaces l c.args.i) (length l) c.replacing.ensures)
+    c.lowest.ensures.first ∙ ap (foremost_of (relations l).lower) (members (R.replaces l c.args.i) (length l) c.replacing.ensures)

@@ -1,11 +1,11 @@
 use Rattle.std.proofs.Common.{◌≡◌, length, ◌&&◌}
 use Rattle.std.specs.List.{list_any}
 use Rattle.ranges.specs.Lists.{up_to}
-use Rattle.rule.specs.Places.{set}
+use Rattle.rule.specs.Places.{set_of}
 use Rattle.rule.specs.Listed.{relations}
 use Rattle.rule.specs.Rows as R
 use Rattle.rule.proofs.compared.Compared.superseded.Given as goal
 
 abbrev pub invariant-loop-i : goal.invariant-loop-i
 invariant-loop-i l =
-    let xs = l.self.listed.items.now in l.some.word ≡ set (λ j. list_any (λ g. R.supersedes xs g && (relations xs).disagrees g j) (up_to l.i)) (length xs)
+    let xs = l.self.listed.items.now in l.some.word ≡ set_of (λ j. list_any (λ g. R.supersedes xs g && (relations xs).disagrees g j) (up_to l.i)) (length xs)

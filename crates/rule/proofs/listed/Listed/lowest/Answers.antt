@@ -1,7 +1,7 @@
 use Rattle.std.proofs.Common.{◌<◌, subst, sym, ◌∙◌, length}
 use Rattle.std.specs.Prelude.{IfSome}
 use Rattle.rule.specs.Listed.{relations}
-use Rattle.rule.specs.Places.{has}
+use Rattle.rule.specs.Places.{has_place}
 use Rattle.rule.proofs.Sets.{shifted, shifted-none, first-of}
 use Rattle.rule.proofs.Known.{first-hit, first-miss, first-none, better-within}
 use Rattle.rule.proofs.listed.Listed.lowest.Goals as goal
@@ -10,7 +10,7 @@ pub loop-j-init : goal.loop-j-init
 loop-j-init c = record {
   left = shifted-none c.args.of.word;
   within = tt;
-  best = first-none (relations c.args.self.now.items.now).lower (has c.args.of.word);
+  best = first-none (relations c.args.self.now.items.now).lower (has_place c.args.of.word);
 }
 
 pub loop-j-preserved-then-not-shift : goal.loop-j-preserved-then-not-shift
@@ -21,7 +21,7 @@ loop-j-preserved-then-not-shift c =
       left = c.shift.ensures.1 ∙ shifted v j c.loop-j.invariant.left;
       within = c.loop-j.invariant.within;
       best =
-          first-miss (relations c.args.self.now.items.now).lower (has v) j c.loop-j.invariant.best
+          first-miss (relations c.args.self.now.items.now).lower (has_place v) j c.loop-j.invariant.best
           (sym (first-of v j c.loop-j.invariant.left) ∙ sym c.shift.ensures.0 ∙ c.if-not-shift.true);
     }
 
@@ -37,6 +37,6 @@ loop-j-preserved c =
           (better-within (relations l).lower c.loop-j.best j (length l) c.loop-j-test.true c.loop-j.invariant.within);
       best =
           c.better-best.ensures
-          ∙ first-hit (relations l).lower (has v) j c.loop-j.invariant.best
+          ∙ first-hit (relations l).lower (has_place v) j c.loop-j.invariant.best
           (sym (first-of v j c.loop-j.invariant.left) ∙ sym c.shift.ensures.0 ∙ c.if-not-shift.false);
     }

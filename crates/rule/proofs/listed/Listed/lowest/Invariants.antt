@@ -2,8 +2,8 @@ use Rattle.std.proofs.Common.{◌≡◌, ◌<◌, ◌/◌, ◌^◌, length}
 use Rattle.std.specs.Prelude.{IfSome}
 use Rattle.std.specs.List.{filter}
 use Rattle.ranges.specs.Lists.{up_to}
-use Rattle.rule.specs.Places.{has}
-use Rattle.rule.specs.First.{first_of}
+use Rattle.rule.specs.Places.{has_place}
+use Rattle.rule.specs.First.{foremost_of}
 use Rattle.rule.specs.Listed as L
 use Rattle.rule.proofs.listed.Listed.lowest.Given as goal
 
@@ -11,5 +11,5 @@ abbrev pub invariant-loop-j : goal.invariant-loop-j
 invariant-loop-j l = record {
   left : l.left.word ≡ l.fn.of.word / 2 ^ l.j;
   within : IfSome l.best (λ b. b < length l.self.items.now);
-  best : l.best ≡ first_of (L.relations l.self.items.now).lower (filter (has l.fn.of.word) (up_to l.j));
+  best : l.best ≡ foremost_of (L.relations l.self.items.now).lower (filter (has_place l.fn.of.word) (up_to l.j));
 }
