@@ -1,0 +1,21 @@
+-- Reasons of some sessions, worked out.
+use Rattle.std.specs.Prelude.{◌≡◌, []}
+use Rattle.octets.specs.Ascii.{ascii}
+use Rattle.reasons.specs.Reasons.{reason_of}
+
+pub record ReasonsWorked : Type 0 where
+  pub empty_line : reason_of (ascii "\n") ≡ ascii "line 1: op= is due, then summary, convict or report, then a line feed\n"
+  pub no_such_operation :
+      reason_of (ascii "op=convict\nengine=7\nop=reports\n") ≡ ascii "line 3: op= is due, then summary, convict or report, then a line feed\n"
+  pub leading_zero :
+      reason_of (ascii "op=convict\nengine=07\n")
+      ≡ ascii "line 2: engine= is due, then a decimal number from 0 to 255 without leading zeros, then a line feed\n"
+  pub another_key :
+      reason_of (ascii "op=summary\nengine=7\nspec=1\n")
+      ≡ ascii "line 3: model= is due, then a decimal number from 0 to 255 without leading zeros, then a line feed\n"
+  pub no_line_feed :
+      reason_of (ascii "op=summary\nengine=7\nmodel=1\nspec=1")
+      ≡ ascii "line 4: spec= is due, then a decimal number from 0 to 65535 without leading zeros, then a line feed\n"
+  -- two sessions that are not refused
+  pub one_conviction : reason_of (ascii "op=convict\nengine=7\n") ≡ []
+  pub nothing : reason_of [] ≡ []
