@@ -4,26 +4,21 @@ use mathlib.Core.Path.{◌≡◌, refl, sym, ap, ◌∙◌, subst}
 use mathlib.Core.Bool.{true, false}
 use mathlib.Core.List.{List, [], ◌∷◌, ◌++◌, flat_map}
 use native.Mathlib.Omega.{arith}
-use lib.ListN.{replicate, replicate-append-replicate}
 use Rattle.octets.specs.Words.{word, word_bytes}
 use Rattle.octets.specs.Masks.{bit, with_bit}
 use Rattle.octets.specs.Runs.{all_zero}
 use Rattle.record.specs.Formed.{well_formed, ascends, ascends_from, all_up_to}
 use Rattle.record.specs.Fields.{models, spec, tags_from}
 use Rattle.hashing.specs.Blake2s.{blake2s256}
-use Rattle.std.specs.List.{list_all}
-use Rattle.places.specs.Places.{flat, ascending}
 use Rattle.models.specs.Models.{all_agreed, counts}
 use Rattle.models.specs.Missing.{any_missing, cites_missing}
 use Rattle.models.specs.Identity.{cited_domain, cited_inputs, inputs_in_order, identity_of}
 use Rattle.held.specs.After.{After, after}
-use Rattle.held.specs.Limits.{summaries_size}
 use Rattle.decision.specs.Positions.{S, M, L}
 use Rattle.shown.specs.Fix.{Fix}
 use Rattle.tracked.specs.Held.{HeldTransmission}
 use Rattle.merge.specs.Merged.{Step, merged_number, merged}
 use Rattle.merge.specs.declared.Merged.TheVariants.{Changed}
-use Rattle.stored.specs.Layout.{summaries_at, transmissions_size}
 use Rattle.stored.specs.Track.{Track, done}
 use Rattle.stored.specs.Memory.{fresh, decode, encode, commit, on_memory}
 use Rattle.stored.proofs.Valid.{Valid, decode-encode, on-encode}

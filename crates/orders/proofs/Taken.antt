@@ -9,7 +9,6 @@ use Rattle.octets.specs.Words.{word_bytes, word}
 use Rattle.octets.specs.Order.{same, is_before}
 use Rattle.octets.specs.Masks.{bit_count}
 use Rattle.arithmetic.specs.Bits.{stored_bits}
-use Rattle.std.specs.List.{filter, list_any}
 use Rattle.ranges.specs.Lists.{insert, sort, foremost}
 use Rattle.hashing.specs.Blake2s as B
 use Rattle.record.specs.Fields.{tags_from}
