@@ -1,11 +1,9 @@
 -- Laws of a decision's bytes: how wide each part is, where it stands, and how one refusal more is written.
 use mathlib.Core.Path.{◌≡◌, refl, sym, ap, ap₂, ◌∙◌, subst}
-use mathlib.Core.Bool.{Bool, true, false, cond}
 use mathlib.Core.List.{List, [], ◌∷◌, ◌++◌, map, append_assoc, append-nil}
 use Prim.Native.Nat.{ℕ, zero, suc, ◌+◌, ◌-◌, ◌*◌, ◌≤◌, ◌<◌}
 use native.Mathlib.Nat.{sub-zero}
 use native.Mathlib.Omega.{arith}
-use mir.Val.{bool_byte}
 use lib.Ieee.{Float, binary64, to_bits}
 use lib.ListN.{length, get_or, take, drop, set, length-set, length-append, length-replicate, length-take, replicate}
 use lib.Seq.{take_at, drop_at}

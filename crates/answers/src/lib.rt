@@ -3,7 +3,7 @@
 //! Each writer puts its part at a position of a lent buffer and returns the position after it.
 #![tactic(auto)]
 
-ghost use Rattle.std.specs.Prelude.{◌≡◌, ℕ, false, ◌∷◌, ◌+◌, ◌*◌, ◌≤◌, ◌<◌, length, replicate};
+ghost use Rattle.std.specs.Prelude.{◌≡◌, ℕ, false, ◌∷◌, ◌+◌, ◌*◌, ◌/◌, ◌≤◌, ◌<◌, length, replicate};
 ghost use Rattle.octets.specs.Words.{word_bytes};
 ghost use Rattle.octets.specs.Put.{Put};
 ghost use Rattle.items.specs.Layout.{item_size, max_items};
@@ -104,6 +104,7 @@ fn put_refusals(out: &mut [u8], at: usize, refusals: &[Refusal]) -> usize
 }
 
 // The three parts, one after another, into zeros, so that what is not used is zero.
+#[inline(never)]
 fn put_decision<const N: usize>(out: &mut [u8], decision: &Decision<N>)
     requires zeros { out.old ≡ replicate answer_size 0 }
     requires few { N ≤ max_items }
@@ -112,6 +113,22 @@ fn put_decision<const N: usize>(out: &mut [u8], decision: &Decision<N>)
     let second = put_indices(out, 0, &decision.ranked);
     let third = put_indices(out, second, &decision.dominated);
     put_refusals(out, third, &decision.refusals);
+}
+
+// Decides two items or more in tables of their size. A function of its own, so that whoever is alone does not wait for the tables.
+#[inline(never)]
+fn put_decided(out: &mut [u8; ANSWER_SIZE], items: &Items<'_>)
+    requires zeros { out.old ≡ replicate answer_size 0 }
+    requires some { 1 < length items.now.bytes.now / item_size }
+    ensures { out.new ≡ answer_bytes (arrays_of (outcome items.now.bytes.now)) }
+{
+    let n = items.len();
+    match n {
+        ..=LEAST => put_decision(out, &decide_least(n, |i| items.get(i))),
+        ..=FEW => put_decision(out, &decide_few(n, |i| items.get(i))),
+        ..=SOME => put_decision(out, &decide_some(n, |i| items.get(i))),
+        _ => put_decision(out, &decide_each(n, |i| items.get(i))),
+    }
 }
 
 /// Decides items in bytes. The array is written where something is decided, and stays as it is on a refusal.
@@ -123,13 +140,11 @@ pub fn decide(s: &[u8], out: &mut [u8; ANSWER_SIZE]) -> u32
     };
     *out = [0u8; ANSWER_SIZE];
     let n = items.len();
-    match n {
+    if n <= 1 {
         // An item that is alone is ranked.
-        ..=1 => out[0] = n as u8,
-        ..=LEAST => put_decision(out, &decide_least(n, |i| items.get(i))),
-        ..=FEW => put_decision(out, &decide_few(n, |i| items.get(i))),
-        ..=SOME => put_decision(out, &decide_some(n, |i| items.get(i))),
-        _ => put_decision(out, &decide_each(n, |i| items.get(i))),
+        out[0] = n as u8;
+    } else {
+        put_decided(out, &items);
     }
     DECIDED
 }
