@@ -1,18 +1,12 @@
 -- Tags {1}, {2}, {1,2} make one transmission; and {1}, {2}, {3} make three.
-use Rattle.std.proofs.Common.{◌≡◌, refl, true, [], ◌∷◌}
+use Rattle.std.proofs.Common.{◌≡◌, refl, [], ◌∷◌}
 use Rattle.octets.specs.Words.{word, word_bytes}
 use Rattle.octets.specs.Order.{same, is_before}
-use Rattle.octets.specs.Runs.{all_zero}
 use Rattle.record.specs.Fields.{tags_from}
-use Rattle.record.specs.Formed.{well_formed, ascends, ascends_from, all_up_to}
 use Rattle.record.specs.Relations.{shares_tag, any_in, member, tied}
 use Rattle.links.specs.Transmissions.{records_link, reach, transmissions_of}
 use Rattle.links.specs.Positions.{one, two, both, other}
 use Rattle.links.specs.Claims.{Position6}
-
-pub records-formed : (well_formed one.record_bytes ≡ true) × (well_formed two.record_bytes ≡ true) × (well_formed both.record_bytes ≡ true) × (well_formed other.record_bytes ≡ true)
-unfolding well_formed ascends ascends_from all_up_to all_zero tags_from word word_bytes
-records-formed = (refl, refl, refl, refl)
 
 pub position-6 : Position6
 unfolding transmissions_of reach records_link tied shares_tag any_in member same is_before tags_from word word_bytes

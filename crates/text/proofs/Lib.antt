@@ -3,4 +3,3 @@ pub mod Readback
 pub mod Rounding
 pub mod Appending
 pub mod Numerals
-pub mod Single

@@ -2,7 +2,6 @@
 use Rattle.std.specs.Prelude.{ℕ, ◌+◌, ◌*◌, ◌-◌, ◌≤◌, ◌≡◌, Bool, true, cond, List, ◌++◌, map, ltb, length, take}
 use Rattle.std.specs.List.{list_all}
 use Rattle.record.specs.Formed.{well_formed}
-use Rattle.record.specs.Relations.{tied}
 use Rattle.tracked.specs.Layout as L
 use Rattle.tracked.specs.Bytes.{record_in, fix_count, refused_count, fix_places, refused_places, transmission_in, transmission_bytes}
 
@@ -37,7 +36,3 @@ refused_place k = L.refused_at + k * L.refused_size
 
 abbrev pub held_place : List ℕ → ℕ → ℕ
 held_place b k = cond (ltb k (fix_count b)) (fix_place k) (refused_place (k - fix_count b))
-
--- the record of the fix p is tied to r
-abbrev pub ties_to : List ℕ → List ℕ → Bool
-ties_to r p = tied (record_in p) r
