@@ -1,11 +1,12 @@
 -- Laws of a decision's bytes: how wide each part is, where it stands, and how one refusal more is written.
 use mathlib.Core.Path.{◌≡◌, refl, sym, ap, ap₂, ◌∙◌, subst}
+use mathlib.Core.Bool.{false}
 use mathlib.Core.List.{List, [], ◌∷◌, ◌++◌, map, append_assoc, append-nil}
-use Prim.Native.Nat.{ℕ, zero, suc, ◌+◌, ◌-◌, ◌*◌, ◌≤◌, ◌<◌}
+use Prim.Native.Nat.{ℕ, zero, suc, ◌+◌, ◌-◌, ◌*◌, ◌/◌, ◌≤◌, ◌<◌}
 use native.Mathlib.Nat.{sub-zero}
 use native.Mathlib.Omega.{arith}
 use lib.Ieee.{Float, binary64, to_bits}
-use lib.ListN.{length, get_or, take, drop, set, length-set, length-append, length-replicate, length-take, replicate}
+use lib.ListN.{length, length-map, get_or, take, drop, set, length-set, length-append, length-replicate, length-take, replicate}
 use lib.Seq.{take_at, drop_at}
 use Rattle.octets.specs.Words.{word_bytes}
 use Rattle.octets.specs.Writes.{put_word}
@@ -14,15 +15,22 @@ use Rattle.octets.specs.Put.{Put}
 use Rattle.octets.proofs.Puts.{put-put, put_one, put_as, put_whole, word-put}
 use Rattle.arithmetic.specs.declared.standing.ChiSquare.{ChiSquare}
 use Rattle.arithmetic.specs.declared.standing.ChiSquare.TheVariants.{Measured, Unmeasured}
-use Rattle.items.specs.Layout.{max_items}
-use Rattle.rule.specs.Outcome.{Outcome}
+use Rattle.items.specs.Layout.{max_items, item_size}
+use Rattle.rule.specs.Outcome.{Refused, Outcome}
 use Rattle.decision.specs.declared.Refusal.{Refusal}
 use Rattle.decision.specs.Arrays.{Refusals, Indices, DecisionArrays}
-use Rattle.decision.specs.Answer.{indices, refusal, no_refusal, refusals, arrays_of}
+use Rattle.decision.specs.Answer.{is_bad, outcome, indices, refusal, no_refusal, refusals, arrays_of, refused_decision, decided_arrays}
+use Rattle.decision.proofs.Laws.{listed-once}
+use Rattle.decision.proofs.Passed.{few-items}
+use Rattle.ranges.specs.Lists.{up_to}
+use Rattle.ranges.proofs.Bools.{by}
+use Rattle.ranges.proofs.Lists.{count-length}
+use Rattle.ranges.proofs.Orders.{perm-length}
+use Rattle.rule.specs.Related.{item_relations}
 use Rattle.decision.specs.Working.{plain_decision}
 use Rattle.answers.specs.Layout.{chi_square_size, refusal_size}
 use Rattle.answers.specs.Offsets.{indices_size, refusals_size, ranked_at, dominated_at, refusals_at, answer_size, list_bytes}
-use Rattle.answers.specs.Claims.{HasAllPlaces, PartsStand}
+use Rattle.answers.specs.Claims.{HasAllPlaces, PartsOf, PartsStand}
 use Rattle.answers.specs.Answer.{indices_bytes, chi_square_bytes, refusal_bytes, each_bytes, counted_bytes, refusals_bytes, answer_bytes}
 
 -- a byte before a number that is put after it
@@ -152,8 +160,43 @@ refusals-stand d r =
     let q = r.dominated in
     ap (drop refusals_at) (sym (append_assoc a b (refusals_bytes d.refusals))) ∙ drop_at (a ++ b) (refusals_bytes d.refusals) refusals_at (omega (arith, length-append a b))
 
+parts-of : (d : DecisionArrays) → HasAllPlaces d → PartsOf d
+parts-of d r = record { long = answer-long d r; ranked = ranked-stands d r; dominated = dominated-stands d r; refusals = refusals-stand d r }
+
+-- of a decision the lists are no longer than there are items, and padded to a place for each
+
+padded : {A : Type 0} (l : List A) (d : A) → length l ≤ max_items → length (l ++ replicate (max_items - length l) d) ≡ max_items
+padded l d h =
+    let e = length-append l (replicate (max_items - length l) d) in
+    let f = length-replicate (max_items - length l) d in
+    omega (arith, h)
+
+arrays-roomy : (s : List ℕ) → is_bad s ≡ false → HasAllPlaces (arrays_of (outcome s))
+unfolding arrays_of indices refusals
+arrays-roomy s good =
+    let o = outcome s in
+    let p = perm-length (listed-once (item_relations s) (up_to (length s / item_size))) in
+    let n = count-length 0 (length s / item_size) in
+    let m = few-items s good in
+    let e = length-append o.ranked (o.dominated ++ map (λ (x : Refused ℕ ChiSquare). x.item) o.refused) in
+    let f = length-append o.dominated (map (λ (x : Refused ℕ ChiSquare). x.item) o.refused) in
+    let g = length-map o.refused (λ (x : Refused ℕ ChiSquare). x.item) in
+    let h = length-map o.refused refusal in
+    let a : length o.ranked ≤ max_items = omega arith in
+    let b : length o.dominated ≤ max_items = omega arith in
+    let c : length (map refusal o.refused) ≤ max_items = omega arith in
+    record { ranked = padded o.ranked 0 a; dominated = padded o.dominated 0 b; refusals = padded (map refusal o.refused) no_refusal c }
+
+bad-roomy : HasAllPlaces refused_decision
+unfolding refused_decision indices refusals
+bad-roomy = record { ranked = padded {A = ℕ} [] 0 (omega arith); dominated = padded {A = ℕ} [] 0 (omega arith); refusals = padded [] no_refusal (omega arith) }
+
+roomy : (s : List ℕ) → HasAllPlaces (decided_arrays s)
+unfolding decided_arrays
+roomy s = by (is_bad s) (λ e. rw e bad-roomy) (λ e. rw e (arrays-roomy s e))
+
 pub parts-stand : PartsStand
-parts-stand d r = record { long = answer-long d r; ranked = ranked-stands d r; dominated = dominated-stands d r; refusals = refusals-stand d r }
+parts-stand s = (roomy s, parts-of (decided_arrays s) (roomy s))
 
 -- a list that is padded with zeros, after its count
 pub indices-put : (l k xs : List ℕ) (at : ℕ) {r : ℕ} {k' : List ℕ} → length l ≤ max_items → xs ≡ l ++ drop (length l) (replicate max_items 0)

@@ -1,7 +1,8 @@
--- What is claimed of a decision's bytes: where each part of them stands. Where `decide` answers 0 its lists have places for all items.
-use Rattle.std.specs.Prelude.{◌≡◌, drop, length, take}
+-- What is claimed of a decision's bytes: its lists have a place for each item, and each part stands where its offset says.
+use Rattle.std.specs.Prelude.{◌≡◌, List, ℕ, drop, length, take}
 use Rattle.items.specs.Layout.{max_items}
 use Rattle.decision.specs.Arrays.{DecisionArrays}
+use Rattle.decision.specs.Answer.{decided_arrays}
 use Rattle.answers.specs.Answer.{answer_bytes, indices_bytes, refusals_bytes}
 use Rattle.answers.specs.Offsets.{answer_size, dominated_at, indices_size, ranked_at, refusals_at}
 
@@ -17,5 +18,6 @@ pub record PartsOf (d : DecisionArrays) : Type 0 where
   pub dominated : take indices_size (drop dominated_at (answer_bytes d)) ≡ indices_bytes d.dominated
   pub refusals : drop refusals_at (answer_bytes d) ≡ refusals_bytes d.refusals
 
+-- so it is of whatever is decided of bytes, bad ones too
 abbrev pub PartsStand : Type 0
-PartsStand = (d : DecisionArrays) → HasAllPlaces d → PartsOf d
+PartsStand = (s : List ℕ) → HasAllPlaces (decided_arrays s) × PartsOf (decided_arrays s)

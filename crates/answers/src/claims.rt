@@ -2,7 +2,8 @@
 
 ghost use Rattle.answers.specs.Claims.{PartsStand};
 
-/// The ranked, the dominated and the refusals stand where their offsets say, one after another, and fill the answer.
+/// Whatever bytes are decided, the lists have a place for each item, and the ranked, the dominated and the refusals stand where their
+/// offsets say, one after another, and fill the answer.
 pub fn parts_stand()
     ensures { PartsStand }
 {}
