@@ -1,5 +1,6 @@
 -- The bytes of a decision: what is ranked, dominated and refused, in the layout of `Layout`. The unused places of each list are
 -- zero: of the indices as they are in the decision, and of the refusals as is said here.
+-- Source: docs/REFERENCE.md, 'Answer of a decision'.
 use Rattle.std.specs.Prelude.{cond, List, [], ◌∷◌, ◌++◌, ℕ, ◌-◌, ◌*◌, eqb, length, take, replicate}
 use Rattle.std.specs.Float.{binary64}
 use Rattle.std.specs.Float.Ieee.{to_bits}

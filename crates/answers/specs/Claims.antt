@@ -1,4 +1,5 @@
 -- What is claimed of a decision's bytes: its lists have a place for each item, and each part stands where its offset says.
+-- Source: docs/REFERENCE.md, 'Answer of a decision'.
 use Rattle.std.specs.Prelude.{◌≡◌, List, ℕ, drop, length, take}
 use Rattle.items.specs.Layout.{max_items}
 use Rattle.decision.specs.Arrays.{DecisionArrays}

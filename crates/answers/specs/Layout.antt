@@ -1,4 +1,5 @@
 -- The layout of a refusal in a decision's bytes.
+-- Source: docs/REFERENCE.md, 'Answer of a decision'.
 use Rattle.std.specs.Prelude.{ℕ, ◌+◌}
 
 -- whether there is a chi-square, and its bits

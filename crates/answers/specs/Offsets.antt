@@ -1,4 +1,5 @@
 -- Where each list begins in the bytes of a decision, and how long it is. include/toastlagoon.h and oracle/driver/binding.rs have the same.
+-- Source: docs/REFERENCE.md, 'Answer of a decision'.
 use Rattle.std.specs.Prelude.{ℕ, ◌+◌, ◌*◌, List, ◌∷◌, length}
 use Rattle.items.specs.Layout.{max_items}
 use Rattle.decision.specs.declared.Refusal.{Refusal}

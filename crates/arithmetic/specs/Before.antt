@@ -1,6 +1,7 @@
 -- Agreement as the Rust has it, `standing::agreement` and `Agreement::agrees`, and as it was here at first: a
 -- chi-square and its limit, the first infinite where nothing was measured. No contract cites it: specs/Claims says how agreement stands to it. What is
 -- compared with the Rust is the library, whose numbers are these by that.
+-- Source: docs/REFERENCE.md, 'Agreement', and standing.rs of sky-commons/tally.
 use Rattle.std.specs.Prelude.{ℕ, Bool, false, cond, List, Float, Option, Some, None}
 use Rattle.std.specs.Float.{inf}
 use Rattle.std.specs.Float.Ieee.{le}

@@ -1,4 +1,5 @@
 -- A chi-square in 64 bits, as a track stores it: an f64, and positive infinity where there is no number.
+-- Source: docs/REFERENCE.md, 'Track' among the layouts.
 use Rattle.std.specs.Prelude.{ℕ, cond, eqb}
 use Rattle.std.specs.Float.{binary64}
 use Rattle.std.specs.Float.Ieee.{of_bits, to_bits}

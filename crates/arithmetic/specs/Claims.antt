@@ -1,5 +1,6 @@
 -- What is claimed of agreement, beside that the code gives what Agree says. Each statement is a type; src/claims.rt has a function whose contract
 -- it is.
+-- Source: docs/REFERENCE.md, 'Agreement' and 'Chi-square'.
 use Rattle.std.specs.Prelude.{◌≡◌, true, false, ◌↔◌, List, ◌+◌, Float, Option, Some, None}
 use Rattle.std.specs.Float.{inf, nan, binary64}
 use Rattle.std.specs.Float.Ieee.{of_bits, to_bits, is_nan, le, lt}

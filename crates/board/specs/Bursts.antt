@@ -1,5 +1,6 @@
 -- Receivers that restart their tags, on every board: where no fix was sent for longer than a link, the transmissions before and after are what
 -- they would be without each other. A fix was sent when the record that represents it says. The theorem is `bursts-on-boards` in proofs/Bursts.
+-- Source: docs/REFERENCE.md, 'Register and board'.
 use Rattle.std.specs.Prelude.{ℕ, ◌≡◌, true, List}
 use Rattle.links.specs.Bursts.{Pause, BurstsApart}
 use Rattle.register.specs.Memory.{fresh}

@@ -5,6 +5,7 @@
 -- register specs/Claims has the first two parts (`HoldsWhatRemains`, `FullExactlyWhen`), specs/Calls what is malformed, struck, remaining and refused as full,
 -- and `runs`, which folds the very definitions that the contracts of report, summary and conviction cite; specs/Board has `draw_board`, which the contract of
 -- board cites.
+-- Source: docs/REFERENCE.md, 'Any order of calls'.
 use Rattle.std.specs.Prelude.{ℕ, ◌≤◌, ◌<◌, ◌≡◌, ◌⊎◌, true, List, length, drop}
 use Rattle.drawing.specs.Text.{board_size}
 use Rattle.register.specs.Layout.{summary_count_at}

@@ -1,4 +1,4 @@
--- When a board has no bytes: exactly where no record of the register counts (docs/REFERENCE.md, 'Models and identity'), whether none was reported, none is held
+-- When a board has no bytes: exactly where no record of the register counts (docs/REFERENCE.md, 'Register and board'), whether none was reported, none is held
 -- any more or none may be shown. The theorem is `no-bytes-exactly-when` in proofs/Nothing.
 use Rattle.std.specs.Prelude.{ℕ, ◌≡◌, Bool, true, not, List, eqb, length}
 use Rattle.std.specs.List.{list_any}

@@ -1,4 +1,5 @@
 -- Eight worked cases as one conjunction, over the definitions that the contracts cite. The theorem is `positions` in proofs/Positions.
+-- Source: docs/REFERENCE.md, 'Register and board' and 'Agreement and decision'.
 use Rattle.std.specs.Prelude.{◌≡◌, List, [], ℕ, pos}
 use Rattle.std.specs.Float.{binary64}
 use Rattle.std.specs.Float.Ieee.{of_int}

@@ -1,5 +1,6 @@
 -- What is claimed of what a register shows after a list of calls: no fix is lost, none stands twice, and the oldest transmission comes first. The theorem is
 -- `what-is-shown` in proofs/Shows.
+-- Source: docs/REFERENCE.md, 'Register and board' and 'Any order of calls'.
 use Rattle.std.specs.Prelude.{◌≡◌, true}
 use mathlib.Core.List.{List, map, Memᴰ, Permᴰ}
 use Rattle.ranges.specs.Lists.{Ascending}

@@ -1,5 +1,6 @@
 -- A whole board and a whole preview, worked out. The session program prints these lines for the same reports, for the preview with a conviction after them, and
 -- so does the second writing of the board in plain Rust (oracle/peer). The contract of `boards_worked` names them; the proofs are in proofs/Worked.
+-- Source: docs/REFERENCE.md, 'Text' and 'Preview'.
 use Rattle.std.specs.Prelude.{◌≡◌, ℕ, List, [], ◌∷◌, ◌++◌}
 use Rattle.octets.specs.Ascii.{ascii}
 use Rattle.octets.specs.Words.{word_bytes}

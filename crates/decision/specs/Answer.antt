@@ -1,4 +1,4 @@
--- The whole answer of `decide` (docs/REFERENCE.md, 'Operations'): 8 for over 96 items, a malformed item, or two with one identity;
+-- The whole answer of `decide` (docs/REFERENCE.md, 'Answers' and 'Answer of a decision'): 8 for over 96 items, no whole number of items, a malformed item, or two with one identity;
 -- else 0 with what is decided, in arrays with counts whose unused places are fixed.
 use Rattle.std.specs.Prelude.{Bool, false, not, cond, ◌||◌, List, [], ◌++◌, map, ℕ, ◌-◌, ◌*◌, ◌/◌, ◌%◌, ltb, eqb, length, replicate}
 use Rattle.std.specs.List.{list_any}

@@ -1,4 +1,5 @@
 -- A decision in arrays with counts, whose unused places are fixed: so it goes out.
+-- Source: docs/REFERENCE.md, 'Answer of a decision'.
 use Rattle.std.specs.Prelude.{List, ℕ}
 use Rattle.decision.specs.declared.Refusal.{Refusal}
 

@@ -1,5 +1,6 @@
 -- The decision as the Rust has it, by agreement as the Rust has it, whose chi-square is a number, infinite where nothing was
 -- measured. What is claimed is that nothing else of a decision changed; the theorem is `decided-as-before` in proofs/Remeasured.
+-- Source: docs/REFERENCE.md, 'Decision', and standing.rs of sky-commons/tally.
 use Rattle.std.specs.Prelude.{◌≡◌, Bool, false, not, ◌&&◌, List, map, ℕ, ◌/◌, Float, length}
 use Rattle.std.specs.Float.{inf}
 use Rattle.ranges.specs.Lists.{up_to}

@@ -1,5 +1,6 @@
 -- What is claimed of every decision. A reader who believes this file, and the definitions it names, needs none of the proofs; src/claims.rt has a function whose
 -- contract each of these is.
+-- Source: docs/REFERENCE.md, 'Decision'.
 use Rattle.std.specs.Prelude.{◌≡◌, true, false, ℕ, ◌*◌, ◌/◌, ◌<◌, length, take, drop}
 use mathlib.Core.List.{List, [], ◌∷◌, ◌++◌, map, Memᴰ, Permᴰ}
 use Rattle.ranges.specs.Lists.{Ascending, up_to}

@@ -1,4 +1,5 @@
 -- Three items, S within M within L, of which only the ends disagree.
+-- Source: docs/REFERENCE.md, 'Decision'.
 use Rattle.std.specs.Prelude.{List, [], ◌∷◌, ◌++◌, ℕ, replicate}
 use Rattle.octets.specs.Words.{word_bytes}
 use Rattle.record.specs.Worked.{record_with}

@@ -1,4 +1,4 @@
--- The lines of the worked session, and a line with everything at its widest.
+-- The lines of the worked session, and a line with the greatest longitude and otherwise everything at its widest.
 use Rattle.std.proofs.Common.{refl}
 use lib.Ieee.{of_bits, to_bits}
 use Rattle.octets.specs.Words.{word_bytes, word}

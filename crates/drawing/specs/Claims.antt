@@ -1,4 +1,5 @@
 -- What is claimed of the text of a chi-square: a line says `none` exactly where there is no number.
+-- Source: docs/REFERENCE.md, 'Text'.
 use Rattle.std.specs.Prelude.{◌≡◌, ◌↔◌}
 use Rattle.octets.specs.Ascii.{ascii}
 use Rattle.arithmetic.specs.declared.standing.ChiSquare.{ChiSquare}

@@ -1,5 +1,6 @@
 -- The lines of a board: a header for each transmission, and a line
 -- for each of its fixes. Each ends with a line feed.
+-- Source: docs/REFERENCE.md, 'Text'.
 use Rattle.std.specs.Prelude.{ℕ, ℤ, List, ◌++◌, Option, Some, None}
 use Rattle.std.specs.Float.{binary64}
 use Rattle.std.specs.Float.Ieee.{to_bits}

@@ -1,4 +1,5 @@
 -- What became of a fix, in a word.
+-- Source: docs/REFERENCE.md, 'Text'.
 use Rattle.std.specs.Prelude.{ℕ, List}
 use Rattle.octets.specs.Ascii.{ascii}
 use Rattle.drawing.specs.declared.Role.{Role}

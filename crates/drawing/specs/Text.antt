@@ -1,5 +1,6 @@
 -- The text of a board: of each transmission a header, numbered from 1, then a line for each ranked fix in rank, and for each dominated and each refused fix in
 -- ascending identity. `Lines` has what a header and a line say.
+-- Source: docs/REFERENCE.md, 'Text'.
 use Rattle.std.specs.Prelude.{ℕ, suc, length}
 use mathlib.Core.List.{List, [], ◌∷◌, ◌++◌, flat_map}
 use Rattle.shown.specs.Fix.{Fix}

@@ -1,4 +1,5 @@
--- What is claimed of lines by example: those of the worked session, and one with everything at its widest.
+-- What is claimed of lines by example: those of the worked session, and one with the greatest longitude and otherwise everything at its widest.
+-- Source: docs/REFERENCE.md, 'Text'.
 use Rattle.std.specs.Prelude.{◌≡◌, List, ◌∷◌, ◌++◌, [], ℕ, replicate}
 use Rattle.std.specs.Float.{binary64}
 use Rattle.std.specs.Float.Ieee.{of_bits}

@@ -8,7 +8,7 @@ pub fn none_exactly_when()
     ensures { NoneExactlyWhen }
 {}
 
-/// The lines of the worked session are as they are written in docs/REFERENCE.md, and the widest line is too.
+/// The lines of the worked session are as they are written in docs/REFERENCE.md, and so is a line with the greatest longitude and otherwise everything at its widest.
 pub fn lines_are_as_written()
     ensures { LinesAsWritten }
 {}

@@ -1,5 +1,6 @@
 -- The fixes of a board, from the summaries of a register (36 bytes each) and the slots of its records (a record of 222
 -- bytes, and its signers).
+-- Source: docs/REFERENCE.md, 'Register and board', step 1.
 use Rattle.std.specs.Prelude.{ℕ, cond, List, [], ◌∷◌, map, take, drop}
 use Rattle.std.specs.Int.Bits.{bit_or}
 use Rattle.octets.specs.Order.{is_before}

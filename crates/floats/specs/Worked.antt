@@ -1,4 +1,5 @@
 -- Roots, worked out. The contract of `roots_worked` names them; each is proved by computation in proofs/Worked.
+-- Source: docs/REFERENCE.md, 'Chi-square', and IEEE 754-2019, 5.4.1.
 use Rattle.std.specs.Prelude.{◌≡◌, ℕ, pos, negsuc}
 use Rattle.std.specs.Float.{binary64}
 use Rattle.std.specs.Float.Ieee.{nan, of_int, of_bits, to_bits}

@@ -1,5 +1,6 @@
 -- What is claimed of the sine and the cosine of an angle, beside that the code gives what Angles says. Each statement is a type; the theorem of it has its
 -- name, in proofs/Quadrants, proofs/Positions and proofs/Constants.
+-- Source: docs/REFERENCE.md, 'Chi-square'.
 use Rattle.std.specs.Prelude.{◌≡◌, ◌+◌, ◌*◌, ◌^◌, ◌<◌, false, ℤ, pos, neg_ℤ, ◌+ℤ◌, ◌*ℤ◌, ◌≤ℤ◌, ◌<ℤ◌, Float}
 use Rattle.std.specs.Float.{binary64}
 use Rattle.std.specs.Float.Ieee.{round, to_bits}

@@ -1,5 +1,6 @@
 -- The formula for the sine and the cosine of an angle v that the ranges of Angles come from: q = floor((v + 450,000,000) / 900,000,000),
 -- r = v - 900,000,000 q, and the choice by the remainder of q by 4. No contract cites it; that the ranges of Angles give the same is `RangesAreTheFormula` of Claims.
+-- Source: docs/REFERENCE.md, 'Chi-square'.
 use Rattle.std.specs.Prelude.{ℕ, zero, suc, ◌-◌, ◌/◌, ◌%◌, ℤ, pos, negsuc, ◌+ℤ◌, Float}
 use Rattle.std.specs.Float.Ieee.{neg}
 use Rattle.geometry.specs.Angles.{rest_of, radians_of, sine_of, cosine_of}

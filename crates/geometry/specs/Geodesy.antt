@@ -1,4 +1,5 @@
--- Positions on the WGS84 ellipsoid: geo.rs of sky-commons/tally, line by line. A latitude and a longitude stand
+-- Positions on the WGS 84 ellipsoid: from latitude, longitude and height to Cartesian coordinates, and the directions east, north and up at a place
+-- (docs/REFERENCE.md, 'Chi-square', steps 1 and 2; the Rust's geo.rs makes the same operations in the same order). A latitude and a longitude stand
 -- as their sine and cosine, since the series of Angles takes the angle itself and no radians.
 use Rattle.std.specs.Prelude.{Float}
 use Rattle.std.specs.Float.Ieee.{neg}

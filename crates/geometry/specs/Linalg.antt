@@ -1,4 +1,5 @@
--- The Cholesky factor of a symmetric matrix and the two solves with it: linalg.rs of sky-commons/tally, line by line.
+-- The Cholesky factor l of a symmetric matrix a, which is lower triangular with l times its transpose equal to a, and the solution x of a x = b by
+-- l y = b and then the transpose of l times x = y (docs/REFERENCE.md, 'Chi-square', steps 3 and 4; the Rust's linalg.rs makes the same operations in the same order).
 -- A matrix of n rows is the list of its n * n numbers, row by row. A loop `for k in 0..j` is a recursion on the count j.
 use Rattle.std.specs.Prelude.{ℕ, zero, suc, ◌+◌, ◌-◌, ◌*◌, cond, List, get_or, set, replicate, Float, Option, Some, None}
 use Rattle.std.specs.Float.{nan}

@@ -1,5 +1,6 @@
 -- Binary64 numbers as the definitions of this crate write them, operation by operation.
 -- Each operation rounds once, to the nearest value and at a tie to the even one. None is fused with another.
+-- Source: docs/REFERENCE.md, 'Chi-square', and IEEE 754-2019, 4.3.1 and 5.4.1.
 use Rattle.std.specs.Prelude.{ℕ, ◌^◌, Bool, false, ◌||◌, pos, Float}
 use Rattle.std.specs.Float.{binary64}
 use Rattle.std.specs.Float.Ieee.{round, of_int, is_nan, le}

@@ -1,5 +1,6 @@
 -- What is claimed of how a session is read, of what is due in it, and of its numbers. The contracts of src/claims.rt name it; the proofs are in
 -- proofs/Forward, proofs/Sessions, proofs/Named and proofs/Printed.
+-- Source: docs/REFERENCE.md, 'Session'.
 use Rattle.std.specs.Prelude.{ℕ, zero, suc, ◌+◌, ◌≤◌, ◌<◌, ◌≡◌, Bool, cond, List, [], ◌∷◌, ◌++◌, ◌==◌, length, Some, is_some, Result, Ok, Err, ℤ, pos, negsuc}
 use Rattle.text.specs.Numbers.{decimal, signed_decimal}
 use Rattle.models.specs.Summary.{inputs_size}

@@ -1,4 +1,5 @@
 -- What the code's reader gives is what reading gives.
+-- Source: docs/REFERENCE.md, 'Session'.
 use Rattle.std.specs.Prelude.{ℕ, ◌≡◌, ◌++◌, List, length, Result, Ok, Err}
 use Rattle.record.specs.Layout.{max_tags, max_models}
 use Rattle.register.specs.Calls as calls

@@ -1,4 +1,5 @@
 -- The keys of the lines, and what their values are in words.
+-- Source: docs/REFERENCE.md, 'Session'.
 use Rattle.std.specs.Prelude.{ℕ, List, codes}
 use Rattle.grammar.specs.declared.lines.Due.{Due}
 use Rattle.grammar.specs.declared.lines.Due.TheVariants as due

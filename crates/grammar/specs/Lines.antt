@@ -1,4 +1,5 @@
 -- Reading from left to right, up to the first bad line.
+-- Source: docs/REFERENCE.md, 'Session'.
 use Rattle.std.specs.Prelude.{ℕ, ◌+◌, List, Option, Result, Ok, Err, ok_or, option_and_then}
 use Rattle.grammar.specs.declared.lines.Due.{Due}
 use Rattle.grammar.specs.declared.lines.BadLine.{BadLine}

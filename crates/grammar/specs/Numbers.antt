@@ -1,4 +1,5 @@
 -- The values of a session's lines: what each text stands for, or nothing where it is bad.
+-- Source: docs/REFERENCE.md, 'Session'.
 use Rattle.std.specs.Prelude.{ℕ, zero, suc, ◌+◌, ◌-◌, ◌*◌, ◌/◌, Bool, true, cond, ◌&&◌, ◌||◌, List, [], ◌∷◌, ◌++◌, leb, length, get_or, take, drop, reverse, Option, Some, None, option_map, option_and_then, position, ◌==◌, nat_lt, if◌then◌else◌, codes, ℤ, pos, neg_ℤ}
 use Rattle.std.specs.Str.{bytes_eq}
 use Rattle.text.specs.Numbers.{decimal_value}

@@ -1,4 +1,5 @@
 -- A session's bytes as calls on a register.
+-- Source: docs/REFERENCE.md, 'Session'.
 use Rattle.std.specs.Prelude.{ℕ, cond, List, ◌++◌, length, Option, Some, None, Ok, codes}
 use Rattle.std.specs.Str.{bytes_eq}
 use Rattle.record.specs.Layout.{max_tags, max_models}

@@ -1,5 +1,6 @@
 -- What is claimed of the limit in time that a link has: when two records link, which fixes are one transmission by it, and that a later burst
 -- does not touch the transmissions of an earlier one, nor the earlier those of the later. The theorems are in proofs/Limits, proofs/Symmetry and proofs/Bursts.
+-- Source: docs/REFERENCE.md, 'Register and board', step 2.
 use Rattle.std.specs.Prelude.{ℕ, ◌+◌, ◌-◌, ◌^◌, ◌≤◌, ◌<◌, ◌≡◌, Bool, true, false, ◌⊎◌, ◌↔◌, ltb, leb}
 use mathlib.Core.List.{List, [], ◌∷◌, map, Memᴰ}
 use Rattle.record.specs.Fields.{time}

@@ -1,5 +1,6 @@
 -- What is claimed of the transmissions of fixes: they part the fixes, and each is everything that a chain of links leads to. The theorem is `partition` in
 -- proofs/Partition.
+-- Source: docs/REFERENCE.md, 'Register and board', step 2.
 use Rattle.std.specs.Prelude.{◌≡◌, ◌↔◌}
 use mathlib.Core.List.{List, [], ◌∷◌, Memᴰ}
 use Rattle.shown.specs.Fix.{Fix}

@@ -1,4 +1,5 @@
 -- Fixes all of one time: of tags {1}, {2} and {1,2}, and one of tag {3}. And fixes of any time.
+-- Source: docs/REFERENCE.md, 'Register and board', step 2.
 use Rattle.std.specs.Prelude.{List, [], ◌∷◌, ◌++◌, ℕ, drop}
 use Rattle.octets.specs.Words.{word_bytes}
 use Rattle.record.specs.Layout.{lat_at}

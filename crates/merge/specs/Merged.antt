@@ -11,7 +11,7 @@ use Rattle.arrange.specs.Arranged.{arranged}
 use Rattle.merge.specs.declared.Merged.{Merged}
 use Rattle.merge.specs.declared.Merged.TheVariants.{Changed, Contested, Duplicate, Dropped}
 
--- their numbers, apart from those of what is done or refused (docs/REFERENCE.md, 'Operations')
+-- their numbers, apart from those of what is done or refused (docs/REFERENCE.md, 'Answers')
 abbrev pub merged_number : Merged → ℕ
 merged_number Changed = 20
 merged_number Contested = 21

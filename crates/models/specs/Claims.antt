@@ -1,4 +1,5 @@
 -- What is claimed of models, beside what each function promises. The contract of src/claims.rt names it; the proofs are in proofs/Refusing.
+-- Source: docs/REFERENCE.md, 'Models and identity' and 'Answers'.
 use Rattle.std.specs.Prelude.{ℕ, ◌≡◌, ◌↔◌, true, List, Some, None}
 use Rattle.models.specs.Models.{State, agreed_as, counts}
 use Rattle.models.specs.Missing.{is_missing}

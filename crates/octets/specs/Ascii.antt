@@ -1,4 +1,5 @@
 -- A text as its ASCII bytes.
+-- Source: docs/REFERENCE.md, 'Models and identity' and 'Text'.
 use Rattle.std.specs.Prelude.{ℕ}
 use Prim.Native.Char.{code}
 use Prim.Native.String.{String, [], ◌∷◌}

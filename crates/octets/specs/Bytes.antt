@@ -1,4 +1,5 @@
 -- Which lists of numbers are bytes: what a slice has is, and a claim or a law about any list of numbers asks that it is.
+-- Source: docs/REFERENCE.md, 'Layouts'.
 use Rattle.std.specs.Prelude.{ℕ, ◌<◌, List, [], ◌∷◌}
 
 -- every element is a byte

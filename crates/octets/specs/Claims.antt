@@ -1,5 +1,6 @@
 -- What is claimed of bytes, beside what each function promises. The contracts of src/claims.rt name it; the proofs are in proofs/Comparison and
 -- proofs/Numbers.
+-- Source: docs/REFERENCE.md, 'Words'.
 use Rattle.std.specs.Prelude.{ℕ, ◌≡◌, ◌≤◌, ◌<◌, ◌+◌, ◌^◌, true, false, List, length}
 use Rattle.octets.specs.Bytes.{Bytes}
 use Rattle.octets.specs.Words.{word_at}

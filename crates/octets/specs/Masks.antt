@@ -1,4 +1,5 @@
 -- Sets of small numbers as masks: bit n stands for engine n, bit i for the i-th tag. Bit 0 is the lowest.
+-- Source: docs/REFERENCE.md, 'Layouts'.
 use Rattle.std.specs.Prelude.{ℕ, zero, suc, ◌+◌, ◌*◌, ◌/◌, ◌%◌, Bool, eqb}
 
 -- whether bit n of a mask is set

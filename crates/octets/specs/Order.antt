@@ -1,5 +1,6 @@
 -- Byte order: two strings are compared by their first differing byte. Where one string is the beginning of the other,
 -- the shorter comes first.
+-- Source: docs/REFERENCE.md, 'Words'.
 use Rattle.std.specs.Prelude.{ℕ, Bool, true, false, cond, not, ◌&&◌, List, [], ◌∷◌, ltb}
 
 -- the first comes before the second, strictly

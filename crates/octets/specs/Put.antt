@@ -1,4 +1,5 @@
 -- A text in a buffer: the buffer is as before but for the text at its position, and the next position is the one after the text.
+-- Source: docs/REFERENCE.md, 'Operations'.
 use Rattle.std.specs.Prelude.{ℕ, ◌+◌, ◌≡◌, List, length}
 use Rattle.std.proofs.lemmas.List.Edits.{sets}
 

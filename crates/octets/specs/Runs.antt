@@ -1,4 +1,5 @@
 -- Runs of zeros: what a record or a table does not use is zero.
+-- Source: docs/REFERENCE.md, 'Layouts'.
 use Rattle.std.specs.Prelude.{ℕ, Bool, List, eqb}
 use Rattle.std.specs.List.{list_all}
 

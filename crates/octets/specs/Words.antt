@@ -1,4 +1,5 @@
 -- Numbers in memory, which are little-endian: a number of n bytes has its lowest byte first.
+-- Source: docs/REFERENCE.md, 'Words'.
 use Rattle.std.specs.Prelude.{ℕ, zero, suc, ◌+◌, ◌-◌, ◌*◌, ◌/◌, ◌%◌, cond, List, [], ◌∷◌, ltb, ℤ, pos, negsuc, take, drop}
 
 -- the number that a string of bytes stands for

@@ -1,6 +1,7 @@
 -- Whether the order of calls matters. To a track it does: one that takes S, M, L serves L, and one that takes L, S, M serves M. To a board it does not: the same
 -- calls in those two orders, or in any other two where nothing is refused as full, show the same board. A reader who believes this file, and the definitions it
 -- names, needs none of the proofs; the contract of src/claims.rt names the claim, and the proof is in proofs/Claimed.
+-- Source: docs/REFERENCE.md, 'Any order of calls' and 'Track and listing'.
 use Rattle.std.specs.Prelude.{ℕ, ◌≤◌, ◌≡◌, true, length}
 use mathlib.Core.List.{List, [], ◌∷◌, map, Permᴰ}
 use Rattle.decision.specs.Positions.{S, M, L}

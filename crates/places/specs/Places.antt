@@ -1,5 +1,6 @@
 -- A counted table in bytes: the used places come first and ascend strictly in the byte order of their keys (a record's place by the record alone), and
 -- the rest is zero. A place has w bytes, of which the first k are its key. w, k and the count are arguments: one layer serves every table.
+-- Source: docs/REFERENCE.md, 'Register' among the layouts.
 use Rattle.std.specs.Prelude.{ℕ, zero, suc, ◌*◌, ◌-◌, Bool, true, cond, ◌&&◌, List, [], ◌∷◌, ◌++◌, length, take, drop, replicate}
 use Rattle.std.specs.List.{list_any}
 use Rattle.octets.specs.Order.{is_before, same}

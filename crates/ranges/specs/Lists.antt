@@ -1,4 +1,5 @@
 -- What is said of a list by a test of its members or by an order between them.
+-- Source: docs/REFERENCE.md, 'Register and board' and 'Agreement and decision', whose orders these are.
 use Rattle.std.specs.Prelude.{ℕ, zero, suc, ◌-◌, ◌≡◌, Bool, true, cond, length, drop}
 use mathlib.Core.List.{List, [], ◌∷◌, Memᴰ}
 

@@ -1,5 +1,6 @@
 -- What is claimed of reasons. The contracts of src/claims.rt name it; the proofs are in proofs/Refused. That the line which is due there is the bad one is claimed
 -- of the grammar (grammar specs/Claims).
+-- Source: docs/REFERENCE.md, 'Session'.
 use Rattle.std.specs.Prelude.{ℕ, ◌≡◌, ◌≤◌, List, ltb, eqb, length, get_or, Err}
 use Rattle.grammar.specs.declared.lines.BadLine.{BadLine}
 use Rattle.grammar.specs.Session.{session_of}

@@ -1,4 +1,5 @@
 -- Reasons of some sessions, worked out.
+-- Source: docs/REFERENCE.md, 'Session'.
 use Rattle.std.specs.Prelude.{◌≡◌, []}
 use Rattle.octets.specs.Ascii.{ascii}
 use Rattle.reasons.specs.Reasons.{reason_of}

@@ -1,5 +1,6 @@
 -- What is claimed of records, beside what each function promises. The contracts of src/claims.rt name it; the proofs are in proofs/Values and
 -- proofs/Laws.
+-- Source: docs/REFERENCE.md, 'Record' and 'Agreement and decision'.
 use Rattle.std.specs.Prelude.{ℕ, ◌≡◌, true, false, List}
 use Rattle.octets.specs.Bytes.{Bytes}
 use Rattle.record.specs.Formed.{well_formed}

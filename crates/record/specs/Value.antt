@@ -1,4 +1,5 @@
 -- What a record says, as a value: each field of a type that says no more than the record does.
+-- Source: docs/REFERENCE.md, 'Record'.
 use Rattle.std.specs.Prelude.{ℕ, Bool, ◌&&◌, List, [], ◌∷◌, ℤ, Option, ltb, length}
 use Rattle.octets.specs.Order.{same}
 use Rattle.record.specs.Fields as F

@@ -1,4 +1,4 @@
--- The numbers of a register's answers (docs/REFERENCE.md, 'Operations').
+-- The numbers of a register's answers (docs/REFERENCE.md, 'Answers').
 use Rattle.std.specs.Prelude.{ℕ, Result, Ok, Err}
 use Rattle.register.specs.declared.refusals.Refusal.{Refusal}
 use Rattle.register.specs.declared.refusals.Refusal.TheVariants.{NoEngine, NoRecord, Convicted, Full, NoSummary}

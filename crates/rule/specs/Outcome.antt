@@ -1,4 +1,5 @@
 -- What is decided of items: each is ranked, dominated or refused.
+-- Source: docs/REFERENCE.md, 'Decision'.
 use Rattle.std.specs.Prelude.{Bool, List}
 
 -- a refused item, the one that it is refused against, what was measured between them, and whether that one took its place

@@ -1,4 +1,5 @@
 -- How the items in a string of bytes relate (`Standing`), by their indices.
+-- Source: docs/REFERENCE.md, 'Decision'.
 use Rattle.std.specs.Prelude.{List, ℕ}
 use Rattle.arithmetic.specs.Agree.{chi_square_in}
 use Rattle.items.specs.Items.{is_passed, item_verified, agreement_at, disagrees_at, within_at, outstands_at, lower_at, ahead_at}

@@ -1,5 +1,6 @@
 -- What is decided of a list of items (as `standing::decide` and `rank` of sky-commons/tally). Of the items only how two of them relate is known, and of what is
 -- measured between two only which refusal carries it, so that nothing here sees a byte, a float or an index.
+-- Source: docs/REFERENCE.md, 'Decision'.
 use Rattle.std.specs.Prelude.{Bool, true, false, not, cond, ◌&&◌, ◌||◌}
 use mathlib.Core.List.{List, [], ◌∷◌, flat_map}
 use Rattle.rule.specs.Outcome.{Refused, Outcome}

@@ -1,4 +1,5 @@
 -- What is claimed of what a session prints. The contracts of src/claims.rt name it; the proofs are in proofs/Quiet.
+-- Source: docs/REFERENCE.md, 'Session'.
 use Rattle.std.specs.Prelude.{ℕ, ◌≤◌, ◌<◌, ◌≡◌, true, List, [], ◌++◌, length, Ok}
 use Rattle.octets.specs.Bytes.{Bytes}
 use Rattle.register.specs.Memory.{well_formed, decode, fresh}

@@ -1,4 +1,5 @@
 -- What is claimed of a transmission that is shown: it is the decision of its fixes. The theorem is `shown-is-decided` in proofs/Plainly.
+-- Source: docs/REFERENCE.md, 'Register and board', step 3.
 use Rattle.std.specs.Prelude.{◌≡◌, false, List}
 use Rattle.arithmetic.specs.Agree.{chi_square_in}
 use Rattle.rule.specs.Standing.{Relations, decide}

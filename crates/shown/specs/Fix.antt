@@ -1,4 +1,4 @@
--- A fix, as a board and a track have it (docs/REFERENCE.md, 'Models and identity').
+-- A fix, as a board and a track have it (docs/REFERENCE.md, 'Register and board', step 1, and 'Track and listing').
 use Rattle.std.specs.Prelude.{ℕ, List}
 
 pub record Fix : Type 0 where

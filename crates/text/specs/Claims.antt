@@ -1,4 +1,4 @@
--- What is claimed of the texts of numbers (docs/REFERENCE.md, 'Register and board' and 'Session'). The contracts of src/claims.rt name it; the proofs are in
+-- What is claimed of the texts of numbers (docs/REFERENCE.md, 'Text' and 'Session'). The contracts of src/claims.rt name it; the proofs are in
 -- proofs/Readback and proofs/Rounding.
 use Rattle.std.specs.Prelude.{ℕ, suc, ◌+◌, ◌-◌, ◌*◌, ◌/◌, ◌%◌, ◌^◌, ◌≤◌, ◌<◌, ◌≡◌, cond, List, [], ◌∷◌, ltb, ℤ, pos, negsuc, neg_ℤ, nat_abs, length, get_or}
 use Prim.Native.String.{String}

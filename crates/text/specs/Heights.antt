@@ -1,4 +1,4 @@
--- Heights as text: in whole metres, the nearest; an exact half metre goes to the even metre (docs/REFERENCE.md, 'Register and board').
+-- Heights as text: in whole metres, the nearest; an exact half metre goes to the even metre (docs/REFERENCE.md, 'Text').
 use Rattle.std.specs.Prelude.{ℕ, suc, ◌+◌, ◌/◌, ◌%◌, ◌≤◌, ◌≡◌, ℤ, pos, negsuc, neg_ℤ, nat_abs, ◌-ℤ◌, ◌*ℤ◌}
 
 -- how many millimetres lie between a height of h millimetres and one of m metres

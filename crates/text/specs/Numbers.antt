@@ -1,5 +1,5 @@
 -- Numbers as text, in ASCII: decimal without leading zeros, with a minus only where the number is negative, and lowercase hex digits, highest first
--- (docs/REFERENCE.md, 'Session' and 'Register and board').
+-- (docs/REFERENCE.md, 'Session' and 'Text').
 use Rattle.std.specs.Prelude.{ℕ, zero, suc, ◌+◌, ◌-◌, ◌*◌, ◌/◌, ◌%◌, cond, List, [], ◌∷◌, ◌++◌, ltb, ℤ, pos, negsuc}
 
 -- the last k + 1 decimal digits of n, without leading zeros

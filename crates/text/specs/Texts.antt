@@ -1,4 +1,5 @@
 -- A text that grows in a lent buffer.
+-- Source: docs/REFERENCE.md, 'Operations'.
 use Rattle.std.specs.Prelude.{ℕ, ◌+◌, ◌-◌, List, length, take}
 use Rattle.std.specs.Borrow.{MutBor}
 use Rattle.std.proofs.lemmas.List.Edits.{sets}

@@ -1,4 +1,5 @@
 -- What a fix claims, of its numbers one by one, and what is handed out of how two stand.
+-- Source: docs/REFERENCE.md, 'Operations' and 'Answers'.
 use Rattle.std.specs.Prelude.{Bool, ℤ, Float, Option, Some, None, if◌then◌else◌}
 use Rattle.geometry.specs.declared.linalg.Covariance.{Covariance}
 use Rattle.arithmetic.specs.declared.standing.Claimed.{Claimed}

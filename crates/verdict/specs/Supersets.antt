@@ -1,5 +1,6 @@
 -- What comparing a superset with the smaller fix that it would replace finds (the Rust's
 -- `contest::superset_verdict`): the enum keeps its chi-square, a number or none, in the disagreeing case; the added tags stand beside it.
+-- Source: docs/REFERENCE.md, 'Superset verdict'.
 use Rattle.std.specs.Prelude.{cond, ◌&&◌, List, [], ◌∷◌, ℕ}
 use Rattle.record.specs.Formed.{well_formed}
 use Rattle.record.specs.Added.{added_tags}
