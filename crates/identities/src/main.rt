@@ -14,20 +14,17 @@ use std::io;
 
 // A model's state: 6 without a summary and 7 where it is disputed, as a track refuses them; 0 where it is agreed, with the place
 // of its first summary.
-fn show_state(rt: &impl Print, mut all: Summaries, model: u8) -> io::Result<()> {
-    match models::states::state(all, model) {
+fn show_state(rt: &impl Print, state: ModelState) -> io::Result<()> {
+    match state {
         ModelState::Missing => print!(rt; " 6"),
         ModelState::Disputed => print!(rt; " 7"),
-        ModelState::Agreed(_) => {
-            let first = all.position(|s| s.model() == model).unwrap_or(0);
-            print!(rt; " 0@{first}")
-        }
+        ModelState::Agreed { place, .. } => print!(rt; " 0@{place}"),
     }
 }
 
 fn show_states(rt: &impl Print, all: Summaries) -> io::Result<()> {
     for model in 0..5 {
-        show_state(rt, all, model)?;
+        show_state(rt, models::states::state(all, model))?;
     }
     Ok(())
 }

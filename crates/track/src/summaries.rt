@@ -21,7 +21,7 @@ fn is_disputed(all: Summaries, model: u8) -> bool
 {
     match state(all, model) {
         ModelState::Disputed => true,
-        ModelState::Missing | ModelState::Agreed(_) => false,
+        ModelState::Missing | ModelState::Agreed { .. } => false,
     }
 }
 
