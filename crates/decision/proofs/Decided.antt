@@ -23,7 +23,7 @@ use Rattle.decision.proofs.Passed.{good-items}
 use Rattle.decision.proofs.Sound.{rel-sound, by-identity, by_rank, rank-apart, ahead-trans, is-consistent, is_subset, is-apart}
 use Rattle.arithmetic.specs.declared.standing.ChiSquare.{ChiSquare}
 
-pub each_once : EachOnce
+pub each_once : (A C : Type 0) → EachOnce A C
 each_once A C r all = listed-once r all
 
 named : (s : List ℕ) (x : Refused ℕ ChiSquare) → Named (item_relations s) (up_to (item_count s)) x → Names s x

@@ -19,9 +19,10 @@ use Rattle.arithmetic.specs.declared.standing.ChiSquare.{ChiSquare}
 abbrev pub listed_in : {A C : Type 0} → Outcome A C → List A
 listed_in o = o.ranked ++ (o.dominated ++ map (λ x. x.item) o.refused)
 
--- Every item falls in exactly one of ranked, dominated, refused: together they are the items in another order. So it is of any items.
-abbrev pub EachOnce : Type 1
-EachOnce = (A C : Type 0) (r : Relations A C) (all : List A) → Permᴰ (listed_in (decide r all)) all
+-- Every item falls in exactly one of ranked, dominated, refused: together they are the items in another order. So it is of items of any type A, whatever type C is
+-- measured between them.
+abbrev pub EachOnce : Type 0 → Type 0 → Type 0
+EachOnce A C = (r : Relations A C) (all : List A) → Permᴰ (listed_in (decide r all)) all
 
 -- the number of items in s
 abbrev pub item_count : List ℕ → ℕ

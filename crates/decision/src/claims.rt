@@ -1,7 +1,12 @@
 //! What is claimed of every decision. Each function's contract is the claim; there is nothing to run.
 
-ghost use Rattle.decision.specs.Claims.{DecisionsLawful, OrderFree, OnlyTheEndsDisagree, Position3};
+ghost use Rattle.decision.specs.Claims.{EachOnce, DecisionsLawful, OrderFree, OnlyTheEndsDisagree, Position3};
 ghost use Rattle.decision.specs.Before.{DecidedAsBefore};
+
+/// Items of any type A, with a measure of any type C between them, are ranked, dominated or refused, each exactly once.
+pub fn each_falls_once<A, C>()
+    ensures { EachOnce A C }
+{}
 
 /// Each item is ranked, dominated or refused, exactly once; ranked is empty only without items and ascends; a refusal names whom it
 /// is against, with the chi-square of the two.
