@@ -2,8 +2,8 @@
 """Writes the file stdout beside this one: what the program is to print.
 
 The arithmetic here is Python's: its floats are IEEE 754's binary64, math.sqrt is correctly rounded, and nothing is fused. It
-follows geo.rs, linalg.rs and standing.rs with their loops, and the sine and cosine stand-in of document 01, and takes nothing
-from the proved crate. The inputs are those of the program: its tables are read from its source, its numbers made anew."""
+follows geo.rs, linalg.rs and standing.rs of sky-commons/tally with their loops, with the series for sine and cosine of
+docs/REFERENCE.md, 'Agreement and decision', and takes nothing from the proved crate. The inputs are those of the program: its tables are read from its source, its numbers made anew."""
 import math
 import os
 import re
@@ -23,7 +23,7 @@ def to_bits(x):
     return 0x7FF8_0000_0000_0000 if x != x else struct.unpack("<Q", struct.pack("<d", x))[0]
 
 
-# ---- document 01: the constants from their decimals, the stand-in for sine and cosine
+# ---- docs/REFERENCE.md, 'Agreement and decision': the constants from their decimals, the series for sine and cosine
 
 E7 = float("1e-7")
 # pi to 50 decimals; a Fraction turns into the nearest float

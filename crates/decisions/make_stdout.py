@@ -1,9 +1,10 @@
 #!/usr/bin/env python3
 """Writes the files stdin and stdout beside this one: lists of items, and what the program is to print of them.
 
-The decision follows document 01, 'Decide', and standing.rs: lists of disagreeing subsets, the superseding pass, the contested pass,
-dominance, a sort by rank. The agreement follows geo.rs, linalg.rs and standing.rs on Python's floats, which are IEEE 754's binary64,
-with the sine and cosine stand-in of document 01. Nothing is taken from the proved crates."""
+The decision follows docs/REFERENCE.md, 'Agreement and decision', and standing.rs of sky-commons/tally: lists of disagreeing
+subsets, the superseding pass, the contested pass, dominance, a sort by rank. The agreement follows geo.rs, linalg.rs and
+standing.rs on Python's floats, which are IEEE 754's binary64, with the series for sine and cosine of the same section. Nothing is
+taken from the proved crates."""
 import math
 import os
 import random

@@ -1,8 +1,8 @@
 #!/usr/bin/env python3
 """Writes the files stdin and stdout beside this one: records among summaries, and what the program is to print of them.
 
-States, counting and hashes follow document 01, 'Models and identity', and publish::cited_inputs of the Rust's text; the hash is
-that of Python's hashlib. Nothing is taken from the proved crates."""
+States, counting and hashes follow docs/REFERENCE.md, 'Models and identity', and publish::cited_inputs of sky-commons/tally; the hash
+is that of Python's hashlib. Nothing is taken from the proved crates."""
 import hashlib
 import os
 import random

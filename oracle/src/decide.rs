@@ -110,7 +110,7 @@ pub struct Decision {
     pub refusals: Vec<Refusal>,
 }
 
-/// The items, or nothing where 8 refuses.
+/// The items, or `None` where `tl_decide` answers `TL_BAD_ITEMS`: the bytes are no whole items, there are more than 96, one is malformed, or two have one identity.
 pub fn items(bytes: &[u8]) -> Option<Vec<Item>> {
     if !bytes.len().is_multiple_of(SIZE) || bytes.len() / SIZE > MOST {
         return None;
@@ -149,7 +149,7 @@ pub fn decided(candidates: &[Candidate]) -> Decision {
     plain!(solver::standing::decide(candidates))
 }
 
-/// The Rust's decision; nothing where 8 refuses.
+/// The Rust's decision, or `None` where the items are bad.
 pub fn decide(bytes: &[u8]) -> Option<Decision> {
     Some(decided(&candidates(bytes)?))
 }
