@@ -1,6 +1,6 @@
 //! Reading the lines.
 
-ghost use Rattle.std.specs.Prelude.{◌≡◌, ◌≤◌, ◌+◌, ◌<◌, length, List, ℕ, take, drop, MatchOption, IfOk};
+ghost use Rattle.std.specs.Prelude.{◌≡◌, ◌≤◌, ◌+◌, ◌<◌, length, List, ℕ, take, drop, MatchOption, IfOk, OnErr};
 ghost use Rattle.models.specs.Summary.{inputs_size};
 ghost use Rattle.grammar.specs.Numbers as Val;
 ghost use Rattle.grammar.specs.Operations as G;
@@ -241,9 +241,9 @@ impl<'a> Lines<'a> {
         })
     }
 
-    /// The operation whose first line is due.
+    // The operation whose first line is due.
     #[tactic(auto, unfolding(crate::specs::Operations::operation_at))]
-    pub fn operation(&mut self) -> Result<Call, BadLine>
+    fn read_operation(&mut self) -> Result<Call, BadLine>
         ensures { Gives call_of result self.new (G.operation_at (lines_left self.old)) }
     {
         match self.kind(Due::Op)? {
@@ -251,5 +251,19 @@ impl<'a> Lines<'a> {
             Kind::Conviction => self.conviction(),
             Kind::Report => self.report(),
         }
+    }
+
+    /// The operation whose first line is due, which is taken off. Where a line of it is bad, the first such is the error, and no line is taken off.
+    pub fn operation(&mut self) -> Result<Call, BadLine>
+        ensures call { Gives call_of result self.new (G.operation_at (lines_left self.old)) }
+        ensures unchanged { OnErr result (lines_left self.new ≡ lines_left self.old) }
+    {
+        let mut lines = Lines {
+            rest: self.rest,
+            line: self.line,
+        };
+        let call = lines.read_operation()?;
+        *self = lines;
+        Ok(call)
     }
 }
