@@ -1,4 +1,4 @@
-use Rattle.std.proofs.Common.{refl, sym, ◌∙◌, arith, length-take-le}
+use Rattle.std.proofs.Common.{◌≡◌, refl, sym, ◌∙◌, arith, length-take-le, nat_eq}
 use Rattle.record.specs.Layout.{record_size}
 use Rattle.held.proofs.Signatures.{signers-at}
 use Rattle.held.proofs.formed.place_formed.Goals as goal
@@ -9,9 +9,11 @@ slice_bounds-well_formed-end c = sym (length-take-le record_size c.args.p.now (o
 pub returns-then-not-is_empty : goal.returns-then-not-is_empty
 returns-then-not-is_empty c =
     let e = c.u32_at.ensures ∙ signers-at c.args.p.now c.requires in
-    rw (sym c.well_formed-is_record.ensures ∙ c.if-not-is_record.false, ← e, ← c.is_empty.ensures, c.if-not-is_empty.true) c.is_disjoint.ensures
+    let unsigned : c.is_empty.result ≡ nat_eq c.u32_at.result 0 = c.is_empty.ensures in
+    rw (sym c.well_formed-is_record.ensures ∙ c.if-not-is_record.false, ← e, ← unsigned, c.if-not-is_empty.true) c.is_disjoint.ensures
 
 pub returns-else-not-is_empty : goal.returns-else-not-is_empty
 returns-else-not-is_empty c =
     let e = c.u32_at.ensures ∙ signers-at c.args.p.now c.requires in
-    rw (sym c.well_formed-is_record.ensures ∙ c.if-not-is_record.false, ← e, ← c.is_empty.ensures, c.if-not-is_empty.false) refl
+    let unsigned : c.is_empty.result ≡ nat_eq c.u32_at.result 0 = c.is_empty.ensures in
+    rw (sym c.well_formed-is_record.ensures ∙ c.if-not-is_record.false, ← e, ← unsigned, c.if-not-is_empty.false) refl
