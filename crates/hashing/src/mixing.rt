@@ -1,7 +1,10 @@
-//! The mixing function G and the halves of a round (RFC 7693, 3.1 and 3.2).
+//! The mixing function G in four lanes at a time, and the halves of a round (RFC 7693, 3.1 and 3.2).
 
-ghost use Rattle.std.specs.Prelude.{◌≡◌, ◌<◌};
-ghost use Rattle.hashing.specs.Blake2s.{nth, rotate_right, add_word, turn_word, half_mix, mix_words, mix_columns, mix_diagonals};
+ghost use Rattle.std.specs.Prelude.{◌≡◌, ℕ, ◌+◌, ◌%◌, ◌^◌, ◌<◌, bit_xor};
+ghost use Rattle.hashing.specs.Blake2s.{nth, rotate_right, half_mix, mix_words, mix_columns, mix_diagonals};
+ghost use Rattle.hashing.specs.Rows.{lane, state_of, left};
+
+use std::simd::{u32x4, u32x16};
 
 // The rotations of G (2.1).
 const R1: u32 = 16;
@@ -12,89 +15,83 @@ const R3: u32 = 8;
 
 const R4: u32 = 7;
 
-fn rotate_right(w: u32, n: u32) -> u32
+/// The state as four rows of four words.
+pub type Rows = [u32x4; 4];
+
+// a + b + x, modulo 2^32.
+fn add(a: u32x4, b: u32x4, x: u32x4) -> u32x4
+    ensures { (j : ℕ) → j < 4 → nth result j ≡ (nth a j + nth b j + nth x j) % 2 ^ 32 }
+{
+    a + b + x
+}
+
+// a ^ b, rotated by n.
+fn turn(a: u32x4, b: u32x4, n: u32) -> u32x4
     requires { (0 < n) × (n < 32) }
-    ensures { result ≡ rotate_right w n }
+    ensures { (j : ℕ) → j < 4 → nth result j ≡ rotate_right (bit_xor (nth a j) (nth b j)) n }
 {
-    (w >> n) ^ (w << (32 - n))
+    let x = a ^ b;
+    (x >> u32x4::splat(n)) ^ (x << u32x4::splat(32 - n))
 }
 
-// v[i] := v[i] + v[j] + x, modulo 2^32.
-fn add(v: &mut [u32; 16], i: usize, j: usize, x: u32)
-    requires { (i < 16) × (j < 16) }
-    ensures { v.new ≡ add_word v.old i j x }
+// Four of the eight statements of G, in each lane.
+fn half_mix(v: Rows, x: u32x4, r: u32, s: u32) -> Rows
+    requires { (0 < r) × (r < 32) × (0 < s) × (s < 32) }
+    ensures { (j : ℕ) → j < 4 → lane j result ≡ half_mix (lane j v) 0 1 2 3 (nth x j) r s }
 {
-    v[i] = std::num::wrapping_add_u32(std::num::wrapping_add_u32(v[i], v[j]), x);
+    let [a, b, c, d] = v;
+    let a = add(a, b, x);
+    let d = turn(d, a, r);
+    let c = add(c, d, u32x4::splat(0));
+    let b = turn(b, c, s);
+    [a, b, c, d]
 }
 
-// v[i] := v[i] ^ v[j], rotated by n.
-fn turn(v: &mut [u32; 16], i: usize, j: usize, n: u32)
-    requires { (i < 16) × (j < 16) × (0 < n) × (n < 32) }
-    ensures { v.new ≡ turn_word v.old i j n }
+// G in each lane.
+fn mix(v: Rows, x: u32x4, y: u32x4) -> Rows
+    ensures { (j : ℕ) → j < 4 → lane j result ≡ mix_words (lane j v) 0 1 2 3 (nth x j) (nth y j) }
 {
-    v[i] = rotate_right(v[i] ^ v[j], n);
+    half_mix(half_mix(v, x, R1, R2), y, R3, R4)
 }
 
-// Four of the eight statements of G.
-fn half_mix(v: &mut [u32; 16], a: usize, b: usize, c: usize, d: usize, x: u32, r: u32, s: u32)
-    requires { (a < 16) × (b < 16) × (c < 16) × (d < 16) × (0 < r) × (r < 32) × (0 < s) × (s < 32) }
-    ensures { v.new ≡ half_mix v.old a b c d x r s }
+/// The first half of a round, with the first eight words of m: the lanes are the columns.
+pub fn columns(v: Rows, m: u32x16) -> Rows
+    ensures { state_of result ≡ mix_columns (state_of v) m 0 1 2 3 4 5 6 7 }
 {
-    add(v, a, b, x);
-    turn(v, d, a, r);
-    add(v, c, d, 0);
-    turn(v, b, c, s);
+    mix(v, m.swizzle([0, 2, 4, 6]), m.swizzle([1, 3, 5, 7]))
 }
 
-// G with the words i and j of the message.
-fn mix(v: &mut [u32; 16], m: &[u32; 16], a: usize, b: usize, c: usize, d: usize, i: usize, j: usize)
-    requires { (a < 16) × (b < 16) × (c < 16) × (d < 16) × (i < 16) × (j < 16) }
-    ensures { v.new ≡ mix_words v.old a b c d (nth m.now i) (nth m.now j) }
+// A row turned left by one, two or three places.
+fn left_1(a: u32x4) -> u32x4
+    ensures { result ≡ left 1 a }
 {
-    half_mix(v, a, b, c, d, m[i], R1, R2);
-    half_mix(v, a, b, c, d, m[j], R3, R4);
+    a.rotate_elements_left::<1>()
 }
 
-/// The first half of a round.
-pub fn columns(
-    v: &mut [u32; 16],
-    m: &[u32; 16],
-    s0: usize,
-    s1: usize,
-    s2: usize,
-    s3: usize,
-    s4: usize,
-    s5: usize,
-    s6: usize,
-    s7: usize,
-)
-    requires { (s0 < 16) × (s1 < 16) × (s2 < 16) × (s3 < 16) × (s4 < 16) × (s5 < 16) × (s6 < 16) × (s7 < 16) }
-    ensures { v.new ≡ mix_columns v.old m.now s0 s1 s2 s3 s4 s5 s6 s7 }
+fn left_2(a: u32x4) -> u32x4
+    ensures { result ≡ left 2 a }
 {
-    mix(v, m, 0, 4, 8, 12, s0, s1);
-    mix(v, m, 1, 5, 9, 13, s2, s3);
-    mix(v, m, 2, 6, 10, 14, s4, s5);
-    mix(v, m, 3, 7, 11, 15, s6, s7);
+    a.rotate_elements_left::<2>()
 }
 
-/// The second half of a round.
-pub fn diagonals(
-    v: &mut [u32; 16],
-    m: &[u32; 16],
-    s0: usize,
-    s1: usize,
-    s2: usize,
-    s3: usize,
-    s4: usize,
-    s5: usize,
-    s6: usize,
-    s7: usize,
-)
-    requires { (s0 < 16) × (s1 < 16) × (s2 < 16) × (s3 < 16) × (s4 < 16) × (s5 < 16) × (s6 < 16) × (s7 < 16) }
-    ensures { v.new ≡ mix_diagonals v.old m.now s0 s1 s2 s3 s4 s5 s6 s7 }
+fn left_3(a: u32x4) -> u32x4
+    ensures { result ≡ left 3 a }
 {
-    mix(v, m, 0, 5, 10, 15, s0, s1);
-    mix(v, m, 1, 6, 11, 12, s2, s3);
-    mix(v, m, 2, 7, 8, 13, s4, s5);
-    mix(v, m, 3, 4, 9, 14, s6, s7);
+    a.rotate_elements_left::<3>()
+}
+
+/// The second half of a round, with the last eight words of m: the other rows are turned to the
+/// second, so that the lanes are the diagonals, the last one first, and back. The second stays, for
+/// it is ready last.
+pub fn diagonals(v: Rows, m: u32x16) -> Rows
+    ensures { state_of result ≡ mix_diagonals (state_of v) m 8 9 10 11 12 13 14 15 }
+{
+    let [a, b, c, d] = v;
+    let turned = [left_3(a), b, left_1(c), left_2(d)];
+    let [a, b, c, d] = mix(
+        turned,
+        m.swizzle([14, 8, 10, 12]),
+        m.swizzle([15, 9, 11, 13]),
+    );
+    [left_1(a), b, left_3(c), left_2(d)]
 }
