@@ -28,3 +28,6 @@ returns c =
     (sym (asked (R.is_superseded xs) (length xs) c.args.i c.requires.superseded c.requires.i_below (omega arith)) ∙ sym c.contains.ensures ∙ c.if-contains.false)
     (sym (asked (R.supersedes xs) (length xs) c.args.i c.requires.superseding c.requires.i_below (omega arith)) ∙ sym c.contains-2.ensures ∙ c.if-contains-2.false)
     (c.is_empty.ensures ∙ none-left (R.opposes xs c.args.i) (length xs) c.opposing-opposing.ensures)
+
+pub opposing-opposing-requires : goal.opposing-opposing-requires
+opposing-opposing-requires c = (c.requires.i_below, c.requires.superseded)
