@@ -253,7 +253,8 @@ impl<'a> Lines<'a> {
         }
     }
 
-    /// The operation whose first line is due, which is taken off. Where a line of it is bad, the first such is the error, and no line is taken off.
+    /// The operation whose first line is due; its lines are taken off. Where one of them is bad, the first such is the error, and the reader
+    /// stays as it was.
     pub fn operation(&mut self) -> Result<Call, BadLine>
         ensures call { Gives call_of result self.new (G.operation_at (lines_left self.old)) }
         ensures unchanged { OnErr result (lines_left self.new ≡ lines_left self.old) }
