@@ -27,13 +27,20 @@ fn has_refused(refused: &[RefusedFix<'_>], fix: &Fix<'_>) -> bool
     refused.iter().any(|refusal| refusal.fix.is_of(fix))
 }
 
+// Whether a refused fix was not refused before.
+fn is_new(before: &[RefusedFix<'_>], refusal: &RefusedFix<'_>) -> bool
+    ensures { result ≡ not (list_any (λ y. is_of (fix_of refusal.now) (fix_of y)) before.now) }
+{
+    !has_refused(before, &refusal.fix)
+}
+
 // How many refused fixes were not refused before.
 fn entered(before: &[RefusedFix<'_>], after: &[RefusedFix<'_>]) -> usize
     ensures { result ≡ count_by (λ x. not (list_any (λ y. is_of (fix_of x) (fix_of y)) before.now)) after.now }
 {
     after
         .iter()
-        .filter(|refusal| !has_refused(before, &refusal.fix))
+        .filter(|refusal| is_new(before, refusal))
         .count()
 }
 
