@@ -1,28 +1,38 @@
-/* Toastlagoon's functions for C, C++ and whatever calls like C. The library is target/staticlib/libtoastlagoon.a, made by
- * `build library`, for x86-64-v2 (a processor with POPCNT and SSE4.1, as all since 2009 are); `package` makes a shared one of it. It allocates nothing, keeps nothing between calls, and
- * of other libraries needs only the C library's memcpy, memmove and memset.
+/* Toastlagoon's functions for C, C++ and whatever calls like C.
  *
- * Every function takes any bytes and any numbers and is proved to answer what docs/REFERENCE.md says of them
- * (crates/toastlagoon/src/lib.rt has the contracts, docs/OPERATION.md says how to run it). What
- * the caller owes is what C cannot say:
+ *     uint8_t window[TL_REGISTER_SIZE] = {0}, board[TL_BOARD_SIZE];              // an empty register: all zeros
+ *     uint32_t answer = tl_register_report(window, sizeof window, engine, record, sizeof record);
+ *     if (answer != TL_OK) fprintf(stderr, "%s\n", tl_answer_name(answer));      // refused: no byte has changed
+ *     uint32_t length = tl_board(window, sizeof window, board, sizeof board);    // 0 for an empty board
+ *     if (length == TL_MALFORMED_REGISTER || length == TL_OUTPUT_TOO_SMALL) return 1;
+ *     fwrite(board, 1, length, stdout);
  *
- * - Memory. A slice is two arguments, a pointer and a length in bytes, and that many bytes can be read there (and written, where it is
- *   not const). The pointer is never null, not even for a length of 0: there any valid pointer will do, the address of some byte of the
- *   caller's. An array of a fixed size is a pointer alone, with room for all of it. What one call may write overlaps nothing else that
- *   the same call is given. Nothing needs to be aligned.
+ * The library is target/staticlib/libtoastlagoon.a, made by `build library`, for x86-64-v2 (a processor with POPCNT and SSE4.1, as
+ * all since 2009 are); `package` makes a shared one of it. It allocates nothing, keeps nothing between calls, and of other
+ * libraries needs only the C library's memcpy, memmove, memset and memcmp.
+ *
+ * Every function takes any bytes and any numbers and is proved to return what docs/REFERENCE.md says of them
+ * (crates/toastlagoon/src/lib.rt has the contracts, docs/OPERATION.md says how to run it). What the caller owes is what C cannot
+ * say:
+ *
+ * - Memory. A slice is two arguments, a pointer and a length in bytes, and that many bytes can be read there (and written, where
+ *   it is not const). The pointer is never null, not even for a length of 0: there any valid pointer will do, the address of some
+ *   byte of the caller's. An array of a fixed size is a pointer alone, with room for all of it. What one call may write overlaps
+ *   nothing else that is passed to the same call. Nothing needs to be aligned.
  * - A bool is 0 or 1.
- * - The floating-point environment that a thread begins with: rounding to nearest, no flush to zero and no denormals as zero (MXCSR
- *   1f80 but for its flags), no exception unmasked. Another changes chi-squares, and so which fixes are refused, and the answer of tl_horizontal_sigma.
- * - Stack: 48 KB for tl_decide, 112 KB for tl_board and each function of a track, 144 KB for tl_register_preview, 4 KB for each other
- *   function (a KB is 1,024 bytes). bench/stack measures it; seen were up to 18 KB for a decision of up to 32 items and 42 KB for one of
- *   more, 62 KB for a board, 93 KB for a preview, which has a copy of the register there, 25 to 28 KB for a call on a track and 1 to 3 KB
- *   for the others.
- *   What a dynamic linker takes at a first call is not in these: bind names at the start (-Wl,-z,now).
- * - Threads: any number of them may call at once, as long as no two calls have memory in common that one of them may write. A register
- *   or a track that several threads use needs the caller's lock.
+ * - The floating-point environment that a thread begins with: rounding to nearest, no flush to zero and no denormals as zero
+ *   (MXCSR 1f80 but for its flags), no exception unmasked. Another changes chi-squares, and so which fixes are refused, and the
+ *   result of tl_horizontal_sigma.
+ * - Stack: 48 KB for tl_decide, 112 KB for tl_board and each function of a track, 144 KB for tl_register_preview, 4 KB for each
+ *   other function (a KB is 1,024 bytes). bench/stack measures it; seen were up to 18 KB for a decision of up to 32 items and 42
+ *   KB for one of more, 62 KB for a board, 93 KB for a preview, which has a copy of the register there, 25 to 28 KB for a call on
+ *   a track and 1 to 3 KB for the others. What a dynamic linker takes at a first call is not in these: bind names at the start
+ *   (-Wl,-z,now).
+ * - Threads: any number of them may call at once, as long as no two calls have memory in common that one of them may write. A
+ *   register or a track that several threads use needs the caller's lock.
  *
- * Numbers in memory are little-endian, a covariance's f64 too (in the text of a session they are written with the highest digit first).
- * A function that refuses answers one of the numbers below and changes no byte. */
+ * Numbers in memory are little-endian, a covariance's f64 too (in the text of a session they are written with the highest digit
+ * first). A function that refuses returns one of the numbers below and changes no byte. */
 #ifndef TOASTLAGOON_H
 #define TOASTLAGOON_H
 
@@ -41,11 +51,15 @@ extern "C" {
 
 #define TL_VERSION_MAJOR 0
 #define TL_VERSION_MINOR 9
-#define TL_VERSION_PATCH 0
+#define TL_VERSION_PATCH 1
 #define TL_VERSION (TL_VERSION_MAJOR * 1000000 + TL_VERSION_MINOR * 1000 + TL_VERSION_PATCH)
-#define TL_VERSION_TEXT TL_VERSION_JOINED(TL_VERSION_MAJOR, TL_VERSION_MINOR, TL_VERSION_PATCH) /* "0.9.0" */
+#define TL_VERSION_TEXT TL_VERSION_JOINED(TL_VERSION_MAJOR, TL_VERSION_MINOR, TL_VERSION_PATCH) /* "0.9.1" */
 #define TL_VERSION_JOINED(major, minor, patch) TL_VERSION_QUOTED(major, minor, patch)
 #define TL_VERSION_QUOTED(major, minor, patch) #major "." #minor "." #patch
+
+/* The version of the library that is linked, as TL_VERSION has it: a program that was compiled with this header wants
+ * tl_version() / 1000 == TL_VERSION / 1000, and has all names of the header where tl_version() >= TL_VERSION. */
+uint32_t tl_version(void);
 
 /* ---- answers */
 
@@ -58,12 +72,13 @@ extern "C" {
 #define TL_FULL 5               /* not held yet, and there is no place left */
 #define TL_MODEL_MISSING 6      /* a track has no summary of a model that the record cites */
 #define TL_MODEL_DISPUTED 7     /* a track's summaries of a cited model disagree, or are of another spec */
-#define TL_BAD_ITEMS 8          /* over 96 items, a malformed item, or two with one identity */
+#define TL_BAD_ITEMS 8          /* over 96 items, no whole number of items, a malformed item, or two of one identity */
 #define TL_BAD_SUMMARY 9        /* a model over 63, or inputs that are not of 32 bytes */
-#define TL_OUTPUT_TOO_SMALL 10  /* an output of under TL_BOARD_SIZE bytes for a board or a preview, of under TL_LISTING_SIZE for a listing */
+#define TL_OUTPUT_TOO_SMALL 10  /* under TL_BOARD_SIZE bytes for a board or a preview, under TL_LISTING_SIZE for a listing */
 
 /* What a report did to a track. */
-#define TL_CHANGED 20   /* the fix stands, or another fix is first in its transmission than before */
+#define TL_CHANGED 20   /* a fix of its identity stands in the transmission that it joined, or is first in the one that it opened;
+                           or the transmission that it joined has another first fix than before */
 #define TL_CONTESTED 21 /* a smaller fix disagrees with it, and it is kept among the refused */
 #define TL_DUPLICATE 22 /* its identity was held in the one transmission that it is tied to, and gained the signer */
 #define TL_DROPPED 23   /* it is not kept */
@@ -73,9 +88,9 @@ extern "C" {
 #define TL_OUTSIDE 1      /* the chi-square is above the limit: they disagree */
 #define TL_UNMEASURABLE 2 /* there is no chi-square: they count as disagreeing */
 
-/* What an answer says, in words. Not for the outcomes of tl_agreement, and not for the lengths that tl_board, tl_register_preview and
- * tl_track_listing answer: a length can be any number but those of their refusals. The text is part of the program that includes this
- * header, not of the library. */
+/* What an answer says, in words. Not for the outcomes of tl_agreement, and not for the lengths that tl_board, tl_register_preview
+ * and tl_track_listing return: a length can be any number but those of their refusals. The text is part of the program that
+ * includes this header, not of the library; tl_answer_text has the same words for languages that read no header. */
 static inline const char *tl_answer_name(uint32_t answer) {
     switch (answer) {
     case TL_OK: return "done";
@@ -96,6 +111,12 @@ static inline const char *tl_answer_name(uint32_t answer) {
     default: return "no answer of the library";
     }
 }
+
+/* Writes these words to the start of out, without a zero byte at their end, and returns their length. Where out_len is less than
+ * that, nothing is written and the same length is returned; TL_ANSWER_TEXT_SIZE bytes are always enough. Bytes past the words stay
+ * as found. */
+#define TL_ANSWER_TEXT_SIZE 48
+uint32_t tl_answer_text(uint32_t answer, uint8_t *out, size_t out_len);
 
 /* ---- limits */
 
@@ -137,7 +158,7 @@ static inline const char *tl_answer_name(uint32_t answer) {
 #define TL_RECORD_MODEL_COUNT_AT (TL_RECORD_TAGS_AT + TL_MAX_TAGS * TL_TAG_SIZE) /* u8, 0 to TL_MAX_CITED */
 #define TL_RECORD_MODELS_AT (TL_RECORD_MODEL_COUNT_AT + 1)            /* u8 each, at most TL_MAX_MODEL, in any order */
 #define TL_RECORD_SPEC_AT (TL_RECORD_MODELS_AT + TL_MAX_CITED)        /* u16 */
-#define TL_RECORD_XX_AT (TL_RECORD_SPEC_AT + 2)                       /* covariance: six f64, square metres; x east, y north, z up */
+#define TL_RECORD_XX_AT (TL_RECORD_SPEC_AT + 2)                       /* covariance, six f64 of m^2; x east, y north, z up */
 #define TL_RECORD_XY_AT (TL_RECORD_XX_AT + TL_F64_SIZE)
 #define TL_RECORD_XZ_AT (TL_RECORD_XY_AT + TL_F64_SIZE)
 #define TL_RECORD_YY_AT (TL_RECORD_XZ_AT + TL_F64_SIZE)
@@ -171,8 +192,8 @@ static inline const char *tl_answer_name(uint32_t answer) {
 #define TL_FIX_INPUTS_AT (TL_FIX_SIGNERS_AT + TL_SIGNERS_SIZE)
 #define TL_FIX_SIZE (TL_FIX_INPUTS_AT + TL_INPUTS_SIZE)               /* 258 */
 
-/* A refused fix of a track, the identity that it is refused against, and the chi-square between them: positive infinity where there is
- * none (TL_UNMEASURABLE). */
+/* A refused fix of a track, the identity that it is refused against, and the chi-square between them: positive infinity where
+ * there is none (TL_UNMEASURABLE). */
 #define TL_REFUSED_FIX_AT 0
 #define TL_REFUSED_AGAINST_AT (TL_REFUSED_FIX_AT + TL_FIX_SIZE)
 #define TL_REFUSED_CHI2_AT (TL_REFUSED_AGAINST_AT + TL_IDENTITY_SIZE) /* f64 */
@@ -207,8 +228,8 @@ static inline const char *tl_answer_name(uint32_t answer) {
 #define TL_PASSED 1
 #define TL_FAILED 2
 
-/* A refusal in the answer of a decision. Where there is no chi-square between the two (TL_UNMEASURABLE), its bytes are zero: look at
- * TL_REFUSAL_MEASURED_AT before them. */
+/* A refusal in the answer of a decision. Where there is no chi-square between the two (TL_UNMEASURABLE), its bytes are zero: look
+ * at TL_REFUSAL_MEASURED_AT before them. */
 #define TL_REFUSAL_INDEX_AT 0                                         /* u8, the refused item */
 #define TL_REFUSAL_AGAINST_AT (TL_REFUSAL_INDEX_AT + 1)               /* u8, the item that it is refused against */
 #define TL_REFUSAL_SUPERSEDED_AT (TL_REFUSAL_AGAINST_AT + 1)          /* u8, 1 if that one supersedes it, 0 if it is contested */
@@ -216,87 +237,90 @@ static inline const char *tl_answer_name(uint32_t answer) {
 #define TL_REFUSAL_CHI2_AT (TL_REFUSAL_MEASURED_AT + 1)               /* f64, between the two; zero where there is none */
 #define TL_REFUSAL_SIZE (TL_REFUSAL_CHI2_AT + TL_F64_SIZE)            /* 12 */
 
-/* The answer of a decision. Ranked: a count u8, and that many indices u8, the first in rank first. Dominated and refusals: the same,
- * ascending. What is not used is zero. */
+/* The answer of a decision. Ranked: a count u8, and that many indices u8, the first in rank first. Dominated and refusals: the
+ * same, ascending. Unused bytes are zero. */
 #define TL_RANKED_AT 0
 #define TL_DOMINATED_AT (TL_RANKED_AT + 1 + TL_MAX_ITEMS)
 #define TL_REFUSALS_AT (TL_DOMINATED_AT + 1 + TL_MAX_ITEMS)
 #define TL_ANSWER_SIZE (TL_REFUSALS_AT + 1 + TL_MAX_ITEMS * TL_REFUSAL_SIZE) /* 1,347 */
 
-/* What a board, or a listing, is written to: every one fits. */
+/* The size of the output of a board, and of a listing: every one fits. */
 #define TL_BOARD_SIZE 16384
 #define TL_LISTING_SIZE TL_BOARD_SIZE
 
 /* ---- functions */
 
-/* The BLAKE2s-256 hash (RFC 7693, no key) of any bytes. Answers TL_OK. */
+/* The BLAKE2s-256 hash (RFC 7693, no key) of any bytes. Returns TL_OK. */
 uint32_t tl_blake2s256(const uint8_t *input, size_t input_len, uint8_t out[TL_HASH_SIZE]);
 
-/* The square root, rounded to nearest as IEEE 754 has it. NaN for NaN and for what is below zero. */
+/* The square root, rounded to nearest as IEEE 754 has it. NaN for NaN and for a negative number. */
 double tl_root(double x);
 
 /* The horizontal deviation in metres of a covariance. */
 double tl_horizontal_sigma(double xx, double xy, double xz, double yy, double yz, double zz);
 
-/* Whether a larger fix lies within a smaller one's uncertainty. The smaller fix first; a height counts only where its flag is set.
- * Answers TL_INSIDE and writes a *chi2 <= *limit, or TL_OUTSIDE and writes a *chi2 > *limit: the chi-square that is written is never NaN
- * and never infinite. Answers TL_UNMEASURABLE, and leaves *chi2 and *limit as found, where the smaller fix's covariance has no Cholesky
- * factor (one of zeros has none), or the sum is not finite, be it infinite or NaN. This is no measure of how far the two fixes lie from
- * each other; often it says that the smaller fix's covariance is of no use. */
+/* Whether a larger fix lies within a smaller one's uncertainty. The first ten arguments are the smaller fix's position, height and
+ * covariance, the next ten the larger one's; a height counts only where its flag is set. Returns TL_INSIDE and writes a *chi2 <=
+ * *limit, or TL_OUTSIDE and writes a *chi2 > *limit: the chi-square that is written is never NaN and never infinite. Returns
+ * TL_UNMEASURABLE, and leaves *chi2 and *limit as found, where the smaller fix's covariance has no Cholesky factor (one of zeros
+ * has none), or the sum is not finite, be it infinite or NaN. This does not measure how far the two fixes lie from each other;
+ * often it means that the smaller fix's covariance is of no use. */
 uint32_t tl_agreement(int32_t lat, int32_t lon, bool has_height, int32_t height, double xx, double xy, double xz, double yy,
                       double yz, double zz, int32_t lat2, int32_t lon2, bool has_height2, int32_t height2, double xx2, double xy2,
                       double xz2, double yy2, double yz2, double zz2, double *chi2, double *limit);
 
 /* Which of one transmission's fixes stand, in rank, which are dominated and which are refused. The items follow each other without
- * a gap. Answers TL_OK and fills the answer, or TL_BAD_ITEMS and leaves it. */
+ * a gap. Returns TL_OK and fills the answer, or TL_BAD_ITEMS and leaves it. */
 uint32_t tl_decide(const uint8_t *items, size_t items_len, uint8_t answer[TL_ANSWER_SIZE]);
 
-/* Reports a record for an engine: it is put in with its signer, or gains the signer where it is held. A record that cites a model
- * without an agreed summary is held and answered TL_OK too; it is on no board until the model is agreed. Answers TL_OK, or
- * TL_MALFORMED_REGISTER, TL_ENGINE_OVER_31, TL_MALFORMED_RECORD, TL_ENGINE_CONVICTED, TL_FULL, the first that holds. */
+/* Reports a record for an engine: it is put in with its signer, or gains the signer where it is held already. A record that cites
+ * a model without an agreed summary is held and TL_OK is returned too; it is on no board until the model is agreed. Returns TL_OK,
+ * or the first that holds of TL_MALFORMED_REGISTER, TL_ENGINE_OVER_31, TL_MALFORMED_RECORD, TL_ENGINE_CONVICTED, TL_FULL. */
 uint32_t tl_register_report(uint8_t *memory, size_t memory_len, uint32_t engine, const uint8_t *record, size_t record_len);
 
-/* Puts in what an engine says of a model: its spec and the hash of its inputs. Answers TL_OK, or TL_MALFORMED_REGISTER,
- * TL_ENGINE_OVER_31, TL_BAD_SUMMARY, TL_ENGINE_CONVICTED, TL_FULL, the first that holds. */
+/* Puts in what an engine says of a model: its spec and the hash of its inputs. Returns TL_OK, or the first that holds of
+ * TL_MALFORMED_REGISTER, TL_ENGINE_OVER_31, TL_BAD_SUMMARY, TL_ENGINE_CONVICTED, TL_FULL. */
 uint32_t tl_register_summary(uint8_t *memory, size_t memory_len, uint32_t engine, uint32_t model, uint16_t spec,
                              const uint8_t *inputs, size_t inputs_len);
 
-/* Convicts an engine: its summaries go, its signature goes from every record, and so does a record that has no signer left. Answers
- * TL_OK, also for an engine that is convicted already, or TL_MALFORMED_REGISTER, TL_ENGINE_OVER_31, the first that holds. */
+/* Convicts an engine: its summaries are removed, its signature is removed from every record, and so is a record that has no signer
+ * left. Returns TL_OK, also for an engine that is convicted already, or the first that holds of TL_MALFORMED_REGISTER,
+ * TL_ENGINE_OVER_31. */
 uint32_t tl_register_conviction(uint8_t *memory, size_t memory_len, uint32_t engine);
 
-/* Writes the board of a register to the start of out and answers its length, not TL_OK; or TL_MALFORMED_REGISTER, TL_OUTPUT_TOO_SMALL,
- * the first that holds. A length is 0, where nothing is shown, or greater than every refusal's number. The text has no zero byte at its
- * end. Bytes past the length, and all bytes of a refused call, stay as found. Every board fits TL_BOARD_SIZE bytes. Registers that hold
- * the same records, signers and summaries have the same board. */
+/* Computes the board of a register, writes it to the start of out, and returns the length: 0 for an empty board, else greater than
+ * every refusal's number; or the first that holds of TL_MALFORMED_REGISTER, TL_OUTPUT_TOO_SMALL. The text has no zero byte at its
+ * end. Bytes past the length, and all bytes of a refused call, stay as found. Every board fits TL_BOARD_SIZE bytes. Registers that
+ * hold the same records, signers and summaries have the same board. */
 uint32_t tl_board(const uint8_t *memory, size_t memory_len, uint8_t *out, size_t out_len);
 
-/* Writes the board of a register as it would be if an engine were convicted, and only reads the register: what tl_board writes after
- * tl_register_conviction on a copy. Answers the length, as tl_board does; or TL_MALFORMED_REGISTER, TL_ENGINE_OVER_31,
- * TL_OUTPUT_TOO_SMALL, the first that holds. An engine that is convicted already may be previewed too, and gives the present board. If
- * the engine is convicted next, tl_board writes what was previewed. Bytes past the length, and all bytes of a refused call, stay as
- * found. */
+/* Computes the board of a register as it would be if an engine were convicted, and only reads the register: it writes what
+ * tl_board writes after tl_register_conviction on a copy. Returns the length, as tl_board does; or the first that holds of
+ * TL_MALFORMED_REGISTER, TL_ENGINE_OVER_31, TL_OUTPUT_TOO_SMALL. The preview of an engine that is convicted already is the present
+ * board. If the engine is convicted next, tl_board writes what was previewed. Bytes past the length, and all bytes of a refused
+ * call, stay as found. */
 uint32_t tl_register_preview(const uint8_t *memory, size_t memory_len, uint32_t engine, uint8_t *out, size_t out_len);
 
 /* A track is what the merge of sky-commons/tally holds of one aircraft, decided report by report: it depends on the order of the
  * calls, as a register does not. */
 
-/* Reports a record for an engine into a track. Answers TL_CHANGED, TL_CONTESTED, TL_DUPLICATE or TL_DROPPED, or TL_MALFORMED_TRACK,
- * TL_ENGINE_OVER_31, TL_MALFORMED_RECORD, TL_ENGINE_CONVICTED, TL_MODEL_MISSING, TL_MODEL_DISPUTED, the first that holds. */
+/* Reports a record for an engine into a track. Returns TL_CHANGED, TL_CONTESTED, TL_DUPLICATE or TL_DROPPED, or the first that
+ * holds of TL_MALFORMED_TRACK, TL_ENGINE_OVER_31, TL_MALFORMED_RECORD, TL_ENGINE_CONVICTED, TL_MODEL_MISSING, TL_MODEL_DISPUTED. */
 uint32_t tl_track_report(uint8_t *memory, size_t memory_len, uint32_t engine, const uint8_t *record, size_t record_len);
 
-/* Puts in what an engine says of a model, in the place of what it said before. Where the model is disputed now and was not, fixes whose
- * models no longer say what they were checked under go. Answers TL_OK, or TL_MALFORMED_TRACK, TL_ENGINE_OVER_31, TL_BAD_SUMMARY,
- * TL_ENGINE_CONVICTED, TL_FULL, the first that holds. */
+/* Puts in what an engine says of a model, in the place of what it said before. Where the model is disputed now and was not, the
+ * fixes whose models no longer say what they were checked under are removed; if any is, every transmission is decided again.
+ * Returns TL_OK, or the first that holds of TL_MALFORMED_TRACK, TL_ENGINE_OVER_31, TL_BAD_SUMMARY, TL_ENGINE_CONVICTED, TL_FULL. */
 uint32_t tl_track_summary(uint8_t *memory, size_t memory_len, uint32_t engine, uint32_t model, uint16_t spec, const uint8_t *inputs,
                           size_t inputs_len);
 
-/* Convicts an engine: its summaries and signatures go, and every transmission is decided again. Answers TL_OK, also for an engine that
- * is convicted already, or TL_MALFORMED_TRACK, TL_ENGINE_OVER_31, the first that holds. */
+/* Convicts an engine: its summaries and signatures are removed, so are the fixes whose models no longer say what they were checked
+ * under, and every transmission is decided again. Returns TL_OK, also for an engine that is convicted already, or the first that
+ * holds of TL_MALFORMED_TRACK, TL_ENGINE_OVER_31. */
 uint32_t tl_track_conviction(uint8_t *memory, size_t memory_len, uint32_t engine);
 
-/* Writes the listing of a track to the start of out and answers its length, not TL_OK; or TL_MALFORMED_TRACK, TL_OUTPUT_TOO_SMALL, the
- * first that holds. A length is greater than every refusal's number. The text has no zero byte at its end. Bytes past the length, and
+/* Writes the listing of a track to the start of out and returns the length, which is greater than every refusal's number; or the
+ * first that holds of TL_MALFORMED_TRACK, TL_OUTPUT_TOO_SMALL. The text has no zero byte at its end. Bytes past the length, and
  * all bytes of a refused call, stay as found. */
 uint32_t tl_track_listing(const uint8_t *memory, size_t memory_len, uint8_t *out, size_t out_len);
 

@@ -59,6 +59,22 @@ static void write_item(uint8_t item[TL_ITEM_SIZE], int tags, int32_t lat) {
     item[TL_ITEM_VERIFIED_AT] = TL_UNJUDGED;
 }
 
+/* The library has the header's version and its words for every answer, and writes them only where they fit. */
+static void show_words(void) {
+    int same = 0;
+    for (uint32_t answer = 0; answer < 100; answer++) {
+        const char *name = tl_answer_name(answer);
+        size_t length = strlen(name);
+        uint8_t text[TL_ANSWER_TEXT_SIZE + 1] = {0}, small[TL_ANSWER_TEXT_SIZE] = {0};
+        if (tl_answer_text(answer, text, TL_ANSWER_TEXT_SIZE) != length || strcmp((const char *)text, name) != 0) continue;
+        if (tl_answer_text(answer, small, length) != length || memcmp(small, name, length) != 0) continue;
+        memset(small, 0, sizeof small);
+        if (tl_answer_text(answer, small, length - 1) != length || small[0] != 0) continue;
+        same++;
+    }
+    printf("library %" PRIu32 ": %d numbers have the header's words\n", tl_version(), same);
+}
+
 static void show(const char *what, uint32_t answer) { printf("%s: answer %" PRIu32 " (%s)\n", what, answer, tl_answer_name(answer)); }
 
 static void show_text(const char *what, uint32_t length, const uint8_t *text) {
@@ -69,6 +85,7 @@ static void sizes(void) {
     printf("header %s (%d): record %d, summary %d, register %d, item %d, answer %d, fix %d, refused %d, transmission %d, track %d\n",
            TL_VERSION_TEXT, TL_VERSION, TL_RECORD_SIZE, TL_SUMMARY_SIZE, TL_REGISTER_SIZE, TL_ITEM_SIZE, TL_ANSWER_SIZE, TL_FIX_SIZE,
            TL_REFUSED_SIZE, TL_TRANSMISSION_SIZE, TL_TRACK_SIZE);
+    show_words();
 }
 
 static void show_indices(const char *name, const uint8_t *list) {

@@ -3,6 +3,7 @@
 #![tactic(auto)]
 
 ghost use Rattle.std.specs.Prelude.{◌≡◌};
+ghost use Rattle.names.specs.Names.{version_number, write_name};
 ghost use Rattle.hashing.specs.Blake2s as Hash;
 ghost use Rattle.floats.specs.Root as Root;
 ghost use Rattle.arithmetic.specs.Agree.{agreement_of, sigma_of};
@@ -28,6 +29,22 @@ const INSIDE: u32 = 0;
 const OUTSIDE: u32 = 1;
 
 const UNMEASURABLE: u32 = 2;
+
+/// The version of the library, as one number.
+#[unsafe(no_mangle)]
+pub extern "C" fn tl_version() -> u32
+    ensures { result ≡ version_number }
+{
+    names::version()
+}
+
+/// What an answer says, in words, at the start of `out`, and the length of the words. Where `out` is shorter nothing is written.
+#[unsafe(no_mangle)]
+pub extern "C" fn tl_answer_text(answer: u32, out: &mut [u8]) -> u32
+    ensures { after result out.new ≡ write_name answer out.old }
+{
+    names::write_name(answer, out)
+}
 
 /// The BLAKE2s-256 hash of any bytes. Answers 0.
 #[unsafe(no_mangle)]
