@@ -246,6 +246,7 @@ uint32_t tl_answer_text(uint32_t answer, uint8_t *out, size_t out_len);
 
 /* The size of the output of a board, and of a listing: every one fits. */
 #define TL_BOARD_SIZE 16384
+#define TL_MIN_LENGTH 112 /* the least length of a board or a preview that is not empty */
 #define TL_LISTING_SIZE TL_BOARD_SIZE
 
 /* ---- functions */

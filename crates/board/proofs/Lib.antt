@@ -6,6 +6,7 @@ pub mod Shows
 pub mod WholeLists
 pub mod Previewed
 pub mod Nothing
+pub mod Shortest
 pub mod Bursts
 pub mod Positions
 pub mod Worked

@@ -1,5 +1,5 @@
 -- The board of a register (Board) and the one after a conviction, shown first (Preview); what is claimed of whole lists of calls (Claims), of previews (Previews), of
--- what is shown (Shows) and of bursts with a pause between them (Bursts), when it has no bytes (Nothing), the positions to check (Positions), a board
+-- what is shown (Shows) and of bursts with a pause between them (Bursts), when it has no bytes (Nothing), how short it can be else (Shortest), the positions to check (Positions), a board
 -- and a preview worked out (Worked); and what a board shows of fixes (Latest).
 pub mod Board
 pub mod Preview
@@ -8,6 +8,7 @@ pub mod Previews
 pub mod Shows
 pub mod Bursts
 pub mod Nothing
+pub mod Shortest
 pub mod Positions
 pub mod Worked
 pub mod Latest

@@ -10,6 +10,7 @@ ghost use Rattle.board.specs.Previews.{RefusedInOrder, ThenConvicted, ConvictedI
 ghost use Rattle.board.specs.Shows.{WhatIsShown};
 ghost use Rattle.board.specs.Bursts.{BurstsOnBoards};
 ghost use Rattle.board.specs.Nothing.{NoBytesExactlyWhen};
+ghost use Rattle.board.specs.Shortest.{NoneShorter};
 ghost use Rattle.board.specs.Positions.{Positions};
 ghost use Rattle.board.specs.Worked.{BoardsWorked};
 
@@ -61,4 +62,9 @@ pub fn positions()
 /// A whole board and a whole preview, line by line.
 pub fn boards_worked()
     ensures { BoardsWorked }
+{}
+
+/// A board is empty, or has at least 112 bytes.
+pub fn no_board_is_shorter()
+    ensures { NoneShorter }
 {}

@@ -1,0 +1,116 @@
+-- A board that is not empty has a header and a ranked line.
+use Rattle.std.proofs.Common.{ℕ, zero, suc, ◌+◌, ◌-◌, ◌≤◌, ◌<◌, ◌≡◌, refl, sym, ap, subst, ◌∙◌, true, ◌⊎◌, inl, inr, ⊎_elim, Option, Some, None, ℤ, pos, negsuc, List, [], ◌∷◌, map, arith, length, drop, length-append}
+use mathlib.Core.Bool.{false≢true}
+use mathlib.Core.List.Permᴰ
+use mathlib.Core.List.{Memᴰ, flat_map}
+use Rattle.std.specs.List.{filter}
+use Rattle.ranges.specs.Lists.{sort}
+use Rattle.ranges.proofs.Lists.{filter-in, sort-perm}
+use Rattle.ranges.proofs.Orders.{perm-mem}
+use Rattle.octets.specs.Ascii.{ascii}
+use Rattle.octets.specs.Bytes.{Bytes}
+use Rattle.text.specs.Numbers.{signed_decimal}
+use Rattle.text.specs.Heights.{metres}
+use Rattle.text.proofs.Readback.{digits-width, hex-width}
+use Rattle.record.specs.Fields.{time, latitude, longitude, height, weight}
+use Rattle.shown.specs.Fix.{Fix}
+use Rattle.shown.specs.Shown.{Transmission, shown}
+use Rattle.shown.proofs.Showing.{ranked-some}
+use Rattle.links.specs.Transmissions.{transmission_of, leads, is_first, transmissions_of}
+use Rattle.links.proofs.Partition.{map-from}
+use Rattle.transmissions.specs.Picture.{older_than, picture, latest_of, max_shown}
+use Rattle.drawing.specs.Lines.{where_when, metres_text, height_text, fix_text, fix_line}
+use Rattle.drawing.specs.Text.{ranked_text, dominated_text, refused_text, text_of, text_from, board_text}
+use Rattle.drawing.proofs.Widths.{header-width}
+use Rattle.register.specs.Register.{Register}
+use Rattle.register.specs.Memory.{decode}
+use Rattle.board.specs.Board.{board_of, board_in}
+use Rattle.board.specs.Shortest.{least_length, NoneShorter}
+
+-- ---- a line
+
+signed-some : (v : ℤ) → 1 ≤ length (signed_decimal v)
+unfolding signed_decimal
+signed-some (pos n) = (digits-width 9 n).0
+signed-some (negsuc n) = omega arith
+
+where-long : (r : List ℕ) → 19 ≤ length (where_when r)
+unfolding where_when ascii
+where-long r =
+    let p = digits-width 19 (time r) in
+    let q = signed-some (latitude r) in
+    let s = signed-some (longitude r) in
+    simp length-append (omega arith)
+
+metres-long : (h : Option ℤ) → 1 ≤ length (metres_text h)
+unfolding metres_text ascii
+metres-long None = omega arith
+metres-long (Some h) = signed-some (metres h)
+
+height-long : (r : List ℕ) → 9 ≤ length (height_text r)
+unfolding height_text ascii
+height-long r = let q = metres-long (height r) in simp length-append (omega arith)
+
+ranked-long : (f : Fix) → 66 ≤ length (ranked_text f)
+unfolding fix_line fix_text ascii
+ranked-long f =
+    let p = where-long f.record_bytes in
+    let q = height-long f.record_bytes in
+    let w = digits-width 19 (weight f.record_bytes) in
+    let x = hex-width 8 f.signers in
+    simp length-append (omega arith)
+
+-- ---- a transmission
+
+ranked-lines : (fs : List Fix) → 0 < length fs → 66 ≤ length (flat_map ranked_text fs)
+unfolding flat_map
+ranked-lines [] h = absurd (omega arith)
+ranked-lines (f ∷ fs) h = let p = ranked-long f in rw (length-append (ranked_text f) (flat_map ranked_text fs)) (omega arith)
+
+text-long : (n : ℕ) (t : Transmission) → 0 < length t.ranked → least_length ≤ length (text_of n t)
+unfolding text_of
+text-long n t h =
+    let a = header-width n (length t.ranked) (length t.dominated) (length t.refused) in
+    let b = ranked-lines t.ranked h in
+    simp length-append (omega (arith, a.0, b))
+
+-- a transmission has a fix: the one that leads it
+led : (a : Fix) (c : List Fix) → leads a c ≡ true → 0 < length c
+led a [] e = absurd (false≢true e)
+led a (f ∷ c) e = omega arith
+
+some-fix : (fs c : List Fix) → Memᴰ c (transmissions_of fs) → 0 < length c
+unfolding transmissions_of
+some-fix fs c m =
+    let r = map-from (transmission_of fs) (filter (is_first fs) fs) c m in
+    let q = filter-in (is_first fs) fs r.0 r.1 in
+    subst (λ (z : List Fix). 0 < length z) (sym r.2) (led r.0 (transmission_of fs r.0) q.1)
+
+-- ---- a board
+
+drop-in : {A : Type 0} (n : ℕ) (x : A) (l : List A) → Memᴰ x (drop n l) → Memᴰ x l
+drop-in zero x l m = m
+drop-in (suc n) x [] m = m
+drop-in (suc n) x (y ∷ l) m = Memᴰ.tail (drop-in n x l m)
+
+-- what is shown of the transmissions of fixes has a ranked fix
+all-ranked : (fs : List Fix) (t : Transmission) → Memᴰ t (latest_of (sort older_than (map shown (transmissions_of fs)))) → 0 < length t.ranked
+all-ranked fs t m =
+    let s = sort older_than (map shown (transmissions_of fs)) in
+    let k = perm-mem (Permᴰ.symm (sort-perm older_than (map shown (transmissions_of fs)))) (drop-in (length s - max_shown) t s m) in
+    let r = map-from shown (transmissions_of fs) t k in
+    subst (λ (z : Transmission). 0 < length z.ranked) (sym r.2) (ranked-some r.0 (some-fix fs r.0 r.1))
+
+some-text : (ts : List Transmission) → ((t : Transmission) → Memᴰ t ts → 0 < length t.ranked) → (length (board_text ts) ≡ 0) ⊎ (least_length ≤ length (board_text ts))
+unfolding text_from
+some-text [] h = inl refl
+some-text (t ∷ ts) h =
+    let a = text-long 1 t (h t (Memᴰ.head refl)) in
+    inr (rw (length-append (text_of 1 t) (text_from 2 ts)) (omega (arith, a)))
+
+shortest : (s : Register) → (length (board_in s) ≡ 0) ⊎ (least_length ≤ length (board_in s))
+unfolding board_of picture
+shortest s = some-text _ (all-ranked _)
+
+pub none-shorter : NoneShorter
+none-shorter m b w = shortest (decode m)
