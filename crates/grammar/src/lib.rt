@@ -10,4 +10,5 @@ mod reports;
 mod session;
 
 pub use lines::{BadLine, Call, Due, Lines, Report};
+pub use numbers::split_once;
 pub use session::check;

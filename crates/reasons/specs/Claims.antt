@@ -13,4 +13,4 @@ ReasonWhereRefused = (s : List ℕ) → ltb 0 (length (reason_of s)) ≡ eqb (ge
 
 -- the reason of a session with a bad line is the sentence on the first of them
 abbrev pub NamesTheBadLine : Type 0
-NamesTheBadLine = (s : List ℕ) (bad : BadLine) → length s ≤ max_input → session_of s ≡ Err bad → reason_of s ≡ bad_line_reason bad
+NamesTheBadLine = (s : List ℕ) (bad : BadLine) → length s ≤ max_input → session_of s ≡ Err bad → reason_of s ≡ bad_line_reason s bad

@@ -1,3 +1,4 @@
+pub mod Found
 pub mod Reasons
 pub mod Claims
 pub mod Worked

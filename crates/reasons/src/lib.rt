@@ -1,19 +1,21 @@
 //! Why a session is refused, in a sentence.
 #![tactic(auto)]
 
-ghost use Rattle.std.specs.Prelude.{◌≡◌, ◌≤◌};
+ghost use Rattle.std.specs.Prelude.{◌≡◌, ◌≤◌, length};
 ghost use Rattle.octets.specs.Put.{Put};
 ghost use Rattle.text.specs.Texts.{append};
 ghost use Rattle.reasons.specs.Reasons as R;
 
+use found::{from_line, push_found};
 use grammar::{BadLine, Due};
 use sessions::Refusal;
-use text::{Append, Text};
+use text::Text;
 
 pub mod claims;
+mod found;
 
 /// What a reason takes at most.
-pub const REASON_SIZE: usize = 192;
+pub const REASON_SIZE: usize = 512;
 
 // Which line is due, and what its value is to be.
 fn push_due(out: &mut Text, due: Due)
@@ -24,30 +26,35 @@ fn push_due(out: &mut Text, due: Due)
     out.push_bytes(due.words());
 }
 
-// The sentence on the first bad line.
-fn push_bad_line(out: &mut Text, bad: BadLine)
-    ensures { out.new ≡ append out.old (R.bad_line_reason bad) }
+// The sentence on the first bad line of an input.
+fn push_bad_line(out: &mut Text, input: &[u8], bad: BadLine)
+    ensures { out.new ≡ append out.old (R.bad_line_reason input.now bad) }
 {
     out.push_field("line ", &(bad.line as u64));
     out.push_str(": ");
     push_due(out, bad.due);
-    out.push_str(", then a line feed\n");
+    out.push_str(", then a line feed; found ");
+    push_found(out, from_line(input, bad.line));
+    out.push_str("\n");
 }
 
-// The sentence of a refusal.
-#[derive(Clone, Copy)]
-struct Sentence(Refusal);
-
-impl Append for Sentence {
-    ghost text = { λ r. R.reason_text r.0 };
-
-    #[tactic(auto, unfolding(crate::specs::Reasons::reason_text, octets::specs::Ascii::ascii))]
-    fn append_to(&self, out: &mut Text) {
-        match self.0 {
-            Refusal::TooLong => out.push_str("the input has more than 65536 bytes\n"),
-            Refusal::BadLine(bad) => push_bad_line(out, bad),
-        }
+// The sentence of an input's refusal.
+fn push_reason(out: &mut Text, input: &[u8], refusal: Refusal)
+    ensures { out.new ≡ append out.old (R.reason_text input.now refusal) }
+{
+    match refusal {
+        Refusal::TooLong => out.push_str("the input has more than 65536 bytes\n"),
+        Refusal::BadLine(bad) => push_bad_line(out, input, bad),
     }
+}
+
+// The sentence of an input's refusal, at the start of `out`; the answer is its length.
+fn write_reason(out: &mut [u8], input: &[u8], refusal: Refusal) -> usize
+    ensures { length (R.reason_text input.now refusal) ≤ length out.old → Put out.old 0 (R.reason_text input.now refusal) result out.new }
+{
+    let mut text = Text::new(out);
+    push_reason(&mut text, input, refusal);
+    text.len()
 }
 
 /// The reason why a session is refused, at the start of `out`; the answer is its length, which is 0 where it is not refused.
@@ -56,6 +63,6 @@ pub fn reason(input: &[u8], out: &mut [u8; REASON_SIZE]) -> usize
 {
     match sessions::check(input) {
         Ok(()) => 0,
-        Err(refusal) => text::write(out, &Sentence(refusal)),
+        Err(refusal) => write_reason(out, input, refusal),
     }
 }

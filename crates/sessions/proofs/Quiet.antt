@@ -29,7 +29,7 @@ module _ (s : List ℕ) where
   unfolding calls_of
   calls_good m h e = rw (le-ltb max_input (length s) h, e) refl
 
-  session-good : (cs : List Call) → calls_of s ≡ Ok cs → session_of s ≡ Ok cs
+  pub session-good : (cs : List Call) → calls_of s ≡ Ok cs → session_of s ≡ Ok cs
   unfolding calls_of
   session-good cs e = by (ltb max_input (length s)) (λ h. let f : ◌≡◌ {A = Result (List Call) Refusal} (Err refusal.TooLong) (Ok cs) = rw h at e in cc) (λ h. go (session_of s) (rw h at e))
     where

@@ -36,8 +36,8 @@ fn push_answer(out: &mut Text, answer: u32)
     out.push_str("\n");
 }
 
-// Calls the register.
-fn perform(memory: &mut [u8], call: &Call) -> u32
+/// Makes the call of an operation on a register.
+pub fn perform(memory: &mut [u8], call: &Call) -> u32
     ensures { after result memory.new ≡ on_memory (act (call_of call.now)) memory.old }
 {
     match call {

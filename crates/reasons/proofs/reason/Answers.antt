@@ -8,6 +8,6 @@ returns-in-Ok c = (omega arith, put_as (sym (reason-none c.args.input.now c.in-O
 
 pub returns-in-Err : goal.returns-in-Err
 returns-in-Err c =
-    let short = reason-short c.in-Err.refusal in
-    let put = c.write.ensures (omega (arith, short)) in
+    let short = reason-short c.args.input.now c.in-Err.refusal in
+    let put = c.write_reason.ensures (omega (arith, short)) in
     (omega (arith, put.next, short), put_as (sym (reason-some c.args.input.now c.in-Err.refusal c.in-Err.ensures)) put)
