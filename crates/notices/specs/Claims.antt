@@ -1,0 +1,22 @@
+-- What is claimed of what is said of a session. The contracts of src/claims.rt name it; the proofs are in proofs/Nothing and proofs/Counted.
+use Rattle.std.specs.Prelude.{ℕ, ◌+◌, ◌≤◌, ◌≡◌, List, length, ◌==◌, if◌then◌else◌, Ok}
+use Rattle.register.specs.Calls.{Call}
+use Rattle.register.specs.Memory.{fresh}
+use Rattle.grammar.specs.Lines.{At}
+use Rattle.grammar.specs.Operations.{operation_at}
+use Rattle.sessions.specs.Output.{calls_of}
+use Rattle.notices.specs.declared.saying.Ending.TheVariants as ending
+use Rattle.notices.specs.Notices.{lines_of, notices, all_done}
+use Rattle.notices.specs.Told.{ending_of}
+
+-- there are notices exactly where some call is answered otherwise than 0
+abbrev pub NothingSaid : Type 0
+NothingSaid = (number line : ℕ) (m : List ℕ) (cs : List Call) → (length (notices number line m cs) == 0) ≡ all_done m cs
+
+-- a session that is not refused ends as done exactly where each call is answered 0
+abbrev pub DoneExactlyWhen : Type 0
+DoneExactlyWhen = (s : List ℕ) (cs : List Call) → calls_of s ≡ Ok cs → ending_of s ≡ (if all_done fresh cs then ending.Done else ending.Unanswered)
+
+-- the line on which the next operation begins is found by counting the lines of those before it
+abbrev pub LinesCounted : Type 0
+LinesCounted = (s : At) (c : Call) (r : At) → operation_at s ≡ Ok (c, r) → r.line ≡ s.line + lines_of c

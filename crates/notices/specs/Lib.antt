@@ -1,0 +1,3 @@
+pub mod Notices
+pub mod Told
+pub mod Claims

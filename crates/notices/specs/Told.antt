@@ -1,0 +1,35 @@
+-- What is said of a session on standard error, and the status that the program ends with (docs/REFERENCE.md, 'Session').
+use Rattle.std.specs.Prelude.{ℕ, Bool, List, length, ◌==◌, if◌then◌else◌, Result, Ok, Err}
+use Rattle.register.specs.Calls.{Call}
+use Rattle.register.specs.Memory.{fresh}
+use Rattle.sessions.specs.declared.refusals.Refusal.{Refusal}
+use Rattle.sessions.specs.Output.{calls_of}
+use Rattle.reasons.specs.Reasons.{reason_of}
+use Rattle.notices.specs.declared.saying.Ending.{Ending}
+use Rattle.notices.specs.declared.saying.Ending.TheVariants as ending
+use Rattle.notices.specs.Notices.{notices}
+
+-- the reason of a refusal, else the notices
+abbrev pub told_by : List ℕ → Result (List Call) Refusal → List ℕ
+told_by input (Ok cs) = notices 1 1 fresh cs
+told_by input (Err r) = reason_of input
+
+unfoldable pub told_of : List ℕ → List ℕ
+told_of input = told_by input (calls_of input)
+
+-- how a session with these notices ends
+abbrev pub ending_with : List ℕ → Ending
+ending_with t = if length t == 0 then ending.Done else ending.Unanswered
+
+-- how a session ends
+abbrev pub ending_by : Result (List Call) Refusal → Ending
+ending_by (Ok cs) = ending_with (notices 1 1 fresh cs)
+ending_by (Err r) = ending.Refused
+
+unfoldable pub ending_of : List ℕ → Ending
+ending_of input = ending_by (calls_of input)
+
+abbrev pub status_of : Ending → Bool → ℕ
+status_of ending.Done strict = 0
+status_of ending.Refused strict = 1
+status_of ending.Unanswered strict = if strict then 4 else 0
