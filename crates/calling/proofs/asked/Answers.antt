@@ -1,4 +1,4 @@
-use Rattle.std.proofs.Common.{rules, sym, ◌∙◌, ap, arith, string_bytes, map}
+use Rattle.std.proofs.Common.{rules, sym, ◌∙◌, ap, arith, string_bytes}
 use Rattle.std.proofs.lemmas.List.{length-map}
 use Rattle.calling.specs.Words as W
 use Rattle.calling.specs.Calling as C
