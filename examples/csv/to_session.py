@@ -11,6 +11,10 @@ import re
 import struct
 import sys
 
+if sys.argv[1:] in (["--help"], ["-h"]):
+    print(__doc__.strip())
+    sys.exit(0)
+
 COVARIANCE = ["cov_xx", "cov_xy", "cov_xz", "cov_yy", "cov_yz", "cov_zz"]
 COLUMNS = ["engine", "time_ns", "lat_deg", "lon_deg", "height_m", "message_hex", "tags", "used_tags", "models", "spec"] + COVARIANCE
 MOST_BYTES = 65536
