@@ -1,10 +1,35 @@
-//! A session: standard input to standard output, and a sentence on standard error where it is refused. One byte more than is read is
-//! enough to know that there are more.
+//! A session: its bytes, from a file or from standard input, to standard output, and what is said of it to standard error. One byte more
+//! than is read is enough to know that there are more.
 #![tactic(auto)]
 
-use reasons::REASON_SIZE;
+ghost use Rattle.std.specs.Io.{ReadsAtMost};
+
+use calling::{Instead, Wish};
 use sessions::{MAX_INPUT, OUTPUT_SIZE};
-use std::io;
+use std::process::ExitCode;
+use std::rt::{Env, Files};
+use std::{env, fs, io};
+
+const HELP: &str = "usage: session [--strict] [FILE]
+
+Reads a session from FILE, or from standard input where FILE is - or is left out, and prints the
+answer of each operation and then the board; what a session is, docs/REFERENCE.md says.
+
+  --strict    end with status 4 where an operation is not answered 0
+  --help      print this
+  --version   print the version of the library
+
+Standard error has a line for each operation that is not answered 0, or says why the session is refused.
+
+Status: 0 done; 1 the session is refused; 2 a wrong call; 3 a file cannot be read, or the output not
+be written; 4 with --strict, an operation is not answered 0.
+";
+
+// A wrong call.
+const WRONG_CALL: u8 = 2;
+
+// An error of the system.
+const FAILED: u8 = 3;
 
 fn input_buffer() -> [u8; MAX_INPUT + 1] {
     [0; MAX_INPUT + 1]
@@ -14,22 +39,101 @@ fn output_buffer() -> [u8; OUTPUT_SIZE] {
     [0; OUTPUT_SIZE]
 }
 
-// Why the session was refused.
-fn explain(to: &impl Print, input: &[u8]) -> io::Result<()> {
-    let mut text = [0u8; REASON_SIZE];
-    let n = reasons::reason(input, &mut text);
-    to.write_all(&text[..n])
+// Reads the file of this name, or standard input where it is `-`; answers how many bytes came.
+fn read_from(rt: &(impl Files + Input), name: &str, input: &mut [u8]) -> io::Result<usize>
+    ensures { ReadsAtMost result input.new }
+{
+    if name == "-" {
+        return console::read_full(rt, input);
+    }
+    console::fill(&mut fs::open(rt, name)?, input)
 }
 
-// A session that is refused, and no other, prints `refused=` first (reasons specs/Claims).
-fn main(rt: HostRuntime) -> io::Result<()> {
-    let mut input = input_buffer();
-    let n = console::read_full(&rt, &mut input)?;
+// Prints what a session prints and says what there is to say of it; answers the exit status.
+fn conduct(
+    rt: &(impl Print + AllocGlobal),
+    errors: &impl Print,
+    input: &[u8],
+    strict: bool,
+) -> io::Result<u8> {
     let mut out = output_buffer();
-    let size = sessions::run(&input[..n], &mut out);
+    let size = sessions::run(input, &mut out);
     rt.write_all(&out[..size])?;
-    if out[0] == b'r' {
-        explain(&rt.stderr(), &input[..n])?;
+    let told = notices::told(rt.alloc(), input)?;
+    errors.write_all(told.text.as_slice())?;
+    Ok(told.ending.status(strict))
+}
+
+// The session that a file holds, or standard input.
+fn session(
+    rt: &(impl Files + Input + Print + AllocGlobal),
+    errors: &impl Print,
+    name: &str,
+    strict: bool,
+) -> io::Result<u8> {
+    let mut input = input_buffer();
+    match read_from(rt, name, &mut input) {
+        Ok(n) => conduct(rt, errors, &input[..n], strict),
+        Err(error) => {
+            println!(errors; "session: {name}: {error}")?;
+            Ok(FAILED)
+        }
     }
-    Ok(())
+}
+
+// The words behind the program's name.
+fn words(rt: &(impl Env + AllocGlobal)) -> io::Result<Vec<String>> {
+    let mut words = Vec::new(rt.alloc());
+    for word in env::args(rt)?.skip(1) {
+        words.push(word)?;
+    }
+    Ok(words)
+}
+
+// The file that a wish names.
+fn name_of(wish: Wish, words: &[String]) -> &str {
+    match wish.file.and_then(|index| words.get(index)) {
+        Some(name) => name.as_str(),
+        None => "-",
+    }
+}
+
+fn refuse(errors: &impl Print, words: &[String], index: usize) -> io::Result<u8> {
+    if let Some(word) = words.get(index) {
+        println!(errors;
+            "session: {word}: no option, or one file too many; --help says how it is called"
+        )?;
+    }
+    Ok(WRONG_CALL)
+}
+
+// Does what the words ask for; answers the exit status.
+fn answer(
+    rt: &(impl Env + Files + Input + Print + AllocGlobal),
+    errors: &impl Print,
+) -> io::Result<u8> {
+    let words = words(rt)?;
+    match calling::asked(&words) {
+        Ok(wish) => session(rt, errors, name_of(wish, &words), wish.strict),
+        Err(Instead::Help) => {
+            rt.write_all(HELP.as_bytes())?;
+            Ok(0)
+        }
+        Err(Instead::Version) => {
+            rt.write_all(names::version_text())?;
+            rt.write_all(b"\n")?;
+            Ok(0)
+        }
+        Err(Instead::Wrong(index)) => refuse(errors, &words, index),
+    }
+}
+
+fn main(rt: HostRuntime) -> ExitCode {
+    match answer(&rt, &rt.stderr()) {
+        Ok(status) => ExitCode::from(status),
+        Err(error) => {
+            let _ = eprintln!(rt; "session: {error}");
+            ExitCode::from(FAILED)
+        }
+    }
 }
