@@ -9,7 +9,6 @@ use Rattle.sessions.specs.declared.refusals.Refusal.{Refusal}
 use Rattle.sessions.specs.Output.{calls_of}
 use Rattle.sessions.proofs.Quiet.{session-good}
 use Rattle.reasons.specs.Reasons.{reason_of}
-use Rattle.notices.specs.declared.saying.Ending.{Ending}
 use Rattle.notices.specs.declared.saying.Ending.TheVariants as ending
 use Rattle.notices.specs.Notices.{notices}
 use Rattle.notices.specs.Told.{told_by, told_of, ending_with, ending_by, ending_of}

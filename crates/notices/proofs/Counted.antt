@@ -1,7 +1,6 @@
 -- An operation that is read takes as many lines as are counted for it.
-use Rattle.std.proofs.Common.{◌≡◌, refl, ap, ℕ, ◌+◌, List, Option, Some, None, Result, Ok, Err, ok_or, arith}
-use Rattle.register.specs.Calls.{Call, report, summary, conviction}
-use Rattle.models.specs.Summary.{inputs_size}
+use Rattle.std.proofs.Common.{◌≡◌, refl, ℕ, ◌+◌, List, Option, Some, None, Ok, Err, ok_or, arith}
+use Rattle.register.specs.Calls.{Call}
 use Rattle.grammar.specs.declared.lines.Due.{Due}
 use Rattle.grammar.specs.declared.lines.Due.TheVariants as due
 use Rattle.grammar.specs.declared.lines.Kind.{Kind}

@@ -1,12 +1,10 @@
 -- Nothing is said exactly where each call is answered 0.
-use Rattle.std.proofs.Common.{◌≡◌, ◌∙◌, ap, sym, refl, ℕ, ◌+◌, ◌<◌, ◌≤◌, Bool, true, false, cond, List, [], ◌∷◌, ◌++◌, length, length-append, arith, ◌==◌, ◌&&◌, Result, Ok}
+use Rattle.std.proofs.Common.{◌≡◌, ◌∙◌, ap, refl, ℕ, ◌+◌, ◌<◌, false, List, [], ◌∷◌, ◌++◌, length, length-append, arith, ◌==◌}
 use Rattle.ranges.proofs.Bools.{by}
 use Rattle.octets.specs.Ascii.{ascii}
-use Rattle.register.specs.Calls.{Call, act}
+use Rattle.register.specs.Calls.{act}
 use Rattle.register.specs.Memory.{on_memory, fresh}
-use Rattle.sessions.specs.declared.refusals.Refusal.{Refusal}
-use Rattle.notices.specs.declared.saying.Ending.{Ending}
-use Rattle.notices.specs.Notices.{lines_of, notice, notice_if_refused, notices, all_done}
+use Rattle.notices.specs.Notices.{lines_of, notice, notices, all_done}
 use Rattle.notices.specs.Told.{ending_by, ending_of}
 use Rattle.notices.specs.Claims.{NothingSaid, DoneExactlyWhen}
 

@@ -1,5 +1,5 @@
 -- What is left to be said, operation by operation.
-use Rattle.std.proofs.Common.{◌≡◌, ◌∙◌, ap, sym, refl, ℕ, ◌+◌, ◌≤◌, ◌<◌, List, [], ◌++◌, length, append_assoc, arith, Ok, Err}
+use Rattle.std.proofs.Common.{◌≡◌, ◌∙◌, ap, sym, refl, ℕ, ◌+◌, ◌≤◌, ◌<◌, List, ◌++◌, length, append_assoc, arith, Ok, Err}
 use mathlib.Core.List.{append-nil}
 use Rattle.held.specs.After.{After, after}
 use Rattle.register.specs.Calls.{Call, act}

@@ -1,5 +1,5 @@
 -- How long a notice is at most.
-use Rattle.std.proofs.Common.{◌≡◌, ℕ, ◌≤◌, Bool, List, cond, length, length-append, arith, codes, ◌==◌}
+use Rattle.std.proofs.Common.{ℕ, ◌≤◌, Bool, List, cond, length, length-append, arith, ◌==◌}
 use Rattle.ranges.proofs.Bools.{by}
 use Rattle.octets.specs.Ascii.{ascii}
 use Rattle.text.proofs.Readback.{decimal-width}

@@ -1,6 +1,6 @@
 -- What is found where a line is bad, as the sentence shows it (docs/REFERENCE.md, 'Session'): the first bytes of that line, and in words what stands at its end
 -- where that is no line feed alone.
-use Rattle.std.specs.Prelude.{ℕ, zero, suc, ◌-◌, Bool, cond, ◌&&◌, List, [], ◌∷◌, ◌++◌, ◌==◌, if◌then◌else◌, leb, nat_lt, length, slice_index, take, flat_map, Option, Some, None}
+use Rattle.std.specs.Prelude.{ℕ, zero, suc, ◌-◌, Bool, ◌&&◌, List, [], ◌∷◌, ◌++◌, ◌==◌, if◌then◌else◌, leb, nat_lt, length, slice_index, take, flat_map, Option, Some, None}
 use Rattle.octets.specs.Ascii.{ascii}
 use Rattle.text.specs.Numbers.{hex}
 use Rattle.grammar.specs.Numbers.{split_once}

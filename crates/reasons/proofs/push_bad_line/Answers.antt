@@ -1,4 +1,4 @@
-use Rattle.std.proofs.Common.{◌∙◌, ap, List, ℕ, append_assoc}
+use Rattle.std.proofs.Common.{◌∙◌, ap, List, ℕ}
 use Rattle.octets.specs.Ascii.{ascii}
 use Rattle.text.specs.Texts.{append}
 use Rattle.text.proofs.Appending.{append-then}

@@ -1,4 +1,4 @@
-use Rattle.std.proofs.Common.{◌≡◌, ◌∙◌, ap, sym, ℕ, List, arith, rules, false, ◌==◌}
+use Rattle.std.proofs.Common.{◌≡◌, arith, rules, false, ◌==◌}
 use Rattle.notices.proofs.Fronts.{front-put}
 use Rattle.notices.proofs.noting.note.Goals as goal
 

@@ -1,4 +1,4 @@
-use Rattle.std.proofs.Common.{◌≡◌, refl, sym, ap, arith, length}
+use Rattle.std.proofs.Common.{refl, sym, ap, arith, length}
 use Rattle.grammar.specs.Gives.{lines_left, call_of}
 use Rattle.grammar.proofs.Forward.{left_less}
 use Rattle.notices.proofs.Steps.{saying-more, saying-end}

@@ -1,4 +1,4 @@
-use Rattle.std.proofs.Common.{◌≡◌, ℕ, List, arith, rules, IfOk}
+use Rattle.std.proofs.Common.{arith, rules}
 use Rattle.notices.proofs.Fronts.{front-put}
 use Rattle.notices.proofs.saying.refused.Goals as goal
 

@@ -1,4 +1,4 @@
-use Rattle.std.proofs.Common.{◌≡◌, ◌∙◌, sym, ap}
+use Rattle.std.proofs.Common.{◌∙◌, sym, ap}
 use Rattle.notices.specs.Told.{ending_with}
 use Rattle.notices.proofs.Cases.{told-refused, ending-refused, told-done, ending-done}
 use Rattle.notices.proofs.saying.told.Goals as goal

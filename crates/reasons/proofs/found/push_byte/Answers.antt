@@ -1,6 +1,5 @@
-use Rattle.std.proofs.Common.{◌≡◌, ◌∙◌, sym}
+use Rattle.std.proofs.Common.{◌∙◌, sym}
 use Rattle.text.proofs.Appending.{append-then}
-use Rattle.reasons.specs.Found.{is_printable}
 use Rattle.reasons.proofs.found.push_byte.Goals as goal
 
 pub returns-else-is_printable : goal.returns-else-is_printable

@@ -1,8 +1,7 @@
-use Rattle.std.proofs.Common.{◌≡◌, ◌∙◌, sym, ap, arith, List, ℕ, length, ◌==◌, true, false, Option, Some, None, option_map}
+use Rattle.std.proofs.Common.{◌≡◌, sym, arith, length, ◌==◌, true, false, None}
 use Rattle.octets.specs.Ascii.{ascii}
-use Rattle.text.specs.Texts.{append}
 use Rattle.grammar.specs.Numbers.{split_once}
-use Rattle.reasons.specs.Found.{found_by, found_text}
+use Rattle.reasons.specs.Found.{found_text}
 use Rattle.reasons.proofs.found.push_found.Goals as goal
 
 pub returns-then-is_empty : goal.returns-then-is_empty

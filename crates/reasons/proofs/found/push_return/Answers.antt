@@ -1,8 +1,6 @@
-use Rattle.std.proofs.Common.{◌≡◌, ◌∙◌, sym, ap, List, ℕ}
+use Rattle.std.proofs.Common.{◌∙◌, sym}
 use Rattle.octets.specs.Ascii.{ascii}
-use Rattle.text.specs.Texts.{append}
 use Rattle.text.proofs.Appending.{append-nil}
-use Rattle.reasons.specs.Found.{ends_in_return, return_words}
 use Rattle.reasons.proofs.found.push_return.Goals as goal
 
 pub returns-then-ends_in_return : goal.returns-then-ends_in_return
