@@ -197,6 +197,19 @@ static void disputes(void) {
     show("track, summary", tl_track_summary(memory, sizeof memory, 1, MODEL, SPEC, inputs, sizeof inputs));
 }
 
+/* One fix of one receiver, with one digit for each number: the shortest board that is not empty. */
+static void shortest(void) {
+    uint8_t memory[TL_REGISTER_SIZE] = {0}, out[TL_BOARD_SIZE], r[TL_RECORD_SIZE] = {0};
+    uint32_t length = tl_board(memory, sizeof memory, out, sizeof out);
+    r[TL_RECORD_HAS_HEIGHT_AT] = 1;
+    r[TL_RECORD_MESSAGE_LENGTH_AT] = TL_SHORT_MESSAGE;
+    r[TL_RECORD_TAG_COUNT_AT] = 1;
+    r[TL_RECORD_USED_AT] = 1;
+    printf("an empty board: %" PRIu32 " bytes; at least %d otherwise\n", length, TL_MIN_LENGTH);
+    show("one fix", tl_register_report(memory, sizeof memory, 0, r, sizeof r));
+    show_text("the shortest board", tl_board(memory, sizeof memory, out, sizeof out), out);
+}
+
 int main(void) {
     static const int smallest_first[FIXES] = {0, 1, 2}, largest_first[FIXES] = {2, 0, 1};
     sizes();
@@ -210,5 +223,6 @@ int main(void) {
     track(smallest_first);
     track(largest_first);
     disputes();
+    shortest();
     return 0;
 }
