@@ -1,5 +1,5 @@
 -- How long the names are.
-use Rattle.std.proofs.Common.{ℕ, ◌≤◌, ◌<◌, Bool, List, length, arith, refl, codes, cond, ◌==◌}
+use Rattle.std.proofs.Common.{ℕ, ◌≤◌, ◌<◌, Bool, List, length, arith, cond, ◌==◌}
 use Rattle.ranges.proofs.Bools.{by}
 use Rattle.names.specs.Names.{name_of, name_size}
 use Rattle.names.specs.Claims.{NamesFit, NoNameIsEmpty}

@@ -1,5 +1,5 @@
 -- The library's version, and what its answers are called (docs/REFERENCE.md, 'Operations').
-use Rattle.std.specs.Prelude.{ℕ, ◌+◌, ◌*◌, List, ◌++◌, ◌==◌, if◌then◌else◌, length, drop, nat_le, codes}
+use Rattle.std.specs.Prelude.{ℕ, ◌+◌, ◌*◌, List, ◌++◌, ◌==◌, if◌then◌else◌, length, nat_le, codes}
 use Rattle.text.specs.Numbers.{decimal}
 use Rattle.held.specs.After.{After, after, write_text}
 
