@@ -1,5 +1,5 @@
 -- A board that is not empty has a header and a ranked line.
-use Rattle.std.proofs.Common.{ℕ, zero, suc, ◌+◌, ◌-◌, ◌≤◌, ◌<◌, ◌≡◌, refl, sym, ap, subst, ◌∙◌, true, ◌⊎◌, inl, inr, ⊎_elim, Option, Some, None, ℤ, pos, negsuc, List, [], ◌∷◌, map, arith, length, drop, length-append}
+use Rattle.std.proofs.Common.{ℕ, zero, suc, ◌-◌, ◌≤◌, ◌<◌, ◌≡◌, refl, sym, subst, true, ◌⊎◌, inl, inr, Option, Some, None, ℤ, pos, negsuc, List, [], ◌∷◌, map, arith, length, drop, length-append}
 use mathlib.Core.Bool.{false≢true}
 use mathlib.Core.List.Permᴰ
 use mathlib.Core.List.{Memᴰ, flat_map}
@@ -8,7 +8,6 @@ use Rattle.ranges.specs.Lists.{sort}
 use Rattle.ranges.proofs.Lists.{filter-in, sort-perm}
 use Rattle.ranges.proofs.Orders.{perm-mem}
 use Rattle.octets.specs.Ascii.{ascii}
-use Rattle.octets.specs.Bytes.{Bytes}
 use Rattle.text.specs.Numbers.{signed_decimal}
 use Rattle.text.specs.Heights.{metres}
 use Rattle.text.proofs.Readback.{digits-width, hex-width}
@@ -20,7 +19,7 @@ use Rattle.links.specs.Transmissions.{transmission_of, leads, is_first, transmis
 use Rattle.links.proofs.Partition.{map-from}
 use Rattle.transmissions.specs.Picture.{older_than, picture, latest_of, max_shown}
 use Rattle.drawing.specs.Lines.{where_when, metres_text, height_text, fix_text, fix_line}
-use Rattle.drawing.specs.Text.{ranked_text, dominated_text, refused_text, text_of, text_from, board_text}
+use Rattle.drawing.specs.Text.{ranked_text, text_of, text_from, board_text}
 use Rattle.drawing.proofs.Widths.{header-width}
 use Rattle.register.specs.Register.{Register}
 use Rattle.register.specs.Memory.{decode}
