@@ -1,4 +1,5 @@
 -- How short a board can be that is not empty: a header and a ranked line, with one digit for each number.
+-- Source: docs/REFERENCE.md, 'Operations' and 'Text'.
 use Rattle.std.specs.Prelude.{ℕ, ◌+◌, ◌≤◌, ◌≡◌, ◌⊎◌, true, List, length}
 use Rattle.octets.specs.Bytes.{Bytes}
 use Rattle.register.specs.Memory.{well_formed, decode}

@@ -1,4 +1,5 @@
 -- What the words of a call are.
+-- Source: docs/REFERENCE.md, 'Session'.
 use Rattle.std.specs.Prelude.{ℕ, List, ◌||◌, not, if◌then◌else◌, codes}
 use Rattle.std.specs.Str.{bytes_eq}
 use Rattle.std.specs.List.{starts_with}

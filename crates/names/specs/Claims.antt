@@ -1,4 +1,5 @@
 -- What is claimed of names. The contracts of src/claims.rt name it; the proofs are in proofs/Sizes.
+-- Source: docs/REFERENCE.md, 'Answers'.
 use Rattle.std.specs.Prelude.{ℕ, ◌≤◌, ◌<◌, length}
 use Rattle.names.specs.Names.{name_of, name_size}
 

@@ -1,4 +1,4 @@
--- The library's version, and what its answers are called (docs/REFERENCE.md, 'Operations').
+-- The library's version, and what its answers are called (docs/REFERENCE.md, 'Operations' and 'Answers').
 use Rattle.std.specs.Prelude.{ℕ, ◌+◌, ◌*◌, List, ◌++◌, ◌==◌, if◌then◌else◌, length, nat_le, codes}
 use Rattle.text.specs.Numbers.{decimal}
 use Rattle.held.specs.After.{After, after, write_text}

@@ -1,4 +1,5 @@
 -- What is claimed of what is said of a session. The contracts of src/claims.rt name it; the proofs are in proofs/Nothing and proofs/Counted.
+-- Source: docs/REFERENCE.md, 'Session'.
 use Rattle.std.specs.Prelude.{ℕ, ◌+◌, ◌≡◌, List, length, ◌==◌, if◌then◌else◌, Ok}
 use Rattle.register.specs.Calls.{Call}
 use Rattle.register.specs.Memory.{fresh}
