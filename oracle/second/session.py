@@ -1,0 +1,173 @@
+"""The program `session`: 'Session'."""
+from __future__ import annotations
+
+import re
+from typing import Callable, Iterator, Mapping
+
+from . import board, register
+from .answers import TEXT_ROOM, Answer
+from .record import record_bytes
+
+MOST_BYTES = 65_536
+NO_TRANSMISSIONS = "transmissions=0\n"
+
+Value = object
+Parser = Callable[[str], Value]
+Operation = Mapping[str, Value]
+
+
+class BadLine(Exception):
+    """The first line that is bad, counted from 1."""
+
+    def __init__(self, number: int) -> None:
+        super().__init__(number)
+        self.number = number
+
+
+class BadValue(Exception):
+    """A value that is not of its form."""
+
+
+_UNSIGNED = re.compile(r"0|[1-9][0-9]*", re.ASCII)
+_SIGNED = re.compile(r"0|-?[1-9][0-9]*", re.ASCII)
+_HEX = re.compile(r"[0-9a-f]*", re.ASCII)
+
+
+def unsigned(most: int) -> Parser:
+    """A decimal number up to this one."""
+
+    def parse(value: str) -> int:
+        if not _UNSIGNED.fullmatch(value) or len(value) > len(str(most)) or int(value) > most:
+            raise BadValue
+        return int(value)
+
+    return parse
+
+
+def signed(value: str) -> int:
+    """A decimal number from -2^31 to 2^31 - 1."""
+    if not _SIGNED.fullmatch(value) or len(value) > len(str(-2**31)) or not -2**31 <= int(value) < 2**31:
+        raise BadValue
+    return int(value)
+
+
+def signed_or_none(value: str) -> int | None:
+    """A height."""
+    return None if value == "none" else signed(value)
+
+
+def several(most: int, parse: Parser) -> Parser:
+    """From one to so many values, with commas between."""
+
+    def parse_all(value: str) -> tuple[Value, ...]:
+        parts = value.split(",")
+        if len(parts) > most:
+            raise BadValue
+        return tuple(parse(part) for part in parts)
+
+    return parse_all
+
+
+def several_or_none(most: int, parse: Parser) -> Parser:
+    """From one to so many values, or `none`."""
+    parse_all = several(most, parse)
+    return lambda value: () if value == "none" else parse_all(value)
+
+
+def hexadecimal(*lengths: int) -> Parser:
+    """So many bytes, each as two lowercase digits."""
+
+    def parse(value: str) -> bytes:
+        if not _HEX.fullmatch(value) or len(value) not in [2 * length for length in lengths]:
+            raise BadValue
+        return bytes.fromhex(value)
+
+    return parse
+
+
+def covariance(value: str) -> bytes:
+    """Six f64, each with its highest digit first, as a record has them."""
+    digits = hexadecimal(48)(value)
+    return b"".join(digits[at:at + 8][::-1] for at in range(0, 48, 8))
+
+
+BYTE, HALF, WORD = unsigned(2**8 - 1), unsigned(2**16 - 1), unsigned(2**64 - 1)
+
+OPERATIONS: Mapping[str, Mapping[str, Parser]] = {
+    "summary": {"engine": BYTE, "model": BYTE, "spec": HALF, "inputs": hexadecimal(32)},
+    "convict": {"engine": BYTE},
+    "report": {
+        "engine": BYTE, "time": WORD, "lat": signed, "lon": signed, "height": signed_or_none, "message": hexadecimal(7, 14),
+        "tags": several(16, WORD), "used": HALF, "models": several_or_none(4, BYTE), "spec": HALF, "cov": covariance
+    },
+}
+
+
+class _Lines:
+    """The lines of an input, one after another."""
+
+    def __init__(self, data: bytes) -> None:
+        # Latin-1 gives each byte a character of its own, and none beyond ASCII is of any form.
+        *self._whole, self._rest = data.decode("latin-1").split("\n")
+        self.number = 0
+
+    @property
+    def at_end(self) -> bool:
+        """Whether no byte is left."""
+        return self.number == len(self._whole) and not self._rest
+
+    def value_of(self, key: str, parse: Parser) -> Value:
+        """The value of the next line, on which this key is due."""
+        self.number += 1
+        if self.number > len(self._whole):
+            raise BadLine(self.number)
+        found, equals, value = self._whole[self.number - 1].partition("=")
+        if found != key or not equals:
+            raise BadLine(self.number)
+        try:
+            return parse(value)
+        except BadValue:
+            raise BadLine(self.number) from None
+
+
+def _operation_named(value: str) -> str:
+    if value not in OPERATIONS:
+        raise BadValue
+    return value
+
+
+def operations_of(data: bytes) -> Iterator[Operation]:
+    """The operations of an input."""
+    lines = _Lines(data)
+    while not lines.at_end:
+        name = str(lines.value_of("op", _operation_named))
+        yield {"op": name, **{key: lines.value_of(key, parse) for key, parse in OPERATIONS[name].items()}}
+
+
+def call(memory: bytearray, operation: Operation) -> int:
+    """Makes the call of an operation on a register."""
+    values = dict(operation)
+    name, engine = values.pop("op"), values.pop("engine")
+    match name:
+        case "summary":
+            return register.summary(memory, engine, values["model"], values["spec"], values["inputs"])
+        case "convict":
+            return register.conviction(memory, engine)
+        case _:
+            values["covariance"] = values.pop("cov")
+            return register.report(memory, engine, record_bytes(**values))
+
+
+def output_of(data: bytes) -> str:
+    """What the program prints of this input."""
+    if len(data) > MOST_BYTES:
+        return f"refused={Answer.SESSION_TOO_LONG}\n"
+    try:
+        operations = list(operations_of(data))
+    except BadLine as bad:
+        return f"refused={Answer.BAD_LINE} line={bad.number}\n"
+    memory = bytearray(register.REGISTER_SIZE)
+    answers = "".join(f"answer={call(memory, operation)}\n" for operation in operations)
+    out = bytearray(TEXT_ROOM)
+    text = out[:board.board(memory, out)].decode("ascii")
+    return answers + (text or NO_TRANSMISSIONS)
