@@ -1,4 +1,4 @@
-"""Agreement: 'Agreement', 'Chi-square', sine and cosine, the square root and the horizontal deviation.
+"""Agreement, chi-square, sine and cosine, the square root and the horizontal deviation: docs/REFERENCE.md, 'Agreement' and 'Chi-square'.
 
 Python's floats are binary64, each operation is rounded to nearest, ties to even, and none are fused; `*`, `+` and `-` overflow to
 infinities without an exception. `/` raises where the divisor is zero: every divisor here is a constant, or the root of a number above
@@ -172,7 +172,6 @@ def root(x: float) -> float:
 
 
 def horizontal_deviation(covariance: Vector) -> float:
-    """The root of half the sum of xx and yy, or 0 where the sum is negative or a NaN."""
-    # GUESS: that 0 is +0, and stands also where the sum is -0.
+    """The root of half the sum of xx and yy, or +0 where that half is not above zero."""
     half = (covariance[0] + covariance[3]) / 2.0
     return root(half) if half > 0.0 else 0.0

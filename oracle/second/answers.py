@@ -1,4 +1,4 @@
-"""The numbers with which operations answer, and how a call is refused: 'Operations' and 'Answers'."""
+"""The numbers with which operations answer, and how a call is refused: docs/REFERENCE.md, 'Operations' and 'Answers'."""
 from __future__ import annotations
 
 from enum import IntEnum

@@ -1,4 +1,4 @@
-"""The board and the preview: 'Register and board', 'Text' and 'Preview'."""
+"""The board and the preview: docs/REFERENCE.md, 'Register and board', 'Text' and 'Preview'."""
 from __future__ import annotations
 
 import struct
@@ -96,7 +96,6 @@ def board_text(register: Register) -> str:
     """Steps 3 and 4: the text of the eight latest transmissions, the oldest of them first."""
     decided = [Transmission(chain, decide([fix.item for fix in chain])) for chain in chains_of(fixes_of(register))]
     latest = sorted(decided, key=lambda transmission: transmission.age)[-SHOWN_TRANSMISSIONS:]
-    # GUESS: the oldest of those that are written has number 1, however many older ones there are.
     return "".join(transmission.text(number) for number, transmission in enumerate(latest, start=1))
 
 

@@ -1,4 +1,4 @@
-"""The decision: 'Decision', 'Layouts: Item of a decision' and 'Answer of a decision'."""
+"""The decision: docs/REFERENCE.md, 'Item of a decision' and 'Answer of a decision' among the layouts, 'Decision'."""
 from __future__ import annotations
 
 import struct
@@ -33,7 +33,6 @@ class Item:
     @property
     def rank(self) -> tuple[bool, int, int, bytes]:
         """Ascending from the first in rank: preferred, more standing, more weight, lower identity."""
-        # GUESS: of two identities the lower one comes first in byte order.
         return not self.preferred, -self.standing, -self.record.weight, self.identity
 
 

@@ -1,5 +1,5 @@
-"""Wrong rules for the self-test, each of which must make a difference. Among them is each guess, read the other way: that it makes a
-difference shows that the comparison would have found the guess wrong."""
+"""Wrong rules for the self-test, each of which must make a difference. Among them are the other readings of those sentences that had to
+be guessed while docs/REFERENCE.md was shorter: that they make a difference shows that the comparison decided each guess."""
 from __future__ import annotations
 
 import math
@@ -105,6 +105,16 @@ def _counting_what_falls(without: Callable[..., track.Track]) -> Callable[..., t
     return counting
 
 
+def _counting_against_all(joined: Callable[..., tuple[track.Track, int]]) -> Callable[..., tuple[track.Track, int]]:
+    def counting(held: track.Track, at: int, new: track.Fix) -> tuple[track.Track, int]:
+        left, answer = joined(held, at, new)
+        everywhere = track.identities(refused.fix for transmission in held.transmissions for refused in transmission.refused)
+        now = track.identities(refused.fix for refused in held.transmissions[at].with_fix(new).refused)
+        return replace(left, contested=(held.contested + len(now - everywhere)) % 2**64), answer
+
+    return counting
+
+
 FAULTS = (
     Fault("the second solution begins with its last product", "agreements", agreement, "solve_back", _solved_from_the_last_row),
     Fault("the sine's last coefficient is one bit more", "agreements", agreement, "SINE_SERIES", _SINE_SERIES_OF_ONE_BIT_MORE),
@@ -123,6 +133,7 @@ FAULTS = (
     Fault("a track keeps its transmissions in no order", "track calls", track, "arranged", _in_no_order),
     Fault("a conviction in a track orders once, at its end", "track calls", track.Track, "with_conviction", _ordered_once),
     Fault("contested grows where fixes fall too", "track calls", track.Track, "without", _counting_what_falls(track.Track.without)),
+    Fault("contested counts against the refused of all", "track calls", track.Track, "_joined", _counting_against_all(track.Track._joined)),
     Fault("a chi-square that is a NaN is none", "track calls", track, "NAN", track.INFINITY),
     Fault("a session of 65,536 bytes is too long", "sessions", session, "MOST_BYTES", session.MOST_BYTES - 1),
     Fault("a minus may stand before zero", "sessions", session, "_SIGNED", re.compile(r"-?(0|[1-9][0-9]*)")),

@@ -1,4 +1,4 @@
-"""Summaries, models and identity: 'Layouts: Summary' and 'Models and identity'."""
+"""Summaries, models and identity: docs/REFERENCE.md, 'Summary' among the layouts, 'Models and identity'."""
 from __future__ import annotations
 
 import struct

@@ -1,4 +1,4 @@
-"""The record: 'Words', 'Layouts: Record', and the subset of 'Agreement and decision'."""
+"""The record, and what links it to others: docs/REFERENCE.md, 'Words', 'Record' among the layouts, 'Agreement and decision'."""
 from __future__ import annotations
 
 import struct
@@ -51,7 +51,6 @@ class Record:
 
     def shares_a_tag(self, other: Record) -> bool:
         """Whether both have the same message and a common tag."""
-        # GUESS: a tag that is not used is a common tag too, and counts for a subset: only the weight asks for use.
         return self.message == other.message and not self.tag_set.isdisjoint(other.tag_set)
 
     def is_subset_of(self, other: Record) -> bool:

@@ -1,4 +1,4 @@
-"""The register: 'Layouts: Register', and the reports, summaries and convictions of 'Register and board'."""
+"""The register, and the calls that change it: docs/REFERENCE.md, 'Register' among the layouts, 'Register and board'."""
 from __future__ import annotations
 
 import struct

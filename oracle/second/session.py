@@ -1,4 +1,4 @@
-"""The program `session`: 'Session'."""
+"""The program `session`: docs/REFERENCE.md, 'Session'."""
 from __future__ import annotations
 
 import re

@@ -1,4 +1,4 @@
-"""The track and its listing: 'Layouts: Track' and 'Track and listing'."""
+"""The track and its listing: docs/REFERENCE.md, 'Track' among the layouts, 'Track and listing'."""
 from __future__ import annotations
 
 import struct
@@ -192,7 +192,6 @@ class Track:
             answer = Answer.DROPPED
         track = Track(
             self.convicted, self.summaries, arranged(_replaced(self.transmissions, at, after)),
-            # GUESS: nothing else counts here: neither a conviction nor a checking again, whatever they leave refused.
             (self.contested + len(refused_now - refused_before)) % 2**64,
         )
         return track, answer
@@ -214,7 +213,6 @@ class Track:
 
     def with_conviction(self, engine: int) -> Track:
         """Without all that the engine reported and stated."""
-        # GUESS: the transmissions are ordered before the checking again, and once more where that finds a fix to remove.
         return self.without_engine(engine).without(lambda fix: fix.signers == 0).checked_again()
 
     def checked_again(self) -> Track:

@@ -131,7 +131,6 @@ def agreements(trial: Trial) -> Counter[str]:
 
 
 def _passed_claim(claim: agreement.Claim) -> tuple[Any, ...]:
-    # GUESS: the height that is passed beside a false flag is not looked at.
     height = HEIGHT_OF_NONE if claim.height is None else claim.height
     return claim.lat, claim.lon, claim.height is not None, height, *claim.covariance
 
@@ -234,7 +233,7 @@ def sessions(trial: Trial) -> Counter[str]:
     rng, seen = trial.rng(), Counter[str]()
 
     def differs(lines: Parts) -> str | None:
-        ran = subprocess.run([trial.program], input=b"".join(lines), capture_output=True, check=False)
+        ran = subprocess.run([trial.program, "an argument"], input=b"".join(lines), capture_output=True, check=False)
         output = session.output_of(b"".join(lines)).encode("ascii")
         said = ran.returncode, bool(ran.stderr)
         return first_difference("standard output", ran.stdout, output) or told(said, (0, output.startswith(b"refused=")))
