@@ -2,9 +2,10 @@
 from __future__ import annotations
 
 import random
+import re
 import struct
 from dataclasses import dataclass, replace
-from typing import Any, Iterable, Sequence
+from typing import Any, Iterable, Iterator, Sequence
 
 from . import register, track
 from .agreement import Claim
@@ -91,6 +92,15 @@ def passed_track(parts: Sequence[Part]) -> bytes:
     summaries = {track.pair_of(summary): summary for summary in of_kind(parts, Summary)}
     ascending = tuple(summaries[pair] for pair in sorted(summaries))
     return track.Track(head.convicted, ascending, tuple(of_kind(parts, track.Transmission)), head.contested).raw
+
+
+def simpler(part: Part) -> Iterator[Part]:
+    """The part with less in it: of a passed transmission one fix less."""
+    if isinstance(part, track.Transmission):
+        for at in range(len(part.refused)):
+            yield replace(part, refused=part.refused[:at] + part.refused[at + 1:])
+        for at in range(len(part.standing) if len(part.standing) > 1 else 0):
+            yield replace(part, standing=part.standing[:at] + part.standing[at + 1:])
 
 
 def odd_number(rng: random.Random) -> float:
@@ -381,6 +391,18 @@ def report_lines(engine: int, raw: bytes) -> list[bytes]:
 def lines_of(**values: Any) -> list[bytes]:
     """A line `key=value` of each."""
     return [f"{key}={value}\n".encode("ascii") for key, value in values.items()]
+
+
+def operations_of(data: bytes) -> list[bytes]:
+    """The session in parts, each from one `op=` to before the next."""
+    return [part for part in re.split(rb"^(?=op=)", data, flags=re.MULTILINE) if part]
+
+
+def without_a_line(operation: bytes) -> Iterator[bytes]:
+    """The part of a session with one line less."""
+    lines = operation.split(b"\n")
+    for at in range(len(lines)):
+        yield b"\n".join(lines[:at] + lines[at + 1:])
 
 
 ODD_VALUES = (

@@ -2,7 +2,7 @@
 from __future__ import annotations
 
 import struct
-from dataclasses import dataclass
+from dataclasses import dataclass, field
 from functools import cached_property, lru_cache
 
 from .agreement import Claim
@@ -22,7 +22,7 @@ _COVARIANCE = struct.Struct("<6d")
 class Record:
     """The fields of 222 well-formed bytes."""
 
-    raw: bytes
+    raw: bytes = field(repr=False)
     time: int
     lat: int
     lon: int

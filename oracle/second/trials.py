@@ -6,8 +6,8 @@ import random
 import struct
 import subprocess
 from collections import Counter
-from dataclasses import dataclass
-from typing import Any, Callable, Sequence
+from dataclasses import dataclass, fields, is_dataclass
+from typing import Any, Callable, Iterable, Sequence
 
 from . import agreement, board, decision, generate, identity, session
 from .library import Functions, Library, second_writing
@@ -18,8 +18,12 @@ UNTOUCHED = b"\xa5"
 HEIGHT_OF_NONE = 12_345
 """The height that is passed beside a false flag."""
 
+MOST_TRIES = 3_000
+"""How many inputs are tried while a smaller one that differs is looked for."""
+
 Parts = Sequence[Any]
 Differs = Callable[[Parts], str | None]
+Simpler = Callable[[Any], Iterable[Any]]
 
 
 @dataclass(frozen=True)
@@ -43,7 +47,23 @@ class Difference(Exception):
     """The library or the program and the second writing do not do the same on an input, whose parts are shown."""
 
     def __init__(self, what: str, parts: Parts) -> None:
-        super().__init__("\n  ".join([f"{what}, on", *map(str, parts)]))
+        super().__init__("\n  ".join([f"{what}, on", *map(shown, parts)]))
+
+
+def shown(part: object) -> str:
+    """A part of an input, with bytes in hex; the lines of a session as they are."""
+    match part:
+        case bytes() if part.startswith(b"op=") or part == b"\n":
+            return part.decode("latin-1").rstrip("\n").replace("\n", "\n  ")
+        case bytes() | bytearray():
+            return part.hex()
+        case tuple():
+            return f"({', '.join(map(shown, part))})"
+        case _ if is_dataclass(part):
+            fields_shown = (f"{field.name}={shown(getattr(part, field.name))}" for field in fields(part) if field.repr)
+            return f"{type(part).__name__}({', '.join(fields_shown)})"
+        case _:
+            return str(part)
 
 
 def told(library: object, second: object) -> str | None:
@@ -65,11 +85,36 @@ def stop_at(what: str | None, *parts: Any) -> None:
         raise Difference(what, parts)
 
 
-def stop_at_smallest(parts: Parts, differs: Differs) -> None:
-    """Raises the difference, if there is one, on the smallest input found."""
+def stop_at_smallest(parts: Parts, differs: Differs, simpler: Simpler = lambda part: ()) -> None:
+    """Raises the difference, if there is one, on the smallest input found; `simpler` gives simpler parts to take in the place of one."""
     if differs(parts):
-        parts = smallest(parts, differs)
+        tried = at_most(MOST_TRIES, differs)
+        parts = simplest(smallest(parts, tried), tried, simpler)
         raise Difference(str(differs(parts)), parts)
+
+
+def at_most(tries: int, differs: Differs) -> Differs:
+    """The same, but no input differs after so many tries."""
+    left = tries
+
+    def tried(parts: Parts) -> str | None:
+        nonlocal left
+        left -= 1
+        return differs(parts) if left >= 0 else None
+
+    return tried
+
+
+def simplest(parts: Parts, differs: Differs, simpler: Simpler) -> Parts:
+    """The parts, each made as simple as the difference allows."""
+    for at in range(len(parts)):
+        while True:
+            tried = ([*parts[:at], part, *parts[at + 1:]] for part in simpler(parts[at]))
+            found = next((candidate for candidate in tried if differs(candidate)), None)
+            if found is None:
+                break
+            parts = found
+    return parts
 
 
 def smallest(parts: Parts, differs: Differs) -> Parts:
@@ -181,7 +226,7 @@ def _lists(trial: Trial, make: Callable[..., Parts], memory_of: Callable[[Parts]
         parts = make(rng, passed=rng.random() < 1 / 3)
         seen["from a passed memory" if generate.of_kind(parts, generate.Head) else "from a fresh one, or of another length"] += 1
         if differing_call(trial.library, memory_of(parts), parts, seen):
-            stop_at_smallest(parts, differs)
+            stop_at_smallest(parts, differs, generate.simpler)
     return seen
 
 
@@ -232,18 +277,18 @@ def sessions(trial: Trial) -> Counter[str]:
     """What the program prints, its exit status, and whether it writes to standard error; four in ten sessions are damaged."""
     rng, seen = trial.rng(), Counter[str]()
 
-    def differs(lines: Parts) -> str | None:
-        ran = subprocess.run([trial.program, "an argument"], input=b"".join(lines), capture_output=True, check=False)
-        output = session.output_of(b"".join(lines)).encode("ascii")
+    def differs(operations: Parts) -> str | None:
+        ran = subprocess.run([trial.program, "an argument"], input=b"".join(operations), capture_output=True, check=False)
+        output = session.output_of(b"".join(operations)).encode("ascii")
         said = ran.returncode, bool(ran.stderr)
         return first_difference("standard output", ran.stdout, output) or told(said, (0, output.startswith(b"refused=")))
 
     for _ in range(trial.sessions):
         is_damaged = rng.random() < 0.4
         lines = generate.session_lines(rng)
-        lines = generate.damaged(rng, lines) if is_damaged else lines
-        stop_at_smallest(lines, differs)
-        output = session.output_of(b"".join(lines))
+        data = b"".join(generate.damaged(rng, lines) if is_damaged else lines)
+        stop_at_smallest(generate.operations_of(data), differs, generate.without_a_line)
+        output = session.output_of(data)
         seen["damaged" if is_damaged else "not damaged"] += 1
         seen[output.partition(" ")[0].strip() if output.startswith("refused=") else "a board" if "role=" in output else "no board"] += 1
     return seen
