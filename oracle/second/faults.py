@@ -11,7 +11,7 @@ from typing import Any, Callable, Sequence
 from unittest.mock import patch
 
 from . import agreement, board, decision, identity, session, track, trials
-from .agreement import Claim, Vector
+from .agreement import Agreement, Claim, Outcome, Vector
 from .record import Record
 from .register import Register
 
@@ -44,6 +44,15 @@ def _solved_from_the_last_row(factor: Sequence[Vector], y: Vector) -> Vector:
 
 def _with_the_height_of_none(cartesian: Callable[[Claim], Vector]) -> Callable[[Claim], Vector]:
     return lambda claim: cartesian(replace(claim, height=trials.HEIGHT_OF_NONE) if claim.height is None else claim)
+
+
+def _outside_at_the_limit(measure: Callable[[Claim, Claim], Agreement]) -> Callable[[Claim, Claim], Agreement]:
+    def strict(smaller: Claim, larger: Claim) -> Agreement:
+        found = measure(smaller, larger)
+        is_at = found.chi_square is not None and found.chi_square == found.limit
+        return replace(found, outcome=Outcome.OUTSIDE) if is_at else found
+
+    return strict
 
 
 def _root_of_the_processor(x: float) -> float:
@@ -105,19 +114,10 @@ def _counting_what_falls(without: Callable[..., track.Track]) -> Callable[..., t
     return counting
 
 
-def _counting_against_all(joined: Callable[..., tuple[track.Track, int]]) -> Callable[..., tuple[track.Track, int]]:
-    def counting(held: track.Track, at: int, new: track.Fix) -> tuple[track.Track, int]:
-        left, answer = joined(held, at, new)
-        everywhere = track.identities(refused.fix for transmission in held.transmissions for refused in transmission.refused)
-        now = track.identities(refused.fix for refused in held.transmissions[at].with_fix(new).refused)
-        return replace(left, contested=(held.contested + len(now - everywhere)) % 2**64), answer
-
-    return counting
-
-
 FAULTS = (
     Fault("the second solution begins with its last product", "agreements", agreement, "solve_back", _solved_from_the_last_row),
     Fault("the sine's last coefficient is one bit more", "agreements", agreement, "SINE_SERIES", _SINE_SERIES_OF_ONE_BIT_MORE),
+    Fault("a chi-square at the limit is outside", "agreements", agreement, "agreement", _outside_at_the_limit(agreement.agreement)),
     Fault("two rows have the limit of three", "agreements", agreement, "LIMIT_WITHOUT", agreement.LIMIT_WITH_HEIGHTS),
     Fault("a height beside a false flag counts", "agreements", agreement, "cartesian", _with_the_height_of_none(agreement.cartesian)),
     Fault("the root of a negative number is the processor's NaN", "numbers", agreement, "root", _root_of_the_processor),
@@ -133,7 +133,6 @@ FAULTS = (
     Fault("a track keeps its transmissions in no order", "track calls", track, "arranged", _in_no_order),
     Fault("a conviction in a track orders once, at its end", "track calls", track.Track, "with_conviction", _ordered_once),
     Fault("contested grows where fixes fall too", "track calls", track.Track, "without", _counting_what_falls(track.Track.without)),
-    Fault("contested counts against the refused of all", "track calls", track.Track, "_joined", _counting_against_all(track.Track._joined)),
     Fault("a chi-square that is a NaN is none", "track calls", track, "NAN", track.INFINITY),
     Fault("a session of 65,536 bytes is too long", "sessions", session, "MOST_BYTES", session.MOST_BYTES - 1),
     Fault("a minus may stand before zero", "sessions", session, "_SIGNED", re.compile(r"-?(0|[1-9][0-9]*)")),

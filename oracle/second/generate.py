@@ -8,7 +8,7 @@ from dataclasses import dataclass, replace
 from typing import Any, Iterable, Iterator, Sequence
 
 from . import register, track
-from .agreement import Claim
+from .agreement import Claim, agreement
 from .answers import TEXT_ROOM
 from .decision import ITEM_SIZE
 from .identity import Models, Summary
@@ -143,7 +143,21 @@ def pair_of_claims(rng: random.Random) -> tuple[Claim, Claim]:
     near = [within(value + rng.randrange(-reach, reach + 1), 32) for value in (smaller.lat, smaller.lon)]
     lat, lon = near if rng.random() < 0.9 else (angle(rng), angle(rng))
     beside = within((height or 0) + rng.randrange(-50_000, 50_001), 32)
-    return smaller, Claim(lat, lon, None if rng.random() < 0.3 else beside, covariance(rng))
+    larger = Claim(lat, lon, None if rng.random() < 0.3 else beside, covariance(rng))
+    return at_the_limit(smaller, larger) if rng.random() < 0.02 else (smaller, larger)
+
+
+def at_the_limit(smaller: Claim, larger: Claim) -> tuple[Claim, Claim]:
+    """The two with a covariance so much larger that the chi-square is the limit, or near it; as they are where there is none."""
+    measured = agreement(smaller, larger)
+    if measured.chi_square is None or measured.limit is None or not 1e-9 < measured.chi_square < 1e15:
+        return smaller, larger
+    for step in range(60):
+        scale = measured.chi_square / measured.limit * (1.0 + (step - 30) * 2.0**-52)
+        scaled = replace(smaller, covariance=tuple(number * scale for number in smaller.covariance))
+        if agreement(scaled, larger).chi_square == measured.limit:
+            break
+    return scaled, larger
 
 
 class World:
@@ -151,7 +165,7 @@ class World:
 
     def __init__(self, rng: random.Random) -> None:
         self.rng = rng
-        self.messages = [rng.randbytes(rng.choice((7, 14))) for _ in range(rng.choice((1, 1, 2, 3)))]
+        self.messages = [rng.randbytes(rng.choice((7, 14))) for _ in range(rng.choice((1, 1, 2, 3, 12)))]
         self.tags = sorted(rng.sample((0, 1, 2, 3, 255, 256, 2**63, 2**64 - 1), rng.randrange(2, 7)))
         self.models = rng.sample(range(64), rng.randrange(1, 4))
         self.inputs = [rng.randbytes(32) for _ in range(2)]
@@ -161,6 +175,7 @@ class World:
         self.lat, self.lon = angle(rng), angle(rng)
         self.covariances = [covariance(rng) for _ in range(3)]
         self.span = rng.choice((1, 1, 8, 60, 1_000_000))
+        self.made: list[bytes] = []
 
     def engine(self) -> int:
         """Mostly one of the world's."""
@@ -177,12 +192,14 @@ class World:
         tags = tuple(sorted(rng.sample(self.tags, rng.randrange(1, len(self.tags) + 1))))
         reach = rng.choice((0, 300, 3_000, 10_000))
         height = rng.choice((None, 0, 500 * rng.randrange(-7, 8), rng.randrange(-3_000, 3_000), rng.randrange(-2**31, 2**31)))
-        return record_bytes(
+        raw = record_bytes(
             time=self.moment(), lat=within(self.lat + rng.randrange(-reach, reach + 1), 32),
             lon=within(self.lon + rng.randrange(-reach, reach + 1), 32), height=height, message=rng.choice(self.messages),
             used=rng.randrange(2 ** len(tags)), tags=tags, models=self.cited(), spec=rng.choice(self.specs),
             covariance=struct.pack("<6d", *rng.choice(self.covariances))
         )
+        self.made.append(raw)
+        return raw
 
     def cited(self) -> tuple[int, ...]:
         """Up to four models, with repeats."""
@@ -190,8 +207,8 @@ class World:
         return tuple(self.rng.choice(self.models) for _ in range(count))
 
     def reported(self) -> bytes:
-        """A record, now and then one that is damaged, or bytes that can be none."""
-        raw = self.record()
+        """A record, often one that was made before; now and then one that is damaged, or bytes that can be none."""
+        raw = self.rng.choice(self.made) if self.made and self.rng.random() < 0.2 else self.record()
         kind = self.rng.random()
         if kind < 0.02:
             at = self.rng.randrange(len(raw))
@@ -346,6 +363,7 @@ def item_list(rng: random.Random) -> list[bytes]:
     world = World(rng)
     world.tags = sorted(rng.sample(range(12), rng.randrange(2, 8)))
     flagged = rng.random() < 0.7
+    ascending = flagged and rng.random() < 0.3
     size = rng.choice((96, 97)) if rng.random() < 0.01 else rng.randrange(14)
     items = []
     for _ in range(size):
@@ -353,6 +371,9 @@ def item_list(rng: random.Random) -> list[bytes]:
         standing = rng.choice((0, 0, 1, 2, 2**64 - 1)) if flagged else 0
         flags = (rng.choice((0, 1, 1, 1, 255)), rng.choice((0, 0, 1, 2)), rng.choice((0, 1, 1, 2, 3, 255))) if flagged else (1, 0, 0)
         record = world.record() if rng.random() < 0.999 else world.reported()
+        if ascending and (read := read_record(record)):
+            # More tags, more standing: items that supersede are superseded in their turn.
+            standing, flags = len(read.tags), (1, flags[1], 1 if rng.random() < 0.9 else flags[2])
         items.append(struct.pack("<222s32s32sQ3B", record.ljust(222, b"\0"), rng.choice(world.inputs), identity, standing, *flags))
     if items and rng.random() < 0.02:
         items[-1] = rng.choice((items[-1][:-1], items[-1] + b"\0", items[0], items[-1][:ITEM_SIZE // 2]))

@@ -170,6 +170,7 @@ def agreements(trial: Trial) -> Counter[str]:
             library = outcome, *map(bits_of_either_zero, struct.unpack("<2d", out))
             stop_at(told(library, (found.outcome.value, bits_of_either_zero(found.chi_square), bits(found.limit))), *pair)
         seen[found.outcome.name.lower()] += 1
+        seen["at the limit"] += found.chi_square is not None and found.chi_square == found.limit
         seen["with a number that is odd"] += any(not math.isfinite(x) or 0.0 < abs(x) < 1e-300 for x in pair[0].covariance)
         seen["at an edge between quadrants"] += any(abs(abs(pair[0].lat) - edge) < 4 for edge in (450_000_000, 1_350_000_000))
     return seen
