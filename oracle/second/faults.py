@@ -1,5 +1,5 @@
-"""Wrong rules for the self-test, each of which must make a difference. Among them are the other readings of those sentences that had to
-be guessed while docs/REFERENCE.md was shorter: that they make a difference shows that the comparison decided each guess."""
+"""Wrong rules for the self-test, each of which must make a difference. Among them are the other readings of what had to be guessed
+of the library while docs/REFERENCE.md was shorter: that they make a difference shows that the comparison decided each guess."""
 from __future__ import annotations
 
 import math
