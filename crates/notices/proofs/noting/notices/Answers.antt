@@ -12,12 +12,12 @@ loop-call-init c =
     record { text = rw (none, rest, line) refl; here = sym line; few = omega (arith, ap length rest) }
 
 pub loop-call-smaller : goal.loop-call-smaller
-loop-call-smaller c = left_less (lines_left c.loop-call.lines) (call_of c.in-Ok.call) (lines_left c.operation.new.self) c.in-Ok.ensures
+loop-call-smaller c = left_less (lines_left c.loop-call.lines) (call_of c.in-Ok.call) (lines_left c.operation.new.self) c.in-Ok.ensures.call
 
 pub loop-call-preserved : goal.loop-call-preserved
 loop-call-preserved c =
-    saying-more _ _ _ _ _ _ _ c.loop-call.invariant (call_of c.in-Ok.call) (lines_left c.operation.new.self) c.in-Ok.ensures
-    (left_less (lines_left c.loop-call.lines) (call_of c.in-Ok.call) (lines_left c.operation.new.self) c.in-Ok.ensures) _ _ c.perform-answer.ensures _ c.in_ok-note.ensures
+    saying-more _ _ _ _ _ _ _ c.loop-call.invariant (call_of c.in-Ok.call) (lines_left c.operation.new.self) c.in-Ok.ensures.call
+    (left_less (lines_left c.loop-call.lines) (call_of c.in-Ok.call) (lines_left c.operation.new.self) c.in-Ok.ensures.call) _ _ c.perform-answer.ensures _ c.in_ok-note.ensures
 
 pub returns : goal.returns
-returns c = saying-end _ _ _ _ _ _ _ c.loop-call.invariant c.in_default.field-0 c.in_default.ensures
+returns c = saying-end _ _ _ _ _ _ _ c.loop-call.invariant c.in_default.field-0 c.in_default.ensures.call
