@@ -2,6 +2,7 @@
 from __future__ import annotations
 
 import re
+from dataclasses import dataclass
 from typing import Callable, Iterator, Mapping
 
 from . import board, register
@@ -17,11 +18,12 @@ Operation = Mapping[str, Value]
 
 
 class BadLine(Exception):
-    """The first line that is bad, counted from 1."""
+    """The first line that is bad, counted from 1, and the key that is due there."""
 
-    def __init__(self, number: int) -> None:
-        super().__init__(number)
+    def __init__(self, number: int, key: str) -> None:
+        super().__init__(number, key)
         self.number = number
+        self.key = key
 
 
 class BadValue(Exception):
@@ -120,14 +122,14 @@ class _Lines:
         """The value of the next line, on which this key is due."""
         self.number += 1
         if self.number > len(self._whole):
-            raise BadLine(self.number)
+            raise BadLine(self.number, key)
         found, equals, value = self._whole[self.number - 1].partition("=")
         if found != key or not equals:
-            raise BadLine(self.number)
+            raise BadLine(self.number, key)
         try:
             return parse(value)
         except BadValue:
-            raise BadLine(self.number) from None
+            raise BadLine(self.number, key) from None
 
 
 def _operation_named(value: str) -> str:
@@ -158,16 +160,89 @@ def call(memory: bytearray, operation: Operation) -> int:
             return register.report(memory, engine, record_bytes(**values))
 
 
-def output_of(data: bytes) -> str:
-    """What the program prints of this input."""
+DECIMAL = "without leading zeros"
+DUE_VALUES: Mapping[str, str] = {
+    "op": "summary, convict or report",
+    "engine": f"a decimal number from 0 to 255 {DECIMAL}",
+    "model": f"a decimal number from 0 to 255 {DECIMAL}",
+    "spec": f"a decimal number from 0 to 65535 {DECIMAL}",
+    "used": f"a decimal number from 0 to 65535 {DECIMAL}",
+    "inputs": "64 lowercase hex digits",
+    "time": f"a decimal number from 0 to 18446744073709551615 {DECIMAL}",
+    "lat": f"a decimal number from -2147483648 to 2147483647 {DECIMAL}",
+    "lon": f"a decimal number from -2147483648 to 2147483647 {DECIMAL}",
+    "height": f"the word none, or a decimal number from -2147483648 to 2147483647 {DECIMAL}",
+    "message": "14 or 28 lowercase hex digits",
+    "tags": f"1 to 16 decimal numbers from 0 to 18446744073709551615 {DECIMAL}, with commas between",
+    "models": f"the word none, or 1 to 4 decimal numbers from 0 to 255 {DECIMAL}, with commas between",
+    "cov": "96 lowercase hex digits, 16 for each of six numbers",
+}
+
+REASONS: Mapping[int, str] = {
+    Answer.ENGINE_OVER_31: "TL_ENGINE_OVER_31: there is no engine with a number over 31",
+    Answer.MALFORMED_RECORD: "TL_MALFORMED_RECORD: what is reported is no well-formed record",
+    Answer.ENGINE_CONVICTED: "TL_ENGINE_CONVICTED: the engine is convicted",
+    Answer.FULL: "TL_FULL: it is not held yet, and the register is full",
+    Answer.BAD_SUMMARY: "TL_BAD_SUMMARY: there is no model with a number over 63",
+}
+
+MOST_SHOWN = 60
+
+
+@dataclass(frozen=True)
+class Run:
+    """What the program writes, and whether it refuses the input or some operation is not answered 0."""
+
+    output: str
+    error: str
+    is_refused: bool
+    is_unanswered: bool
+
+    def status(self, is_strict: bool) -> int:
+        """The exit status."""
+        if self.is_refused:
+            return 1
+        return 4 if is_strict and self.is_unanswered else 0
+
+
+def found_at(data: bytes, number: int) -> str:
+    """What stands where this line is due, counted from 1."""
+    behind = data.split(b"\n", number - 1)
+    rest = behind[number - 1] if len(behind) == number else b""
+    if not rest:
+        return "the end of the input"
+    line, feed, _ = rest.partition(b"\n")
+    shown = "".join(chr(byte) if 32 <= byte <= 126 else f"\\x{byte:02x}" for byte in line[:MOST_SHOWN])
+    quoted = f"'{shown}'" + (".." if len(line) > MOST_SHOWN else "")
+    if not feed:
+        return quoted + " and the end of the input, without a line feed"
+    return quoted + (", with a carriage return before the line feed" if line.endswith(b"\r") else "")
+
+
+def run(data: bytes) -> Run:
+    """The program on this input."""
     if len(data) > MOST_BYTES:
-        return f"refused={Answer.SESSION_TOO_LONG}\n"
+        return Run(f"refused={Answer.SESSION_TOO_LONG}\n", f"the input has more than {MOST_BYTES} bytes\n", True, False)
     try:
         operations = list(operations_of(data))
     except BadLine as bad:
-        return f"refused={Answer.BAD_LINE} line={bad.number}\n"
+        due = f"{bad.key}= is due, then {DUE_VALUES[bad.key]}, then a line feed"
+        return Run(
+            f"refused={Answer.BAD_LINE} line={bad.number}\n", f"line {bad.number}: {due}; found {found_at(data, bad.number)}\n", True, False
+        )
     memory = bytearray(register.REGISTER_SIZE)
-    answers = "".join(f"answer={call(memory, operation)}\n" for operation in operations)
+    answers, notices, line = "", "", 1
+    for number, operation in enumerate(operations, start=1):
+        answer = call(memory, operation)
+        answers += f"answer={answer}\n"
+        if answer:
+            notices += f"operation {number}, line {line}: answer={answer}, {REASONS[answer]}\n"
+        line += len(operation)
     out = bytearray(TEXT_ROOM)
     text = out[:board.board(memory, out)].decode("ascii")
-    return answers + (text or NO_TRANSMISSIONS)
+    return Run(answers + (text or NO_TRANSMISSIONS), notices, False, bool(notices))
+
+
+def output_of(data: bytes) -> str:
+    """What the program prints of this input."""
+    return run(data).output

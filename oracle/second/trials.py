@@ -5,6 +5,7 @@ import math
 import random
 import struct
 import subprocess
+import tempfile
 from collections import Counter
 from dataclasses import dataclass, fields, is_dataclass
 from typing import Any, Callable, Iterable, Sequence
@@ -275,17 +276,26 @@ def _count(seen: Counter[str], call: generate.Call, answer: int, out: bytes) -> 
 
 
 def sessions(trial: Trial) -> Counter[str]:
-    """What the program prints, its exit status, and whether it writes to standard error; four in ten sessions are damaged."""
+    """What the program writes to standard output and standard error, and its exit status, from standard input or from a file, with
+    `--strict` and without; four in ten sessions are damaged."""
     rng, seen = trial.rng(), Counter[str]()
+    is_strict, from_file = False, False
 
     def differs(operations: Parts) -> str | None:
-        ran = subprocess.run([trial.program, "an argument"], input=b"".join(operations), capture_output=True, check=False)
-        output = session.output_of(b"".join(operations)).encode("ascii")
-        said = ran.returncode, bool(ran.stderr)
-        return first_difference("standard output", ran.stdout, output) or told(said, (0, output.startswith(b"refused=")))
+        data, words = b"".join(operations), ["--strict"] * is_strict
+        with tempfile.NamedTemporaryFile() as file:
+            file.write(data)
+            file.flush()
+            words += [file.name] if from_file else ["-"]
+            ran = subprocess.run([trial.program, *words], input=b"" if from_file else data, capture_output=True, check=False)
+        second = session.run(data)
+        return (
+            first_difference("standard output", ran.stdout, second.output.encode("ascii"))
+            or first_difference("standard error", ran.stderr, second.error.encode("ascii")) or told(ran.returncode, second.status(is_strict))
+        )
 
     for _ in range(trial.sessions):
-        is_damaged = rng.random() < 0.4
+        is_damaged, is_strict, from_file = rng.random() < 0.4, rng.random() < 0.5, rng.random() < 0.5
         lines = generate.session_lines(rng)
         data = b"".join(generate.damaged(rng, lines) if is_damaged else lines)
         stop_at_smallest(generate.operations_of(data), differs, generate.without_a_line)
