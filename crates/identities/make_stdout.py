@@ -1,5 +1,6 @@
 #!/usr/bin/env python3
-"""Writes the files stdin and stdout beside this one: records among summaries, and what the program is to print of them.
+"""Writes the files stdin and stdout beside this one: records among summaries, and what the program is to print of them. Model inputs and
+identity are those of a record that counts; of any other `none` is printed.
 
 States, counting and hashes follow docs/REFERENCE.md, 'Models and identity', and publish::cited_inputs of sky-commons/tally; the hash
 is that of Python's hashlib. Nothing is taken from the proved crates."""
@@ -67,9 +68,9 @@ def line(table, r):
         " ".join(show_state(table, m) for m in range(5)),
         "yes" if counts else "no",
         "yes" if missing else "no",
-        inputs.hex(),
+        inputs.hex() if counts else "none",
         sets.hex(),
-        identity.hex(),
+        identity.hex() if counts else "none",
     )
 
 

@@ -1,10 +1,18 @@
--- No claim rests on this definition: it says what a board shows of fixes.
-use Rattle.std.specs.Prelude.{List, map}
+-- No claim rests on these definitions: they say what a board shows of fixes, and what is left of an output when a register is drawn.
+use Rattle.std.specs.Prelude.{ℕ, cond, List, map, ltb, length}
 use Rattle.ranges.specs.Lists.{sort}
 use Rattle.shown.specs.Fix.{Fix}
 use Rattle.shown.specs.Shown.{Transmission, shown}
 use Rattle.links.specs.Transmissions.{transmissions_of}
 use Rattle.transmissions.specs.Picture.{older_than, latest_of}
+use Rattle.drawing.specs.Text.{board_size}
+use Rattle.held.specs.After.{After, after, write_text}
+use Rattle.register.specs.Register.{Register}
+use Rattle.board.specs.Board.{board_in}
 
 abbrev pub latest_over : List Fix → List Transmission
 latest_over fs = latest_of (sort older_than (map shown (transmissions_of fs)))
+
+-- 10 for an output under 16,384 bytes; else the board is written
+abbrev pub drawn : Register → List ℕ → After (List ℕ)
+drawn s out = cond (ltb (length out) board_size) (after 10 out) (write_text (board_in s) out)

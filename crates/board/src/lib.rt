@@ -7,17 +7,17 @@ ghost use Rattle.shown.specs.Items.{AllFormed};
 ghost use Rattle.fixes.specs.Order.{identities_ascend};
 ghost use Rattle.drawing.specs.Text.{board_size, board_text};
 ghost use Rattle.held.specs.After.{after};
-ghost use Rattle.register.specs.Memory.{well_formed, decode};
+ghost use Rattle.held.specs.Errors.{value_or_number};
 ghost use Rattle.board.specs.Board.{board_in, draw_board};
 ghost use Rattle.board.specs.Preview.{draw_preview};
-ghost use Rattle.board.specs.Latest.{latest_over};
+ghost use Rattle.board.specs.Latest.{latest_over, drawn};
 
 use arrayvec::ArrayVec;
 use fixes::{Fix, Fixes, MAX_FIXES};
+use held::errors::Error;
 use links::Transmissions;
-use models::summaries::Summaries;
-use register::layout;
 use register::layout::REGISTER_SIZE;
+use register::view::View;
 
 pub mod claims;
 mod texts;
@@ -44,61 +44,42 @@ fn draw_fixes(fixes: &[Fix<'_>], out: &mut [u8]) -> usize
 }
 
 // Writes the board of a register.
-#[tactic(auto, using(register::proofs::Opened::sized))]
-fn draw(memory: &[u8], out: &mut [u8]) -> usize
-    requires memory_value { well_formed memory.now ≡ true }
-    requires board_size_in_bounds { board_size ≤ length out.old }
-    ensures { Put out.old 0 (board_in (decode memory.now)) result out.new }
+fn write(register: &View<'_>, out: &mut [u8]) -> usize
+    requires room { board_size ≤ length out.old }
+    ensures board { Put out.old 0 (board_in register.now) result out.new }
+    ensures fits { length (board_in register.now) ≤ board_size }
 {
-    let n = octets::words::u16_at(memory, layout::SUMMARY_COUNT_AT) as usize;
-    let records = octets::words::u16_at(memory, layout::RECORD_COUNT_AT) as usize;
-    let summaries = Summaries {
-        table: &memory[layout::SUMMARIES_AT..layout::RECORDS_AT],
-        count: n,
-    };
     let mut fixes = Fixes::new();
-    fixes::represent(
-        summaries,
-        &memory[layout::RECORDS_AT..],
-        records,
-        &mut fixes,
-    );
+    fixes::represent(register, &mut fixes);
     draw_fixes(&fixes, out)
 }
 
-// The board of bytes that are a register: 10, or its length.
-fn draw_formed(memory: &[u8], out: &mut [u8]) -> u32
-    requires { well_formed memory.now ≡ true }
-    ensures { after result out.new ≡ draw_board memory.now out.old }
+/// The board of a register: its length.
+pub fn draw(register: &View<'_>, out: &mut [u8]) -> Result<u32, Error>
+    ensures { after (value_or_number result) out.new ≡ drawn register.now out.old }
 {
     if out.len() < BOARD_SIZE {
-        return 10;
+        return Err(Error::SmallOutput);
     }
-    draw(memory, out) as u32
+    Ok(write(register, out) as u32)
 }
 
-/// The board of a register: 1 or 10, or its length.
-pub fn board(memory: &[u8], out: &mut [u8]) -> u32
-    ensures { after result out.new ≡ draw_board memory.now out.old }
+/// The board of a register in any bytes: its length.
+pub fn board(memory: &[u8], out: &mut [u8]) -> Result<u32, Error>
+    ensures { after (value_or_number result) out.new ≡ draw_board memory.now out.old }
 {
-    if !register::formed::well_formed(memory) {
-        return 1;
-    }
-    draw_formed(memory, out)
+    draw(&View::parse(memory)?, out)
 }
 
-/// The board of a register as it would be if an engine were convicted: 1, 2 or 10, or its length. The engine is convicted on a copy, which
+/// The board of a register in any bytes as it would be if an engine were convicted: its length. The engine is convicted on a copy, which
 /// is well-formed then and is not tested again.
-pub fn preview(memory: &[u8], engine: u32, out: &mut [u8]) -> u32
-    ensures { after result out.new ≡ draw_preview engine memory.now out.old }
+pub fn preview(memory: &[u8], engine: u32, out: &mut [u8]) -> Result<u32, Error>
+    ensures { after (value_or_number result) out.new ≡ draw_preview engine memory.now out.old }
 {
     let Ok(bytes) = <&[u8; REGISTER_SIZE]>::try_from(memory) else {
-        return 1;
+        return Err(Error::Malformed);
     };
     let mut copied = *bytes;
-    let refusal = register::convictions::conviction(&mut copied, engine);
-    if refusal != 0 {
-        return refusal;
-    }
-    draw_formed(&copied, out)
+    register::convictions::conviction(&mut copied, engine)?;
+    draw(&View::of(&copied), out)
 }

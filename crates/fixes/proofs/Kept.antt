@@ -12,7 +12,7 @@ use Rattle.models.proofs.Sets.{cited-length, identity-length}
 use Rattle.shown.specs.Fix.{Fix, with_signers}
 use Rattle.shown.specs.Shown.{lower}
 use Rattle.shown.specs.Items.{no_fix, fix_at, Formed, AllFormed, Apart}
-use Rattle.fixes.specs.Slots.{slot_formed}
+use Rattle.held.specs.Read.{record_formed}
 use Rattle.fixes.specs.Fixes.{record_in, fix_of_place, unite, enter, enter_all, fixes_of}
 use Rattle.fixes.specs.Order.{identities_ascend}
 use Rattle.fixes.proofs.Entering.{enter-ascends, enter-length, earlier-lower}
@@ -51,7 +51,7 @@ enter-formed f (g ∷ gs) h w =
     (λ v. rw (u, v) (all-cons f (g ∷ gs) h w))
     (λ v. rw (u, v) (all-cons (unite g f) gs (united-formed g f first h) others)))
 
-slot-formed : (ss : List (List ℕ)) (p : List ℕ) → slot_formed p ≡ true → Formed (fix_of_place ss p)
+slot-formed : (ss : List (List ℕ)) (p : List ℕ) → record_formed p ≡ true → Formed (fix_of_place ss p)
 slot-formed ss p h = record { key = identity-length (set_hash (record_in p)) (cited_inputs ss (record_in p)); form = h; cited = cited-length ss (record_in p) }
 
 -- ---- the fixes of summaries and records
@@ -61,12 +61,12 @@ record Kept (fs : List Fix) (n : ℕ) : Type 0 where
   formed : AllFormed fs
   few : length fs ≤ n
 
-all-kept : (ss ps : List (List ℕ)) (fs : List Fix) (n : ℕ) → list_all slot_formed ps ≡ true → Kept fs n → Kept (enter_all fs (counted ss [] 0 ps)) (n + length ps)
+all-kept : (ss ps : List (List ℕ)) (fs : List Fix) (n : ℕ) → list_all record_formed ps ≡ true → Kept fs n → Kept (enter_all fs (counted ss ps)) (n + length ps)
 unfolding enter_all
 all-kept ss [] fs n h k = record { in_order = k.in_order; formed = k.formed; few = let x = k.few in omega arith }
 all-kept ss (p ∷ ps) fs n h k =
-    let one : slot_formed p ≡ true = and_left (slot_formed p) (list_all slot_formed ps) h in
-    let others : list_all slot_formed ps ≡ true = and_right (slot_formed p) (list_all slot_formed ps) h in
+    let one : record_formed p ≡ true = and_left (record_formed p) (list_all record_formed ps) h in
+    let others : list_all record_formed ps ≡ true = and_right (record_formed p) (list_all record_formed ps) h in
     let f = fix_of_place ss p in
     let x = k.few in
     let z : suc n + length ps ≡ n + suc (length ps) = omega arith in
@@ -78,7 +78,7 @@ all-kept ss (p ∷ ps) fs n h k =
     })))
     (λ c. rw (c, ← z) (all-kept ss ps fs (suc n) others (record { in_order = k.in_order; formed = k.formed; few = omega arith })))
 
-module _ (ss ps : List (List ℕ)) (h : list_all slot_formed ps ≡ true) where
+module _ (ss ps : List (List ℕ)) (h : list_all record_formed ps ≡ true) where
   all : Kept (fixes_of ss ps) (0 + length ps)
   unfolding fixes_of identities_ascend
   all = all-kept ss ps [] 0 h (record { in_order = refl; formed = λ y m. absurd (Memᴰ.not-nil m); few = omega arith })

@@ -1,14 +1,12 @@
 //! A fix: a record that is lent, what it is known by, and who signed it.
 
 ghost use Rattle.std.specs.Prelude.{◌≡◌};
-ghost use Rattle.models.specs.Answers.{summary_places};
 ghost use Rattle.fixes.specs.Fixes as F;
 ghost use Rattle.fixes.specs.Order.{order};
-ghost use Rattle.fixes.specs.Slots.{fix_of_record};
+ghost use Rattle.fixes.specs.Slots.{fix_of};
 
 use models::hashes::{Identity, Inputs, precedes};
-use models::summaries::Summaries;
-use models::{citations, identities};
+use models::identities;
 use record::Record;
 use record::relations::lesser;
 use std::cmp::Ordering;
@@ -31,15 +29,14 @@ impl<'a> Model for Fix<'a> {
 
     ghost Value = { S.Fix };
 
-    ghost view = { λ f. record { identity = f.identity.0; record_bytes = f.report.bytes.now; inputs = f.inputs.0; signers = f.signers } };
+    ghost view = { λ f. record { identity = f.identity; record_bytes = f.report.bytes.now; inputs = f.inputs; signers = f.signers } };
 }
 
 impl<'a> Fix<'a> {
-    /// A record alone as a fix, with its signers.
-    pub fn of_record(all: Summaries, report: Record<'a>, signers: u32) -> Fix<'a>
-        ensures { result ≡ fix_of_record (summary_places all.entry) report.entry.bytes.now signers }
+    /// A record that counts as a fix, with its model inputs and its signers.
+    pub fn of(report: Record<'a>, inputs: Inputs, signers: u32) -> Fix<'a>
+        ensures { result ≡ fix_of report.entry.bytes.now inputs signers }
     {
-        let inputs = citations::cited_inputs(all, report);
         let set = identities::set_hash(report);
         Fix {
             identity: identities::identity(&set, &inputs),

@@ -6,7 +6,9 @@
 #![tactic(auto)]
 
 pub mod engines;
+pub mod errors;
 pub mod formed;
 pub mod layout;
+pub mod signed;
 pub mod strikes;
 pub mod summaries;

@@ -2,9 +2,13 @@
 //! number of summaries in two bytes, lowest first, a record, and so many summaries. A line has the
 //! states of the models 0 to 4, each as its number and, where it is agreed, the place of its first
 //! summary; whether the record counts; whether it cites a model that is missing; its model inputs, set
-//! hash and identity. make_stdout.py works out the same with another BLAKE2s.
+//! hash and identity, or `none` for inputs and identity where it does not count. make_stdout.py works
+//! out the same with another BLAKE2s.
 #![tactic(auto)]
 
+use models::citations::{Uncited, cited_inputs, why_uncited};
+use models::hashes::Inputs;
+use models::identities;
 use models::layout::SUMMARY_SIZE;
 use models::states::ModelState;
 use models::summaries::Summaries;
@@ -34,14 +38,22 @@ fn show_hash(rt: &impl Print, hash: [u8; 32]) -> io::Result<()> {
     console::print_hash(rt, hash)
 }
 
-// What a record is known by.
-fn show_hashes(rt: &impl Print, all: Summaries, r: Record) -> io::Result<()> {
-    let inputs = models::citations::cited_inputs(all, r);
-    let set = models::identities::set_hash(r);
-    let identity = models::identities::identity(&set, &inputs);
+// What a record that counts is known by: its model inputs, set hash and identity.
+fn show_counted(rt: &impl Print, inputs: Inputs, r: Record) -> io::Result<()> {
+    let set = identities::set_hash(r);
+    let identity = identities::identity(&set, &inputs);
+    print!(rt; " counts yes missing no")?;
     show_hash(rt, inputs.0)?;
     show_hash(rt, set.0)?;
     show_hash(rt, identity.0)
+}
+
+// What is known of a record that does not count: neither its model inputs nor its identity are defined.
+fn show_uncounted(rt: &impl Print, why: Uncited, r: Record) -> io::Result<()> {
+    let missing = yes_or_no(matches!(why, Uncited::Missing));
+    print!(rt; " counts no missing {missing} none")?;
+    show_hash(rt, identities::set_hash(r).0)?;
+    print!(rt; " none")
 }
 
 fn yes_or_no(b: bool) -> &'static str {
@@ -52,10 +64,10 @@ fn yes_or_no(b: bool) -> &'static str {
 fn show_record(rt: &impl Print, all: Summaries, r: Record) -> io::Result<()> {
     print!(rt; "states")?;
     show_states(rt, all)?;
-    let counts = yes_or_no(models::citations::counts(all, r));
-    let missing = yes_or_no(models::citations::cites_missing(all, r));
-    print!(rt; " counts {counts} missing {missing}")?;
-    show_hashes(rt, all, r)?;
+    match cited_inputs(all, r) {
+        Some(inputs) => show_counted(rt, inputs, r)?,
+        None => show_uncounted(rt, why_uncited(all, r), r)?,
+    }
     println!(rt;)
 }
 

@@ -5,11 +5,13 @@ ghost use Rattle.std.specs.Prelude.{◌≡◌, true, ◌≤◌, length, flat_map
 ghost use Rattle.octets.specs.Put.{Put};
 ghost use Rattle.text.specs.Texts.{append};
 ghost use Rattle.held.specs.After.{after};
+ghost use Rattle.held.specs.Errors.{value_or_number};
 ghost use Rattle.drawing.specs.Text.{ranked_text, board_size};
 ghost use Rattle.stored.specs.Memory.{well_formed, decode};
 ghost use Rattle.listing.specs.Listing as T;
 
 use drawing::Role;
+use held::errors::Error;
 use stored::layout::CONTESTED_AT;
 use stored::parts::transmissions;
 use text::Text;
@@ -98,15 +100,15 @@ fn write(memory: &[u8], out: &mut [u8]) -> usize
     text.len()
 }
 
-/// The listing of a track: 1 or 10, or its length.
-pub fn listing(memory: &[u8], out: &mut [u8]) -> u32
-    ensures { after result out.new ≡ T.list_track memory.now out.old }
+/// The listing of a track in any bytes: its length.
+pub fn listing(memory: &[u8], out: &mut [u8]) -> Result<u32, Error>
+    ensures { after (value_or_number result) out.new ≡ T.list_track memory.now out.old }
 {
     if !stored::formed::well_formed(memory) {
-        return 1;
+        return Err(Error::Malformed);
     }
     if out.len() < LISTING_SIZE {
-        return 10;
+        return Err(Error::SmallOutput);
     }
-    write(memory, out) as u32
+    Ok(write(memory, out) as u32)
 }

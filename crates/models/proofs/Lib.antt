@@ -4,3 +4,4 @@ pub mod Citing
 pub mod Held
 pub mod Sets
 pub mod Refusing
+pub mod Cited

@@ -5,6 +5,7 @@ ghost use Rattle.octets.specs.Order.{is_before};
 ghost use Rattle.arrayvec.specs.ArrayVec.{array_vec_len};
 
 use arrayvec::ArrayVec;
+use std::marker::Model;
 
 /// A hash's bytes.
 pub const HASH_SIZE: usize = 32;
@@ -13,19 +14,76 @@ pub const HASH_SIZE: usize = 32;
 #[derive(Clone, Copy, Default, PartialEq, Eq)]
 pub struct Inputs(pub [u8; HASH_SIZE]);
 
+impl Model for Inputs {
+    ghost use Rattle.std.specs.Prelude.{ℕ, List};
+
+    ghost Value = { List ℕ };
+
+    ghost view = { λ h. h.0 };
+
+    ghost inverse = { λ bytes. record { 0 = bytes } };
+}
+
+impl Inputs {
+    /// Its bytes.
+    pub fn bytes(&self) -> &[u8; HASH_SIZE]
+        ensures { result.now ≡ self.now }
+    {
+        &self.0
+    }
+}
+
 /// What a record was worked out from.
 #[derive(Clone, Copy, Default, PartialEq, Eq)]
 pub struct SetHash(pub [u8; HASH_SIZE]);
+
+impl Model for SetHash {
+    ghost use Rattle.std.specs.Prelude.{ℕ, List};
+
+    ghost Value = { List ℕ };
+
+    ghost view = { λ h. h.0 };
+
+    ghost inverse = { λ bytes. record { 0 = bytes } };
+}
+
+impl SetHash {
+    /// Its bytes.
+    pub fn bytes(&self) -> &[u8; HASH_SIZE]
+        ensures { result.now ≡ self.now }
+    {
+        &self.0
+    }
+}
 
 /// What a record is known by.
 #[derive(Clone, Copy, Default, PartialEq, Eq)]
 pub struct Identity(pub [u8; HASH_SIZE]);
 
+impl Model for Identity {
+    ghost use Rattle.std.specs.Prelude.{ℕ, List};
+
+    ghost Value = { List ℕ };
+
+    ghost view = { λ h. h.0 };
+
+    ghost inverse = { λ bytes. record { 0 = bytes } };
+}
+
+impl Identity {
+    /// Its bytes.
+    pub fn bytes(&self) -> &[u8; HASH_SIZE]
+        ensures { result.now ≡ self.now }
+    {
+        &self.0
+    }
+}
+
 /// Whether an identity comes before another, in the order of their bytes.
 pub fn precedes(a: &Identity, b: &Identity) -> bool
-    ensures { result ≡ is_before a.now.0 b.now.0 }
+    ensures { result ≡ is_before a.now b.now }
 {
-    octets::order::precedes(&a.0, &b.0)
+    octets::order::precedes(a.bytes(), b.bytes())
 }
 
 /// Puts a piece after what is there.

@@ -2,7 +2,6 @@
 use Rattle.std.specs.Prelude.{ℕ, ◌+◌, Bool, List, map, take}
 use Rattle.arithmetic.specs.Bits.{stored_bits}
 use Rattle.ranges.specs.Lists.{sort}
-use Rattle.models.specs.declared.hashes.Identity.{Identity}
 use Rattle.decision.specs.declared.Refusal.{Refusal}
 use Rattle.shown.specs.Fix.{Fix}
 use Rattle.shown.specs.Items.{fix_at}
@@ -14,10 +13,6 @@ use Rattle.normalize.specs.Normal.{refused_fix, lower_refused}
 -- the most fixes that are gathered: those that a transmission holds, and one more
 abbrev pub max_gathered : ℕ
 max_gathered = max_standing + max_refused + 1
-
--- the bytes of an identity
-abbrev pub digest_of : Identity → List ℕ
-digest_of id = id.0
 
 -- what is kept of fixes with different identities
 abbrev pub normalized_distinct : List Fix → HeldTransmission

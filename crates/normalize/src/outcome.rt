@@ -4,7 +4,7 @@ ghost use Rattle.std.specs.Prelude.{◌≡◌, map, ◌<◌, ◌≤◌, length};
 ghost use Rattle.shown.specs.Items.{fix_at};
 ghost use Rattle.shown.specs.Decided.{IsFix, ShowsFixes};
 ghost use Rattle.normalize.specs.Claims.{fix_identity};
-ghost use Rattle.normalize.specs.Deciding.{max_gathered, digest_of};
+ghost use Rattle.normalize.specs.Deciding.{max_gathered};
 
 use crate::gathering::MAX_GATHERED;
 use arrayvec::ArrayVec;
@@ -16,7 +16,7 @@ use tracked::fix::Fix;
 // The identities of fixes, in their order.
 fn identities(fixes: &[Fix<'_>]) -> ArrayVec<Identity, MAX_GATHERED>
     requires few { length fixes.now ≤ max_gathered }
-    ensures { map digest_of result.items ≡ map fix_identity fixes.now }
+    ensures { result.items ≡ map fix_identity fixes.now }
 {
     let mut identities = ArrayVec::new();
     for fix in fixes {
@@ -28,18 +28,18 @@ fn identities(fixes: &[Fix<'_>]) -> ArrayVec<Identity, MAX_GATHERED>
 // A fix, of which these are the identities, as an item.
 fn item_at<'s>(fixes: &'s [Fix<'_>], identities: &'s [Identity], i: usize) -> Item<'s>
     requires here { i < length fixes.now }
-    requires identified { map digest_of identities.now ≡ map fix_identity fixes.now }
+    requires identified { identities.now ≡ map fix_identity fixes.now }
     ensures { IsFix (fix_at fixes.now i) result }
 {
     let fix = &fixes[i];
-    shown::item_of(fix.report, &fix.inputs.0, &identities[i].0)
+    shown::item_of(fix.report, fix.inputs.bytes(), identities[i].bytes())
 }
 
 // What is decided of fixes, of which these are the identities.
 fn decide<'s>(fixes: &'s [Fix<'_>], identities: &'s [Identity]) -> Decision<MAX_GATHERED>
     requires some { 0 < length fixes.now }
     requires few { length fixes.now ≤ max_gathered }
-    requires identified { map digest_of identities.now ≡ map fix_identity fixes.now }
+    requires identified { identities.now ≡ map fix_identity fixes.now }
     ensures { ShowsFixes fixes.now result }
 {
     decide_few(fixes.len(), |i| item_at(fixes, identities, i))

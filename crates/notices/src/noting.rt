@@ -8,6 +8,7 @@ ghost use Rattle.grammar.specs.Session.{at_start, calls_from};
 ghost use Rattle.notices.specs.Notices as N;
 
 use grammar::Lines;
+use held::errors::answer_number;
 use register::layout::REGISTER_SIZE;
 use std::alloc::{AllocError, Global};
 use text::Text;
@@ -72,7 +73,7 @@ pub fn notices(alloc: Global, input: &[u8]) -> Result<Vec<u8>, AllocError>
     let mut number = 1;
     let mut line = 1;
     while let Ok(call) = lines.operation() {
-        let answer = sessions::perform(&mut memory, &call);
+        let answer = answer_number(sessions::perform(&mut memory, &call));
         note(&mut out, number, line as u64, answer)?;
         number += 1;
         line = lines.line;

@@ -5,6 +5,7 @@
 #![tactic(auto)]
 
 use board::BOARD_SIZE;
+use held::errors::value_or_number;
 use register::layout::REGISTER_SIZE;
 use std::io;
 
@@ -32,7 +33,7 @@ fn small_buffer() -> [u8; BOARD_SIZE - 1] {
 // What a preview is answered, and its text.
 fn show_preview(rt: &impl Print, memory: &[u8], engine: u32) -> io::Result<()> {
     let mut out = output_buffer();
-    let answer = board::preview(memory, engine, &mut out);
+    let answer = value_or_number(board::preview(memory, engine, &mut out));
     show_answer(rt, engine, answer)?;
     if answer <= GREATEST_REFUSAL {
         return Ok(());
@@ -44,7 +45,7 @@ fn show_preview(rt: &impl Print, memory: &[u8], engine: u32) -> io::Result<()> {
 // What it is answered where the output has a byte too few.
 fn show_too_small(rt: &impl Print, memory: &[u8], engine: u32) -> io::Result<()> {
     let mut out = small_buffer();
-    let answer = board::preview(memory, engine, &mut out);
+    let answer = value_or_number(board::preview(memory, engine, &mut out));
     show_answer(rt, engine, answer)
 }
 

@@ -12,7 +12,7 @@ ghost use Rattle.stored.specs.Memory.{well_formed, decode, encode};
 ghost use Rattle.recheck.specs.Recheck as T;
 ghost use Rattle.recheck.specs.Steps as S;
 
-use models::citations::{cited_inputs, counts};
+use models::citations::cited_inputs;
 use models::summaries::Summaries;
 use normalize::deciding::decide_again;
 use octets::words::u16_at;
@@ -26,11 +26,10 @@ use tracked::transmission::Transmission;
 fn stands(summaries: Summaries, fix: &Fix<'_>) -> bool
     ensures { result ≡ T.stands (summary_places summaries.entry) fix.now }
 {
-    if !counts(summaries, fix.report) {
-        return false;
+    match cited_inputs(summaries, fix.report) {
+        Some(inputs) => octets::order::equal(inputs.bytes(), fix.inputs.bytes()),
+        None => false,
     }
-    let inputs = cited_inputs(summaries, fix.report);
-    octets::order::equal(&inputs.0, &fix.inputs.0)
 }
 
 // Whether some fix that a transmission holds does not stand.

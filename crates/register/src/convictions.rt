@@ -7,7 +7,7 @@ ghost use Rattle.held.specs.After.{after};
 ghost use Rattle.held.specs.Limits.{place_size};
 ghost use Rattle.held.specs.Signed.{drop_signer, has_another_signer};
 ghost use Rattle.held.specs.Strikes.{Struck};
-ghost use Rattle.register.specs.Refusals.{answer_number};
+ghost use Rattle.held.specs.Errors.{answer_number};
 ghost use Rattle.register.specs.Register.{strike_engine, take_conviction};
 ghost use Rattle.register.specs.Memory.{well_formed, decode, on_memory};
 ghost use Rattle.register.specs.Strikes.{kept_at};
@@ -15,8 +15,8 @@ ghost use Rattle.register.specs.Strikes.{kept_at};
 use crate::Register;
 use crate::formed::well_formed;
 use crate::layout::{CONVICTED_AT, RECORD_COUNT_AT, SUMMARIES_AT, SUMMARY_COUNT_AT};
-use crate::refusals::{Refusal, number};
 use held::engines::{Engine, Signers};
+use held::errors::Error;
 use held::layout::{PLACE_SIZE, SUMMARIES_SIZE};
 use held::strikes::{clear_rest, move_down, strike_summaries};
 use octets::words::{put_u16, put_u32, u16_at, u32_at};
@@ -71,12 +71,12 @@ fn strike(memory: &mut [u8], engine: Engine)
 
 impl<'a> Register<'a> {
     /// Convicts an engine.
-    pub fn conviction(&mut self, engine: u32) -> Result<(), Refusal>
+    pub fn conviction(&mut self, engine: u32) -> Result<(), Error>
         ensures same_reference { self.new.memory.ghost_name ≡ self.old.memory.ghost_name }
         ensures convicted { after (answer_number result) (decode self.new.memory.now) ≡ take_conviction engine (decode self.old.memory.now) }
     {
         let Some(engine) = Engine::new(engine) else {
-            return Err(Refusal::NoEngine);
+            return Err(Error::NoEngine);
         };
         strike(self.memory, engine);
         Ok(())
@@ -85,11 +85,11 @@ impl<'a> Register<'a> {
 
 /// Convicts an engine.
 #[tactic(auto, unfolding(crate::specs::Memory::on_memory))]
-pub fn conviction(memory: &mut [u8], engine: u32) -> u32
-    ensures { after result memory.new ≡ on_memory (take_conviction engine) memory.old }
+pub fn conviction(memory: &mut [u8], engine: u32) -> Result<(), Error>
+    ensures { after (answer_number result) memory.new ≡ on_memory (take_conviction engine) memory.old }
 {
     if !well_formed(memory) {
-        return 1;
+        return Err(Error::Malformed);
     }
-    number(Register::of(memory).conviction(engine))
+    Register::of(memory).conviction(engine)
 }

@@ -2,8 +2,7 @@
 //! 30,920 lent bytes. What it holds does not depend on the order in which calls came.
 //!
 //! A `Register` is bytes that are one; its operations take any numbers and any slices, and say why they take a call or not.
-//! report, summary and conviction do the same to any bytes, and answer 0 or a refusal's number (docs/REFERENCE.md, 'Operations'); a
-//! refusal changes no byte.
+//! report, summary and conviction do the same to any bytes (docs/REFERENCE.md, 'Operations'); an error changes no byte.
 #![tactic(auto)]
 
 ghost use Rattle.std.specs.Prelude.{◌≡◌, true};
@@ -17,9 +16,9 @@ pub mod claims;
 pub mod convictions;
 pub mod formed;
 pub mod layout;
-pub mod refusals;
 pub mod reports;
 pub mod summaries;
+pub mod view;
 
 /// A register in lent bytes.
 #[derive(Drop)]

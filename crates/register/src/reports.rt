@@ -4,7 +4,7 @@ ghost use Rattle.std.specs.Prelude.{◌≡◌, ◌<◌, ◌++◌, true, false, l
 ghost use Rattle.octets.specs.Masks.{bit, with_bit};
 ghost use Rattle.octets.specs.Words.{word_bytes};
 ghost use Rattle.held.specs.After.{after};
-ghost use Rattle.register.specs.Refusals.{answer_number};
+ghost use Rattle.held.specs.Errors.{answer_number};
 ghost use Rattle.register.specs.Signers.{signers_found};
 ghost use Rattle.register.specs.Register.{sign_record, take_report};
 ghost use Rattle.register.specs.Memory.{well_formed, decode, on_memory};
@@ -12,8 +12,8 @@ ghost use Rattle.register.specs.Memory.{well_formed, decode, on_memory};
 use crate::Register;
 use crate::formed::well_formed;
 use crate::layout::{MAX_RECORDS, RECORD_COUNT_AT, SUMMARIES_AT};
-use crate::refusals::{Refusal, number};
 use held::engines::{Engine, Signers};
+use held::errors::Error;
 use held::layout::{PLACE_SIZE, SUMMARIES_SIZE};
 use octets::runs::copy;
 use octets::words::{put_u16, put_u32, u16_at, u32_at};
@@ -62,7 +62,7 @@ fn signers_with(
 
 // Puts a record in, or its signer.
 #[tactic(auto, using(crate::proofs::Opened::sized))]
-fn sign(memory: &mut [u8], engine: Engine, r: Record) -> Result<(), Refusal>
+fn sign(memory: &mut [u8], engine: Engine, r: Record) -> Result<(), Error>
     requires register { well_formed memory.old ≡ true }
     requires free { bit (decode memory.old).convicted engine.number ≡ false }
     ensures signed { after (answer_number result) (decode memory.new) ≡ sign_record engine.number r.entry.bytes.now (decode memory.old) }
@@ -73,7 +73,7 @@ fn sign(memory: &mut [u8], engine: Engine, r: Record) -> Result<(), Refusal>
     let mut records = Records::of(places, u16_at(header, RECORD_COUNT_AT) as usize);
     let found = records.search(r.bytes);
     if records.is_full(found) {
-        return Err(Refusal::Full);
+        return Err(Error::Full);
     }
     let signers = signers_with(records.places(), found, engine);
     records.put(found, &signed(r, signers));
@@ -83,18 +83,18 @@ fn sign(memory: &mut [u8], engine: Engine, r: Record) -> Result<(), Refusal>
 
 impl<'a> Register<'a> {
     /// Reports a record for an engine.
-    pub fn report(&mut self, engine: u32, r: &[u8]) -> Result<(), Refusal>
+    pub fn report(&mut self, engine: u32, r: &[u8]) -> Result<(), Error>
         ensures same_reference { self.new.memory.ghost_name ≡ self.old.memory.ghost_name }
         ensures reported { after (answer_number result) (decode self.new.memory.now) ≡ take_report engine r.now (decode self.old.memory.now) }
     {
         let Some(engine) = Engine::new(engine) else {
-            return Err(Refusal::NoEngine);
+            return Err(Error::NoEngine);
         };
         let Some(r) = Record::parse(r) else {
-            return Err(Refusal::NoRecord);
+            return Err(Error::NoRecord);
         };
         if self.is_convicted(engine) {
-            return Err(Refusal::Convicted);
+            return Err(Error::Convicted);
         }
         sign(self.memory, engine, r)
     }
@@ -102,11 +102,11 @@ impl<'a> Register<'a> {
 
 /// Reports a record for an engine.
 #[tactic(auto, unfolding(crate::specs::Memory::on_memory))]
-pub fn report(memory: &mut [u8], engine: u32, r: &[u8]) -> u32
-    ensures { after result memory.new ≡ on_memory (take_report engine r.now) memory.old }
+pub fn report(memory: &mut [u8], engine: u32, r: &[u8]) -> Result<(), Error>
+    ensures { after (answer_number result) memory.new ≡ on_memory (take_report engine r.now) memory.old }
 {
     if !well_formed(memory) {
-        return 1;
+        return Err(Error::Malformed);
     }
-    number(Register::of(memory).report(engine, r))
+    Register::of(memory).report(engine, r)
 }

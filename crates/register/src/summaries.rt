@@ -3,15 +3,15 @@
 ghost use Rattle.std.specs.Prelude.{◌≡◌, true};
 ghost use Rattle.held.specs.After.{after};
 ghost use Rattle.held.specs.Summaries.{summary_formed};
-ghost use Rattle.register.specs.Refusals.{answer_number};
+ghost use Rattle.held.specs.Errors.{answer_number};
 ghost use Rattle.register.specs.Register.{hold_summary, take_summary};
 ghost use Rattle.register.specs.Memory.{well_formed, decode, on_memory};
 
 use crate::Register;
 use crate::formed::well_formed;
 use crate::layout::{SUMMARIES_AT, SUMMARY_COUNT_AT};
-use crate::refusals::{Refusal, number};
 use held::engines::Engine;
+use held::errors::Error;
 use held::layout::{MAX_SUMMARIES, SUMMARIES_SIZE};
 use held::summaries::new_summary;
 use models::layout::{INPUTS_SIZE, SUMMARY_SIZE};
@@ -24,7 +24,7 @@ type Summaries<'a> = Table<'a, SUMMARY_SIZE, SUMMARY_SIZE, MAX_SUMMARIES>;
 
 // Puts a summary in, unless it is held.
 #[tactic(auto, using(crate::proofs::Opened::sized))]
-fn hold(memory: &mut [u8], summary: &[u8; SUMMARY_SIZE]) -> Result<(), Refusal>
+fn hold(memory: &mut [u8], summary: &[u8; SUMMARY_SIZE]) -> Result<(), Error>
     requires register { well_formed memory.old ≡ true }
     requires summary { summary_formed (decode memory.old).convicted summary.now ≡ true }
     ensures held { after (answer_number result) (decode memory.new) ≡ hold_summary summary.now (decode memory.old) }
@@ -35,7 +35,7 @@ fn hold(memory: &mut [u8], summary: &[u8; SUMMARY_SIZE]) -> Result<(), Refusal>
     let mut summaries = Summaries::of(places, u16_at(header, SUMMARY_COUNT_AT) as usize);
     let found = summaries.search(summary);
     if summaries.is_full(found) {
-        return Err(Refusal::Full);
+        return Err(Error::Full);
     }
     summaries.put(found, summary);
     put_u16(header, SUMMARY_COUNT_AT, summaries.count() as u16);
@@ -50,21 +50,21 @@ impl<'a> Register<'a> {
         model: u32,
         spec: u16,
         inputs: &[u8],
-    ) -> Result<(), Refusal>
+    ) -> Result<(), Error>
         ensures same_reference { self.new.memory.ghost_name ≡ self.old.memory.ghost_name }
         ensures summarized { after (answer_number result) (decode self.new.memory.now) ≡ take_summary engine model spec inputs.now (decode self.old.memory.now) }
     {
         let Some(engine) = Engine::new(engine) else {
-            return Err(Refusal::NoEngine);
+            return Err(Error::NoEngine);
         };
         if (MAX_MODEL as u32) < model {
-            return Err(Refusal::NoSummary);
+            return Err(Error::NoSummary);
         }
         let Ok(inputs) = <&[u8; INPUTS_SIZE]>::try_from(inputs) else {
-            return Err(Refusal::NoSummary);
+            return Err(Error::NoSummary);
         };
         if self.is_convicted(engine) {
-            return Err(Refusal::Convicted);
+            return Err(Error::Convicted);
         }
         hold(self.memory, &new_summary(engine, model as u8, spec, inputs))
     }
@@ -72,11 +72,17 @@ impl<'a> Register<'a> {
 
 /// Takes a summary of a model from an engine.
 #[tactic(auto, unfolding(crate::specs::Memory::on_memory))]
-pub fn summary(memory: &mut [u8], engine: u32, model: u32, spec: u16, inputs: &[u8]) -> u32
-    ensures { after result memory.new ≡ on_memory (take_summary engine model spec inputs.now) memory.old }
+pub fn summary(
+    memory: &mut [u8],
+    engine: u32,
+    model: u32,
+    spec: u16,
+    inputs: &[u8],
+) -> Result<(), Error>
+    ensures { after (answer_number result) memory.new ≡ on_memory (take_summary engine model spec inputs.now) memory.old }
 {
     if !well_formed(memory) {
-        return 1;
+        return Err(Error::Malformed);
     }
-    number(Register::of(memory).summary(engine, model, spec, inputs))
+    Register::of(memory).summary(engine, model, spec, inputs)
 }

@@ -6,6 +6,7 @@ ghost use Rattle.octets.specs.Put.{Put};
 ghost use Rattle.text.specs.Texts.{append};
 ghost use Rattle.drawing.specs.Text.{board_size};
 ghost use Rattle.held.specs.After.{after};
+ghost use Rattle.held.specs.Errors.{answer_number};
 ghost use Rattle.register.specs.Memory.{well_formed, decode, on_memory, fresh};
 ghost use Rattle.register.specs.Calls.{act, runs};
 ghost use Rattle.board.specs.Board.{board_in};
@@ -14,6 +15,7 @@ ghost use Rattle.grammar.specs.Session.{at_start, calls_from};
 ghost use Rattle.sessions.specs.Output as O;
 
 use grammar::{Call, Lines};
+use held::errors::{Error, answer_number, value_or_number};
 use register::layout::REGISTER_SIZE;
 use text::Text;
 
@@ -29,16 +31,16 @@ pub const MAX_INPUT: usize = 65536;
 pub const OUTPUT_SIZE: usize = MAX_INPUT + board::BOARD_SIZE;
 
 // The line of an answer.
-fn push_answer(out: &mut Text, answer: u32)
-    ensures { out.new ≡ append out.old (O.answer_line answer) }
+fn push_answer(out: &mut Text, answer: Result<(), Error>)
+    ensures { out.new ≡ append out.old (O.answer_line (answer_number answer)) }
 {
-    out.push_field("answer=", &(answer as u64));
+    out.push_field("answer=", &(answer_number(answer) as u64));
     out.push_str("\n");
 }
 
 /// Makes the call of an operation on a register.
-pub fn perform(memory: &mut [u8], call: &Call) -> u32
-    ensures { after result memory.new ≡ on_memory (act (call_of call.now)) memory.old }
+pub fn perform(memory: &mut [u8], call: &Call) -> Result<(), Error>
+    ensures { after (answer_number result) memory.new ≡ on_memory (act (call_of call.now)) memory.old }
 {
     match call {
         Call::Summary {
@@ -85,7 +87,7 @@ fn write_board(memory: &[u8], out: &mut [u8]) -> usize
     ensures text { Put out.old 0 (O.printed (board_in (decode memory.now))) result out.new }
     ensures bound { result ≤ board_size }
 {
-    match board::board(memory, out) {
+    match value_or_number(board::board(memory, out)) {
         0 => octets::runs::put_bytes(out, 0, b"transmissions=0\n"),
         n => n as usize,
     }

@@ -22,6 +22,8 @@ ghost use Rattle.answers.specs.Answer.{hand_out};
 use answers::ANSWER_SIZE;
 use arithmetic::standing::{Agreement, Claimed, Measure};
 use geometry::linalg::Covariance;
+use held::errors::{answer_number, value_or_number};
+use track::reports::reported_number;
 
 // The answers for how a larger fix stands to a smaller one.
 const INSIDE: u32 = 0;
@@ -193,7 +195,7 @@ pub extern "C" fn tl_decide(items: &[u8], answer: &mut [u8; ANSWER_SIZE]) -> u32
 pub extern "C" fn tl_register_report(memory: &mut [u8], engine: u32, r: &[u8]) -> u32
     ensures { after result memory.new ≡ on_memory (take_report engine r.now) memory.old }
 {
-    register::reports::report(memory, engine, r)
+    answer_number(register::reports::report(memory, engine, r))
 }
 
 /// Puts an engine's summary of a model into a register.
@@ -207,7 +209,7 @@ pub extern "C" fn tl_register_summary(
 ) -> u32
     ensures { after result memory.new ≡ on_memory (take_summary engine model spec inputs.now) memory.old }
 {
-    register::summaries::summary(memory, engine, model, spec, inputs)
+    answer_number(register::summaries::summary(memory, engine, model, spec, inputs))
 }
 
 /// Strikes an engine from a register, with all that it alone said.
@@ -215,7 +217,7 @@ pub extern "C" fn tl_register_summary(
 pub extern "C" fn tl_register_conviction(memory: &mut [u8], engine: u32) -> u32
     ensures { after result memory.new ≡ on_memory (take_conviction engine) memory.old }
 {
-    register::convictions::conviction(memory, engine)
+    answer_number(register::convictions::conviction(memory, engine))
 }
 
 /// The board of a register into `out`: 1 or 10, or its length, which is 0 or greater than every refusal's number.
@@ -223,7 +225,7 @@ pub extern "C" fn tl_register_conviction(memory: &mut [u8], engine: u32) -> u32
 pub extern "C" fn tl_board(memory: &[u8], out: &mut [u8]) -> u32
     ensures { after result out.new ≡ draw_board memory.now out.old }
 {
-    board::board(memory, out)
+    value_or_number(board::board(memory, out))
 }
 
 /// The board of a register as it would be if an engine were convicted, into `out`: 1, 2 or 10, or its length, which is 0 or greater than
@@ -232,7 +234,7 @@ pub extern "C" fn tl_board(memory: &[u8], out: &mut [u8]) -> u32
 pub extern "C" fn tl_register_preview(memory: &[u8], engine: u32, out: &mut [u8]) -> u32
     ensures { after result out.new ≡ draw_preview engine memory.now out.old }
 {
-    board::preview(memory, engine, out)
+    value_or_number(board::preview(memory, engine, out))
 }
 
 /// Reports a record for an engine into a track.
@@ -240,7 +242,7 @@ pub extern "C" fn tl_register_preview(memory: &[u8], engine: u32, out: &mut [u8]
 pub extern "C" fn tl_track_report(memory: &mut [u8], engine: u32, r: &[u8]) -> u32
     ensures { after result memory.new ≡ T.on_memory (track_report engine r.now) memory.old }
 {
-    track::reports::report(memory, engine, r)
+    reported_number(track::reports::report(memory, engine, r))
 }
 
 /// Puts an engine's summary of a model into a track.
@@ -254,7 +256,7 @@ pub extern "C" fn tl_track_summary(
 ) -> u32
     ensures { after result memory.new ≡ T.on_memory (track_summary engine model spec inputs.now) memory.old }
 {
-    track::summaries::summary(memory, engine, model, spec, inputs)
+    answer_number(track::summaries::summary(memory, engine, model, spec, inputs))
 }
 
 /// Convicts an engine in a track, and decides again what it signed.
@@ -262,7 +264,7 @@ pub extern "C" fn tl_track_summary(
 pub extern "C" fn tl_track_conviction(memory: &mut [u8], engine: u32) -> u32
     ensures { after result memory.new ≡ T.on_memory (track_conviction engine) memory.old }
 {
-    track::convictions::conviction(memory, engine)
+    answer_number(track::convictions::conviction(memory, engine))
 }
 
 /// The listing of a track into `out`: 1 or 10, or its length, which is 0 or greater than every refusal's number.
@@ -270,5 +272,5 @@ pub extern "C" fn tl_track_conviction(memory: &mut [u8], engine: u32) -> u32
 pub extern "C" fn tl_track_listing(memory: &[u8], out: &mut [u8]) -> u32
     ensures { after result out.new ≡ list_track memory.now out.old }
 {
-    listing::listing(memory, out)
+    value_or_number(listing::listing(memory, out))
 }

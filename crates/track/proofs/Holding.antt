@@ -1,6 +1,6 @@
 -- The whole of a summary that is held: what is answered and left where it is put in, with a recheck and without.
 use Rattle.std.proofs.Common.{◌≡◌, ℕ, Bool, true, false, not, ◌&&◌, leb, List, length, take, sym, refl, ap, ◌∙◌, arith}
-use Rattle.ranges.proofs.Bools.{no_true}
+use Rattle.ranges.proofs.Bools.{by, no_true}
 use Rattle.places.specs.Places.{holds}
 use Rattle.held.specs.After.{After, after}
 use Rattle.held.specs.Limits.{max_summaries}
@@ -27,6 +27,10 @@ module _ (m : List ℕ) (model : ℕ) (p : List ℕ) where
   module _ (a : ℕ) (x : List ℕ) (q : after a x ≡ commit m (put_pair p s)) where
     answer-is : (n : ℕ) (l : List ℕ) → commit m (put_pair p s) ≡ after n l → a ≡ n
     answer-is n l e = ap (λ (y : After (List ℕ)). y.answer) (q ∙ e)
+
+    -- it is refused
+    pub pair-refused : (a ≡ 0 → ⊥) → after a x ≡ commit m (hold_pair model p s)
+    pair-refused z = by full (λ t. q ∙ put_full t ∙ sym (rw t refl)) (λ t. absurd (z (answer-is 0 (encode (with_pair p s)) (put-room t))))
 
     module _ (z : a ≡ 0) where
       pub pair-room : full ≡ false

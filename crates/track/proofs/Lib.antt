@@ -5,3 +5,4 @@ pub mod Leaving
 pub mod Kept
 pub mod Counted
 pub mod Ordered
+pub mod Looked

@@ -2,24 +2,26 @@
 
 ghost use Rattle.std.specs.Prelude.{◌≡◌};
 ghost use Rattle.held.specs.After.{after};
+ghost use Rattle.held.specs.Errors.{answer_number};
 ghost use Rattle.stored.specs.Memory.{on_memory};
 ghost use Rattle.track.specs.Track.{track_conviction};
 
 use held::engines::Engine;
+use held::errors::Error;
 use recheck::strikes;
 use stored::formed;
 
 /// Convicts an engine. A repeated conviction checks the fixes again too.
 #[tactic(auto, unfolding(stored::specs::Memory::on_memory))]
-pub fn conviction(memory: &mut [u8], engine: u32) -> u32
-    ensures { after result memory.new ≡ on_memory (track_conviction engine) memory.old }
+pub fn conviction(memory: &mut [u8], engine: u32) -> Result<(), Error>
+    ensures { after (answer_number result) memory.new ≡ on_memory (track_conviction engine) memory.old }
 {
     if !formed::well_formed(memory) {
-        return 1;
+        return Err(Error::Malformed);
     }
     let Some(engine) = Engine::new(engine) else {
-        return 2;
+        return Err(Error::NoEngine);
     };
     strikes::convict(memory, engine);
-    0
+    Ok(())
 }

@@ -1,8 +1,7 @@
 //! The track of one aircraft: the latest transmissions, each with the fixes that stand and those refused, the summaries,
 //! and the engines convicted, in 29,104 lent bytes.
 //!
-//! report, summary and conviction take any numbers and any slices, and answer with the numbers of docs/REFERENCE.md, 'Operations'; a
-//! refusal changes no byte.
+//! report, summary and conviction take any numbers and any slices (docs/REFERENCE.md, 'Operations'); an error changes no byte.
 #![tactic(auto)]
 
 pub mod claims;

@@ -4,16 +4,20 @@ ghost use Rattle.std.specs.Prelude.{◌≡◌, ◌+◌, ◌%◌, ◌^◌, ◌≤
 ghost use Rattle.octets.specs.Words.{word_at};
 ghost use Rattle.octets.specs.Writes.{put_word};
 ghost use Rattle.models.specs.Models.{counts};
-ghost use Rattle.models.specs.Missing.{cites_missing};
+ghost use Rattle.models.specs.Identity.{cited_inputs};
 ghost use Rattle.held.specs.After.{after};
 ghost use Rattle.merge.specs.Merged.{merged_number};
 ghost use Rattle.stored.specs.Layout as L;
 ghost use Rattle.stored.specs.Memory.{well_formed, decode, commit, on_memory};
-ghost use Rattle.track.specs.Track.{reported_fix, take_cited, track_report};
+ghost use Rattle.track.specs.Answers.{reported_number};
+ghost use Rattle.track.specs.Eligible.{refusal, inputs_or_error};
+ghost use Rattle.track.specs.Track.{take_cited, track_report};
 
 use held::engines::{Engine, Signers};
+use held::errors::Error;
 use merge::Merged;
-use models::citations::{cited_inputs, cites_missing, counts};
+use models::citations::{Uncited, cited_inputs, why_uncited};
+use models::hashes::Inputs;
 use record::Record;
 use stored::{formed, layout, parts};
 use tracked::fix::Fix;
@@ -30,16 +34,35 @@ fn number_of(answer: Merged) -> u32
     }
 }
 
-// The fix of a record that an engine reports.
-fn reported<'a>(memory: &[u8], engine: Engine, r: Record<'a>) -> Fix<'a>
-    requires { well_formed memory.now ≡ true }
-    ensures { result ≡ reported_fix engine.number r.entry.bytes.now (decode memory.now) }
+/// The number of what a report is answered.
+pub fn reported_number(answer: Result<Merged, Error>) -> u32
+    ensures { result ≡ reported_number answer }
 {
-    Fix {
-        report: r,
-        inputs: cited_inputs(parts::summaries(memory), r),
-        signers: Signers(0).with(engine).0,
-        known: None,
+    match answer {
+        Ok(merged) => number_of(merged),
+        Err(error) => error.number(),
+    }
+}
+
+// Why a record that does not count is refused.
+fn refusal(why: Uncited) -> Error
+    ensures { result ≡ refusal why }
+{
+    match why {
+        Uncited::Missing => Error::ModelMissing,
+        Uncited::Disputed => Error::ModelDisputed,
+    }
+}
+
+// The model inputs of a record that counts in a track.
+fn inputs_in(memory: &[u8], r: Record) -> Result<Inputs, Error>
+    requires { well_formed memory.now ≡ true }
+    ensures { result ≡ inputs_or_error (decode memory.now).summaries r.entry.bytes.now }
+{
+    let summaries = parts::summaries(memory);
+    match cited_inputs(summaries, r) {
+        Some(inputs) => Ok(inputs),
+        None => Err(refusal(why_uncited(summaries, r))),
     }
 }
 
@@ -57,59 +80,44 @@ fn put_step(memory: &mut [u8], count: u8, entered: u8)
     );
 }
 
-// Merges a record that counts into the transmissions.
-fn merge_record(memory: &mut [u8], engine: Engine, r: Record) -> u32
+// Merges a record that counts, of these model inputs, into the transmissions.
+fn merge_record(memory: &mut [u8], engine: Engine, r: Record, inputs: Inputs) -> Merged
     requires track { well_formed memory.old ≡ true }
     requires counts { counts (decode memory.old).summaries r.bytes.now ≡ true }
-    ensures { after result memory.new ≡ commit memory.old (take_cited engine.number r.entry.bytes.now (decode memory.old)) }
+    requires inputs { inputs ≡ cited_inputs (decode memory.old).summaries r.bytes.now }
+    ensures { after (merged_number result) memory.new ≡ commit memory.old (take_cited engine.number r.entry.bytes.now (decode memory.old)) }
 {
-    let fix = reported(memory, engine, r);
+    let fix = Fix {
+        report: r,
+        inputs,
+        signers: Signers(0).with(engine).0,
+        known: None,
+    };
     let count = memory[layout::TRANSMISSION_COUNT_AT] as usize;
     let x = merge::merge(&mut memory[layout::TRANSMISSIONS_AT..], count, fix);
     let left = x.count;
     let answer = x.answer;
     put_step(memory, left as u8, x.entered);
-    number_of(answer)
-}
-
-// Takes a record none of whose models is missing.
-fn take_cited(memory: &mut [u8], engine: Engine, r: Record) -> u32
-    requires { well_formed memory.old ≡ true }
-    ensures { after result memory.new ≡ commit memory.old (take_cited engine.number r.entry.bytes.now (decode memory.old)) }
-{
-    if !counts(parts::summaries(memory), r) {
-        return 7;
-    }
-    merge_record(memory, engine, r)
-}
-
-// Whether a record cites a model without a summary in a track.
-fn misses_model(memory: &[u8], r: Record) -> bool
-    requires { well_formed memory.now ≡ true }
-    ensures { result ≡ cites_missing (decode memory.now).summaries r.entry.bytes.now }
-{
-    cites_missing(parts::summaries(memory), r)
+    answer
 }
 
 /// Reports a record for an engine.
 #[tactic(auto, unfolding(stored::specs::Memory::on_memory))]
-pub fn report(memory: &mut [u8], engine: u32, r: &[u8]) -> u32
-    ensures { after result memory.new ≡ on_memory (track_report engine r.now) memory.old }
+pub fn report(memory: &mut [u8], engine: u32, r: &[u8]) -> Result<Merged, Error>
+    ensures { after (reported_number result) memory.new ≡ on_memory (track_report engine r.now) memory.old }
 {
     if !formed::well_formed(memory) {
-        return 1;
+        return Err(Error::Malformed);
     }
     let Some(engine) = Engine::new(engine) else {
-        return 2;
+        return Err(Error::NoEngine);
     };
     let Some(r) = Record::parse(r) else {
-        return 3;
+        return Err(Error::NoRecord);
     };
     if parts::convicted(memory).contains(engine) {
-        return 4;
+        return Err(Error::Convicted);
     }
-    if misses_model(memory, r) {
-        return 6;
-    }
-    take_cited(memory, engine, r)
+    let inputs = inputs_in(memory, r)?;
+    Ok(merge_record(memory, engine, r, inputs))
 }

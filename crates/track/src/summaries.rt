@@ -4,11 +4,13 @@ ghost use Rattle.std.specs.Prelude.{◌≡◌, true, not, ◌&&◌};
 ghost use Rattle.models.specs.Answers.{summary_places};
 ghost use Rattle.models.specs.Models.{state_of};
 ghost use Rattle.held.specs.After.{after};
+ghost use Rattle.held.specs.Errors.{answer_number};
 ghost use Rattle.held.specs.Summaries.{summary_formed};
 ghost use Rattle.stored.specs.Memory.{well_formed, decode, commit, on_memory};
 ghost use Rattle.track.specs.Track.{is_disputed, hold_pair, track_summary};
 
 use held::engines::Engine;
+use held::errors::Error;
 use models::layout::{INPUTS_SIZE, SUMMARY_SIZE};
 use models::states::{ModelState, state};
 use models::summaries::Summaries;
@@ -44,42 +46,45 @@ fn becomes_disputed(was: bool, disputed_now: bool) -> bool
 }
 
 // Puts a summary in, and checks the fixes again if its model is disputed now and was not.
-fn hold(memory: &mut [u8], model: u8, p: &[u8; SUMMARY_SIZE]) -> u32
+fn hold(memory: &mut [u8], model: u8, p: &[u8; SUMMARY_SIZE]) -> Result<(), Error>
     requires track { well_formed memory.old ≡ true }
     requires formed { summary_formed (decode memory.old).convicted p.now ≡ true }
-    ensures { after result memory.new ≡ commit memory.old (hold_pair model p.now (decode memory.old)) }
+    ensures { after (answer_number result) memory.new ≡ commit memory.old (hold_pair model p.now (decode memory.old)) }
 {
     let was = disputed_in(memory, model);
-    let a = stored::summaries::put_pair(memory, p);
-    if a != 0 {
-        return a;
-    }
+    stored::summaries::put_pair(memory, p)?;
     if !becomes_disputed(was, disputed_in(memory, model)) {
-        return 0;
+        return Ok(());
     }
     rechecks::recheck(memory);
-    0
+    Ok(())
 }
 
 /// Takes a summary of a model from an engine.
 #[tactic(auto, unfolding(stored::specs::Memory::on_memory))]
-pub fn summary(memory: &mut [u8], engine: u32, model: u32, spec: u16, inputs: &[u8]) -> u32
-    ensures { after result memory.new ≡ on_memory (track_summary engine model spec inputs.now) memory.old }
+pub fn summary(
+    memory: &mut [u8],
+    engine: u32,
+    model: u32,
+    spec: u16,
+    inputs: &[u8],
+) -> Result<(), Error>
+    ensures { after (answer_number result) memory.new ≡ on_memory (track_summary engine model spec inputs.now) memory.old }
 {
     if !formed::well_formed(memory) {
-        return 1;
+        return Err(Error::Malformed);
     }
     let Some(engine) = Engine::new(engine) else {
-        return 2;
+        return Err(Error::NoEngine);
     };
     if (record::layout::MAX_MODEL as u32) < model {
-        return 9;
+        return Err(Error::NoSummary);
     }
     let Ok(inputs) = <&[u8; INPUTS_SIZE]>::try_from(inputs) else {
-        return 9;
+        return Err(Error::NoSummary);
     };
     if parts::convicted(memory).contains(engine) {
-        return 4;
+        return Err(Error::Convicted);
     }
     hold(
         memory,

@@ -40,9 +40,9 @@ impl<'a> Model for Fix<'a> {
 
     ghost Value = { S.Fix };
 
-    ghost view = { λ f. fix_from f.report.bytes.now f.inputs.0 f.signers };
+    ghost view = { λ f. fix_from f.report.bytes.now f.inputs f.signers };
 
-    ghost invariant = { λ f. IfSome f.known (λ id. id.0 ≡ identity_from (set_hash f.report.bytes.now) f.inputs.0) };
+    ghost invariant = { λ f. IfSome f.known (λ id. id ≡ identity_from (set_hash f.report.bytes.now) f.inputs) };
 }
 
 /// The hash at a place of lent bytes.
@@ -77,12 +77,12 @@ impl<'a> Fix<'a> {
     {
         let a = octets::runs::put_bytes(out, at, self.report.bytes);
         octets::words::put_u32(out, a, self.signers);
-        octets::runs::put_bytes(out, a + 4, &self.inputs.0)
+        octets::runs::put_bytes(out, a + 4, self.inputs.bytes())
     }
 
     /// Its identity.
     pub fn identity(&self) -> Identity
-        ensures { result.0 ≡ self.now.identity }
+        ensures { result ≡ self.now.identity }
     {
         if let Some(id) = self.known {
             return id;
@@ -122,7 +122,7 @@ impl<'a> Fix<'a> {
     {
         self.report.has_message_of(other.report)
             && octets::order::equal(self.report.tag_bytes(), other.report.tag_bytes())
-            && octets::order::equal(&self.inputs.0, &other.inputs.0)
+            && octets::order::equal(self.inputs.bytes(), other.inputs.bytes())
     }
 
     /// Whether its identity comes before that of another fix.
@@ -137,11 +137,11 @@ impl<'a> Fix<'a> {
         ensures { result ≡ is_of other.now self.now }
     {
         if let (Some(a), Some(b)) = (&self.known, &other.known) {
-            return octets::order::equal(&a.0, &b.0);
+            return octets::order::equal(a.bytes(), b.bytes());
         }
         if self.has_set_of(other) {
             return true;
         }
-        octets::order::equal(&self.identity().0, &other.identity().0)
+        octets::order::equal(self.identity().bytes(), other.identity().bytes())
     }
 }

@@ -27,7 +27,7 @@ impl<'a> Model for RefusedFix<'a> {
 
     ghost Value = { H.RefusedFix };
 
-    ghost view = { λ x. record { fix = x.fix; against = x.against.0; chi2 = x.chi2 } };
+    ghost view = { λ x. record { fix = x.fix; against = x.against; chi2 = x.chi2 } };
 }
 
 impl<'a> RefusedFix<'a> {
@@ -56,7 +56,7 @@ impl<'a> RefusedFix<'a> {
         ensures { (result ≡ at + refused_size) × Put out.old at (refused_bytes self.now) result out.new }
     {
         let a = self.fix.put(out, at);
-        let b = octets::runs::put_bytes(out, a, &self.against.0);
+        let b = octets::runs::put_bytes(out, a, self.against.bytes());
         octets::words::put_u64(out, b, self.chi2);
         b + 8
     }

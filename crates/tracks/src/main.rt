@@ -7,10 +7,12 @@
 //! call of another kind, ends the work.
 #![tactic(auto)]
 
+use held::errors::{answer_number, value_or_number};
 use models::layout::{ENGINE_AT, INPUTS_AT, MODEL_AT, SPEC_AT, SUMMARY_SIZE};
 use record::layout::RECORD_SIZE;
 use std::io;
 use stored::layout::TRACK_SIZE;
+use track::reports::reported_number;
 
 // More lists than these are not read.
 const MAX_LISTS: u32 = 65536;
@@ -35,7 +37,7 @@ fn report(rt: &(impl Input + Print), memory: &mut [u8]) -> io::Result<bool> {
     let Some(fields) = console::array::<REPORT_SIZE>(rt)? else {
         return Ok(false);
     };
-    let answer = track::reports::report(memory, fields[0] as u32, &fields[1..]);
+    let answer = reported_number(track::reports::report(memory, fields[0] as u32, &fields[1..]));
     show(rt, answer, memory)?;
     Ok(true)
 }
@@ -49,7 +51,7 @@ fn summary(rt: &(impl Input + Print), memory: &mut [u8]) -> io::Result<bool> {
     let model = fields[MODEL_AT] as u32;
     let spec = octets::words::u16_at(&fields, SPEC_AT);
     let answer = track::summaries::summary(memory, engine, model, spec, &fields[INPUTS_AT..]);
-    show(rt, answer, memory)?;
+    show(rt, answer_number(answer), memory)?;
     Ok(true)
 }
 
@@ -58,7 +60,7 @@ fn conviction(rt: &(impl Input + Print), memory: &mut [u8]) -> io::Result<bool> 
     let Some(fields) = console::array::<1>(rt)? else {
         return Ok(false);
     };
-    let answer = track::convictions::conviction(memory, fields[0] as u32);
+    let answer = answer_number(track::convictions::conviction(memory, fields[0] as u32));
     show(rt, answer, memory)?;
     Ok(true)
 }
@@ -70,7 +72,7 @@ fn output_buffer() -> [u8; LISTING_SIZE] {
 // A listing, or the number that it is refused with.
 fn show_listing(rt: &impl Print, memory: &[u8]) -> io::Result<()> {
     let mut out = output_buffer();
-    let answer = listing::listing(memory, &mut out);
+    let answer = value_or_number(listing::listing(memory, &mut out));
     if answer <= GREATEST_REFUSAL {
         return println!(rt; "answer={answer}");
     }

@@ -66,16 +66,16 @@ unfolding sort count_from
 arranged-none ts n = let z : n - n ≡ 0 = omega arith in rw z refl
 
 abbrev lead : ℕ → ℕ → List ℕ → Lead
-lead k t i = record { number = k; time = t; identity = record { 0 = i } }
+lead k t i = record { number = k; time = t; identity = i }
 
 -- one more, of which this is kept
 pub arranged-more : (ts : List (List Fix)) (k : ℕ) (gs : List Fix) (f : Fix) (t : ℕ) (i : Identity) (l m : List Lead)
-    → 0 < k → k ≤ length ts → gs ≡ get_or ts (k - 1) [] → f ≡ first_ranked gs → t ≡ time_of f → i.0 ≡ f.identity
+    → 0 < k → k ≤ length ts → gs ≡ get_or ts (k - 1) [] → f ≡ first_ranked gs → t ≡ time_of f → i ≡ f.identity
     → l ≡ sort before (map (lead_of ts) (count_from k (length ts - k)))
     → m ≡ insert before (record { number = k - 1; time = t; identity = i }) l
     → m ≡ sort before (map (lead_of ts) (count_from (k - 1) (length ts - (k - 1))))
 arranged-more ts k gs f t i l m some most g-is f-is t-is i-is l-is m-is =
-    let lead-is : lead (k - 1) t i.0 ≡ lead_of ts (k - 1) = ap₂ (lead (k - 1)) t-is i-is ∙ ap (λ (g : Fix). lead (k - 1) (time_of g) g.identity) (f-is ∙ ap first_ranked g-is) in
+    let lead-is : lead (k - 1) t i ≡ lead_of ts (k - 1) = ap₂ (lead (k - 1)) t-is i-is ∙ ap (λ (g : Fix). lead (k - 1) (time_of g) g.identity) (f-is ∙ ap first_ranked g-is) in
     let z : k ≡ suc (k - 1) = omega arith in
     m-is ∙ ap₂ (insert before) lead-is (l-is ∙ ap (λ (j : ℕ). sort before (map (lead_of ts) (count_from j (length ts - j)))) z) ∙ arranged-step ts (k - 1) (length ts) (omega arith)
 

@@ -13,13 +13,13 @@ unfoldable pub first_ranked : List Fix → Fix
 first_ranked gs = fix_at (shown gs).ranked 0
 
 abbrev pub lead_of : List (List Fix) → ℕ → Lead
-lead_of ts k = let f = first_ranked (get_or ts k []) in record { number = k; time = time_of f; identity = record { 0 = f.identity } }
+lead_of ts k = let f = first_ranked (get_or ts k []) in record { number = k; time = time_of f; identity = f.identity }
 
 abbrev pub leads_of : List (List Fix) → List Lead
 leads_of ts = map (lead_of ts) (up_to (length ts))
 
 unfoldable pub before : Lead → Lead → Bool
-before a b = cond (ltb a.time b.time) true (cond (ltb b.time a.time) false (is_before a.identity.0 b.identity.0))
+before a b = cond (ltb a.time b.time) true (cond (ltb b.time a.time) false (is_before a.identity b.identity))
 
 -- what is shown of the transmission that a lead names
 abbrev pub shown_at : List (List Fix) → Lead → Transmission

@@ -21,7 +21,7 @@ fn item_at<'s>(transmission: &Transmission<'s, '_>, i: usize) -> Item<'s>
     ensures { IsFix (fix_at transmission.now i) result }
 {
     let fix = transmission.fix(i);
-    shown::item_of(fix.report, &fix.inputs.0, &fix.identity.0)
+    shown::item_of(fix.report, fix.inputs.bytes(), fix.identity.bytes())
 }
 
 /// What is decided of a transmission.

@@ -1,9 +1,13 @@
-use Rattle.std.proofs.Common.{ℕ, ◌≡◌, refl, sym, ap, ◌∙◌, true, List}
+use Rattle.std.proofs.Common.{ℕ, ◌≡◌, refl, sym, ap, ◌∙◌, true, List, Result, Ok, Err}
 use borrow.Author.Tests.{eqb-false}
+use Rattle.std.specs.Result.{IsErrAnd}
 use Rattle.octets.specs.Bytes.{Bytes}
 use Rattle.octets.proofs.Numbers.{all-bytes}
 use Rattle.held.specs.After.{after}
-use Rattle.register.specs.Memory.{well_formed}
+use Rattle.held.specs.Errors.{error_number, answer_number, value_or_number}
+use Rattle.held.specs.declared.errors.Error.{Error}
+use Rattle.held.proofs.Numbered.{never-zero}
+use Rattle.register.specs.Memory.{well_formed, decode}
 use Rattle.register.proofs.Opened.{other-size}
 use Rattle.board.specs.Board.{draw_board}
 use Rattle.board.specs.Preview.{convict, draw_preview}
@@ -15,24 +19,34 @@ returns-in_default c =
     sym (preview-refused c.args.engine c.args.memory.now c.args.out.now 1 c.args.memory.now
     (no_copy c.args.engine c.args.memory.now (other-size c.args.memory.now c.in_default.ensures.1)) (eqb-false 1 0 refl))
 
-pub returns-then-refusal-ne0 : goal.returns-then-refusal-ne0
-returns-then-refusal-ne0 c =
-    let e : ℕ = c.args.engine in
-    sym (preview-refused e c.args.memory.now c.args.out.now _ _ (c.conviction-refusal.ensures ∙ ap (convict e) c.in-Ok.ensures.1.same) c.if-refusal-ne0.true)
+numbered : (r : Result ℕ Error) (x : Error) → IsErrAnd r (λ y. y ≡ x) → value_or_number r ≡ error_number x
+numbered (Ok n) x h = absurd h
+numbered (Err y) x h = ap error_number h
 
-pub draw_formed-requires : goal.draw_formed-requires
-draw_formed-requires c =
+pub returns-in_err-conviction : goal.returns-in_err-conviction
+returns-in_err-conviction c =
+    let m : List ℕ = c.args.memory.now in
+    let e : ℕ = c.args.engine in
+    let x : Error = c.in_err-conviction.field-0.0 in
+    let refused : value_or_number c.from_residual.result ≡ error_number x = numbered c.from_residual.result x c.from_residual.ensures.1 in
+    rw refused (sym (preview-refused e m c.args.out.now _ _ (c.in_err-conviction.ensures ∙ ap (convict e) c.in-Ok.ensures.1.same) (never-zero x)))
+
+pub of-requires : goal.of-requires
+of-requires c =
     let m : List ℕ = c.args.memory.now in
     let e : ℕ = c.args.engine in
     let bytes : Bytes m = all-bytes m (λ i. (c.type_inv.memory i).fits) in
-    let convicted : after c.conviction-refusal.result c.conviction-refusal.new.memory ≡ convict e m = c.conviction-refusal.ensures ∙ ap (convict e) c.in-Ok.ensures.1.same in
-    let formed : well_formed c.conviction-refusal.new.memory ≡ true = copy-formed e m _ _ convicted c.if-refusal-ne0.false bytes in
-    formed
+    let convicted : after (answer_number c.conviction.result) c.conviction.new.memory ≡ convict e m = c.conviction.ensures ∙ ap (convict e) c.in-Ok.ensures.1.same in
+    let drawn : well_formed c.conviction.new.memory ≡ true = copy-formed e m _ _ convicted (ap answer_number c.in_ok-conviction.was) bytes in
+    drawn
 
 pub returns : goal.returns
+unfolding draw_board
 returns c =
     let m : List ℕ = c.args.memory.now in
     let e : ℕ = c.args.engine in
-    let convicted : after c.conviction-refusal.result c.conviction-refusal.new.memory ≡ convict e m = c.conviction-refusal.ensures ∙ ap (convict e) c.in-Ok.ensures.1.same in
-    let drawn : (out : List ℕ) → draw_preview e m out ≡ draw_board c.conviction-refusal.new.memory out = λ out. preview-drawn e m out _ _ convicted c.if-refusal-ne0.false in
-    c.draw_formed.ensures ∙ sym (drawn _)
+    let convicted : after (answer_number c.conviction.result) c.conviction.new.memory ≡ convict e m = c.conviction.ensures ∙ ap (convict e) c.in-Ok.ensures.1.same in
+    let bytes : Bytes m = all-bytes m (λ i. (c.type_inv.memory i).fits) in
+    let formed : well_formed c.conviction.new.memory ≡ true = copy-formed e m _ _ convicted (ap answer_number c.in_ok-conviction.was) bytes in
+    let shown : c.of.result ≡ decode c.conviction.new.memory = c.of.ensures in
+    rw (preview-drawn e m c.args.out.now _ _ convicted (ap answer_number c.in_ok-conviction.was), formed, ← shown) c.draw.ensures

@@ -1,30 +1,34 @@
-use mathlib.Core.Path.{ap, ◌∙◌}
-use Rattle.models.specs.Models.{counts}
-use Rattle.models.specs.Answers.{summary_places}
-use Rattle.fixes.proofs.Representing.{walked-start, next-formed, whole-record, next-fix, walked-in, walked-by, walked-end}
-use Rattle.fixes.proofs.represent.Goals.{then-counts, else-counts}
+use Rattle.std.proofs.Common.{rules, ◌≡◌, refl, ap, ap₂, sym, ◌∙◌, subst, true, [], ◌∷◌, take}
+use Rattle.record.specs.Layout.{record_size}
+use Rattle.models.specs.Cited.{cited}
+use Rattle.shown.specs.Fix.{Fix}
+use Rattle.shown.specs.Items.{AllFormed}
+use Rattle.fixes.specs.Fixes.{record_in, enter}
+use Rattle.models.proofs.Cited.{cites, cites-none}
+use Rattle.fixes.proofs.Kept.{fixes-formed}
+use Rattle.fixes.proofs.Representing.{walked-start, walked-in, walked-by, walked-end}
 use Rattle.fixes.proofs.represent.Goals as goal
 
-pub loop-i-init : goal.loop-i-init
-loop-i-init c = walked-start _ _ _ _ c.requires.none c.requires.recs_formed
+pub loop-signed-init : goal.loop-signed-init
+loop-signed-init c = walked-start _ _ _ _ (search rules) c.requires.none c.records-signed-items.ensures.few
 
-pub slice_bounds-of-end : goal.slice_bounds-of-end
-slice_bounds-of-end c = whole-record _ _ _ _ _ c.loop-i.invariant c.loop-i-test.true c.requires.recs_len
+pub loop-signed-preserved-in-Some-cited_inputs : goal.loop-signed-preserved-in-Some-cited_inputs
+loop-signed-preserved-in-Some-cited_inputs c =
+    let ss = c.args.register.now.summaries in
+    let is : c.cited_inputs.result ≡ cited ss (record_in c.in-Some.signed) = c.cited_inputs.ensures ∙ ap₂ cited c.summaries-summaries.ensures c.record-record.ensures in
+    let k = cites ss (record_in c.in-Some.signed) _ is _ c.in-Some-cited_inputs.is in
+    walked-in _ _ _ c.in-Some.signed _ _ _ c.loop-signed.invariant (search rules) k.0
+    (c.enter.ensures ∙ ap (λ (f : Fix). enter f c.loop-signed.fixes.items) (c.of.ensures ∙ rw (c.record-record.ensures, k.1, c.signers.ensures) refl))
 
-pub of-record-requires : goal.of-record-requires
-of-record-requires c = next-formed _ _ _ _ _ c.loop-i.invariant c.loop-i-test.true
+pub loop-signed-preserved : goal.loop-signed-preserved
+loop-signed-preserved c =
+    let ss = c.args.register.now.summaries in
+    let is : c.cited_inputs.result ≡ cited ss (record_in c.in-Some.signed) = c.cited_inputs.ensures ∙ ap₂ cited c.summaries-summaries.ensures c.record-record.ensures in
+    walked-by _ _ _ c.in-Some.signed _ _ c.loop-signed.invariant (search rules) (cites-none ss (record_in c.in-Some.signed) _ is (search rules))
 
-pub loop-i-preserved : goal.loop-i-preserved
-loop-i-preserved c =
-    let k = c.loop-i.invariant in
-    let more = c.loop-i-test.true in
-    let counted = c.counts.ensures ∙ ap (counts (summary_places c.args.all)) c.of-record.ensures in
-    elim c.if-counts.branch [
-      | then-counts w ↦
-          walked-in _ _ _ _ _ k more _ _ _ counted w.if-counts.true
-          (next-fix _ _ _ _ _ k more c.requires.recs_len _ _ _ c.of-record.ensures w.u32_at-signers.ensures w.of_record.ensures) (ap (λ v. v.items) w.fixes-is ∙ w.enter.ensures)
-      | else-counts w ↦ rw w.fixes-is (walked-by _ _ _ _ _ k more _ counted w.if-counts.false)
-    ]
+pub returns-clause-fixes : goal.returns-clause-fixes
+returns-clause-fixes c = walked-end _ _ _ _ c.loop-signed.invariant (search rules)
 
-pub returns : goal.returns
-returns c = walked-end _ _ _ _ _ c.loop-i.invariant c.loop-i-test.false
+pub returns-clause-formed : goal.returns-clause-formed
+returns-clause-formed c =
+    subst AllFormed (sym (returns-clause-fixes c)) (fixes-formed _ _ c.records-signed-items.ensures.formed)

@@ -1,6 +1,5 @@
-use Rattle.models.specs.Answers.{summary_places}
 use Rattle.fixes.proofs.Representing.{Walked}
 use Rattle.fixes.proofs.represent.Given as goal
 
-abbrev pub invariant-loop-i : goal.invariant-loop-i
-invariant-loop-i l = Walked (summary_places l.all) l.recs l.nr l.i l.fixes.items
+abbrev pub invariant-loop-signed : goal.invariant-loop-signed
+invariant-loop-signed l = Walked l.register.summaries l.register.records l.signed-iterator l.fixes.items

@@ -1,5 +1,5 @@
 -- `show_preview` is safe: a preview fits what every board fits.
-use Rattle.std.proofs.Common.{◌≡◌, ℕ, ◌<◌, ◌≤◌, List, rules, arith, length, get_or, sym, ap, length-take-le}
+use Rattle.std.proofs.Common.{◌≡◌, ℕ, ◌<◌, ◌≤◌, List, rules, arith, length, get_or, sym, ap, ◌∙◌, length-take-le}
 use Rattle.octets.proofs.Numbers.{all-bytes}
 use Rattle.drawing.specs.Text.{board_size}
 use Rattle.board.specs.Preview.{draw_preview}
@@ -16,14 +16,14 @@ pub slice_bounds-out-end : goal.slice_bounds-out-end
 slice_bounds-out-end g c =
     within c.args.engine _ c.args.memory.now c.output_buffer-out.result _ (λ i. (c.type_inv.memory i).fits)
     (search rules)
-    c.preview-answer.auto.out
-    (ap (λ x. x.answer) c.preview-answer.ensures)
+    c.preview.auto.out
+    (c.value_or_number-answer.ensures ∙ ap (λ x. x.answer) c.preview.ensures)
 
 pub slice_bounds-write_all-end : goal.slice_bounds-write_all-end
 slice_bounds-write_all-end g c =
     let fits =
     within c.args.engine _ c.args.memory.now c.output_buffer-out.result _ (λ i. (c.type_inv.memory i).fits)
     (search rules)
-    c.preview-answer.auto.out
-    (ap (λ x. x.answer) c.preview-answer.ensures) in
+    c.preview.auto.out
+    (c.value_or_number-answer.ensures ∙ ap (λ x. x.answer) c.preview.ensures) in
     sym (length-take-le _ _ fits)

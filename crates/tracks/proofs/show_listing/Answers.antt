@@ -1,5 +1,6 @@
 -- `show_listing` is safe: a listing fits the output.
-use Rattle.std.proofs.Common.{◌≡◌, rules, arith, length, sym, length-take-le}
+use Rattle.std.proofs.Common.{◌≡◌, ℕ, rules, arith, length, sym, ap, ◌∙◌, length-take-le}
+use Rattle.held.specs.After.{after}
 use Rattle.drawing.specs.Text.{board_size}
 use Rattle.tracks.proofs.Listed.{listed-fits}
 use Rattle.tracks.proofs.show_listing.Goals as goal
@@ -8,14 +9,14 @@ pub slice_bounds-out-end : goal.slice_bounds-out-end
 slice_bounds-out-end g c =
     let o = c.output_buffer-out.result in
     let l : board_size ≡ length o = search rules in
-    let k = c.listing-answer.auto.out in
-    let f = listed-fits o c.listing-answer.new.out c.listing-answer.result (omega (arith, l)) k _ c.listing-answer.ensures in
+    let k = c.listing.auto.out in
+    let f = listed-fits o c.listing.new.out c.value_or_number-answer.result (omega (arith, l)) k _ (ap (λ (n : ℕ). after n c.listing.new.out) c.value_or_number-answer.ensures ∙ c.listing.ensures) in
     omega (arith, f, k)
 
 pub slice_bounds-write_all-end : goal.slice_bounds-write_all-end
 slice_bounds-write_all-end g c =
     let o = c.output_buffer-out.result in
     let l : board_size ≡ length o = search rules in
-    let k = c.listing-answer.auto.out in
-    let f = listed-fits o c.listing-answer.new.out c.listing-answer.result (omega (arith, l)) k _ c.listing-answer.ensures in
-    sym (length-take-le c.listing-answer.result c.listing-answer.new.out (omega (arith, f, k)))
+    let k = c.listing.auto.out in
+    let f = listed-fits o c.listing.new.out c.value_or_number-answer.result (omega (arith, l)) k _ (ap (λ (n : ℕ). after n c.listing.new.out) c.value_or_number-answer.ensures ∙ c.listing.ensures) in
+    sym (length-take-le c.value_or_number-answer.result c.listing.new.out (omega (arith, f, k)))

@@ -8,4 +8,4 @@ pub returns : goal.returns
 returns c =
     let w = c.item_of.ensures in
     subst (λ f. IsFix f c.item_of.result) (c.fix.view_is ∙ c.fix-fix.ensures ∙ get_or-default c.args.transmission.now c.args.i c.fix-fix.result.now no_fix c.requires)
-    (record { report = w.report; inputs = w.inputs; identity = w.identity; candidate = w.candidate })
+    (record { report = w.report; inputs = w.inputs ∙ c.bytes.ensures; identity = w.identity ∙ c.bytes-2.ensures; candidate = w.candidate })

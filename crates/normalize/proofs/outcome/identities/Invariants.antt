@@ -2,11 +2,10 @@ use mathlib.Core.Path.{◌≡◌}
 use mathlib.Core.List.{map}
 use lib.ListN.{length, take}
 use Rattle.normalize.specs.Claims.{fix_identity}
-use Rattle.normalize.specs.Deciding.{digest_of}
 use Rattle.normalize.proofs.outcome.identities.Given as goal
 
 abbrev pub invariant-loop-fix : goal.invariant-loop-fix
 invariant-loop-fix l = record {
-  identified : map digest_of l.identities.items ≡ map fix_identity (take l.fix-index l.fixes);
+  identified : l.identities.items ≡ map fix_identity (take l.fix-index l.fixes);
   few : length l.identities.items ≡ l.fix-index;
 }

@@ -13,4 +13,4 @@ returns c =
     let i = c.args.i in
     let is = c.fix.view_is ∙ c.index-fixes-i.is ∙ get_or-default fs i c.index-fixes-i.result no_fix c.requires.here in
     let same = identified-at c.args.identities.now fs i _ c.requires.identified c.requires.here ∙ ap (λ (f : Fix). f.identity) (sym is) in
-    subst (λ f. IsFix f c.item_of.result) is (record { report = w.report; inputs = w.inputs; identity = w.identity ∙ same; candidate = w.candidate })
+    subst (λ f. IsFix f c.item_of.result) is (record { report = w.report; inputs = w.inputs ∙ c.bytes.ensures; identity = w.identity ∙ c.bytes-2.ensures ∙ c.index-identities-i.is ∙ same; candidate = w.candidate })

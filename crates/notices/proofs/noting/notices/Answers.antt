@@ -1,4 +1,5 @@
-use Rattle.std.proofs.Common.{refl, sym, ap, arith, length}
+use Rattle.std.proofs.Common.{refl, sym, ap, ◌∙◌, arith, length}
+use Rattle.held.specs.After.{after}
 use Rattle.grammar.specs.Gives.{lines_left, call_of}
 use Rattle.grammar.proofs.Forward.{left_less}
 use Rattle.notices.proofs.Steps.{saying-more, saying-end}
@@ -17,7 +18,7 @@ loop-call-smaller c = left_less (lines_left c.loop-call.lines) (call_of c.in-Ok.
 pub loop-call-preserved : goal.loop-call-preserved
 loop-call-preserved c =
     saying-more _ _ _ _ _ _ _ c.loop-call.invariant (call_of c.in-Ok.call) (lines_left c.operation.new.self) c.in-Ok.ensures.call
-    (left_less (lines_left c.loop-call.lines) (call_of c.in-Ok.call) (lines_left c.operation.new.self) c.in-Ok.ensures.call) _ _ c.perform-answer.ensures _ c.in_ok-note.ensures
+    (left_less (lines_left c.loop-call.lines) (call_of c.in-Ok.call) (lines_left c.operation.new.self) c.in-Ok.ensures.call) _ _ (ap (λ n. after n c.perform.new.memory) c.answer_number-answer.ensures ∙ c.perform.ensures) _ c.in_ok-note.ensures
 
 pub returns : goal.returns
 returns c = saying-end _ _ _ _ _ _ _ c.loop-call.invariant c.in_default.field-0 c.in_default.ensures.call

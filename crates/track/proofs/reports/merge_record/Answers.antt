@@ -1,4 +1,4 @@
-use Rattle.std.proofs.Common.{ℕ, ◌-◌, List, ◌++◌, length, take, drop, sym, refl, ap, ◌∙◌, arith, rules}
+use Rattle.std.proofs.Common.{◌≡◌, ℕ, ◌-◌, List, ◌++◌, length, take, drop, sym, refl, ap, ap₂, ◌∙◌, arith, rules}
 use borrow.Rule.Slice.PartMut.{same_len_mid}
 use Rattle.octets.proofs.Numbers.{all-bytes}
 use Rattle.models.specs.Models.{counts}
@@ -6,6 +6,9 @@ use Rattle.merge.specs.Merged.{merged_number}
 use Rattle.stored.specs.Layout.{transmissions_at}
 use Rattle.stored.proofs.Opened.{opened}
 use Rattle.track.proofs.Reported.{lent-filled, step-few, stepped-is, decoded-summaries}
+use Rattle.tracked.specs.Values.{fix_from}
+use Rattle.stored.specs.Memory.{decode}
+use Rattle.track.specs.Track.{reported_fix}
 use Rattle.track.proofs.reports.merge_record.Goals as goal
 
 pub bounds-memory-6 : goal.bounds-memory-6
@@ -25,7 +28,8 @@ merge-x-requires c =
 pub overflow_cast-left : goal.overflow_cast-left
 overflow_cast-left c =
     let m : List ℕ = c.args.memory.now in
-    let few = step-few m (opened m c.requires.track) (all-bytes m (search rules)) c.args.engine.number c.args.r.bytes.now c.reported-fix.result c.reported-fix.ensures in
+    let made : fix_from c.args.r.bytes.now c.args.inputs c.with.result.0 ≡ reported_fix c.args.engine.number c.args.r.bytes.now (decode m) = ap₂ (fix_from c.args.r.bytes.now) c.requires.inputs c.with.ensures in
+    let few = step-few m (opened m c.requires.track) (all-bytes m (search rules)) c.args.engine.number c.args.r.bytes.now (fix_from c.args.r.bytes.now c.args.inputs c.with.result.0) made in
     omega (arith, c.merge-x.ensures.count, few)
 
 pub put_step-requires : goal.put_step-requires
@@ -38,7 +42,8 @@ pub returns : goal.returns
 returns c =
     let m : List ℕ = c.args.memory.now in
     let r : List ℕ = c.args.r.bytes.now in
+    let made : fix_from r c.args.inputs c.with.result.0 ≡ reported_fix c.args.engine.number r (decode m) = ap₂ (fix_from r) c.requires.inputs c.with.ensures in
     let m₁ : List ℕ = take transmissions_at m ++ (c.merge-x.new.t ++ drop (length m - transmissions_at) (drop transmissions_at m)) in
-    stepped-is m (opened m c.requires.track) (all-bytes m (search rules)) c.args.engine.number r c.reported-fix.result c.reported-fix.ensures c.merge-x.new.t m₁ c.merge-x.ensures.bytes refl
+    stepped-is m (opened m c.requires.track) (all-bytes m (search rules)) c.args.engine.number r (fix_from r c.args.inputs c.with.result.0) made c.merge-x.new.t m₁ c.merge-x.ensures.bytes refl
     (ap (λ (ss : List (List ℕ)). counts ss r) (sym (decoded-summaries m)) ∙ c.requires.counts)
-    c.number_of.result (c.number_of.ensures ∙ ap merged_number c.merge-x.ensures.answer) c.merge-x.result.count c.merge-x.result.entered c.merge-x.ensures.count c.merge-x.ensures.entered _ c.put_step.ensures
+    (merged_number c.merge-x.result.answer) (ap merged_number c.merge-x.ensures.answer) c.merge-x.result.count c.merge-x.result.entered c.merge-x.ensures.count c.merge-x.ensures.entered _ c.put_step.ensures

@@ -1,27 +1,53 @@
--- A record that cites a model without a summary is refused with 6.
-use Prim.Native.Nat.{ℕ, ◌<◌}
-use mathlib.Core.Path.{◌≡◌, refl, sym, ap, ◌∙◌}
-use mathlib.Core.Bool.{true, false}
-use mathlib.Core.List.{List}
-use native.Mathlib.Omega.{arith}
-use borrow.Author.Tests.{le-ltb, ltb-true}
+use Rattle.std.proofs.Common.{◌≡◌, ◌<◌, ℕ, true, false, List, sym, ap, ap₂, ◌∙◌, rules}
 use Rattle.octets.specs.Masks.{bit}
 use Rattle.record.specs.Formed as R
-use Rattle.models.specs.Missing.{cites_missing}
-use Rattle.held.specs.After.{after}
-use Rattle.held.specs.Limits.{max_engine}
+use Rattle.held.specs.Errors.{error_number}
+use Rattle.held.specs.declared.errors.Error.{Error}
 use Rattle.stored.specs.Memory.{well_formed, decode, on_memory}
+use Rattle.merge.specs.Merged.{merged_number}
+use Rattle.track.specs.Answers.{reported_number}
 use Rattle.track.specs.Track.{track_report}
+use Rattle.track.proofs.Looked.{eligible, not-eligible, refused-by, taken}
 use Rattle.track.proofs.reports.report.Goals as goal
+use Rattle.track.proofs.reports.report.Goals.{After-inputs_in}
 
-missing-6 : (m r : List ℕ) (e : ℕ) → well_formed m ≡ true → e < 32 → R.well_formed r ≡ true → bit (decode m).convicted e ≡ false → cites_missing (decode m).summaries r ≡ true
-    → after 6 m ≡ on_memory (track_report e r) m
-unfolding on_memory
-missing-6 m r e t h w b x = rw (t, le-ltb max_engine e (omega arith), w, b, x) refl
+-- what was tested before the models were looked at
+record Tested (m r : List ℕ) (e : ℕ) : Type 0 where
+  track : well_formed m ≡ true
+  engine : e < 32
+  formed : R.well_formed r ≡ true
+  free : bit (decode m).convicted e ≡ false
 
-pub returns-then-misses_model : goal.returns-then-misses_model
-returns-then-misses_model c =
+tested : (c : After-inputs_in) → Tested c.args.memory.now c.in-Some-parse.r.bytes.now c.in-Some.engine.number
+tested c = record {
+  track = sym c.well_formed-2.ensures ∙ c.if-not-well_formed.false;
+  engine = c.in-Some.engine.small;
+  formed = c.in-Some-parse.r.formed;
+  free = ap (λ (x : ℕ). bit x c.in-Some.engine.number) (sym c.convicted.ensures) ∙ sym c.contains.ensures ∙ c.if-contains.false;
+}
+
+pub returns-in_err-inputs : goal.returns-in_err-inputs
+returns-in_err-inputs c =
     let m : List ℕ = c.args.memory.now in
-    missing-6 m c.args.r.now c.args.engine (sym c.well_formed-2.ensures ∙ c.if-not-well_formed.false) (ltb-true c.args.engine 32 (sym c.in-Some.ensures.small)) (sym c.in-Some-parse.ensures.formed)
-    (ap (bit (decode m).convicted) (sym c.in-Some.ensures.same) ∙ ap (λ (x : ℕ). bit x c.in-Some.engine.number) (sym c.convicted.ensures) ∙ sym c.if-contains.ensures)
-    (ap (cites_missing (decode m).summaries) (sym c.in-Some-parse.ensures.same) ∙ sym c.if-misses_model.ensures)
+    let r : List ℕ = c.in-Some-parse.r.bytes.now in
+    let t = tested (goal.at.returns-in_err-inputs c).After-inputs_in in
+    let x : Error = c.in_err-inputs.field-0.0 in
+    let e : reported_number c.from_residual.result ≡ error_number x = search rules in
+    let k = not-eligible (decode m).summaries r _ c.inputs_in.ensures x c.in_err-inputs.was in
+    rw e (refused-by m r c.in-Some.engine.number t.track t.engine t.formed t.free x k.0 k.1 ∙ ap₂ (λ (n : ℕ) (s : List ℕ). on_memory (track_report n s) m) c.in-Some.ensures.same c.in-Some-parse.ensures.same)
+
+pub merge_record-requires : goal.merge_record-requires
+merge_record-requires c =
+    let m : List ℕ = c.args.memory.now in
+    let t = tested (goal.at.merge_record-requires c).After-inputs_in in
+    let k = eligible (decode m).summaries c.in-Some-parse.r.bytes.now _ c.inputs_in.ensures c.in_ok-inputs.inputs c.in_ok-inputs.was in
+    record { track = t.track; counts = k.0; inputs = k.1 }
+
+pub returns : goal.returns
+returns c =
+    let m : List ℕ = c.args.memory.now in
+    let r : List ℕ = c.in-Some-parse.r.bytes.now in
+    let t = tested (goal.at.returns c).After-inputs_in in
+    let k = eligible (decode m).summaries r _ c.inputs_in.ensures c.in_ok-inputs.inputs c.in_ok-inputs.was in
+    taken m r c.in-Some.engine.number t.track t.engine t.formed t.free (merged_number c.merge_record.result) c.merge_record.new.memory k.0 c.merge_record.ensures
+    ∙ ap₂ (λ (n : ℕ) (s : List ℕ). on_memory (track_report n s) m) c.in-Some.ensures.same c.in-Some-parse.ensures.same

@@ -4,6 +4,8 @@ use Rattle.octets.proofs.Numbers.{all-bytes}
 use Rattle.models.specs.Summary.{summary_size}
 use Rattle.models.specs.Models.{state_of}
 use Rattle.held.specs.After.{after}
+use Rattle.held.specs.Errors.{error_number, answer_number}
+use Rattle.held.proofs.Numbered.{never-zero}
 use Rattle.held.specs.Summaries.{summary_formed}
 use Rattle.stored.specs.Track.{Track}
 use Rattle.stored.specs.Memory.{well_formed, decode, encode, commit}
@@ -13,7 +15,7 @@ use Rattle.stored.proofs.Valid.{Valid, decode-valid, formed-encode, decode-encod
 use Rattle.stored.proofs.Pairs.{pair-valid}
 use Rattle.recheck.specs.Recheck.{recheck}
 use Rattle.track.specs.Track.{is_disputed, becomes_disputed}
-use Rattle.track.proofs.Holding.{pair-room, pair_left, pair-plain, pair-rechecked}
+use Rattle.track.proofs.Holding.{pair-room, pair-refused, pair_left, pair-plain, pair-rechecked}
 use Rattle.track.proofs.summaries.hold.Goals as goal
 
 -- a summary p was put into the track m, which is x then
@@ -42,33 +44,39 @@ module _ {m p x : List ℕ} (u : Put m p x) where
       → b ≡ becomes_disputed model (decode m).summaries t.summaries
   becomes model w v b e f g = g ∙ ap₂ (λ (i j : Bool). not i && j) e (f ∙ ap (λ (s : Track). is_disputed (state_of model s.summaries)) held)
 
+pub returns-in_err-put_pair : goal.returns-in_err-put_pair
+returns-in_err-put_pair c =
+    let e : answer_number c.put_pair.result ≡ error_number c.in_err-put_pair.field-0.0 = ap answer_number c.in_err-put_pair.was in
+    let f : answer_number c.from_residual.result ≡ error_number c.in_err-put_pair.field-0.0 = search rules in
+    rw f (pair-refused c.args.memory.now c.args.model c.args.p.now _ c.put_pair.new.memory (rw e at c.put_pair.ensures) (never-zero c.in_err-put_pair.field-0.0))
+
 pub disputed_in-requires : goal.disputed_in-requires
 disputed_in-requires c =
     let wide : length c.args.p.now ≡ summary_size = search rules in
     let m = c.args.memory.now in
-    is-track (put-is m c.args.p.now c.put_pair-a.new.memory c.put_pair-a.result c.args.model (all-bytes m (search rules)) c.requires.track wide c.requires.formed c.put_pair-a.ensures c.if-a-ne0.false)
+    is-track (put-is m c.args.p.now c.put_pair.new.memory (answer_number c.put_pair.result) c.args.model (all-bytes m (search rules)) c.requires.track wide c.requires.formed c.put_pair.ensures (ap answer_number c.in_ok-put_pair.was))
 
 pub returns-then-not-becomes_disputed : goal.returns-then-not-becomes_disputed
 returns-then-not-becomes_disputed c =
     let wide : length c.args.p.now ≡ summary_size = search rules in
     let m = c.args.memory.now in
-    let x = c.put_pair-a.new.memory in
-    let u = put-is m c.args.p.now x c.put_pair-a.result c.args.model (all-bytes m (search rules)) c.requires.track wide c.requires.formed c.put_pair-a.ensures c.if-a-ne0.false in
+    let x = c.put_pair.new.memory in
+    let u = put-is m c.args.p.now x (answer_number c.put_pair.result) c.args.model (all-bytes m (search rules)) c.requires.track wide c.requires.formed c.put_pair.ensures (ap answer_number c.in_ok-put_pair.was) in
     let told = becomes u c.args.model _ _ _ c.disputed_in-was.ensures c.disputed_in.ensures c.becomes_disputed.ensures in
-    pair-plain m c.args.model c.args.p.now c.put_pair-a.result x c.put_pair-a.ensures c.if-a-ne0.false (sym told ∙ c.if-not-becomes_disputed.true)
+    pair-plain m c.args.model c.args.p.now (answer_number c.put_pair.result) x c.put_pair.ensures (ap answer_number c.in_ok-put_pair.was) (sym told ∙ c.if-not-becomes_disputed.true)
 
 pub recheck-requires : goal.recheck-requires
 recheck-requires c =
     let wide : length c.args.p.now ≡ summary_size = search rules in
     let m = c.args.memory.now in
-    is-track (put-is m c.args.p.now c.put_pair-a.new.memory c.put_pair-a.result c.args.model (all-bytes m (search rules)) c.requires.track wide c.requires.formed c.put_pair-a.ensures c.if-a-ne0.false)
+    is-track (put-is m c.args.p.now c.put_pair.new.memory (answer_number c.put_pair.result) c.args.model (all-bytes m (search rules)) c.requires.track wide c.requires.formed c.put_pair.ensures (ap answer_number c.in_ok-put_pair.was))
 
 pub returns : goal.returns
 returns c =
     let wide : length c.args.p.now ≡ summary_size = search rules in
     let m = c.args.memory.now in
-    let x = c.put_pair-a.new.memory in
-    let u = put-is m c.args.p.now x c.put_pair-a.result c.args.model (all-bytes m (search rules)) c.requires.track wide c.requires.formed c.put_pair-a.ensures c.if-a-ne0.false in
+    let x = c.put_pair.new.memory in
+    let u = put-is m c.args.p.now x (answer_number c.put_pair.result) c.args.model (all-bytes m (search rules)) c.requires.track wide c.requires.formed c.put_pair.ensures (ap answer_number c.in_ok-put_pair.was) in
     let told = becomes u c.args.model _ _ _ c.disputed_in-was.ensures c.disputed_in.ensures c.becomes_disputed.ensures in
-    pair-rechecked m c.args.model c.args.p.now c.put_pair-a.result x c.put_pair-a.ensures c.if-a-ne0.false (sym told ∙ c.if-not-becomes_disputed.false) _
+    pair-rechecked m c.args.model c.args.p.now (answer_number c.put_pair.result) x c.put_pair.ensures (ap answer_number c.in_ok-put_pair.was) (sym told ∙ c.if-not-becomes_disputed.false) _
     (c.recheck.ensures ∙ ap (λ (s : Track). encode (recheck s)) (held u))

@@ -1,0 +1,28 @@
+-- No claim rests on these definitions: they say what a look at a model that a record cites answers, and what one at all of them does.
+use Rattle.std.specs.Prelude.{ℕ, cond, List, eqb, Option, Some, None}
+use Rattle.models.specs.Summary.{summary_inputs}
+use Rattle.models.specs.Models.{State, missing, agreed, disputed, counts}
+use Rattle.models.specs.Missing.{cites_missing}
+use Rattle.models.specs.Identity.{cited_inputs}
+use Rattle.models.specs.declared.summaries.Summary.{Summary}
+use Rattle.models.specs.declared.citations.Uncited.{Uncited}
+use Rattle.models.specs.declared.citations.Uncited.TheVariants.{Missing, Disputed}
+
+-- the inputs of a model in this state, if a record of spec s that cites it may count
+abbrev pub model_cited : ℕ → State → Option (List ℕ)
+model_cited s missing = None
+model_cited s (agreed x h) = cond (eqb x s) (Some h) None
+model_cited s disputed = None
+
+-- those of the summary that was found
+abbrev pub inputs_found : Option Summary → Option (List ℕ)
+inputs_found (Some p) = Some (summary_inputs p.bytes.now)
+inputs_found None = None
+
+-- the model inputs of a record that counts
+abbrev pub cited : List (List ℕ) → List ℕ → Option (List ℕ)
+cited ps r = cond (counts ps r) (Some (cited_inputs ps r)) None
+
+-- why a record does not count
+abbrev pub why_uncited : List (List ℕ) → List ℕ → Uncited
+why_uncited ps r = cond (cites_missing ps r) Missing Disputed
