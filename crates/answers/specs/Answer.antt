@@ -10,7 +10,7 @@ use Rattle.arithmetic.specs.declared.standing.ChiSquare.TheVariants.{Measured, U
 use Rattle.items.specs.Layout.{max_items}
 use Rattle.decision.specs.declared.Refusal.{Refusal}
 use Rattle.decision.specs.Arrays.{Refusals, Indices, DecisionArrays}
-use Rattle.held.specs.After.{After, after}
+use Rattle.errors.specs.After.{After, after}
 use Rattle.answers.specs.Layout.{refusal_size}
 
 abbrev pub indices_bytes : Indices → List ℕ

@@ -11,7 +11,7 @@ ghost use Rattle.rule.specs.Outcome.{Outcome};
 ghost use Rattle.arithmetic.specs.declared.standing.ChiSquare.{ChiSquare as Squared};
 ghost use Rattle.decision.specs.Answer.{indices, is_bad, outcome, arrays_of, decided_arrays};
 ghost use Rattle.decision.specs.Answered.{Says};
-ghost use Rattle.held.specs.After.{after};
+ghost use Rattle.errors.specs.After.{after};
 ghost use Rattle.answers.specs.Layout.{chi_square_size, refusal_size};
 ghost use Rattle.answers.specs.Offsets.{indices_size, refusals_size, answer_size};
 ghost use Rattle.answers.specs.Answer.{indices_bytes, chi_square_bytes, refusal_bytes, answer_bytes, hand_out};

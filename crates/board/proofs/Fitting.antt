@@ -30,7 +30,7 @@ use Rattle.drawing.specs.Text.{board_text, board_size}
 use Rattle.drawing.proofs.Lengths.{lines_in, all_lines, texts-width, board-long}
 use Rattle.octets.specs.Bytes.{Bytes}
 use Rattle.fixes.specs.Fixes.{fixes_of}
-use Rattle.held.specs.After.{after}
+use Rattle.errors.specs.After.{after}
 use Rattle.register.specs.Register.{Register}
 use Rattle.register.specs.Memory.{well_formed, decode}
 use Rattle.register.proofs.Opened.{opened}

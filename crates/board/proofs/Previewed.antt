@@ -7,10 +7,10 @@ use Rattle.octets.specs.Bytes.{Bytes}
 use Rattle.places.specs.Places.{keep_places}
 use Rattle.models.specs.Summary.{summary_size}
 use Rattle.record.specs.Layout.{record_size}
-use Rattle.held.specs.After.{After, after, write_text}
-use Rattle.held.specs.Limits.{max_engine}
-use Rattle.held.specs.Summaries.{is_of_another, no_value}
-use Rattle.held.specs.Signed.{drop_signer, has_another_signer}
+use Rattle.errors.specs.After.{After, after, write_text}
+use Rattle.engines.specs.Limits.{max_engine}
+use Rattle.models.specs.Summaries.{is_of_another, no_value}
+use Rattle.signed.specs.Signed.{drop_signer, has_another_signer}
 use Rattle.drawing.specs.Text.{board_size}
 use Rattle.register.specs.Register.{Register, take_conviction, strike_engine}
 use Rattle.register.specs.Memory.{well_formed, decode, encode, fresh}

@@ -9,10 +9,10 @@ use Rattle.fixes.specs.Slots.{max_fixes}
 use Rattle.fixes.specs.Fixes.{fixes_of}
 use Rattle.shown.specs.Items.{AllFormed, Apart}
 use Rattle.fixes.proofs.Kept.{fixes-formed, fixes-apart, fixes-few}
-use Rattle.held.specs.Read.{record_formed}
-use Rattle.held.specs.Signed.{signers_in, place_formed}
-use Rattle.held.proofs.Testing.{all-weaken}
-use Rattle.held.proofs.Signatures.{place_held}
+use Rattle.signed.specs.Read.{record_formed}
+use Rattle.signed.specs.Signed.{signers_in, place_formed}
+use Rattle.places.proofs.Testing.{all-weaken}
+use Rattle.signed.proofs.Signatures.{place_held}
 use Rattle.register.specs.Register.{Register}
 use Rattle.register.proofs.Valid.{Valid}
 

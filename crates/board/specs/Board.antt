@@ -2,7 +2,7 @@
 use Rattle.std.specs.Prelude.{ℕ, cond, List, ltb, length}
 use Rattle.transmissions.specs.Picture.{picture, latest_of}
 use Rattle.drawing.specs.Text.{board_text, board_size}
-use Rattle.held.specs.After.{After, after, write_text}
+use Rattle.errors.specs.After.{After, after, write_text}
 use Rattle.register.specs.Register.{Register}
 use Rattle.register.specs.Memory.{well_formed, decode}
 

@@ -13,7 +13,7 @@ use Rattle.register.specs.Memory.{fresh}
 use Rattle.register.specs.Calls.{Call, runs, none_full, remaining}
 use Rattle.register.specs.Remains.{summaries_held, records_held}
 use Rattle.register.specs.Claims.{SameRemains, HoldsWhatRemains, FullExactlyWhen}
-use Rattle.held.specs.After.{write_text}
+use Rattle.errors.specs.After.{write_text}
 use Rattle.board.specs.Board.{board_of, draw_board}
 
 -- the board over what remains: of the summaries and records that remain, each record with the engines of its remaining reports as its signers

@@ -6,7 +6,7 @@ use Rattle.shown.specs.Shown.{Transmission, shown}
 use Rattle.links.specs.Transmissions.{transmissions_of}
 use Rattle.transmissions.specs.Picture.{older_than, latest_of}
 use Rattle.drawing.specs.Text.{board_size}
-use Rattle.held.specs.After.{After, after, write_text}
+use Rattle.errors.specs.After.{After, after, write_text}
 use Rattle.register.specs.Register.{Register}
 use Rattle.board.specs.Board.{board_in}
 

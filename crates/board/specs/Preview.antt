@@ -1,6 +1,6 @@
 -- The preview of a conviction (docs/REFERENCE.md, 'Preview'): the board as it would then be. The register is only read. What is claimed of it stands in Previews.
 use Rattle.std.specs.Prelude.{ℕ, cond, List, eqb}
-use Rattle.held.specs.After.{After, after}
+use Rattle.errors.specs.After.{After, after}
 use Rattle.register.specs.Register.{take_conviction}
 use Rattle.register.specs.Memory.{on_memory}
 use Rattle.board.specs.Board.{draw_board}

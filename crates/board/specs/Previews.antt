@@ -4,9 +4,9 @@ use Rattle.octets.specs.Bytes.{Bytes}
 use Rattle.octets.specs.Masks.{bit}
 use Rattle.places.specs.Places.{holds}
 use Rattle.models.specs.Summary.{summary_size}
-use Rattle.held.specs.After.{after, write_text}
-use Rattle.held.specs.Limits.{max_engine}
-use Rattle.held.specs.Summaries.{is_of_another}
+use Rattle.errors.specs.After.{after, write_text}
+use Rattle.engines.specs.Limits.{max_engine}
+use Rattle.models.specs.Summaries.{is_of_another}
 use Rattle.drawing.specs.Text.{board_size}
 use Rattle.register.specs.Register.{Register, strike_engine}
 use Rattle.register.specs.Memory.{well_formed, decode, fresh}

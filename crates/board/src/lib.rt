@@ -6,15 +6,15 @@ ghost use Rattle.octets.specs.Put.{Put};
 ghost use Rattle.shown.specs.Items.{AllFormed};
 ghost use Rattle.fixes.specs.Order.{identities_ascend};
 ghost use Rattle.drawing.specs.Text.{board_size, board_text};
-ghost use Rattle.held.specs.After.{after};
-ghost use Rattle.held.specs.Errors.{value_or_number};
+ghost use Rattle.errors.specs.After.{after};
+ghost use Rattle.errors.specs.Errors.{value_or_number};
 ghost use Rattle.board.specs.Board.{board_in, draw_board};
 ghost use Rattle.board.specs.Preview.{draw_preview};
 ghost use Rattle.board.specs.Latest.{latest_over, drawn};
 
 use arrayvec::ArrayVec;
 use fixes::{Fix, Fixes, MAX_FIXES};
-use held::errors::Error;
+use errors::Error;
 use links::Transmissions;
 use register::layout::REGISTER_SIZE;
 use register::view::View;

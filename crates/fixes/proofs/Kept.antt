@@ -12,7 +12,7 @@ use Rattle.models.proofs.Sets.{cited-length, identity-length}
 use Rattle.shown.specs.Fix.{Fix, with_signers}
 use Rattle.shown.specs.Shown.{lower}
 use Rattle.shown.specs.Items.{no_fix, fix_at, Formed, AllFormed, Apart}
-use Rattle.held.specs.Read.{record_formed}
+use Rattle.signed.specs.Read.{record_formed}
 use Rattle.fixes.specs.Fixes.{record_in, fix_of_place, unite, enter, enter_all, fixes_of}
 use Rattle.fixes.specs.Order.{identities_ascend}
 use Rattle.fixes.proofs.Entering.{enter-ascends, enter-length, earlier-lower}

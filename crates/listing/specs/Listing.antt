@@ -4,7 +4,7 @@ use mathlib.Core.List.{List, [], ◌∷◌, ◌++◌, flat_map}
 use Rattle.octets.specs.Ascii.{ascii}
 use Rattle.text.specs.Numbers.{decimal}
 use Rattle.arithmetic.specs.Bits.{stored_chi_square}
-use Rattle.held.specs.After.{After, after, write_text}
+use Rattle.errors.specs.After.{After, after, write_text}
 use Rattle.tracked.specs.Held.{RefusedFix, HeldTransmission}
 use Rattle.drawing.specs.Lines.{header, refused_line}
 use Rattle.drawing.specs.Text.{ranked_text, board_size}

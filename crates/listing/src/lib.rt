@@ -4,14 +4,14 @@
 ghost use Rattle.std.specs.Prelude.{◌≡◌, true, ◌≤◌, length, flat_map};
 ghost use Rattle.octets.specs.Put.{Put};
 ghost use Rattle.text.specs.Texts.{append};
-ghost use Rattle.held.specs.After.{after};
-ghost use Rattle.held.specs.Errors.{value_or_number};
+ghost use Rattle.errors.specs.After.{after};
+ghost use Rattle.errors.specs.Errors.{value_or_number};
 ghost use Rattle.drawing.specs.Text.{ranked_text, board_size};
 ghost use Rattle.stored.specs.Memory.{well_formed, decode};
 ghost use Rattle.listing.specs.Listing as T;
 
 use drawing::Role;
-use held::errors::Error;
+use errors::Error;
 use stored::layout::CONTESTED_AT;
 use stored::parts::transmissions;
 use text::Text;

@@ -10,7 +10,7 @@ use Rattle.octets.specs.Writes.{put_word}
 use Rattle.octets.proofs.Numbers.{length-word-bytes}
 use Rattle.places.specs.Places.{flat, table_of}
 use Rattle.places.proofs.Tables.{wide, split-at-place, replace-table, place-of-table}
-use Rattle.held.proofs.Framing.{mid-put}
+use Rattle.octets.proofs.Framing.{mid-put}
 
 -- in the second of two parts
 pub put_second : (n x v : ℕ) (a b : List ℕ) → put_word n (length a + x) v (a ++ b) ≡ a ++ put_word n x v b

@@ -5,3 +5,4 @@ pub mod Held
 pub mod Sets
 pub mod Refusing
 pub mod Cited
+pub mod Summarized

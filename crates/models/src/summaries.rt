@@ -1,11 +1,12 @@
-//! A table of summaries in lent bytes, which are gone through in their order.
+//! A summary's bytes, and a table of summaries in lent bytes, which are gone through in their order.
 
 ghost use Rattle.std.specs.Prelude.{◌≡◌, ◌*◌, ◌≤◌, length};
 ghost use Rattle.std.specs.Iterator.{YieldsFirstBy, item_count};
 ghost use Rattle.places.specs.Places.{places};
-ghost use Rattle.models.specs.Summary.{summary_size, inputs_size, model_of, spec_of, summary_inputs};
+ghost use Rattle.models.specs.Summary.{summary_size, inputs_size, model_of, spec_of, summary_inputs, summary_of};
 
 use crate::layout;
+use engines::Engine;
 
 /// One summary.
 #[derive(Clone, Copy)]
@@ -66,4 +67,21 @@ impl<'a> Iterator for Summaries<'a> {
         };
         Some(Summary { bytes })
     }
+}
+
+/// The bytes of a summary.
+pub fn new_summary(
+    engine: Engine,
+    model: u8,
+    spec: u16,
+    inputs: &[u8; layout::INPUTS_SIZE],
+) -> [u8; layout::SUMMARY_SIZE]
+    ensures { result ≡ summary_of engine.number model spec inputs.now }
+{
+    let mut p = [0u8; layout::SUMMARY_SIZE];
+    p[layout::ENGINE_AT] = engine.number;
+    p[layout::MODEL_AT] = model;
+    octets::words::put_u16(&mut p, layout::SPEC_AT, spec);
+    octets::runs::copy(inputs, &mut p[layout::INPUTS_AT..]);
+    p
 }

@@ -1,7 +1,7 @@
 -- The library's version, and what its answers are called (docs/REFERENCE.md, 'Operations' and 'Answers').
 use Rattle.std.specs.Prelude.{ℕ, ◌+◌, ◌*◌, List, ◌++◌, ◌==◌, if◌then◌else◌, length, nat_le, codes}
 use Rattle.text.specs.Numbers.{decimal}
-use Rattle.held.specs.After.{After, after, write_text}
+use Rattle.errors.specs.After.{After, after, write_text}
 
 -- ---- the version: this is the one place that says it; include/toastlagoon.h says the same, and `package` compares them
 

@@ -2,7 +2,7 @@
 #![tactic(auto)]
 
 ghost use Rattle.std.specs.Prelude.{◌≡◌, ◌≤◌, length};
-ghost use Rattle.held.specs.After.{after};
+ghost use Rattle.errors.specs.After.{after};
 ghost use Rattle.names.specs.Names as N;
 
 pub mod claims;

@@ -1,7 +1,7 @@
 -- What is left to be said, operation by operation.
 use Rattle.std.proofs.Common.{◌≡◌, ◌∙◌, ap, sym, refl, ℕ, ◌+◌, ◌≤◌, ◌<◌, List, ◌++◌, length, append_assoc, arith, Ok, Err}
 use mathlib.Core.List.{append-nil}
-use Rattle.held.specs.After.{After, after}
+use Rattle.errors.specs.After.{After, after}
 use Rattle.register.specs.Calls.{Call, act}
 use Rattle.register.specs.Memory.{on_memory}
 use Rattle.grammar.specs.declared.lines.BadLine.{BadLine}

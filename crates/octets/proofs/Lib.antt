@@ -4,3 +4,4 @@ pub mod Lookup
 pub mod Zeros
 pub mod Moves
 pub mod Puts
+pub mod Framing

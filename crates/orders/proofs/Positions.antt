@@ -13,7 +13,7 @@ use Rattle.hashing.specs.Blake2s.{blake2s256}
 use Rattle.models.specs.Models.{all_agreed, counts}
 use Rattle.models.specs.Missing.{any_missing, cites_missing}
 use Rattle.models.specs.Identity.{cited_domain, cited_inputs, inputs_in_order, identity_of}
-use Rattle.held.specs.After.{After, after}
+use Rattle.errors.specs.After.{After, after}
 use Rattle.decision.specs.Positions.{S, M, L}
 use Rattle.shown.specs.Fix.{Fix}
 use Rattle.tracked.specs.Held.{HeldTransmission}

@@ -12,7 +12,8 @@ use Rattle.std.specs.List.{filter, list_any}
 use Rattle.ranges.proofs.Bools.{by, and_both}
 use Rattle.ranges.proofs.Lists.{any-perm, filter-perm, filter-few}
 use Rattle.models.specs.Summary.{summary_of}
-use Rattle.held.specs.Limits.{max_engine, max_summaries}
+use Rattle.engines.specs.Limits.{max_engine}
+use Rattle.models.specs.Limits.{max_summaries}
 use Rattle.register.specs.Layout.{max_records}
 use Rattle.register.specs.Calls.{Call, report, summary, conviction, call_engine, is_sound, convicts, keep, remaining, reports, records_of, summaries_of, elem, nub, fits, always_fits}
 use Rattle.register.specs.Claims.{SameRemains}

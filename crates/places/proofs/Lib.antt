@@ -5,3 +5,5 @@ pub mod Putting
 pub mod Keeping
 pub mod Searches
 pub mod Puts
+pub mod Testing
+pub mod Striking

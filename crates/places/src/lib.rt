@@ -4,4 +4,5 @@
 //! summaries (36 bytes, a key of 2).
 #![tactic(auto)]
 
+pub mod strikes;
 pub mod table;

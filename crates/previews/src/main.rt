@@ -5,7 +5,7 @@
 #![tactic(auto)]
 
 use board::BOARD_SIZE;
-use held::errors::value_or_number;
+use errors::value_or_number;
 use register::layout::REGISTER_SIZE;
 use std::io;
 

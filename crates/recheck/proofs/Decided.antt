@@ -6,7 +6,7 @@ use mathlib.Core.List.{List, map, Memᴰ}
 use Rattle.std.specs.List.{filter}
 use Rattle.ranges.proofs.Lists.{filter-in}
 use Rattle.octets.specs.Bytes.{Bytes}
-use Rattle.held.proofs.Signatures.{without-small}
+use Rattle.engines.proofs.Masks.{without-small}
 use Rattle.shown.specs.Fix.{Fix}
 use Rattle.tracked.specs.Held.{HeldTransmission, held_in}
 use Rattle.tracked.specs.Bytes.{transmission_in, transmission_bytes}

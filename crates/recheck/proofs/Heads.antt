@@ -8,7 +8,7 @@ use Rattle.octets.specs.Words.{word, word_bytes, word_at}
 use Rattle.octets.specs.Writes.{put_word}
 use Rattle.octets.proofs.Moves.{tail-lent, tail-back}
 use Rattle.places.proofs.Walks.{part_in}
-use Rattle.held.specs.Limits.{summaries_size}
+use Rattle.models.specs.Limits.{summaries_size}
 use Rattle.stored.specs.Layout.{convicted_at, summary_count_at, transmission_count_at, summaries_at, transmissions_at}
 use Rattle.stored.specs.Memory.{convicted_in, summary_count, transmission_count, contested_in, summary_table}
 use Rattle.stored.proofs.Frames.{header, frame, header-length, behind-header}

@@ -19,10 +19,10 @@ use Rattle.places.specs.Places.{ascending, keep_places}
 use Rattle.places.proofs.Keeping.{kept-length, kept-wide, kept-ascending, kept-all}
 use Rattle.places.proofs.Tables.{wide}
 use Rattle.models.specs.Summary.{summary_size}
-use Rattle.held.specs.Limits.{max_engine}
-use Rattle.held.specs.Summaries.{summary_formed, is_of_another, no_value}
-use Rattle.held.proofs.Signatures.{apart, disjoint, without-apart, with-small, without-small}
-use Rattle.held.proofs.Summarized.{all_of, none_more, kept-summary}
+use Rattle.engines.specs.Limits.{max_engine}
+use Rattle.models.specs.Summaries.{summary_formed, is_of_another, no_value}
+use Rattle.engines.proofs.Masks.{apart, disjoint, without-apart, with-small, without-small}
+use Rattle.models.proofs.Summarized.{all_of, none_more, kept-summary}
 use Rattle.shown.specs.Fix.{Fix}
 use Rattle.tracked.specs.Held.{HeldTransmission, fix_of, held_in, is_of}
 use Rattle.tracked.proofs.Encoding.{ValidFix}

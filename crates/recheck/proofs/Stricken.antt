@@ -8,10 +8,10 @@ use Rattle.octets.specs.Masks.{with_bit}
 use Rattle.places.specs.Places.{places, table_of, keep_places}
 use Rattle.places.proofs.Keeping.{kept-length}
 use Rattle.models.specs.Summary.{summary_size}
-use Rattle.held.specs.Limits.{max_summaries}
-use Rattle.held.specs.Summaries.{no_value, is_of_another}
-use Rattle.held.specs.Strikes.{Struck}
-use Rattle.held.proofs.Striking.{struck-table}
+use Rattle.models.specs.Limits.{max_summaries}
+use Rattle.models.specs.Summaries.{no_value, is_of_another}
+use Rattle.places.specs.Strikes.{Struck}
+use Rattle.places.proofs.Striking.{struck-table}
 use Rattle.arrange.specs.Arranged.{arranged}
 use Rattle.arrange.specs.Blocks.{held, Filled}
 use Rattle.arrange.proofs.Tables.{held-count, held-bytes}

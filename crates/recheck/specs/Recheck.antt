@@ -8,7 +8,7 @@ use Rattle.places.specs.Places.{keep_places}
 use Rattle.models.specs.Summary.{summary_size}
 use Rattle.models.specs.Models.{counts}
 use Rattle.models.specs.Identity.{cited_inputs}
-use Rattle.held.specs.Summaries.{is_of_another, no_value}
+use Rattle.models.specs.Summaries.{is_of_another, no_value}
 use Rattle.shown.specs.Fix.{Fix, with_signers}
 use Rattle.tracked.specs.Held.{HeldTransmission, held_in}
 use Rattle.normalize.specs.Normal.{normalized}

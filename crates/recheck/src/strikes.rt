@@ -13,8 +13,8 @@ ghost use Rattle.recheck.specs.Recheck.{recheck, unsigned, without_engine, strik
 ghost use Rattle.recheck.specs.Steps as S;
 
 use crate::rechecks::recheck_settled;
-use held::engines::{Engine, Signers};
-use held::strikes::strike_summaries;
+use engines::{Engine, Signers};
+use models::strikes::strike_summaries;
 use normalize::blocks::renew;
 use octets::words::{put_u16, put_u32, u16_at, u32_at};
 use stored::layout;

@@ -5,14 +5,13 @@ use Rattle.ranges.proofs.Bools.{and_left}
 use Rattle.record.specs.Layout.{record_size}
 use Rattle.record.specs.Formed as R
 use Rattle.models.specs.Summary.{summary_size}
-use Rattle.held.specs.Limits.{place_size}
-use Rattle.held.specs.Read.{record_formed}
-use Rattle.held.specs.Signed.{place_formed}
-use Rattle.held.proofs.Testing.{all-weaken}
+use Rattle.signed.specs.Signed.{place_size, place_formed}
+use Rattle.signed.specs.Read.{record_formed}
+use Rattle.places.proofs.Testing.{all-weaken}
 use Rattle.register.specs.Layout.{max_records}
 use Rattle.register.specs.Register.{Register}
-use Rattle.held.specs.declared.errors.Error.{Error}
-use Rattle.held.specs.declared.errors.Error.TheVariants.{Malformed}
+use Rattle.errors.specs.declared.Error.{Error}
+use Rattle.errors.specs.declared.Error.TheVariants.{Malformed}
 use Rattle.register.specs.Memory.{well_formed, convicted_in, summary_count, record_count, summary_table, record_table, records_in, decode}
 use Rattle.register.proofs.Opened.{opened, summary-bytes-length, record-bytes-length, records-length}
 

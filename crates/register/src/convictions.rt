@@ -3,11 +3,10 @@
 ghost use Rattle.std.specs.Prelude.{◌≡◌, true, ◌+◌, ◌*◌, ◌≤◌, length};
 ghost use Rattle.places.specs.Places.{places, keep_places};
 ghost use Rattle.record.specs.Layout.{record_size};
-ghost use Rattle.held.specs.After.{after};
-ghost use Rattle.held.specs.Limits.{place_size};
-ghost use Rattle.held.specs.Signed.{drop_signer, has_another_signer};
-ghost use Rattle.held.specs.Strikes.{Struck};
-ghost use Rattle.held.specs.Errors.{answer_number};
+ghost use Rattle.errors.specs.After.{after};
+ghost use Rattle.signed.specs.Signed.{place_size, drop_signer, has_another_signer};
+ghost use Rattle.places.specs.Strikes.{Struck};
+ghost use Rattle.errors.specs.Errors.{answer_number};
 ghost use Rattle.register.specs.Register.{strike_engine, take_conviction};
 ghost use Rattle.register.specs.Memory.{well_formed, decode, on_memory};
 ghost use Rattle.register.specs.Strikes.{kept_at};
@@ -15,12 +14,14 @@ ghost use Rattle.register.specs.Strikes.{kept_at};
 use crate::Register;
 use crate::formed::well_formed;
 use crate::layout::{CONVICTED_AT, RECORD_COUNT_AT, SUMMARIES_AT, SUMMARY_COUNT_AT};
-use held::engines::{Engine, Signers};
-use held::errors::Error;
-use held::layout::{PLACE_SIZE, SUMMARIES_SIZE};
-use held::strikes::{clear_rest, move_down, strike_summaries};
+use engines::{Engine, Signers};
+use errors::Error;
+use models::layout::SUMMARIES_SIZE;
+use models::strikes::strike_summaries;
 use octets::words::{put_u16, put_u32, u16_at, u32_at};
+use places::strikes::{clear_rest, move_down};
 use record::layout::RECORD_SIZE;
+use signed::PLACE_SIZE;
 
 // Copies the record at one byte down to another, with these signers.
 fn keep_place(t: &mut [u8], from: usize, to: usize, signers: Signers)

@@ -4,17 +4,16 @@ ghost use Rattle.std.specs.Prelude.{◌≡◌, ◌&&◌, ◌*◌, ◌≤◌, len
 ghost use Rattle.std.specs.List.{list_all};
 ghost use Rattle.places.specs.Places.{places, is_table};
 ghost use Rattle.record.specs.Layout.{record_size};
-ghost use Rattle.held.specs.Limits.{place_size};
-ghost use Rattle.held.specs.Signed.{place_formed};
+ghost use Rattle.signed.specs.Signed.{place_size, place_formed};
 ghost use Rattle.register.specs.Memory.{well_formed};
 
 use crate::layout;
-use held::engines::Signers;
-use held::layout::{MAX_SUMMARIES, PLACE_SIZE};
-use models::layout::SUMMARY_SIZE;
+use engines::Signers;
+use models::layout::{MAX_SUMMARIES, SUMMARY_SIZE};
 use models::summaries::Summaries;
 use places::table::is_table;
 use record::layout::RECORD_SIZE;
+use signed::PLACE_SIZE;
 
 // Whether t holds a table of n records with signers, none of them convicted.
 fn place_table_formed(t: &[u8], n: usize, convicted: Signers) -> bool
@@ -22,7 +21,7 @@ fn place_table_formed(t: &[u8], n: usize, convicted: Signers) -> bool
     ensures { result ≡ (is_table record_size place_size n t.now && list_all (place_formed convicted.0) (places place_size n t.now)) }
 {
     is_table::<PLACE_SIZE, RECORD_SIZE>(t, n)
-        && held::formed::places_formed(t, n, PLACE_SIZE, convicted)
+        && signed::formed::places_formed(t, n, PLACE_SIZE, convicted)
 }
 
 /// Whether the bytes are a register.
@@ -46,7 +45,7 @@ pub fn well_formed(m: &[u8]) -> bool
         table: &m[layout::SUMMARIES_AT..layout::RECORDS_AT],
         count: n,
     };
-    if !held::formed::summary_table_formed::<SUMMARY_SIZE>(summaries, convicted) {
+    if !models::formed::summary_table_formed::<SUMMARY_SIZE>(summaries, convicted) {
         return false;
     }
     place_table_formed(&m[layout::RECORDS_AT..], k, convicted)

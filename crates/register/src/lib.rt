@@ -9,7 +9,7 @@ ghost use Rattle.std.specs.Prelude.{◌≡◌, true};
 ghost use Rattle.octets.specs.Masks.{bit};
 ghost use Rattle.register.specs.Memory.{well_formed, decode};
 
-use held::engines::{Engine, Signers};
+use engines::{Engine, Signers};
 use octets::words::u32_at;
 
 pub mod claims;

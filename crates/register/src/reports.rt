@@ -3,8 +3,8 @@
 ghost use Rattle.std.specs.Prelude.{◌≡◌, ◌<◌, ◌++◌, true, false, length, IfOk};
 ghost use Rattle.octets.specs.Masks.{bit, with_bit};
 ghost use Rattle.octets.specs.Words.{word_bytes};
-ghost use Rattle.held.specs.After.{after};
-ghost use Rattle.held.specs.Errors.{answer_number};
+ghost use Rattle.errors.specs.After.{after};
+ghost use Rattle.errors.specs.Errors.{answer_number};
 ghost use Rattle.register.specs.Signers.{signers_found};
 ghost use Rattle.register.specs.Register.{sign_record, take_report};
 ghost use Rattle.register.specs.Memory.{well_formed, decode, on_memory};
@@ -12,14 +12,15 @@ ghost use Rattle.register.specs.Memory.{well_formed, decode, on_memory};
 use crate::Register;
 use crate::formed::well_formed;
 use crate::layout::{MAX_RECORDS, RECORD_COUNT_AT, SUMMARIES_AT};
-use held::engines::{Engine, Signers};
-use held::errors::Error;
-use held::layout::{PLACE_SIZE, SUMMARIES_SIZE};
+use engines::{Engine, Signers};
+use errors::Error;
+use models::layout::SUMMARIES_SIZE;
 use octets::runs::copy;
 use octets::words::{put_u16, put_u32, u16_at, u32_at};
 use places::table::Table;
 use record::Record;
 use record::layout::RECORD_SIZE;
+use signed::PLACE_SIZE;
 
 // The records held, each with its signers.
 type Records<'a> = Table<'a, PLACE_SIZE, RECORD_SIZE, MAX_RECORDS>;

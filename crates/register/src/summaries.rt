@@ -1,20 +1,19 @@
 //! A summary into a register.
 
 ghost use Rattle.std.specs.Prelude.{◌≡◌, true};
-ghost use Rattle.held.specs.After.{after};
-ghost use Rattle.held.specs.Summaries.{summary_formed};
-ghost use Rattle.held.specs.Errors.{answer_number};
+ghost use Rattle.errors.specs.After.{after};
+ghost use Rattle.models.specs.Summaries.{summary_formed};
+ghost use Rattle.errors.specs.Errors.{answer_number};
 ghost use Rattle.register.specs.Register.{hold_summary, take_summary};
 ghost use Rattle.register.specs.Memory.{well_formed, decode, on_memory};
 
 use crate::Register;
 use crate::formed::well_formed;
 use crate::layout::{SUMMARIES_AT, SUMMARY_COUNT_AT};
-use held::engines::Engine;
-use held::errors::Error;
-use held::layout::{MAX_SUMMARIES, SUMMARIES_SIZE};
-use held::summaries::new_summary;
-use models::layout::{INPUTS_SIZE, SUMMARY_SIZE};
+use engines::Engine;
+use errors::Error;
+use models::layout::{INPUTS_SIZE, MAX_SUMMARIES, SUMMARIES_SIZE, SUMMARY_SIZE};
+use models::summaries::new_summary;
 use octets::words::{put_u16, u16_at};
 use places::table::Table;
 use record::layout::MAX_MODEL;

@@ -2,23 +2,22 @@
 
 ghost use Rattle.std.specs.Prelude.{◌≡◌, ◌≤◌, true, length, Ok, Err, cond};
 ghost use Rattle.std.specs.List.{list_all};
-ghost use Rattle.held.specs.Read.{record_formed};
+ghost use Rattle.signed.specs.Read.{record_formed};
 ghost use Rattle.models.specs.Answers.{summary_places};
 ghost use Rattle.register.specs.Layout.{max_records};
-ghost use Rattle.held.specs.declared.errors.Error.TheVariants.{Malformed};
+ghost use Rattle.errors.specs.declared.Error.TheVariants.{Malformed};
 ghost use Rattle.register.specs.Memory.{well_formed, decode};
 
 use crate::formed::well_formed;
 use crate::layout::{
     CONVICTED_AT, RECORD_COUNT_AT, RECORDS_AT, REGISTER_SIZE, SUMMARIES_AT, SUMMARY_COUNT_AT,
 };
-use held::engines::Signers;
-use held::errors::Error;
-use held::layout::PLACE_SIZE;
-use held::signed::SignedRecords;
+use engines::Signers;
+use errors::Error;
 use models::summaries::Summaries;
 use octets::words::{u16_at, u32_at};
 use places::table::places_of;
+use signed::{PLACE_SIZE, SignedRecords};
 use std::marker::Model;
 
 /// Lent bytes that are a register. Whoever has one asks for nothing more: in a contract it is the register that they hold.

@@ -3,7 +3,7 @@ use Rattle.std.proofs.Common.{◌≡◌, ◌∙◌, sym, ap, ℕ, ◌*◌, ◌�
 use Rattle.text.specs.declared.Text.{Text}
 use Rattle.text.specs.Texts.{append}
 use Rattle.text.proofs.Appending.{append-append, append-nil}
-use Rattle.held.specs.After.{After, after}
+use Rattle.errors.specs.After.{After, after}
 use Rattle.register.specs.Memory.{on_memory}
 use Rattle.register.specs.Calls.{Call, act, runs}
 use Rattle.grammar.specs.declared.lines.BadLine.{BadLine}

@@ -7,8 +7,8 @@ use Rattle.record.specs.Layout.{max_model}
 use Rattle.record.specs.Formed as R
 use Rattle.models.specs.Summary.{inputs_size}
 use Rattle.octets.specs.Ascii.{ascii}
-use Rattle.held.specs.After.{After}
-use Rattle.held.specs.Limits.{max_engine}
+use Rattle.errors.specs.After.{After}
+use Rattle.engines.specs.Limits.{max_engine}
 use Rattle.register.specs.Register.{Register}
 use Rattle.register.specs.Memory.{well_formed, decode, on_memory}
 use Rattle.register.specs.Calls.{Call, report, summary, conviction, act}

@@ -6,7 +6,7 @@ use Rattle.octets.specs.Put.{Put}
 use Rattle.octets.proofs.Moves.{tail-back, tail-lent}
 use Rattle.octets.proofs.Puts.{put_whole}
 use Rattle.drawing.specs.Text.{board_size}
-use Rattle.held.specs.After.{After, after, write_text}
+use Rattle.errors.specs.After.{After, after, write_text}
 use Rattle.register.specs.Memory.{well_formed, decode}
 use Rattle.board.specs.Board.{board_in, draw_board}
 use Rattle.board.proofs.Fitting.{fits-board}

@@ -5,8 +5,8 @@ ghost use Rattle.std.specs.Prelude.{◌≡◌, true, ◌+◌, ◌≤◌, length}
 ghost use Rattle.octets.specs.Put.{Put};
 ghost use Rattle.text.specs.Texts.{append};
 ghost use Rattle.drawing.specs.Text.{board_size};
-ghost use Rattle.held.specs.After.{after};
-ghost use Rattle.held.specs.Errors.{answer_number};
+ghost use Rattle.errors.specs.After.{after};
+ghost use Rattle.errors.specs.Errors.{answer_number};
 ghost use Rattle.register.specs.Memory.{well_formed, decode, on_memory, fresh};
 ghost use Rattle.register.specs.Calls.{act, runs};
 ghost use Rattle.board.specs.Board.{board_in};
@@ -15,7 +15,7 @@ ghost use Rattle.grammar.specs.Session.{at_start, calls_from};
 ghost use Rattle.sessions.specs.Output as O;
 
 use grammar::{Call, Lines};
-use held::errors::{Error, answer_number, value_or_number};
+use errors::{Error, answer_number, value_or_number};
 use register::layout::REGISTER_SIZE;
 use text::Text;
 

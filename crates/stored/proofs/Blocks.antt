@@ -23,12 +23,11 @@ use Rattle.places.proofs.Tables.{wide, flat-length, places-flat, length-places, 
 use Rattle.record.specs.Layout.{record_size}
 use Rattle.record.specs.Formed as R
 use Rattle.items.proofs.Pairing.{taken}
-use Rattle.held.specs.Limits.{place_size}
-use Rattle.held.specs.Signed as H
-use Rattle.held.specs.Signed.{place_formed, begin_formed}
-use Rattle.held.proofs.Framing.{word_small}
-use Rattle.held.proofs.Signatures.{signers-at, held_place}
-use Rattle.held.proofs.Testing.{all-weaken}
+use Rattle.signed.specs.Signed.{place_size, place_formed, begin_formed}
+use Rattle.signed.specs.Signed as H
+use Rattle.octets.proofs.Framing.{word_small}
+use Rattle.signed.proofs.Signatures.{signers-at, held_place}
+use Rattle.places.proofs.Testing.{all-weaken}
 use Rattle.shown.specs.Fix.{Fix}
 use Rattle.tracked.specs.Layout as L
 use Rattle.tracked.specs.Held.{HeldTransmission, fix_of, held_in}

@@ -7,8 +7,8 @@ use lib.Seq.{take_at, drop_at}
 use Rattle.octets.specs.Words.{word_bytes, word_at}
 use Rattle.octets.specs.Writes.{put_word}
 use Rattle.octets.proofs.Numbers.{word-of-bytes}
-use Rattle.held.specs.Limits.{summaries_size}
-use Rattle.held.proofs.Framing.{mid-taken}
+use Rattle.models.specs.Limits.{summaries_size}
+use Rattle.octets.proofs.Framing.{mid-taken}
 use Rattle.stored.specs.Layout.{convicted_at, summary_count_at, transmission_count_at, zero_at, contested_at, summaries_at, transmissions_at}
 
 -- what stands before the tables: the convicted, the number of summaries, of transmissions, and the contested

@@ -17,10 +17,10 @@ use Rattle.octets.proofs.Numbers.{bytes_drop}
 use Rattle.places.specs.Places.{table_of, is_table, ascending}
 use Rattle.places.proofs.Tables.{wide, places-wide, length-places, table_is, filled-table}
 use Rattle.models.specs.Summary.{summary_size}
-use Rattle.held.specs.Limits.{max_summaries, summaries_size}
-use Rattle.held.specs.Summaries.{summary_formed}
-use Rattle.held.specs.Signed.{begin_formed}
-use Rattle.held.proofs.Framing.{cut, cut_word}
+use Rattle.models.specs.Limits.{max_summaries, summaries_size}
+use Rattle.models.specs.Summaries.{summary_formed}
+use Rattle.signed.specs.Signed.{begin_formed}
+use Rattle.octets.proofs.Framing.{cut, cut_word}
 use Rattle.tracked.specs.Layout.{transmission_size}
 use Rattle.tracked.specs.Held.{HeldTransmission}
 use Rattle.tracked.specs.Bytes.{transmission_formed, transmission_in, transmission_bytes}

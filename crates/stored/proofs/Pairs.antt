@@ -19,9 +19,9 @@ use Rattle.places.proofs.Walks.{part_in}
 use Rattle.places.proofs.Puts.{told_found, told_none}
 use Rattle.places.proofs.Putting.{new-length, put-length-held, put-ascending, put-wide, put_all}
 use Rattle.models.specs.Summary.{summary_size}
-use Rattle.held.specs.After.{after}
-use Rattle.held.specs.Limits.{max_summaries, summaries_size}
-use Rattle.held.specs.Summaries.{summary_formed}
+use Rattle.errors.specs.After.{after}
+use Rattle.models.specs.Limits.{max_summaries, summaries_size}
+use Rattle.models.specs.Summaries.{summary_formed}
 use Rattle.tracked.specs.Layout.{transmission_size}
 use Rattle.tracked.specs.Bytes.{transmission_in}
 use Rattle.arrange.specs.Arranged.{max_transmissions}

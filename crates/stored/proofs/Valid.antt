@@ -13,10 +13,10 @@ use Rattle.octets.specs.Bytes.{Bytes}
 use Rattle.places.specs.Places.{places, table_of, is_table, ascending}
 use Rattle.places.proofs.Tables.{wide, table-length, is-table-of, places-of-table}
 use Rattle.models.specs.Summary.{summary_size}
-use Rattle.held.specs.Limits.{max_summaries, summaries_size}
-use Rattle.held.specs.Summaries.{summary_formed}
-use Rattle.held.specs.Signed.{begin_formed}
-use Rattle.held.proofs.Framing.{word_small}
+use Rattle.models.specs.Limits.{max_summaries, summaries_size}
+use Rattle.models.specs.Summaries.{summary_formed}
+use Rattle.signed.specs.Signed.{begin_formed}
+use Rattle.octets.proofs.Framing.{word_small}
 use Rattle.tracked.specs.Layout.{transmission_size}
 use Rattle.tracked.specs.Held.{HeldTransmission}
 use Rattle.tracked.specs.Bytes.{filled_by, transmission_formed, transmission_in, transmission_bytes}

@@ -3,7 +3,7 @@
 -- before it ends.
 use Rattle.std.specs.Prelude.{ℕ, ◌+◌, ◌*◌}
 use Rattle.models.specs.Summary.{summary_spec_at}
-use Rattle.held.specs.Limits.{summaries_size}
+use Rattle.models.specs.Limits.{summaries_size}
 use Rattle.tracked.specs.Layout.{transmission_size}
 use Rattle.arrange.specs.Arranged.{max_transmissions}
 

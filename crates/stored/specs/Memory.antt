@@ -4,10 +4,10 @@ use Rattle.octets.specs.Words.{word_at, word_bytes}
 use Rattle.std.specs.List.{list_all}
 use Rattle.places.specs.Places.{places, table_of, is_table}
 use Rattle.models.specs.Summary.{summary_size}
-use Rattle.held.specs.After.{After, after}
-use Rattle.held.specs.Limits.{max_summaries, summaries_size}
-use Rattle.held.specs.Summaries.{summary_formed}
-use Rattle.held.specs.Signed.{begin_formed}
+use Rattle.errors.specs.After.{After, after}
+use Rattle.models.specs.Limits.{max_summaries, summaries_size}
+use Rattle.models.specs.Summaries.{summary_formed}
+use Rattle.signed.specs.Signed.{begin_formed}
 use Rattle.tracked.specs.Layout.{transmission_size}
 use Rattle.tracked.specs.Bytes.{filled_by, transmission_formed, transmission_in, transmission_bytes}
 use Rattle.arrange.specs.Arranged.{max_transmissions}

@@ -1,7 +1,7 @@
 -- No claim rests on these definitions: they say what the code does with a summary.
 use Rattle.std.specs.Prelude.{ℕ, cond, not, ◌&&◌, List, leb, length, take, drop}
 use Rattle.places.specs.Places.{holds, put_place}
-use Rattle.held.specs.Limits.{max_summaries}
+use Rattle.models.specs.Limits.{max_summaries}
 use Rattle.stored.specs.Layout.{pair_size}
 use Rattle.stored.specs.Track.{Track, Transition, refused, done, with_summaries}
 

@@ -2,16 +2,15 @@
 
 ghost use Rattle.std.specs.Prelude.{◌≡◌, ◌*◌, ◌≤◌, length};
 ghost use Rattle.std.specs.List.{list_all};
-ghost use Rattle.held.specs.Limits.{place_size};
-ghost use Rattle.held.specs.Signed.{begin_formed};
+ghost use Rattle.signed.specs.Signed.{place_size, begin_formed};
 ghost use Rattle.tracked.specs.Layout.{transmission_size};
 ghost use Rattle.tracked.specs.Bytes.{filled_by, transmission_formed};
 ghost use Rattle.stored.specs.Memory.{well_formed};
 
 use crate::layout;
 use arrange::MAX_TRANSMISSIONS;
-use held::engines::Signers;
-use held::layout::MAX_SUMMARIES;
+use engines::Signers;
+use models::layout::MAX_SUMMARIES;
 use models::summaries::Summaries;
 use places::table::places_of;
 use tracked::layout::{
@@ -25,7 +24,7 @@ fn filled(t: &[u8], n: usize, w: usize, convicted: Signers) -> bool
     requires place_size_le_w { place_size ≤ w }
     ensures { result ≡ filled_by (begin_formed convicted.0) w n t.now }
 {
-    if !held::formed::places_formed(t, n, w, convicted) {
+    if !signed::formed::places_formed(t, n, w, convicted) {
         return false;
     }
     let used = n * w;
@@ -85,7 +84,7 @@ pub fn well_formed(m: &[u8]) -> bool
         table: &m[layout::SUMMARIES_AT..layout::TRANSMISSIONS_AT],
         count: n,
     };
-    if !held::formed::summary_table_formed::<{ layout::PAIR_SIZE }>(summaries, convicted) {
+    if !models::formed::summary_table_formed::<{ layout::PAIR_SIZE }>(summaries, convicted) {
         return false;
     }
     transmission_table_formed(&m[layout::TRANSMISSIONS_AT..], k, convicted)

@@ -1,7 +1,7 @@
 //! The layout of a track: where each part begins, each from the one before it.
 
 use arrange::MAX_TRANSMISSIONS;
-use held::layout::SUMMARIES_SIZE;
+use models::layout::SUMMARIES_SIZE;
 use models::layout::SPEC_AT;
 use tracked::layout::TRANSMISSION_SIZE;
 

@@ -6,7 +6,7 @@ ghost use Rattle.stored.specs.Memory.{well_formed, decode};
 
 use crate::layout;
 use arrange::Blocks;
-use held::engines::Signers;
+use engines::Signers;
 use models::summaries::Summaries;
 use octets::words::{u16_at, u32_at};
 

@@ -1,14 +1,14 @@
 //! A summary by its engine and model into a track.
 
 ghost use Rattle.std.specs.Prelude.{◌≡◌, true};
-ghost use Rattle.held.specs.After.{after};
-ghost use Rattle.held.specs.Errors.{answer_number};
+ghost use Rattle.errors.specs.After.{after};
+ghost use Rattle.errors.specs.Errors.{answer_number};
 ghost use Rattle.stored.specs.Memory.{well_formed, decode, commit};
 ghost use Rattle.stored.specs.Steps.{put_pair};
 
 use crate::layout::{PAIR_SIZE, SUMMARIES_AT, SUMMARY_COUNT_AT};
-use held::errors::Error;
-use held::layout::{MAX_SUMMARIES, SUMMARIES_SIZE};
+use errors::Error;
+use models::layout::{MAX_SUMMARIES, SUMMARIES_SIZE};
 use models::layout::SUMMARY_SIZE;
 use octets::words::{put_u16, u16_at};
 use places::table::Table;

@@ -6,7 +6,7 @@ use Rattle.arithmetic.specs.declared.standing.Claimed.{Claimed}
 use Rattle.arithmetic.specs.declared.standing.Measure.{Measure}
 use Rattle.arithmetic.specs.declared.standing.Agreement.{Agreement}
 use Rattle.arithmetic.specs.Agree.{agreement_number, measure_in}
-use Rattle.held.specs.After.{After, after}
+use Rattle.errors.specs.After.{After, after}
 
 abbrev pub covariance_from : Float → Float → Float → Float → Float → Float → Covariance
 covariance_from xx xy xz yy yz zz = record { xx = xx; xy = xy; xz = xz; yy = yy; yz = yz; zz = zz }

@@ -8,7 +8,7 @@ ghost use Rattle.hashing.specs.Blake2s as Hash;
 ghost use Rattle.floats.specs.Root as Root;
 ghost use Rattle.arithmetic.specs.Agree.{agreement_of, sigma_of};
 ghost use Rattle.decision.specs.Answer.{decided_arrays};
-ghost use Rattle.held.specs.After.{after};
+ghost use Rattle.errors.specs.After.{after};
 ghost use Rattle.register.specs.Register.{take_report, take_summary, take_conviction};
 ghost use Rattle.register.specs.Memory.{on_memory};
 ghost use Rattle.board.specs.Board.{draw_board};
@@ -22,7 +22,7 @@ ghost use Rattle.answers.specs.Answer.{hand_out};
 use answers::ANSWER_SIZE;
 use arithmetic::standing::{Agreement, Claimed, Measure};
 use geometry::linalg::Covariance;
-use held::errors::{answer_number, value_or_number};
+use errors::{answer_number, value_or_number};
 use track::reports::reported_number;
 
 // The answers for how a larger fix stands to a smaller one.

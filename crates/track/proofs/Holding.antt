@@ -2,8 +2,8 @@
 use Rattle.std.proofs.Common.{◌≡◌, ℕ, Bool, true, false, not, ◌&&◌, leb, List, length, take, sym, refl, ap, ◌∙◌, arith}
 use Rattle.ranges.proofs.Bools.{by, no_true}
 use Rattle.places.specs.Places.{holds}
-use Rattle.held.specs.After.{After, after}
-use Rattle.held.specs.Limits.{max_summaries}
+use Rattle.errors.specs.After.{After, after}
+use Rattle.models.specs.Limits.{max_summaries}
 use Rattle.stored.specs.Layout.{pair_size}
 use Rattle.stored.specs.Track.{Track}
 use Rattle.stored.specs.Memory.{decode, encode, commit}

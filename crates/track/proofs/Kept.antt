@@ -4,8 +4,8 @@ use Rattle.ranges.proofs.Bools.{by}
 use Rattle.octets.specs.Bytes.{Bytes}
 use Rattle.record.specs.Layout.{max_model}
 use Rattle.models.specs.Summary.{summary_of}
-use Rattle.held.specs.Limits.{max_engine}
-use Rattle.held.proofs.Summarized.{summary-length}
+use Rattle.engines.specs.Limits.{max_engine}
+use Rattle.models.proofs.Summarized.{summary-length}
 use Rattle.stored.specs.Track.{Track, Transition, refused, done}
 use Rattle.stored.specs.Memory.{well_formed, decode, commit, on_memory}
 use Rattle.stored.proofs.Opened as O

@@ -9,7 +9,8 @@ use Rattle.record.specs.Layout.{max_model}
 use Rattle.models.specs.Summary.{inputs_size, summary_of}
 use Rattle.models.specs.Models.{counts}
 use Rattle.models.specs.Missing.{cites_missing}
-use Rattle.held.specs.Limits.{max_engine, max_summaries}
+use Rattle.engines.specs.Limits.{max_engine}
+use Rattle.models.specs.Limits.{max_summaries}
 use Rattle.merge.specs.Merged.{merged}
 use Rattle.stored.specs.Layout.{pair_size}
 use Rattle.stored.specs.Track.{Track, Transition, refused, done}

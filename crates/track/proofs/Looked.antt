@@ -9,10 +9,10 @@ use Rattle.models.specs.Missing.{cites_missing}
 use Rattle.models.specs.Identity.{cited_inputs}
 use Rattle.models.specs.Cited.{why_uncited}
 use Rattle.models.proofs.Refusing.{none-missing}
-use Rattle.held.specs.After.{After, after}
-use Rattle.held.specs.Errors.{error_number}
-use Rattle.held.specs.Limits.{max_engine}
-use Rattle.held.specs.declared.errors.Error.{Error}
+use Rattle.errors.specs.After.{After, after}
+use Rattle.errors.specs.Errors.{error_number}
+use Rattle.engines.specs.Limits.{max_engine}
+use Rattle.errors.specs.declared.Error.{Error}
 use Rattle.stored.specs.Memory.{well_formed, decode, commit, on_memory}
 use Rattle.track.specs.Eligible.{refusal, inputs_or_error}
 use Rattle.track.specs.Track.{take_cited, track_report}

@@ -11,8 +11,9 @@ use Rattle.octets.specs.Masks.{bit}
 use Rattle.octets.proofs.Zeros.{or-zero}
 use Rattle.record.specs.Formed as R
 use Rattle.models.proofs.Sets.{cited-length}
-use Rattle.held.specs.Limits.{max_engine}
-use Rattle.held.proofs.Signatures.{record-length, or_apart, with-apart, nothing-apart, with-some, with-small}
+use Rattle.engines.specs.Limits.{max_engine}
+use Rattle.engines.proofs.Masks.{or_apart, with-apart, nothing-apart, with-some, with-small}
+use Rattle.signed.proofs.Signatures.{record-length}
 use Rattle.shown.specs.Fix.{Fix}
 use Rattle.items.specs.Layout.{hash_size}
 use Rattle.tracked.specs.Layout.{max_standing, max_refused}

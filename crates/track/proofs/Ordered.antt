@@ -10,8 +10,8 @@ use Rattle.ranges.proofs.Bools.{by, or}
 use Rattle.ranges.proofs.Lists.{flat_in}
 use Rattle.octets.specs.Words.{word_bytes}
 use Rattle.places.specs.Places.{flat, ascending}
-use Rattle.held.specs.After.{After}
-use Rattle.held.specs.Limits.{summaries_size}
+use Rattle.errors.specs.After.{After}
+use Rattle.models.specs.Limits.{summaries_size}
 use Rattle.shown.specs.Fix.{Fix}
 use Rattle.shown.specs.Ages.{older, older_first}
 use Rattle.shown.proofs.Ages.{older-irrefl}

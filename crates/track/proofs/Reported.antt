@@ -6,8 +6,8 @@ use Rattle.octets.specs.Words.{word_at}
 use Rattle.octets.specs.Writes.{put_word}
 use Rattle.octets.proofs.Moves.{tail-lent, tail-back}
 use Rattle.models.specs.Models.{counts}
-use Rattle.held.specs.After.{after}
-use Rattle.held.proofs.Framing.{word_small}
+use Rattle.errors.specs.After.{after}
+use Rattle.octets.proofs.Framing.{word_small}
 use Rattle.shown.specs.Fix.{Fix}
 use Rattle.tracked.specs.Bytes.{transmission_in, transmission_bytes}
 use Rattle.arrange.specs.Arranged.{max_transmissions}

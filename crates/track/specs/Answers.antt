@@ -1,7 +1,7 @@
 -- The numbers of what a report is answered (docs/REFERENCE.md, 'Answers').
 use Rattle.std.specs.Prelude.{ℕ, Result, Ok, Err}
-use Rattle.held.specs.Errors.{error_number}
-use Rattle.held.specs.declared.errors.Error.{Error}
+use Rattle.errors.specs.Errors.{error_number}
+use Rattle.errors.specs.declared.Error.{Error}
 use Rattle.merge.specs.Merged.{merged_number}
 use Rattle.merge.specs.declared.Merged.{Merged}
 

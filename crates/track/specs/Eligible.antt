@@ -1,7 +1,7 @@
 -- No claim rests on these definitions: they say what one look at the models that a record cites gives a report.
 use Rattle.std.specs.Prelude.{ℕ, cond, List, Result, Ok, Err}
-use Rattle.held.specs.declared.errors.Error.{Error}
-use Rattle.held.specs.declared.errors.Error.TheVariants.{ModelMissing, ModelDisputed}
+use Rattle.errors.specs.declared.Error.{Error}
+use Rattle.errors.specs.declared.Error.TheVariants.{ModelMissing, ModelDisputed}
 use Rattle.models.specs.Models.{counts}
 use Rattle.models.specs.Identity.{cited_inputs}
 use Rattle.models.specs.Cited.{why_uncited}

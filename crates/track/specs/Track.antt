@@ -9,7 +9,8 @@ use Rattle.models.specs.Summary.{inputs_size, summary_of}
 use Rattle.models.specs.Models.{State, missing, agreed, disputed, state_of, counts}
 use Rattle.models.specs.Missing.{cites_missing}
 use Rattle.models.specs.Identity.{cited_inputs, identity_of}
-use Rattle.held.specs.Limits.{max_engine, max_summaries}
+use Rattle.engines.specs.Limits.{max_engine}
+use Rattle.models.specs.Limits.{max_summaries}
 use Rattle.shown.specs.Fix.{Fix}
 use Rattle.merge.specs.Merged.{Step, merged_number, merged}
 use Rattle.stored.specs.Layout.{pair_size}

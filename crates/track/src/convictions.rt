@@ -1,13 +1,13 @@
 //! A conviction in a track.
 
 ghost use Rattle.std.specs.Prelude.{◌≡◌};
-ghost use Rattle.held.specs.After.{after};
-ghost use Rattle.held.specs.Errors.{answer_number};
+ghost use Rattle.errors.specs.After.{after};
+ghost use Rattle.errors.specs.Errors.{answer_number};
 ghost use Rattle.stored.specs.Memory.{on_memory};
 ghost use Rattle.track.specs.Track.{track_conviction};
 
-use held::engines::Engine;
-use held::errors::Error;
+use engines::Engine;
+use errors::Error;
 use recheck::strikes;
 use stored::formed;
 

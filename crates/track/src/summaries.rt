@@ -3,14 +3,14 @@
 ghost use Rattle.std.specs.Prelude.{◌≡◌, true, not, ◌&&◌};
 ghost use Rattle.models.specs.Answers.{summary_places};
 ghost use Rattle.models.specs.Models.{state_of};
-ghost use Rattle.held.specs.After.{after};
-ghost use Rattle.held.specs.Errors.{answer_number};
-ghost use Rattle.held.specs.Summaries.{summary_formed};
+ghost use Rattle.errors.specs.After.{after};
+ghost use Rattle.errors.specs.Errors.{answer_number};
+ghost use Rattle.models.specs.Summaries.{summary_formed};
 ghost use Rattle.stored.specs.Memory.{well_formed, decode, commit, on_memory};
 ghost use Rattle.track.specs.Track.{is_disputed, hold_pair, track_summary};
 
-use held::engines::Engine;
-use held::errors::Error;
+use engines::Engine;
+use errors::Error;
 use models::layout::{INPUTS_SIZE, SUMMARY_SIZE};
 use models::states::{ModelState, state};
 use models::summaries::Summaries;
@@ -89,6 +89,6 @@ pub fn summary(
     hold(
         memory,
         model as u8,
-        &held::summaries::new_summary(engine, model as u8, spec, inputs),
+        &models::summaries::new_summary(engine, model as u8, spec, inputs),
     )
 }

@@ -6,7 +6,7 @@ use native.Mathlib.Omega.{arith}
 use lib.Dec.{ltb}
 use lib.ListN.{length, drop, length-append}
 use Rattle.ranges.proofs.Bools.{by}
-use Rattle.held.specs.After.{After, after, write_text}
+use Rattle.errors.specs.After.{After, after, write_text}
 use Rattle.drawing.specs.Text.{board_size}
 use Rattle.stored.specs.Memory.{well_formed, decode}
 use Rattle.listing.specs.Listing.{listing_of, list_track}

@@ -7,7 +7,7 @@
 //! call of another kind, ends the work.
 #![tactic(auto)]
 
-use held::errors::{answer_number, value_or_number};
+use errors::{answer_number, value_or_number};
 use models::layout::{ENGINE_AT, INPUTS_AT, MODEL_AT, SPEC_AT, SUMMARY_SIZE};
 use record::layout::RECORD_SIZE;
 use std::io;

@@ -1,6 +1,6 @@
 use Rattle.std.proofs.Common.{◌≡◌, refl, sym, ap, ◌∙◌, arith, false}
 use Rattle.std.specs.Prelude.{List, ℕ, not}
-use Rattle.held.specs.After.{after}
+use Rattle.errors.specs.After.{after}
 use Rattle.decision.specs.Answer.{is_bad, outcome, decided_arrays, arrays_of, refused_decision}
 use Rattle.decision.proofs.Alone.{alone}
 use Rattle.decision.proofs.Answering.{none-bad}

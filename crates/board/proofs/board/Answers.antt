@@ -1,6 +1,6 @@
 use Rattle.std.proofs.Common.{rules, ◌≡◌, refl}
 use Rattle.board.specs.Board.{draw_board}
-use Rattle.held.specs.Errors.{error_number, value_or_number}
+use Rattle.errors.specs.Errors.{error_number, value_or_number}
 use Rattle.register.proofs.Lent.{read-register, no-register}
 use Rattle.board.proofs.board.Goals as goal
 

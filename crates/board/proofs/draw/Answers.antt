@@ -1,5 +1,5 @@
 use Rattle.std.proofs.Common.{le_trans, le-ltb}
-use Rattle.held.proofs.Writing.{put_written}
+use Rattle.errors.proofs.Writing.{put_written}
 use Rattle.board.proofs.draw.Goals as goal
 
 pub returns : goal.returns

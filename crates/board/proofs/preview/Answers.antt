@@ -3,10 +3,10 @@ use borrow.Author.Tests.{eqb-false}
 use Rattle.std.specs.Result.{IsErrAnd}
 use Rattle.octets.specs.Bytes.{Bytes}
 use Rattle.octets.proofs.Numbers.{all-bytes}
-use Rattle.held.specs.After.{after}
-use Rattle.held.specs.Errors.{error_number, answer_number, value_or_number}
-use Rattle.held.specs.declared.errors.Error.{Error}
-use Rattle.held.proofs.Numbered.{never-zero}
+use Rattle.errors.specs.After.{after}
+use Rattle.errors.specs.Errors.{error_number, answer_number, value_or_number}
+use Rattle.errors.specs.declared.Error.{Error}
+use Rattle.errors.proofs.Numbered.{never-zero}
 use Rattle.register.specs.Memory.{well_formed, decode}
 use Rattle.register.proofs.Opened.{other-size}
 use Rattle.board.specs.Board.{draw_board}

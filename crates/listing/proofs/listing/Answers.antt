@@ -7,7 +7,7 @@ use borrow.Author.Tests.{lt-ltb, le-ltb}
 use Rattle.stored.specs.Memory.{well_formed}
 use Rattle.listing.specs.Listing.{list_track}
 use Rattle.listing.proofs.Lengths.{listing-length, length-numbers}
-use Rattle.held.proofs.Writing.{put_written}
+use Rattle.errors.proofs.Writing.{put_written}
 use Rattle.listing.proofs.listing.Goals as goal
 
 pub returns-then-not-well_formed : goal.returns-then-not-well_formed

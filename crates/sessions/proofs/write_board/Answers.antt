@@ -4,7 +4,7 @@ use Rattle.octets.specs.Bytes.{Bytes}
 use Rattle.octets.specs.Put.{Put}
 use Rattle.octets.proofs.Numbers.{all-bytes}
 use Rattle.octets.proofs.Puts.{put-put, put_as}
-use Rattle.held.specs.After.{after}
+use Rattle.errors.specs.After.{after}
 use Rattle.register.specs.Memory.{decode}
 use Rattle.board.specs.Board.{board_in}
 use Rattle.board.proofs.Fitting.{fits-board}

@@ -1,7 +1,7 @@
 use mathlib.Core.Path.{refl, ap}
 use Rattle.arithmetic.specs.declared.standing.Measure.{Measure}
 use Rattle.arithmetic.specs.Agree.{agreement_number, measure_in}
-use Rattle.held.specs.After.{after}
+use Rattle.errors.specs.After.{after}
 use Rattle.toastlagoon.specs.Border.{measure_or, agreement_out}
 use Rattle.toastlagoon.proofs.put_agreement.Goals as goal
 

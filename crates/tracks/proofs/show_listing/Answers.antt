@@ -1,6 +1,6 @@
 -- `show_listing` is safe: a listing fits the output.
 use Rattle.std.proofs.Common.{◌≡◌, ℕ, rules, arith, length, sym, ap, ◌∙◌, length-take-le}
-use Rattle.held.specs.After.{after}
+use Rattle.errors.specs.After.{after}
 use Rattle.drawing.specs.Text.{board_size}
 use Rattle.tracks.proofs.Listed.{listed-fits}
 use Rattle.tracks.proofs.show_listing.Goals as goal

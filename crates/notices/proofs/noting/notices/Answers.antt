@@ -1,5 +1,5 @@
 use Rattle.std.proofs.Common.{refl, sym, ap, ◌∙◌, arith, length}
-use Rattle.held.specs.After.{after}
+use Rattle.errors.specs.After.{after}
 use Rattle.grammar.specs.Gives.{lines_left, call_of}
 use Rattle.grammar.proofs.Forward.{left_less}
 use Rattle.notices.proofs.Steps.{saying-more, saying-end}

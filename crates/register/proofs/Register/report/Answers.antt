@@ -1,5 +1,5 @@
 use Rattle.std.proofs.Common.{◌≡◌, rules}
-use Rattle.held.specs.After.{after}
+use Rattle.errors.specs.After.{after}
 use Rattle.register.specs.Register.{take_report}
 use Rattle.register.specs.Memory.{decode}
 use Rattle.register.proofs.Register.report.Goals as goal

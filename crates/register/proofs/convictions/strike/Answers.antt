@@ -8,9 +8,8 @@ use Rattle.places.proofs.Keeping.{kept-length}
 use Rattle.places.proofs.Puts.{used}
 use Rattle.models.specs.Summary.{summary_size}
 use Rattle.record.specs.Layout.{record_size}
-use Rattle.held.specs.Limits.{place_size}
-use Rattle.held.specs.Summaries.{is_of_another, no_value}
-use Rattle.held.specs.Signed.{has_another_signer, drop_signer}
+use Rattle.signed.specs.Signed.{place_size, has_another_signer, drop_signer}
+use Rattle.models.specs.Summaries.{is_of_another, no_value}
 use Rattle.register.specs.Layout.{summary_count_at, record_count_at}
 use Rattle.register.proofs.Opened.{opened}
 use Rattle.register.proofs.Parts.{summaries-sorted, records-sorted}

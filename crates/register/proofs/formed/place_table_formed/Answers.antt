@@ -1,8 +1,7 @@
 -- The table, then its places.
 use mathlib.Core.Path.{◌∙◌}
-use Rattle.held.specs.Limits.{place_size}
-use Rattle.held.specs.Signed.{place_formed}
-use Rattle.held.proofs.Testing.{whole-places}
+use Rattle.signed.specs.Signed.{place_size, place_formed}
+use Rattle.places.proofs.Testing.{whole-places}
 use Rattle.register.proofs.formed.place_table_formed.Goals as goal
 
 pub returns-then-is_table : goal.returns-then-is_table

@@ -5,7 +5,7 @@ use Rattle.octets.proofs.Numbers.{all-bytes}
 use Rattle.places.specs.Places.{places}
 use Rattle.places.specs.Tables.{sought}
 use Rattle.places.proofs.Puts.{found-in-range, in-order}
-use Rattle.held.specs.Limits.{place_size}
+use Rattle.signed.specs.Signed.{place_size}
 use Rattle.record.specs.Layout.{record_size}
 use Rattle.register.specs.Signers.{signers_found}
 use Rattle.register.proofs.Opened.{opened}

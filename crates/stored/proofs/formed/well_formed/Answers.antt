@@ -9,9 +9,9 @@ use Rattle.ranges.proofs.Bools.{and_assoc}
 use Rattle.octets.proofs.Moves.{tail-lent}
 use Rattle.places.specs.Places.{places, is_table}
 use Rattle.models.specs.Summary.{summary_size}
-use Rattle.held.specs.Limits.{max_summaries}
-use Rattle.held.specs.Summaries.{summary_formed}
-use Rattle.held.specs.Signed.{begin_formed}
+use Rattle.models.specs.Limits.{max_summaries}
+use Rattle.models.specs.Summaries.{summary_formed}
+use Rattle.signed.specs.Signed.{begin_formed}
 use Rattle.tracked.specs.Layout.{transmission_size}
 use Rattle.tracked.specs.Bytes.{filled_by, transmission_formed}
 use Rattle.arrange.specs.Arranged.{max_transmissions}

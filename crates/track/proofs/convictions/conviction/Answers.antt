@@ -5,8 +5,8 @@ use mathlib.Core.Bool.{true}
 use mathlib.Core.List.{List}
 use native.Mathlib.Omega.{arith}
 use borrow.Author.Tests.{le-ltb, ltb-true}
-use Rattle.held.specs.After.{after}
-use Rattle.held.specs.Limits.{max_engine}
+use Rattle.errors.specs.After.{after}
+use Rattle.engines.specs.Limits.{max_engine}
 use Rattle.stored.specs.Memory.{well_formed, decode, encode, on_memory}
 use Rattle.recheck.specs.Recheck.{recheck, strike_engine}
 use Rattle.track.specs.Track.{track_conviction}

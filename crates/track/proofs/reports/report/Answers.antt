@@ -1,8 +1,8 @@
 use Rattle.std.proofs.Common.{◌≡◌, ◌<◌, ℕ, true, false, List, sym, ap, ap₂, ◌∙◌, rules}
 use Rattle.octets.specs.Masks.{bit}
 use Rattle.record.specs.Formed as R
-use Rattle.held.specs.Errors.{error_number}
-use Rattle.held.specs.declared.errors.Error.{Error}
+use Rattle.errors.specs.Errors.{error_number}
+use Rattle.errors.specs.declared.Error.{Error}
 use Rattle.stored.specs.Memory.{well_formed, decode, on_memory}
 use Rattle.merge.specs.Merged.{merged_number}
 use Rattle.track.specs.Answers.{reported_number}

@@ -3,10 +3,10 @@ use Rattle.octets.specs.Bytes.{Bytes}
 use Rattle.octets.proofs.Numbers.{all-bytes}
 use Rattle.models.specs.Summary.{summary_size}
 use Rattle.models.specs.Models.{state_of}
-use Rattle.held.specs.After.{after}
-use Rattle.held.specs.Errors.{error_number, answer_number}
-use Rattle.held.proofs.Numbered.{never-zero}
-use Rattle.held.specs.Summaries.{summary_formed}
+use Rattle.errors.specs.After.{after}
+use Rattle.errors.specs.Errors.{error_number, answer_number}
+use Rattle.errors.proofs.Numbered.{never-zero}
+use Rattle.models.specs.Summaries.{summary_formed}
 use Rattle.stored.specs.Track.{Track}
 use Rattle.stored.specs.Memory.{well_formed, decode, encode, commit}
 use Rattle.stored.specs.Steps.{with_pair, put_pair}

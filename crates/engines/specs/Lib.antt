@@ -1,0 +1,2 @@
+-- Which numbers are an engine's (Limits).
+pub mod Limits

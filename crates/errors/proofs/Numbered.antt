@@ -1,0 +1,16 @@
+-- Whatever is refused has a number that is not 0.
+use Rattle.std.proofs.Common.{ℕ, ◌≡◌, arith}
+use Rattle.errors.specs.Errors.{error_number}
+use Rattle.errors.specs.declared.Error.{Error}
+use Rattle.errors.specs.declared.Error.TheVariants.{Malformed, NoEngine, NoRecord, Convicted, Full, ModelMissing, ModelDisputed, NoSummary, SmallOutput}
+
+pub never-zero : (e : Error) → error_number e ≡ 0 → ⊥
+never-zero Malformed h = omega arith
+never-zero NoEngine h = omega arith
+never-zero NoRecord h = omega arith
+never-zero Convicted h = omega arith
+never-zero Full h = omega arith
+never-zero ModelMissing h = omega arith
+never-zero ModelDisputed h = omega arith
+never-zero NoSummary h = omega arith
+never-zero SmallOutput h = omega arith

@@ -1,0 +1,27 @@
+-- The numbers of what is refused (docs/REFERENCE.md, 'Answers').
+use Rattle.std.specs.Prelude.{ℕ, Result, Ok, Err}
+use Rattle.errors.specs.declared.Error.{Error}
+use Rattle.errors.specs.declared.Error.TheVariants.{Malformed, NoEngine, NoRecord, Convicted, Full, ModelMissing, ModelDisputed, NoSummary, SmallOutput}
+
+-- 1: the memory is no register or track. 2: no engine has the number. 3: the bytes are no record. 4: the engine is convicted. 5: full. 6: a model has no summary.
+-- 7: a model is disputed. 9: no summary. 10: the output is too small.
+abbrev pub error_number : Error → ℕ
+error_number Malformed = 1
+error_number NoEngine = 2
+error_number NoRecord = 3
+error_number Convicted = 4
+error_number Full = 5
+error_number ModelMissing = 6
+error_number ModelDisputed = 7
+error_number NoSummary = 9
+error_number SmallOutput = 10
+
+-- 0: taken
+abbrev pub answer_number : Result (Unit {0}) Error → ℕ
+answer_number (Ok u) = 0
+answer_number (Err e) = error_number e
+
+-- what a call answers where it is done
+abbrev pub value_or_number : Result ℕ Error → ℕ
+value_or_number (Ok n) = n
+value_or_number (Err e) = error_number e

@@ -1,7 +1,0 @@
-use Prim.Native.Nat.{◌*◌}
-use Rattle.held.specs.Signed.{begin_formed}
-use Rattle.held.proofs.Testing.{Passed}
-use Rattle.held.proofs.formed.places_formed.Given as goal
-
-abbrev pub invariant-loop-i : goal.invariant-loop-i
-invariant-loop-i l = Passed (begin_formed l.convicted.0) l.w l.n l.t l.i (l.i * l.w)

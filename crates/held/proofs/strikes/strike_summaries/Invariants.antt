@@ -1,6 +1,0 @@
-use Rattle.held.proofs.Striking.{Left}
-use Rattle.held.proofs.Summarized.{summaries_without}
-use Rattle.held.proofs.strikes.strike_summaries.Given as goal
-
-abbrev pub invariant-loop-i : goal.invariant-loop-i
-invariant-loop-i l = Left (summaries_without l.engine.number) l.n l.initial.t l.t l.i l.j
