@@ -10,6 +10,7 @@ ghost use Rattle.drawing.specs.Lines as L;
 ghost use Rattle.drawing.specs.Roles.{role_name};
 
 use arithmetic::standing::ChiSquare;
+use engines::Signers;
 use record::Record;
 use text::{Append, Hex, Metres, Text};
 
@@ -84,18 +85,18 @@ fn push_weight(out: &mut Text, report: Record)
 }
 
 // What every line says of a fix.
-fn push_fix(out: &mut Text, role: Role, report: Record, signers: u32)
+fn push_fix(out: &mut Text, role: Role, report: Record, signers: Signers)
     ensures { out.new ≡ append out.old (L.fix_text (role_name role) report.entry.bytes.now signers) }
 {
     out.push_field("role=", &role);
     push_where_when(out, report);
     push_height(out, report);
     push_weight(out, report);
-    out.push_field(" signers=", &Hex::<8>(signers as u64));
+    out.push_field(" signers=", &Hex::<8>(signers.mask() as u64));
 }
 
 /// The line of a fix that is ranked or dominated.
-pub fn push_line(out: &mut Text, role: Role, report: Record, signers: u32)
+pub fn push_line(out: &mut Text, role: Role, report: Record, signers: Signers)
     ensures { out.new ≡ append out.old (L.fix_line (role_name role) report.entry.bytes.now signers) }
 {
     push_fix(out, role, report, signers);
@@ -114,7 +115,7 @@ fn push_chi_square(out: &mut Text, chi2: ChiSquare)
 }
 
 /// The line of a refused fix, with its refusal's chi-square.
-pub fn push_refused(out: &mut Text, report: Record, signers: u32, chi2: ChiSquare)
+pub fn push_refused(out: &mut Text, report: Record, signers: Signers, chi2: ChiSquare)
     ensures { out.new ≡ append out.old (L.refused_line report.entry.bytes.now signers chi2) }
 {
     push_fix(out, Role::Refused, report, signers);

@@ -5,6 +5,7 @@ ghost use Rattle.fixes.specs.Fixes as F;
 ghost use Rattle.fixes.specs.Order.{order};
 ghost use Rattle.fixes.specs.Slots.{fix_of};
 
+use engines::Signers;
 use models::hashes::{Identity, Inputs, precedes};
 use models::identities;
 use record::Record;
@@ -20,8 +21,8 @@ pub struct Fix<'a> {
     pub report: Record<'a>,
     /// The model inputs of that record.
     pub inputs: Inputs,
-    /// The engines that signed a record of this identity, bit n for engine n.
-    pub signers: u32,
+    /// The engines that signed a record of this identity.
+    pub signers: Signers,
 }
 
 impl<'a> Model for Fix<'a> {
@@ -34,7 +35,7 @@ impl<'a> Model for Fix<'a> {
 
 impl<'a> Fix<'a> {
     /// A record that counts as a fix, with its model inputs and its signers.
-    pub fn of(report: Record<'a>, inputs: Inputs, signers: u32) -> Fix<'a>
+    pub fn of(report: Record<'a>, inputs: Inputs, signers: Signers) -> Fix<'a>
         ensures { result ≡ fix_of report.entry.bytes.now inputs signers }
     {
         let set = identities::set_hash(report);
@@ -63,7 +64,7 @@ impl<'a> Fix<'a> {
     pub fn unite(&mut self, other: Fix<'a>)
         ensures { self.new ≡ F.unite self.old other.entry }
     {
-        let signers = self.signers | other.signers;
+        let signers = self.signers.union(other.signers);
         let represents = lesser(self.report, other.report);
         if !octets::order::equal(represents.bytes, self.report.bytes) {
             *self = other;

@@ -44,7 +44,7 @@ pub fn represent<'a>(register: &View<'a>, fixes: &mut Fixes<'a>)
     for signed in register.records() {
         let record = signed.record();
         if let Some(inputs) = cited_inputs(summaries, record) {
-            enter(fixes, Fix::of(record, inputs, signed.signers().0));
+            enter(fixes, Fix::of(record, inputs, signed.signers()));
         }
     }
 }

@@ -76,10 +76,10 @@ pub fn new_summary(
     spec: u16,
     inputs: &[u8; layout::INPUTS_SIZE],
 ) -> [u8; layout::SUMMARY_SIZE]
-    ensures { result ≡ summary_of engine.number model spec inputs.now }
+    ensures { result ≡ summary_of engine model spec inputs.now }
 {
     let mut p = [0u8; layout::SUMMARY_SIZE];
-    p[layout::ENGINE_AT] = engine.number;
+    p[layout::ENGINE_AT] = engine.number();
     p[layout::MODEL_AT] = model;
     octets::words::put_u16(&mut p, layout::SPEC_AT, spec);
     octets::runs::copy(inputs, &mut p[layout::INPUTS_AT..]);

@@ -23,8 +23,9 @@ use tracked::transmission::Transmission;
 fn drop_unsigned(held: &mut Transmission<'_>)
     ensures { held.new ≡ signed_only held.old }
 {
-    held.fixes.retain(|fix| fix.signers != 0);
-    held.refused.retain(|refusal| refusal.fix.signers != 0);
+    held.fixes.retain(|fix| !fix.signers.is_empty());
+    held.refused
+        .retain(|refusal| !refusal.fix.signers.is_empty());
 }
 
 /// Decides the fixes of a transmission that are signed again. A fix whose signers are none is left out: its engine was convicted, or its

@@ -1,6 +1,6 @@
 //! An engine struck from a track: its signatures and its summaries.
 
-ghost use Rattle.std.specs.Prelude.{◌≡◌, true, IsTrue, map, ◌≤◌, length, set};
+ghost use Rattle.std.specs.Prelude.{◌≡◌, true, IsTrue, map, ◌≤◌, ◌<◌, length, set};
 ghost use Rattle.octets.specs.Writes.{put_word};
 ghost use Rattle.tracked.specs.Bytes.{transmission_in};
 ghost use Rattle.tracked.specs.Parts.{Sound, Steady};
@@ -25,14 +25,14 @@ use tracked::transmission::Transmission;
 
 // Takes an engine's signature off a fix.
 fn unsign(fix: &mut Fix<'_>, engine: Engine)
-    ensures { fix.new ≡ unsigned engine.number fix.old }
+    ensures { fix.new ≡ unsigned engine fix.old }
 {
-    fix.signers = Signers(fix.signers).without(engine).0;
+    fix.signers = fix.signers.without(engine);
 }
 
 // Takes an engine's signature off every fix that a transmission holds.
 fn unsign_all(held: &mut Transmission<'_>, engine: Engine)
-    ensures { held.new ≡ S.changing (unsigned engine.number) held.old }
+    ensures { held.new ≡ S.changing (unsigned engine) held.old }
 {
     for fix in held.fixes.iter_mut() {
         unsign(fix, engine);
@@ -46,7 +46,7 @@ fn unsign_all(held: &mut Transmission<'_>, engine: Engine)
 fn strike_fixes(b: &mut [u8], engine: Engine) -> bool
     requires { Sound b.old }
     ensures steady { Steady b.new }
-    ensures held { transmission_in b.new ≡ without_engine engine.number (transmission_in b.old) }
+    ensures held { transmission_in b.new ≡ without_engine engine (transmission_in b.old) }
     ensures settled { IsTrue result → Settled (transmission_in b.new) }
 {
     let b = b.as_mut_array().unwrap();
@@ -62,7 +62,7 @@ fn strike_fixes(b: &mut [u8], engine: Engine) -> bool
 fn strike_all(t: &mut [u8], n: usize, engine: Engine) -> bool
     requires { Filled t.old n }
     ensures filled { Filled t.new n }
-    ensures held { B.held n t.new ≡ map (without_engine engine.number) (B.held n t.old) }
+    ensures held { B.held n t.new ≡ map (without_engine engine) (B.held n t.old) }
     ensures settled { IsTrue result → S.AllSettled (B.held n t.new) }
 {
     let mut settled = true;
@@ -77,9 +77,9 @@ fn strike_all(t: &mut [u8], n: usize, engine: Engine) -> bool
 // Writes the convicted engines and both counts.
 fn put_header(head: &mut [u8], convicted: Signers, summaries: u16, transmissions: u8)
     requires { L.summaries_at ≤ length head.old }
-    ensures { head.new ≡ set (put_word 2 L.summary_count_at summaries (put_word 4 L.convicted_at convicted.0 head.old)) L.transmission_count_at transmissions }
+    ensures { head.new ≡ set (put_word 2 L.summary_count_at summaries (put_word 4 L.convicted_at convicted head.old)) L.transmission_count_at transmissions }
 {
-    put_u32(head, layout::CONVICTED_AT, convicted.0);
+    put_u32(head, layout::CONVICTED_AT, convicted.mask());
     put_u16(head, layout::SUMMARY_COUNT_AT, summaries);
     head[layout::TRANSMISSION_COUNT_AT] = transmissions;
 }
@@ -87,11 +87,12 @@ fn put_header(head: &mut [u8], convicted: Signers, summaries: u16, transmissions
 // Strikes an engine from a track, and tells whether all transmissions are settled then.
 fn strike(memory: &mut [u8], engine: Engine) -> bool
     requires { well_formed memory.old ≡ true }
-    ensures left { memory.new ≡ encode (strike_engine engine.number (decode memory.old)) }
-    ensures settled { IsTrue result → S.AllSettled (strike_engine engine.number (decode memory.old)).transmissions }
+    ensures left { memory.new ≡ encode (strike_engine engine (decode memory.old)) }
+    ensures settled { IsTrue result → S.AllSettled (strike_engine engine (decode memory.old)).transmissions }
+    ensures small { engine < 32 }
 {
     let (head, transmissions) = memory.split_at_mut(layout::TRANSMISSIONS_AT);
-    let convicted = Signers(u32_at(head, layout::CONVICTED_AT));
+    let convicted = Signers::from_mask(u32_at(head, layout::CONVICTED_AT));
     let n = u16_at(head, layout::SUMMARY_COUNT_AT) as usize;
     let count = head[layout::TRANSMISSION_COUNT_AT] as usize;
     let settled = strike_all(transmissions, count, engine);
@@ -104,7 +105,7 @@ fn strike(memory: &mut [u8], engine: Engine) -> bool
 /// Strikes an engine from a track, and checks the fixes again.
 pub fn convict(memory: &mut [u8], engine: Engine)
     requires { well_formed memory.old ≡ true }
-    ensures { memory.new ≡ encode (recheck (strike_engine engine.number (decode memory.old))) }
+    ensures { memory.new ≡ encode (recheck (strike_engine engine (decode memory.old))) }
 {
     let settled = strike(memory, engine);
     recheck_settled(memory, settled);

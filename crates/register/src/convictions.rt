@@ -27,22 +27,22 @@ use signed::PLACE_SIZE;
 fn keep_place(t: &mut [u8], from: usize, to: usize, signers: Signers)
     requires to_le_from { to ≤ from }
     requires place_size_in_bounds { from + place_size ≤ length t.old }
-    ensures { t.new ≡ kept_at from to signers.0 t.old }
+    ensures { t.new ≡ kept_at from to signers t.old }
 {
     move_down(t, from, to, PLACE_SIZE);
-    put_u32(t, to + RECORD_SIZE, signers.0);
+    put_u32(t, to + RECORD_SIZE, signers.mask());
 }
 
 // Takes an engine's signature off the first n records of a table, and those left without one out, and
 // returns how many are left.
 fn strike_records(t: &mut [u8], n: usize, engine: Engine) -> usize
     requires { n * place_size ≤ length t.old }
-    ensures { Struck place_size (keep_places record_size (has_another_signer engine.number) (drop_signer engine.number) (places place_size n t.old)) t.old result t.new }
+    ensures { Struck place_size (keep_places record_size (has_another_signer engine) (drop_signer engine) (places place_size n t.old)) t.old result t.new }
 {
     let mut j = 0;
     for i in 0..n {
         let at = i * PLACE_SIZE;
-        let signers = Signers(u32_at(t, at + RECORD_SIZE)).without(engine);
+        let signers = Signers::from_mask(u32_at(t, at + RECORD_SIZE)).without(engine);
         if signers.is_empty() {
             continue;
         }
@@ -57,15 +57,15 @@ fn strike_records(t: &mut [u8], n: usize, engine: Engine) -> usize
 #[tactic(auto, using(crate::proofs::Opened::sized))]
 fn strike(memory: &mut [u8], engine: Engine)
     requires { well_formed memory.old ≡ true }
-    ensures struck { decode memory.new ≡ strike_engine engine.number (decode memory.old) }
+    ensures struck { decode memory.new ≡ strike_engine engine (decode memory.old) }
     ensures formed { well_formed memory.new ≡ true }
 {
     let (header, tables) = memory.split_at_mut(SUMMARIES_AT);
     let (summaries, records) = tables.split_at_mut(SUMMARIES_SIZE);
     let first = strike_summaries(summaries, u16_at(header, SUMMARY_COUNT_AT) as usize, engine);
     let second = strike_records(records, u16_at(header, RECORD_COUNT_AT) as usize, engine);
-    let struck = Signers(u32_at(header, CONVICTED_AT)).with(engine);
-    put_u32(header, CONVICTED_AT, struck.0);
+    let struck = Signers::from_mask(u32_at(header, CONVICTED_AT)).with(engine);
+    put_u32(header, CONVICTED_AT, struck.mask());
     put_u16(header, SUMMARY_COUNT_AT, first as u16);
     put_u16(header, RECORD_COUNT_AT, second as u16);
 }

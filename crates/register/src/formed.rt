@@ -18,7 +18,7 @@ use signed::PLACE_SIZE;
 // Whether t holds a table of n records with signers, none of them convicted.
 fn place_table_formed(t: &[u8], n: usize, convicted: Signers) -> bool
     requires { n * place_size ≤ length t.now }
-    ensures { result ≡ (is_table record_size place_size n t.now && list_all (place_formed convicted.0) (places place_size n t.now)) }
+    ensures { result ≡ (is_table record_size place_size n t.now && list_all (place_formed convicted) (places place_size n t.now)) }
 {
     is_table::<PLACE_SIZE, RECORD_SIZE>(t, n)
         && signed::formed::places_formed(t, n, PLACE_SIZE, convicted)
@@ -32,7 +32,7 @@ pub fn well_formed(m: &[u8]) -> bool
     if m.len() != layout::REGISTER_SIZE {
         return false;
     }
-    let convicted = Signers(octets::words::u32_at(m, layout::CONVICTED_AT));
+    let convicted = Signers::from_mask(octets::words::u32_at(m, layout::CONVICTED_AT));
     let n = octets::words::u16_at(m, layout::SUMMARY_COUNT_AT) as usize;
     if MAX_SUMMARIES < n {
         return false;

@@ -40,8 +40,8 @@ impl<'a> Register<'a> {
     /// Whether an engine is convicted.
     #[tactic(auto, using(crate::proofs::Opened::sized), unfolding(crate::specs::Memory::decode))]
     pub fn is_convicted(&self, engine: Engine) -> bool
-        ensures { result ≡ bit (decode self.now.memory.now).convicted engine.number }
+        ensures { result ≡ bit (decode self.now.memory.now).convicted engine }
     {
-        Signers(u32_at(self.memory, layout::CONVICTED_AT)).contains(engine)
+        Signers::from_mask(u32_at(self.memory, layout::CONVICTED_AT)).contains(engine)
     }
 }

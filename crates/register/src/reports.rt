@@ -27,25 +27,25 @@ type Records<'a> = Table<'a, PLACE_SIZE, RECORD_SIZE, MAX_RECORDS>;
 
 // The bytes of a record and its signers.
 fn signed(r: Record, signers: Signers) -> [u8; PLACE_SIZE]
-    ensures { result ≡ r.entry.bytes.now ++ word_bytes 4 signers.0 }
+    ensures { result ≡ r.entry.bytes.now ++ word_bytes 4 signers }
 {
     let mut place = [0u8; PLACE_SIZE];
     copy(r.bytes, &mut place);
-    put_u32(&mut place, RECORD_SIZE, signers.0);
+    put_u32(&mut place, RECORD_SIZE, signers.mask());
     place
 }
 
 // The signers of a record where it was found: none where it was not.
 fn signers_of(records: &[[u8; PLACE_SIZE]], found: Result<usize, usize>) -> Signers
     requires { IfOk found (λ i. i < length records.now) }
-    ensures { result.0 ≡ signers_found records.now found }
+    ensures { result ≡ signers_found records.now found }
 {
     match found {
         Ok(i) => {
             let place = &records[i];
-            Signers(u32_at(place, RECORD_SIZE))
+            Signers::from_mask(u32_at(place, RECORD_SIZE))
         }
-        Err(_) => Signers(0),
+        Err(_) => Signers::from_mask(0),
     }
 }
 
@@ -56,7 +56,8 @@ fn signers_with(
     engine: Engine,
 ) -> Signers
     requires { IfOk found (λ i. i < length records.now) }
-    ensures { result.0 ≡ with_bit (signers_found records.now found) engine.number }
+    ensures signers { result ≡ with_bit (signers_found records.now found) engine }
+    ensures small { engine < 32 }
 {
     signers_of(records, found).with(engine)
 }
@@ -65,8 +66,8 @@ fn signers_with(
 #[tactic(auto, using(crate::proofs::Opened::sized))]
 fn sign(memory: &mut [u8], engine: Engine, r: Record) -> Result<(), Error>
     requires register { well_formed memory.old ≡ true }
-    requires free { bit (decode memory.old).convicted engine.number ≡ false }
-    ensures signed { after (answer_number result) (decode memory.new) ≡ sign_record engine.number r.entry.bytes.now (decode memory.old) }
+    requires free { bit (decode memory.old).convicted engine ≡ false }
+    ensures signed { after (answer_number result) (decode memory.new) ≡ sign_record engine r.entry.bytes.now (decode memory.old) }
     ensures formed { well_formed memory.new ≡ true }
 {
     let (header, tables) = memory.split_at_mut(SUMMARIES_AT);

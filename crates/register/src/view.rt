@@ -64,10 +64,10 @@ impl<'a> View<'a> {
     /// The convicted engines.
     #[tactic(auto, unfolding(crate::specs::Memory::decode))]
     pub fn convicted(&self) -> Signers
-        ensures { result.0 ≡ self.now.convicted }
+        ensures { result ≡ self.now.convicted }
     {
         let bytes = self.bytes;
-        Signers(u32_at(bytes, CONVICTED_AT))
+        Signers::from_mask(u32_at(bytes, CONVICTED_AT))
     }
 
     /// The summaries, in their order.

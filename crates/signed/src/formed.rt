@@ -12,13 +12,13 @@ use record::layout::RECORD_SIZE;
 // Whether a place holds a record with signers, none of them convicted.
 fn place_formed(p: &[u8], convicted: Signers) -> bool
     requires { length p.now ≡ place_size }
-    ensures { result ≡ place_formed convicted.0 p.now }
+    ensures { result ≡ place_formed convicted p.now }
 {
     let is_record = record::formed::well_formed(&p[..RECORD_SIZE]);
     if !is_record {
         return false;
     }
-    let signers = Signers(octets::words::u32_at(p, RECORD_SIZE));
+    let signers = Signers::from_mask(octets::words::u32_at(p, RECORD_SIZE));
     !signers.is_empty() && signers.is_disjoint(convicted)
 }
 
@@ -26,7 +26,7 @@ fn place_formed(p: &[u8], convicted: Signers) -> bool
 pub fn places_formed(t: &[u8], n: usize, w: usize, convicted: Signers) -> bool
     requires w_in_bounds { n * w ≤ length t.now }
     requires place_size_le_w { place_size ≤ w }
-    ensures { result ≡ list_all (begin_formed convicted.0) (places w n t.now) }
+    ensures { result ≡ list_all (begin_formed convicted) (places w n t.now) }
 {
     for i in 0..n {
         let at = i * w;

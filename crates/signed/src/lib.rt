@@ -47,10 +47,10 @@ impl<'a> SignedRecord<'a> {
 
     /// The engines that signed it.
     pub fn signers(&self) -> Signers
-        ensures { result.0 ≡ signers_in self.now }
+        ensures { result ≡ signers_in self.now }
     {
         let bytes = self.bytes;
-        Signers(octets::words::u32_at(bytes, RECORD_SIZE))
+        Signers::from_mask(octets::words::u32_at(bytes, RECORD_SIZE))
     }
 }
 

@@ -22,7 +22,7 @@ use tracked::layout::{
 fn filled(t: &[u8], n: usize, w: usize, convicted: Signers) -> bool
     requires w_in_bounds { n * w ≤ length t.now }
     requires place_size_le_w { place_size ≤ w }
-    ensures { result ≡ filled_by (begin_formed convicted.0) w n t.now }
+    ensures { result ≡ filled_by (begin_formed convicted) w n t.now }
 {
     if !signed::formed::places_formed(t, n, w, convicted) {
         return false;
@@ -34,7 +34,7 @@ fn filled(t: &[u8], n: usize, w: usize, convicted: Signers) -> bool
 // Whether the bytes hold a transmission.
 #[tactic(auto, unfolding(tracked::specs::Bytes::transmission_formed))]
 fn transmission_formed(b: &[u8; TRANSMISSION_SIZE], convicted: Signers) -> bool
-    ensures { result ≡ transmission_formed (begin_formed convicted.0) b.now }
+    ensures { result ≡ transmission_formed (begin_formed convicted) b.now }
 {
     let n = tracked::fix_count(b) as usize;
     let k = tracked::refused_count(b) as usize;
@@ -47,7 +47,7 @@ fn transmission_formed(b: &[u8; TRANSMISSION_SIZE], convicted: Signers) -> bool
 
 // Whether each of these holds one.
 fn transmissions_formed(blocks: &[[u8; TRANSMISSION_SIZE]], convicted: Signers) -> bool
-    ensures { result ≡ list_all (transmission_formed (begin_formed convicted.0)) blocks.now }
+    ensures { result ≡ list_all (transmission_formed (begin_formed convicted)) blocks.now }
 {
     blocks.iter().all(|b| transmission_formed(b, convicted))
 }
@@ -55,7 +55,7 @@ fn transmissions_formed(blocks: &[[u8; TRANSMISSION_SIZE]], convicted: Signers) 
 // Whether a table holds n transmissions, and zeros behind them.
 fn transmission_table_formed(t: &[u8], n: usize, convicted: Signers) -> bool
     requires { n * transmission_size ≤ length t.now }
-    ensures { result ≡ filled_by (transmission_formed (begin_formed convicted.0)) transmission_size n t.now }
+    ensures { result ≡ filled_by (transmission_formed (begin_formed convicted)) transmission_size n t.now }
 {
     transmissions_formed(places_of::<TRANSMISSION_SIZE>(t, n), convicted)
         && octets::runs::is_zero(t.split_at(n * TRANSMISSION_SIZE).1)
@@ -68,7 +68,7 @@ pub fn well_formed(m: &[u8]) -> bool
     if m.len() != layout::TRACK_SIZE {
         return false;
     }
-    let convicted = Signers(octets::words::u32_at(m, layout::CONVICTED_AT));
+    let convicted = Signers::from_mask(octets::words::u32_at(m, layout::CONVICTED_AT));
     let n = octets::words::u16_at(m, layout::SUMMARY_COUNT_AT) as usize;
     if MAX_SUMMARIES < n {
         return false;

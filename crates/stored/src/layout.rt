@@ -1,8 +1,7 @@
 //! The layout of a track: where each part begins, each from the one before it.
 
 use arrange::MAX_TRANSMISSIONS;
-use models::layout::SUMMARIES_SIZE;
-use models::layout::SPEC_AT;
+use models::layout::{SPEC_AT, SUMMARIES_SIZE};
 use tracked::layout::TRANSMISSION_SIZE;
 
 /// A summary's key: its engine and its model.

@@ -14,9 +14,9 @@ use octets::words::{u16_at, u32_at};
 #[tactic(auto, unfolding(crate::specs::Memory::decode))]
 pub fn convicted(memory: &[u8]) -> Signers
     requires { well_formed memory.now ≡ true }
-    ensures { result.0 ≡ (decode memory.now).convicted }
+    ensures { result ≡ (decode memory.now).convicted }
 {
-    Signers(u32_at(memory, layout::CONVICTED_AT))
+    Signers::from_mask(u32_at(memory, layout::CONVICTED_AT))
 }
 
 /// The summaries.

@@ -8,8 +8,7 @@ ghost use Rattle.stored.specs.Steps.{put_pair};
 
 use crate::layout::{PAIR_SIZE, SUMMARIES_AT, SUMMARY_COUNT_AT};
 use errors::Error;
-use models::layout::{MAX_SUMMARIES, SUMMARIES_SIZE};
-use models::layout::SUMMARY_SIZE;
+use models::layout::{MAX_SUMMARIES, SUMMARIES_SIZE, SUMMARY_SIZE};
 use octets::words::{put_u16, u16_at};
 use places::table::Table;
 

@@ -85,12 +85,12 @@ fn merge_record(memory: &mut [u8], engine: Engine, r: Record, inputs: Inputs) ->
     requires track { well_formed memory.old ≡ true }
     requires counts { counts (decode memory.old).summaries r.bytes.now ≡ true }
     requires inputs { inputs ≡ cited_inputs (decode memory.old).summaries r.bytes.now }
-    ensures { after (merged_number result) memory.new ≡ commit memory.old (take_cited engine.number r.entry.bytes.now (decode memory.old)) }
+    ensures { after (merged_number result) memory.new ≡ commit memory.old (take_cited engine r.entry.bytes.now (decode memory.old)) }
 {
     let fix = Fix {
         report: r,
         inputs,
-        signers: Signers(0).with(engine).0,
+        signers: Signers::from_mask(0).with(engine),
         known: None,
     };
     let count = memory[layout::TRANSMISSION_COUNT_AT] as usize;

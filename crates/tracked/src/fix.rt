@@ -13,6 +13,7 @@ ghost use Rattle.tracked.specs.Bytes.{record_in, fix_in, fix_bytes};
 ghost use Rattle.tracked.specs.Values.{same_set};
 
 use crate::layout::{FIX_SIZE, INPUTS_AT, SIGNERS_AT};
+use engines::Signers;
 use models::hashes::{HASH_SIZE, Identity, Inputs};
 use models::{hashes, identities};
 use record::Record;
@@ -26,8 +27,8 @@ pub struct Fix<'a> {
     pub report: Record<'a>,
     /// The model inputs that it was checked under.
     pub inputs: Inputs,
-    /// The engines that signed it, bit n for engine n.
-    pub signers: u32,
+    /// The engines that signed it.
+    pub signers: Signers,
     /// Its identity, once it is worked out: that takes two hashes.
     pub known: Option<Identity>,
 }
@@ -65,7 +66,7 @@ impl<'a> Fix<'a> {
         Fix {
             report: Record::of(&bytes[..RECORD_SIZE]),
             inputs: Inputs(hash_at(bytes, INPUTS_AT)),
-            signers: octets::words::u32_at(bytes, SIGNERS_AT),
+            signers: Signers::from_mask(octets::words::u32_at(bytes, SIGNERS_AT)),
             known: None,
         }
     }
@@ -76,7 +77,7 @@ impl<'a> Fix<'a> {
         ensures { (result ≡ at + fix_size) × Put out.old at (fix_bytes self.now) result out.new }
     {
         let a = octets::runs::put_bytes(out, at, self.report.bytes);
-        octets::words::put_u32(out, a, self.signers);
+        octets::words::put_u32(out, a, self.signers.mask());
         octets::runs::put_bytes(out, a + 4, self.inputs.bytes())
     }
 
@@ -110,10 +111,10 @@ impl<'a> Fix<'a> {
     }
 
     /// Adds engines to its signers.
-    pub fn sign(&mut self, engines: u32)
+    pub fn sign(&mut self, engines: Signers)
         ensures { self.new ≡ with_signers (bit_or self.old.signers engines) self.old }
     {
-        self.signers = self.signers | engines;
+        self.signers = self.signers.union(engines);
     }
 
     /// Whether it has the message, tags and model inputs of another fix. Then it has its identity, and nothing need be hashed.

@@ -10,6 +10,7 @@ ghost use Rattle.tracked.specs.Layout as L;
 ghost use Rattle.tracked.specs.Bytes as B;
 ghost use Rattle.tracked.specs.Parts as P;
 
+use engines::Signers;
 use layout::TRANSMISSION_SIZE;
 
 pub mod block;
@@ -44,12 +45,12 @@ fn place_of(b: &[u8; TRANSMISSION_SIZE], k: u8) -> usize
 }
 
 /// Adds signers to the held fix k.
-pub fn sign(b: &mut [u8; TRANSMISSION_SIZE], k: u8, engines: u32)
+pub fn sign(b: &mut [u8; TRANSMISSION_SIZE], k: u8, engines: Signers)
     requires sound { P.Sound b.old }
     requires k_bound { k < P.held_count b.old }
     ensures { b.new ≡ put_word 4 (P.held_place b.old k + L.signers_at) (bit_or (word_at 4 (P.held_place b.old k + L.signers_at) b.old) engines) b.old }
 {
     let at = place_of(b, k) + layout::SIGNERS_AT;
-    let signers = octets::words::u32_at(b, at);
-    octets::words::put_u32(b, at, signers | engines);
+    let signers = Signers::from_mask(octets::words::u32_at(b, at));
+    octets::words::put_u32(b, at, signers.union(engines).mask());
 }

@@ -9,6 +9,7 @@ ghost use Rattle.tracked.specs.Values.{signed_refused};
 
 use crate::fix::{Fix, hash_at};
 use crate::layout::{AGAINST_AT, CHI2_AT, REFUSED_SIZE};
+use engines::Signers;
 use models::hashes::Identity;
 use std::marker::Model;
 
@@ -44,7 +45,7 @@ impl<'a> RefusedFix<'a> {
     }
 
     /// Adds engines to its signers.
-    pub fn sign(&mut self, engines: u32)
+    pub fn sign(&mut self, engines: Signers)
         ensures { self.new ≡ signed_refused engines self.old }
     {
         self.fix.sign(engines);

@@ -9,5 +9,5 @@ use Rattle.models.proofs.formed.summaries_formed.Goals as goal
 pub returns : goal.returns
 returns c =
     let all = summary_places c.args.all in
-    let test = summary_formed c.args.convicted.0 in
+    let test = summary_formed c.args.convicted in
     all_from_yields_List test c.all.new.self _ c.all.result c.all.ensures.ran (YieldsList-from_first (λ p. p.bytes.now) summary_places all refl) (λ x b q k. search (rules, tests)) ∙ as-places test all

@@ -14,4 +14,4 @@ made e model spec inputs p y u v l =
 
 pub returns : goal.returns
 returns c =
-    made c.args.engine.number c.args.model c.args.spec c.args.inputs.now c.put_u16.new.s c.copy.new.to c.put_u16.ensures c.copy.ensures.to_after c.told-inputs
+    made c.args.engine c.args.model c.args.spec c.args.inputs.now c.put_u16.new.s c.copy.new.to (rw (← c.number.ensures.number) c.put_u16.ensures) c.copy.ensures.to_after c.told-inputs

@@ -18,22 +18,22 @@ pub recheck_settled-requires-clause-track : goal.recheck_settled-requires-clause
 recheck_settled-requires-clause-track c =
     let m : List ℕ = c.args.memory.now in
     let bytes : Bytes m = all-bytes m (search rules) in
-    let struck : Track = strike_engine c.args.engine.number (decode m) in
-    let valid : Valid struck = strike-valid (decode m) (decode-valid m (opened m c.requires) bytes) c.args.engine.number (omega (arith, c.args.engine.small)) in
+    let struck : Track = strike_engine c.args.engine (decode m) in
+    let valid : Valid struck = strike-valid (decode m) (decode-valid m (opened m c.requires) bytes) c.args.engine (omega (arith, c.strike-settled.ensures.small)) in
     rw c.strike-settled.ensures.left (formed-encode struck valid)
 
 pub recheck_settled-requires-clause-settled : goal.recheck_settled-requires-clause-settled
 recheck_settled-requires-clause-settled c h =
     let m : List ℕ = c.args.memory.now in
     let bytes : Bytes m = all-bytes m (search rules) in
-    let struck : Track = strike_engine c.args.engine.number (decode m) in
-    let valid : Valid struck = strike-valid (decode m) (decode-valid m (opened m c.requires) bytes) c.args.engine.number (omega (arith, c.args.engine.small)) in
+    let struck : Track = strike_engine c.args.engine (decode m) in
+    let valid : Valid struck = strike-valid (decode m) (decode-valid m (opened m c.requires) bytes) c.args.engine (omega (arith, c.strike-settled.ensures.small)) in
     subst (λ (x : Track). AllSettled x.transmissions) (sym (ap decode c.strike-settled.ensures.left ∙ decode-encode struck valid)) (c.strike-settled.ensures.settled h)
 
 pub returns : goal.returns
 returns c =
     let m : List ℕ = c.args.memory.now in
     let bytes : Bytes m = all-bytes m (search rules) in
-    let struck : Track = strike_engine c.args.engine.number (decode m) in
-    let valid : Valid struck = strike-valid (decode m) (decode-valid m (opened m c.requires) bytes) c.args.engine.number (omega (arith, c.args.engine.small)) in
+    let struck : Track = strike_engine c.args.engine (decode m) in
+    let valid : Valid struck = strike-valid (decode m) (decode-valid m (opened m c.requires) bytes) c.args.engine (omega (arith, c.strike-settled.ensures.small)) in
     c.recheck_settled.ensures ∙ ap (λ (l : List ℕ). encode (recheck (decode l))) c.strike-settled.ensures.left ∙ ap (λ (x : Track). encode (recheck x)) (decode-encode struck valid)

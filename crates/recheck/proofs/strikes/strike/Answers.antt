@@ -39,7 +39,7 @@ overflow_cast-summaries c =
     let h = c.split_at_mut-head.result.0.now in
     let e = c.split_at_mut-head.ensures.front in
     let z = c.strike_summaries-summaries in
-    let l = summaries-left m (opened m c.requires) c.args.engine.number _ (c.u16_at-n.ensures ∙ summaries-read m h e) _ (table-read m h e) z.result z.new.t z.ensures in
+    let l = summaries-left m (opened m c.requires) c.args.engine _ (c.u16_at-n.ensures ∙ summaries-read m h e) _ (table-read m h e) z.result z.new.t z.ensures in
     omega (arith, l)
 
 pub overflow_cast-left : goal.overflow_cast-left
@@ -50,22 +50,22 @@ returns-clause-left c =
     let m = c.args.memory.now in
     let o = opened m c.requires in
     let y : Bytes m = all-bytes m (search rules) in
-    let i = c.args.engine.number in
+    let i = c.args.engine in
     let h = c.split_at_mut-head.result.0.now in
     let e = c.split_at_mut-head.ensures.front in
     let z = c.strike_summaries-summaries in
     let u = c.arrange-left in
     let ts = transmissions-there m _ _ (count-read m h e) c.split_at_mut-head.ensures.back in
     let n = c.u16_at-n.ensures ∙ summaries-read m h e in
-    let a = c.with.ensures ∙ ap (λ (j : ℕ). with_bit j i) (c.u32_at.ensures ∙ convicted-read m h e) in
-    ap (λ (p : List ℕ). p ++ u.new.t) (c.put_header.ensures ∙ head-rewritten m h e o y c.with.result.0 z.result u.result z.new.t _ refl)
-    ∙ with-table c.with.result.0 z.result u.result (contested_in m) z.new.t u.new.t
-    ∙ struck m o i _ n _ (table-read m h e) z.result z.new.t z.ensures c.with.result.0 u.result u.new.t a u.ensures.filled
+    let a = c.with.ensures.set ∙ ap (λ (j : ℕ). with_bit j i) (c.from_mask-convicted.ensures ∙ c.u32_at.ensures ∙ convicted-read m h e) in
+    ap (λ (p : List ℕ). p ++ u.new.t) (c.put_header.ensures ∙ head-rewritten m h e o y c.with.result z.result u.result z.new.t _ refl)
+    ∙ with-table c.with.result z.result u.result (contested_in m) z.new.t u.new.t
+    ∙ struck m o i _ n _ (table-read m h e) z.result z.new.t z.ensures c.with.result u.result u.new.t a u.ensures.filled
     (u.ensures.held ∙ ap arranged (c.strike_all-settled.ensures.held ∙ ap (map (without_engine i)) ts))
 
 pub returns-clause-settled : goal.returns-clause-settled
 returns-clause-settled c h =
     let m = c.args.memory.now in
-    let i = c.args.engine.number in
+    let i = c.args.engine in
     let ts = transmissions-there m _ _ (count-read m c.split_at_mut-head.result.0.now c.split_at_mut-head.ensures.front) c.split_at_mut-head.ensures.back in
     settled-left m i (subst AllSettled (c.strike_all-settled.ensures.held ∙ ap (map (without_engine i)) ts) (c.strike_all-settled.ensures.settled h))

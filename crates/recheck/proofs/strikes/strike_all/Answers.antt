@@ -17,7 +17,7 @@ strike_fixes-one-requires c = (next-steady c.loop-i.invariant.renewed c.loop-i-t
 
 pub loop-i-preserved : goal.loop-i-preserved
 loop-i-preserved c =
-    let f = without_engine c.args.engine.number in
+    let f = without_engine c.args.engine in
     let x = c.strike_fixes-one in
     let r = c.loop-i.invariant.renewed in
     record {
@@ -37,4 +37,4 @@ pub returns-clause-settled : goal.returns-clause-settled
 returns-clause-settled c h =
     let n = held-length c.args.n c.args.t.now in
     subst AllSettled (sym (renewed-all c.loop-i.invariant.renewed c.loop-i-test.false))
-    (settled-all (without_engine c.args.engine.number) (held c.args.n c.args.t.now) c.loop-i.settled c.loop-i.i (omega (arith, n, c.loop-i-test.false, c.loop-i.auto.i-end)) c.loop-i.invariant.settled h)
+    (settled-all (without_engine c.args.engine) (held c.args.n c.args.t.now) c.loop-i.settled c.loop-i.i (omega (arith, n, c.loop-i-test.false, c.loop-i.auto.i-end)) c.loop-i.invariant.settled h)

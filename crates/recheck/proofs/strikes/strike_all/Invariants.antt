@@ -6,6 +6,6 @@ use Rattle.recheck.proofs.strikes.strike_all.Given as goal
 
 abbrev pub invariant-loop-i : goal.invariant-loop-i
 invariant-loop-i l = record {
-  renewed : Renewed (without_engine l.engine.number) l.n l.i l.initial.t l.t;
-  settled : SettledFirst (without_engine l.engine.number) (held l.n l.initial.t) l.settled l.i;
+  renewed : Renewed (without_engine l.engine) l.n l.i l.initial.t l.t;
+  settled : SettledFirst (without_engine l.engine) (held l.n l.initial.t) l.settled l.i;
 }

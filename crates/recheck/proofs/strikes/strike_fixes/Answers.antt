@@ -15,9 +15,9 @@ use Rattle.recheck.proofs.strikes.strike_fixes.Goals as goal
 
 pub returns : goal.returns
 returns c =
-    let f = unsigned c.args.engine.number in
+    let f = unsigned c.args.engine in
     let same = (rw c.unwrap-b.ensures at c.as_mut_array.ensures.cases).same in
     let left = c.unsign_all.ensures ∙ ap (changing f) (c.read-held.ensures ∙ c.of.ensures ∙ ap transmission_in same) in
     let again = c.renew-settled.ensures.again ∙ ap (λ t. normalized (filter is_signed (held_in t))) left ∙ ap (λ fs. normalized (filter is_signed fs)) (changing-held f (transmission_in c.args.b.now)) in
-    let d = without-decided c.args.b.now (all-bytes c.args.b.now (λ i. (c.slice_known-1.given i).fits)) c.requires c.args.engine.number c.write.new.b (c.write.ensures ∙ ap transmission_bytes again) in
+    let d = without-decided c.args.b.now (all-bytes c.args.b.now (λ i. (c.slice_known-1.given i).fits)) c.requires c.args.engine c.write.new.b (c.write.ensures ∙ ap transmission_bytes again) in
     record { steady = d.steady; held = d.held; settled = λ h. subst Settled (again ∙ sym d.held) (c.renew-settled.ensures.settled h) }

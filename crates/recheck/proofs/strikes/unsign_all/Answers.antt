@@ -12,4 +12,4 @@ loop-refusal-preserved c =
     changed-set c.loop-refusal.invariant c.refusal-item.result c.loop-refusal-test.true _
     (ap (set xs i)
     (ap (λ f. record { fix = f; against = c.refusal.inside.against; chi2 = c.refusal.inside.chi2 }) c.unsign-in-loop-refusal.ensures
-    ∙ ap (refused_changing (unsigned c.args.engine.number)) c.refusal.view_is))
+    ∙ ap (refused_changing (unsigned c.args.engine)) c.refusal.view_is))

@@ -11,18 +11,18 @@ loop-i-init c = left-none c.requires
 pub loop-i-preserved-then-is_empty : goal.loop-i-preserved-then-is_empty
 loop-i-preserved-then-is_empty c =
     left-gone c.loop-i.invariant c.loop-i-test.true
-    (unsigned c.args.engine.number c.loop-i.t (c.loop-i.i * place_size) (left-inside c.loop-i.invariant c.loop-i-test.true) c.without-signers.result.0 c.u32_at.result
-    c.u32_at.ensures c.without-signers.ensures (sym c.is_empty.ensures ∙ c.if-is_empty.true))
+    (unsigned c.args.engine c.loop-i.t (c.loop-i.i * place_size) (left-inside c.loop-i.invariant c.loop-i-test.true) c.without-signers.result c.from_mask.result
+    (c.from_mask.ensures ∙ c.u32_at.ensures) c.without-signers.ensures (sym c.is_empty.ensures ∙ c.if-is_empty.true))
 
 pub loop-i-preserved : goal.loop-i-preserved
 loop-i-preserved c =
-    let e = c.args.engine.number in
+    let e = c.args.engine in
     let i = c.loop-i.i * place_size in
     let within = left-inside c.loop-i.invariant c.loop-i-test.true in
     let t' = c.keep_place.new.t in
     left-stays c.loop-i.invariant c.loop-i-test.true t'
-    (still-signed e c.loop-i.t i within c.without-signers.result.0 c.u32_at.result c.u32_at.ensures c.without-signers.ensures (sym c.is_empty.ensures ∙ c.if-is_empty.false))
-    (changed-there e c.loop-i.t i within c.without-signers.result.0 c.u32_at.result c.u32_at.ensures c.without-signers.ensures t' (c.loop-i.j * place_size) c.keep_place.ensures)
+    (still-signed e c.loop-i.t i within c.without-signers.result c.from_mask.result (c.from_mask.ensures ∙ c.u32_at.ensures) c.without-signers.ensures (sym c.is_empty.ensures ∙ c.if-is_empty.false))
+    (changed-there e c.loop-i.t i within c.without-signers.result c.from_mask.result (c.from_mask.ensures ∙ c.u32_at.ensures) c.without-signers.ensures t' (c.loop-i.j * place_size) c.keep_place.ensures)
 
 pub returns : goal.returns
 returns c =

@@ -6,4 +6,4 @@ use Rattle.register.proofs.formed.place_table_formed.Goals as goal
 
 pub returns-then-is_table : goal.returns-then-is_table
 returns-then-is_table c =
-    rw (← c.is_table.ensures, c.if-is_table.true) (c.places_formed.ensures ∙ whole-places (place_formed c.args.convicted.0) place_size c.args.n c.args.t.now)
+    rw (← c.is_table.ensures, c.if-is_table.true) (c.places_formed.ensures ∙ whole-places (place_formed c.args.convicted) place_size c.args.n c.args.t.now)

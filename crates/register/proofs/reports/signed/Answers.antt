@@ -13,4 +13,4 @@ made r x l =
     rw (take_at r d record_size l, drop_of_length-le (r ++ d) k, append-nil) refl
 
 pub returns : goal.returns
-returns c = rw (c.put_u32.ensures, c.copy.ensures.to_after) (made c.args.r.bytes.now c.args.signers.0 c.args.r.size)
+returns c = rw (c.put_u32.ensures, c.mask.ensures, c.copy.ensures.to_after) (made c.args.r.bytes.now c.args.signers c.args.r.size)

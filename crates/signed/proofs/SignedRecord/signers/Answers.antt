@@ -4,4 +4,4 @@ use Rattle.signed.proofs.Signatures.{signers-at}
 use Rattle.signed.proofs.SignedRecord.signers.Goals as goal
 
 pub returns : goal.returns
-returns c = c.u32_at.ensures ∙ signers-at c.self.inside.bytes.now (search rules) ∙ ap signers_in c.self.view_is
+returns c = c.from_mask.ensures ∙ c.u32_at.ensures ∙ signers-at c.self.inside.bytes.now (search rules) ∙ ap signers_in c.self.view_is

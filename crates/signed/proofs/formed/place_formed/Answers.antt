@@ -1,4 +1,4 @@
-use Rattle.std.proofs.Common.{◌≡◌, refl, sym, ◌∙◌, arith, length-take-le, nat_eq}
+use Rattle.std.proofs.Common.{refl, sym, ◌∙◌, arith, length-take-le}
 use Rattle.record.specs.Layout.{record_size}
 use Rattle.signed.proofs.Signatures.{signers-at}
 use Rattle.signed.proofs.formed.place_formed.Goals as goal
@@ -8,12 +8,10 @@ slice_bounds-well_formed-end c = sym (length-take-le record_size c.args.p.now (o
 
 pub returns-then-not-is_empty : goal.returns-then-not-is_empty
 returns-then-not-is_empty c =
-    let e = c.u32_at.ensures ∙ signers-at c.args.p.now c.requires in
-    let unsigned : c.is_empty.result ≡ nat_eq c.u32_at.result 0 = c.is_empty.ensures in
-    rw (sym c.well_formed-is_record.ensures ∙ c.if-not-is_record.false, ← e, ← unsigned, c.if-not-is_empty.true) c.is_disjoint.ensures
+    let e = c.from_mask-signers.ensures ∙ c.u32_at.ensures ∙ signers-at c.args.p.now c.requires in
+    rw (sym c.well_formed-is_record.ensures ∙ c.if-not-is_record.false, ← e, ← c.is_empty.ensures, c.if-not-is_empty.true) c.is_disjoint.ensures
 
 pub returns-else-not-is_empty : goal.returns-else-not-is_empty
 returns-else-not-is_empty c =
-    let e = c.u32_at.ensures ∙ signers-at c.args.p.now c.requires in
-    let unsigned : c.is_empty.result ≡ nat_eq c.u32_at.result 0 = c.is_empty.ensures in
-    rw (sym c.well_formed-is_record.ensures ∙ c.if-not-is_record.false, ← e, ← unsigned, c.if-not-is_empty.false) refl
+    let e = c.from_mask-signers.ensures ∙ c.u32_at.ensures ∙ signers-at c.args.p.now c.requires in
+    rw (sym c.well_formed-is_record.ensures ∙ c.if-not-is_record.false, ← e, ← c.is_empty.ensures, c.if-not-is_empty.false) refl

@@ -6,8 +6,8 @@ use Rattle.signed.proofs.formed.places_formed.Goals as goal
 use Rattle.signed.proofs.formed.places_formed.Goals.{After-place_formed}
 
 -- the place that is lent is the beginning of the next of the table
-told : (c : After-place_formed) → let at = c.loop-i.i * c.args.w in c.place_formed.result ≡ begin_formed c.args.convicted.0 (take (at + c.args.w - at) (drop at c.args.t.now))
-told c = let at = c.loop-i.i * c.args.w in c.place_formed.ensures ∙ ap (place_formed c.args.convicted.0) (begin-lent place_size c.args.w at c.args.t.now c.requires.place_size_le_w)
+told : (c : After-place_formed) → let at = c.loop-i.i * c.args.w in c.place_formed.result ≡ begin_formed c.args.convicted (take (at + c.args.w - at) (drop at c.args.t.now))
+told c = let at = c.loop-i.i * c.args.w in c.place_formed.ensures ∙ ap (place_formed c.args.convicted) (begin-lent place_size c.args.w at c.args.t.now c.requires.place_size_le_w)
 
 pub returns-then-not-place_formed : goal.returns-then-not-place_formed
 returns-then-not-place_formed c = passed-not c.loop-i.invariant c.loop-i-test.true _ (told (goal.at.returns-then-not-place_formed c).After-place_formed) (ap not c.if-not-place_formed.true)

@@ -78,10 +78,10 @@ returns-then-m-ne0 c =
 
 pub returns-then-not-summary_table_formed : goal.returns-then-not-summary_table_formed
 returns-then-not-summary_table_formed c =
-    let refused-by = by-header c.args.m.now c.if-m-ne-TRACK_SIZE.false _ c.u16_at-n.ensures c.if-n-gt-MAX_SUMMARIES.false c.if-k-gt-MAX_TRANSMISSIONS.false c.if-m-ne0.false _ c.u32_at.ensures in
+    let refused-by = by-header c.args.m.now c.if-m-ne-TRACK_SIZE.false _ c.u16_at-n.ensures c.if-n-gt-MAX_SUMMARIES.false c.if-k-gt-MAX_TRANSMISSIONS.false c.if-m-ne0.false _ (c.from_mask-convicted.ensures ∙ c.u32_at.ensures) in
     sym (refused-by ∙ rw (sym c.summary_table_formed.ensures ∙ c.if-not-summary_table_formed.true) refl)
 
 pub returns : goal.returns
 returns c =
-    let is-formed = by-header c.args.m.now c.if-m-ne-TRACK_SIZE.false _ c.u16_at-n.ensures c.if-n-gt-MAX_SUMMARIES.false c.if-k-gt-MAX_TRANSMISSIONS.false c.if-m-ne0.false _ c.u32_at.ensures in
+    let is-formed = by-header c.args.m.now c.if-m-ne-TRACK_SIZE.false _ c.u16_at-n.ensures c.if-n-gt-MAX_SUMMARIES.false c.if-k-gt-MAX_TRANSMISSIONS.false c.if-m-ne0.false _ (c.from_mask-convicted.ensures ∙ c.u32_at.ensures) in
     c.transmission_table_formed.ensures ∙ sym (is-formed ∙ rw (sym c.summary_table_formed.ensures ∙ c.if-not-summary_table_formed.false) refl)

@@ -1,5 +1,6 @@
 use Rattle.std.proofs.Common.{◌≡◌, ℕ, ◌-◌, List, ◌++◌, length, take, drop, sym, refl, ap, ap₂, ◌∙◌, arith, rules}
 use borrow.Rule.Slice.PartMut.{same_len_mid}
+use Rattle.octets.specs.Masks.{with_bit}
 use Rattle.octets.proofs.Numbers.{all-bytes}
 use Rattle.models.specs.Models.{counts}
 use Rattle.merge.specs.Merged.{merged_number}
@@ -28,8 +29,8 @@ merge-x-requires c =
 pub overflow_cast-left : goal.overflow_cast-left
 overflow_cast-left c =
     let m : List ℕ = c.args.memory.now in
-    let made : fix_from c.args.r.bytes.now c.args.inputs c.with.result.0 ≡ reported_fix c.args.engine.number c.args.r.bytes.now (decode m) = ap₂ (fix_from c.args.r.bytes.now) c.requires.inputs c.with.ensures in
-    let few = step-few m (opened m c.requires.track) (all-bytes m (search rules)) c.args.engine.number c.args.r.bytes.now (fix_from c.args.r.bytes.now c.args.inputs c.with.result.0) made in
+    let made : fix_from c.args.r.bytes.now c.args.inputs c.with.result ≡ reported_fix c.args.engine c.args.r.bytes.now (decode m) = ap₂ (fix_from c.args.r.bytes.now) c.requires.inputs (c.with.ensures.set ∙ ap (λ (x : ℕ). with_bit x c.args.engine) c.from_mask.ensures) in
+    let few = step-few m (opened m c.requires.track) (all-bytes m (search rules)) c.args.engine c.args.r.bytes.now (fix_from c.args.r.bytes.now c.args.inputs c.with.result) made in
     omega (arith, c.merge-x.ensures.count, few)
 
 pub put_step-requires : goal.put_step-requires
@@ -42,8 +43,8 @@ pub returns : goal.returns
 returns c =
     let m : List ℕ = c.args.memory.now in
     let r : List ℕ = c.args.r.bytes.now in
-    let made : fix_from r c.args.inputs c.with.result.0 ≡ reported_fix c.args.engine.number r (decode m) = ap₂ (fix_from r) c.requires.inputs c.with.ensures in
+    let made : fix_from r c.args.inputs c.with.result ≡ reported_fix c.args.engine r (decode m) = ap₂ (fix_from r) c.requires.inputs (c.with.ensures.set ∙ ap (λ (x : ℕ). with_bit x c.args.engine) c.from_mask.ensures) in
     let m₁ : List ℕ = take transmissions_at m ++ (c.merge-x.new.t ++ drop (length m - transmissions_at) (drop transmissions_at m)) in
-    stepped-is m (opened m c.requires.track) (all-bytes m (search rules)) c.args.engine.number r (fix_from r c.args.inputs c.with.result.0) made c.merge-x.new.t m₁ c.merge-x.ensures.bytes refl
+    stepped-is m (opened m c.requires.track) (all-bytes m (search rules)) c.args.engine r (fix_from r c.args.inputs c.with.result) made c.merge-x.new.t m₁ c.merge-x.ensures.bytes refl
     (ap (λ (ss : List (List ℕ)). counts ss r) (sym (decoded-summaries m)) ∙ c.requires.counts)
     (merged_number c.merge-x.result.answer) (ap merged_number c.merge-x.ensures.answer) c.merge-x.result.count c.merge-x.result.entered c.merge-x.ensures.count c.merge-x.ensures.entered _ c.put_step.ensures

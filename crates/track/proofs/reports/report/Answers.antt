@@ -1,4 +1,5 @@
 use Rattle.std.proofs.Common.{◌≡◌, ◌<◌, ℕ, true, false, List, sym, ap, ap₂, ◌∙◌, rules}
+use borrow.Author.Tests.{ltb-true}
 use Rattle.octets.specs.Masks.{bit}
 use Rattle.record.specs.Formed as R
 use Rattle.errors.specs.Errors.{error_number}
@@ -18,12 +19,12 @@ record Tested (m r : List ℕ) (e : ℕ) : Type 0 where
   formed : R.well_formed r ≡ true
   free : bit (decode m).convicted e ≡ false
 
-tested : (c : After-inputs_in) → Tested c.args.memory.now c.in-Some-parse.r.bytes.now c.in-Some.engine.number
+tested : (c : After-inputs_in) → Tested c.args.memory.now c.in-Some-parse.r.bytes.now c.in-Some.engine
 tested c = record {
   track = sym c.well_formed-2.ensures ∙ c.if-not-well_formed.false;
-  engine = c.in-Some.engine.small;
+  engine = rw c.in-Some.ensures.same (ltb-true c.args.engine 32 (sym c.in-Some.ensures.small));
   formed = c.in-Some-parse.r.formed;
-  free = ap (λ (x : ℕ). bit x c.in-Some.engine.number) (sym c.convicted.ensures) ∙ sym c.contains.ensures ∙ c.if-contains.false;
+  free = ap (λ (x : ℕ). bit x c.in-Some.engine) (sym c.convicted.ensures) ∙ sym c.contains.ensures ∙ c.if-contains.false;
 }
 
 pub returns-in_err-inputs : goal.returns-in_err-inputs
@@ -34,7 +35,7 @@ returns-in_err-inputs c =
     let x : Error = c.in_err-inputs.field-0.0 in
     let e : reported_number c.from_residual.result ≡ error_number x = search rules in
     let k = not-eligible (decode m).summaries r _ c.inputs_in.ensures x c.in_err-inputs.was in
-    rw e (refused-by m r c.in-Some.engine.number t.track t.engine t.formed t.free x k.0 k.1 ∙ ap₂ (λ (n : ℕ) (s : List ℕ). on_memory (track_report n s) m) c.in-Some.ensures.same c.in-Some-parse.ensures.same)
+    rw e (refused-by m r c.in-Some.engine t.track t.engine t.formed t.free x k.0 k.1 ∙ ap₂ (λ (n : ℕ) (s : List ℕ). on_memory (track_report n s) m) c.in-Some.ensures.same c.in-Some-parse.ensures.same)
 
 pub merge_record-requires : goal.merge_record-requires
 merge_record-requires c =
@@ -49,5 +50,5 @@ returns c =
     let r : List ℕ = c.in-Some-parse.r.bytes.now in
     let t = tested (goal.at.returns c).After-inputs_in in
     let k = eligible (decode m).summaries r _ c.inputs_in.ensures c.in_ok-inputs.inputs c.in_ok-inputs.was in
-    taken m r c.in-Some.engine.number t.track t.engine t.formed t.free (merged_number c.merge_record.result) c.merge_record.new.memory k.0 c.merge_record.ensures
+    taken m r c.in-Some.engine t.track t.engine t.formed t.free (merged_number c.merge_record.result) c.merge_record.new.memory k.0 c.merge_record.ensures
     ∙ ap₂ (λ (n : ℕ) (s : List ℕ). on_memory (track_report n s) m) c.in-Some.ensures.same c.in-Some-parse.ensures.same

@@ -9,9 +9,9 @@ pub returns : goal.returns
 returns c = elim c.if-not-equal.branch [
   | then-not-equal w ↦
       let k = second _ _ _ _ c.lesser-represents.ensures c.equal.ensures w.if-not-equal.true in
-      rw (w.self-inside-is, ← c.self.view_is, ← c.other.view_is, k)
+      rw (w.self-inside-is, c.union-signers.ensures, ← c.self.view_is, ← c.other.view_is, k)
       (ap (with_signers (bit_or c.self.inside.signers c.other.inside.signers)) (w.self-then-not-equal.view_is ∙ sym c.other.view_is))
   | else-not-equal w ↦
       let k = first _ _ _ _ c.lesser-represents.ensures c.equal.ensures w.if-not-equal.false in
-      rw (w.self-inside-is, ← c.self.view_is, ← c.other.view_is, k) refl
+      rw (w.self-inside-is, c.union-signers.ensures, ← c.self.view_is, ← c.other.view_is, k) refl
 ]

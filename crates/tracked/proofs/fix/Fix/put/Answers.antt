@@ -11,5 +11,5 @@ returns c =
     let size = c.self.inside.report.size in
     let signers = word-put 4 c.put_bytes-a.result _ _ c.put_u32.ensures (omega (arith, size, c.requires, a.next, c.put_bytes-a.auto.to)) in (
       omega (arith, size, a.next, c.put_bytes.ensures.next),
-      put_as (ap fix_bytes c.self.view_is) (rw c.bytes.ensures at (put-put a (put-put signers c.put_bytes.ensures))),
+      put_as (ap fix_bytes c.self.view_is) (rw (c.bytes.ensures, c.mask.ensures) at (put-put a (put-put signers c.put_bytes.ensures))),
     )
