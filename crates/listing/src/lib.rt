@@ -1,19 +1,17 @@
 //! The listing of a track: its transmissions in their order, as the lines of a board.
 #![tactic(auto)]
 
-ghost use Rattle.std.specs.Prelude.{◌≡◌, true, ◌≤◌, length, flat_map};
+ghost use Rattle.std.specs.Prelude.{◌≡◌, ◌≤◌, length, flat_map};
 ghost use Rattle.octets.specs.Put.{Put};
 ghost use Rattle.text.specs.Texts.{append};
 ghost use Rattle.errors.specs.After.{after};
 ghost use Rattle.errors.specs.Errors.{value_or_number};
-ghost use Rattle.drawing.specs.Text.{ranked_text, board_size};
-ghost use Rattle.stored.specs.Memory.{well_formed, decode};
+ghost use Rattle.drawing.specs.Text.{ranked_text};
 ghost use Rattle.listing.specs.Listing as T;
 
 use drawing::Role;
 use errors::Error;
-use stored::layout::CONTESTED_AT;
-use stored::parts::transmissions;
+use stored::view::View;
 use text::Text;
 use tracked::block::Block;
 use tracked::refused::RefusedFix;
@@ -81,22 +79,20 @@ fn push_contested(out: &mut Text, contested: u64)
     out.push_str("\n");
 }
 
-fn push_listing(out: &mut Text, memory: &[u8])
-    requires { well_formed memory.now ≡ true }
-    ensures { out.new ≡ append out.old (T.listing_of (decode memory.now)) }
+fn push_listing(out: &mut Text, track: &View<'_>)
+    ensures { out.new ≡ append out.old (T.listing_of track.now) }
 {
-    push_contested(out, octets::words::u64_at(memory, CONTESTED_AT));
-    push_all(out, &transmissions(memory));
+    push_contested(out, track.contested());
+    push_all(out, &track.transmissions());
 }
 
 // Writes the listing of a track.
-fn write(memory: &[u8], out: &mut [u8]) -> usize
-    requires memory_value { well_formed memory.now ≡ true }
-    requires board_size_in_bounds { board_size ≤ length out.old }
-    ensures { Put out.old 0 (T.listing_of (decode memory.now)) result out.new }
+fn write(track: &View<'_>, out: &mut [u8]) -> usize
+    requires { length (T.listing_of track.now) ≤ length out.old }
+    ensures { Put out.old 0 (T.listing_of track.now) result out.new }
 {
     let mut text = Text::new(out);
-    push_listing(&mut text, memory);
+    push_listing(&mut text, track);
     text.len()
 }
 
@@ -104,11 +100,9 @@ fn write(memory: &[u8], out: &mut [u8]) -> usize
 pub fn listing(memory: &[u8], out: &mut [u8]) -> Result<u32, Error>
     ensures { after (value_or_number result) out.new ≡ T.list_track memory.now out.old }
 {
-    if !stored::formed::well_formed(memory) {
-        return Err(Error::Malformed);
-    }
+    let track = View::parse(memory)?;
     if out.len() < LISTING_SIZE {
         return Err(Error::SmallOutput);
     }
-    Ok(write(memory, out) as u32)
+    Ok(write(&track, out) as u32)
 }

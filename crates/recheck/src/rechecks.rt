@@ -16,7 +16,8 @@ use models::citations::cited_inputs;
 use models::summaries::Summaries;
 use normalize::deciding::decide_again;
 use octets::words::u16_at;
-use stored::{layout, parts};
+use stored::layout;
+use stored::view::View;
 use tracked::block::Block;
 use tracked::fix::Fix;
 use tracked::layout::TRANSMISSION_SIZE;
@@ -44,19 +45,13 @@ fn has_stale(summaries: Summaries, block: &Block<'_>) -> bool
     false
 }
 
-// Whether some of these transmissions holds one that does not.
-fn any_has_stale(summaries: Summaries, blocks: &[Block<'_>]) -> bool
-    ensures { result ≡ list_any (T.has_stale (summary_places summaries.entry)) blocks.now }
-{
-    blocks.iter().any(|block| has_stale(summaries, block))
-}
-
 // Whether some fix that a track holds does not stand.
-fn any_stale(memory: &[u8]) -> bool
-    requires { well_formed memory.now ≡ true }
-    ensures { result ≡ list_any (T.has_stale (decode memory.now).summaries) (decode memory.now).transmissions }
+fn any_stale(track: &View<'_>) -> bool
+    ensures { result ≡ list_any (T.has_stale track.now.summaries) track.now.transmissions }
 {
-    any_has_stale(parts::summaries(memory), &parts::transmissions(memory))
+    let summaries = track.summaries();
+    let blocks = track.transmissions();
+    blocks.iter().any(|block| has_stale(summaries, block))
 }
 
 // Drops the fixes of a transmission that do not stand.
@@ -118,7 +113,7 @@ pub fn recheck_settled(memory: &mut [u8], settled: bool)
     requires settled { IsTrue settled → S.AllSettled (decode memory.old).transmissions }
     ensures { memory.new ≡ encode (T.recheck (decode memory.old)) }
 {
-    if !any_stale(memory) {
+    if !any_stale(&View::of(memory)) {
         return;
     }
     let (head, transmissions) = memory.split_at_mut(layout::TRANSMISSIONS_AT);

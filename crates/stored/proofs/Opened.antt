@@ -1,13 +1,13 @@
 -- What bytes that are a track show: its parts, its transmissions, and that they are the bytes of what they hold.
 use Prim.Native.Nat.{ℕ, ◌+◌, ◌*◌, ◌≤◌}
-use mathlib.Core.Path.{◌≡◌, sym, ap, ◌∙◌}
-use mathlib.Core.Bool.{true, ◌&&◌}
+use mathlib.Core.Path.{◌≡◌, refl, sym, ap, ◌∙◌}
+use mathlib.Core.Bool.{true, false, ◌&&◌}
 use mathlib.Core.List.{List, ◌∷◌, ◌++◌, map, Memᴰ}
 use native.Mathlib.Omega.{arith}
 use lib.Dec.{leb, eqb}
 use lib.ListN.{length, get_or, drop, length-take, length-drop, length-map}
 use lib.Seq.{drop-cons}
-use borrow.Author.Tests.{eqb-true, leb-true}
+use borrow.Author.Tests.{eqb-true, leb-true, ne_eqb}
 use Rattle.std.specs.List.{list_all}
 use Rattle.ranges.proofs.Bools.{and_left, and_right}
 use Rattle.octets.specs.Bytes.{Bytes}
@@ -72,6 +72,10 @@ opened m h =
       transmissions-formed = and_left a₇ a₈ h₇;
       zeros = and_right a₇ a₈ h₇;
     }
+
+pub other-size : (m : List ℕ) → (length m ≡ track_size → ⊥) → well_formed m ≡ false
+unfolding well_formed
+other-size m f = rw (ne_eqb (length m) track_size f) refl
 
 module _ (m : List ℕ) (o : Opened m) where
   -- ---- the summaries

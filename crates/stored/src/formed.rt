@@ -61,13 +61,10 @@ fn transmission_table_formed(t: &[u8], n: usize, convicted: Signers) -> bool
         && octets::runs::is_zero(t.split_at(n * TRANSMISSION_SIZE).1)
 }
 
-/// Whether the bytes are a track.
-pub fn well_formed(m: &[u8]) -> bool
+// Whether bytes are a track.
+pub(crate) fn well_formed(m: &[u8; layout::TRACK_SIZE]) -> bool
     ensures { result ≡ well_formed m.now }
 {
-    if m.len() != layout::TRACK_SIZE {
-        return false;
-    }
     let convicted = Signers::from_mask(octets::words::u32_at(m, layout::CONVICTED_AT));
     let n = octets::words::u16_at(m, layout::SUMMARY_COUNT_AT) as usize;
     if MAX_SUMMARIES < n {
@@ -87,5 +84,5 @@ pub fn well_formed(m: &[u8]) -> bool
     if !models::formed::summary_table_formed::<{ layout::PAIR_SIZE }>(summaries, convicted) {
         return false;
     }
-    transmission_table_formed(&m[layout::TRANSMISSIONS_AT..], k, convicted)
+    transmission_table_formed(m.split_at(layout::TRANSMISSIONS_AT).1, k, convicted)
 }

@@ -1,7 +1,7 @@
 //! A track in its 29,104 lent bytes: the layout, which bytes are a track, what it holds, and a summary put in by its engine and model.
 #![tactic(auto)]
 
-pub mod formed;
+mod formed;
 pub mod layout;
-pub mod parts;
 pub mod summaries;
+pub mod view;

@@ -9,7 +9,7 @@ use Rattle.models.specs.Missing.{cites_missing}
 use Rattle.models.specs.Identity.{cited_inputs}
 use Rattle.models.specs.Cited.{why_uncited}
 use Rattle.models.proofs.Refusing.{none-missing}
-use Rattle.errors.specs.After.{After, after}
+use Rattle.errors.specs.After.{after}
 use Rattle.errors.specs.Errors.{error_number}
 use Rattle.engines.specs.Limits.{max_engine}
 use Rattle.errors.specs.declared.Error.{Error}
@@ -24,13 +24,13 @@ module _ (ps : List (List ℕ)) (r : List ℕ) (v : Result (List ℕ) Error) (is
   pub not-eligible : (x : Error) → v ≡ Err x → (counts ps r ≡ false) × (x ≡ refusal (why_uncited ps r))
   not-eligible x e = grind (arith, is, e)
 
--- what a look among these summaries gives, as one among those
-module _ (ps ss : List (List ℕ)) (same : ps ≡ ss) (r : List ℕ) where
-  pub looked : (i : List ℕ) → counts ps r ≡ true → i ≡ cited_inputs ps r → Ok i ≡ inputs_or_error ss r
-  looked i k q = rw (← same, k, q) refl
+-- what a look among summaries gives
+module _ (ps : List (List ℕ)) (r : List ℕ) where
+  pub looked : (i : List ℕ) → counts ps r ≡ true → i ≡ cited_inputs ps r → Ok i ≡ inputs_or_error ps r
+  looked i k q = rw (k, q) refl
 
-  pub looked-in-vain : (x : Error) → counts ps r ≡ false → x ≡ refusal (why_uncited ps r) → Err x ≡ inputs_or_error ss r
-  looked-in-vain x k q = rw (← same, k, q) refl
+  pub looked-in-vain : (x : Error) → counts ps r ≡ false → x ≡ refusal (why_uncited ps r) → Err x ≡ inputs_or_error ps r
+  looked-in-vain x k q = rw (k, q) refl
 
 -- a record of an engine that is not convicted
 module _ (m r : List ℕ) (e : ℕ) (t : well_formed m ≡ true) (h : e < 32) (w : R.well_formed r ≡ true) (b : bit (decode m).convicted e ≡ false) where

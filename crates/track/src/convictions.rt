@@ -9,16 +9,14 @@ ghost use Rattle.track.specs.Track.{track_conviction};
 use engines::Engine;
 use errors::Error;
 use recheck::strikes;
-use stored::formed;
+use stored::view::View;
 
 /// Convicts an engine. A repeated conviction checks the fixes again too.
 #[tactic(auto, unfolding(stored::specs::Memory::on_memory))]
 pub fn conviction(memory: &mut [u8], engine: u32) -> Result<(), Error>
     ensures { after (answer_number result) memory.new ≡ on_memory (track_conviction engine) memory.old }
 {
-    if !formed::well_formed(memory) {
-        return Err(Error::Malformed);
-    }
+    View::parse(memory)?;
     let Some(engine) = Engine::new(engine) else {
         return Err(Error::NoEngine);
     };

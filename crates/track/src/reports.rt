@@ -3,6 +3,7 @@
 ghost use Rattle.std.specs.Prelude.{◌≡◌, ◌+◌, ◌%◌, ◌^◌, ◌≤◌, true, length, slice_set};
 ghost use Rattle.octets.specs.Words.{word_at};
 ghost use Rattle.octets.specs.Writes.{put_word};
+ghost use Rattle.models.specs.Answers.{summary_places};
 ghost use Rattle.models.specs.Models.{counts};
 ghost use Rattle.models.specs.Identity.{cited_inputs};
 ghost use Rattle.errors.specs.After.{after};
@@ -18,8 +19,10 @@ use errors::Error;
 use merge::Merged;
 use models::citations::{Uncited, cited_inputs, why_uncited};
 use models::hashes::Inputs;
+use models::summaries::Summaries;
 use record::Record;
-use stored::{formed, layout, parts};
+use stored::layout;
+use stored::view::View;
 use tracked::fix::Fix;
 
 // The number of an answer.
@@ -54,15 +57,13 @@ fn refusal(why: Uncited) -> Error
     }
 }
 
-// The model inputs of a record that counts in a track.
-fn inputs_in(memory: &[u8], r: Record) -> Result<Inputs, Error>
-    requires { well_formed memory.now ≡ true }
-    ensures { result ≡ inputs_or_error (decode memory.now).summaries r.entry.bytes.now }
+// The model inputs of a record that counts, or why it is refused.
+fn inputs_or_error(all: Summaries, r: Record) -> Result<Inputs, Error>
+    ensures { result ≡ inputs_or_error (summary_places all.entry) r.entry.bytes.now }
 {
-    let summaries = parts::summaries(memory);
-    match cited_inputs(summaries, r) {
+    match cited_inputs(all, r) {
         Some(inputs) => Ok(inputs),
-        None => Err(refusal(why_uncited(summaries, r))),
+        None => Err(refusal(why_uncited(all, r))),
     }
 }
 
@@ -106,18 +107,16 @@ fn merge_record(memory: &mut [u8], engine: Engine, r: Record, inputs: Inputs) ->
 pub fn report(memory: &mut [u8], engine: u32, r: &[u8]) -> Result<Merged, Error>
     ensures { after (reported_number result) memory.new ≡ on_memory (track_report engine r.now) memory.old }
 {
-    if !formed::well_formed(memory) {
-        return Err(Error::Malformed);
-    }
+    let track = View::parse(memory)?;
     let Some(engine) = Engine::new(engine) else {
         return Err(Error::NoEngine);
     };
     let Some(r) = Record::parse(r) else {
         return Err(Error::NoRecord);
     };
-    if parts::convicted(memory).contains(engine) {
+    if track.convicted().contains(engine) {
         return Err(Error::Convicted);
     }
-    let inputs = inputs_in(memory, r)?;
+    let inputs = inputs_or_error(track.summaries(), r)?;
     Ok(merge_record(memory, engine, r, inputs))
 }

@@ -1,6 +1,6 @@
 //! A summary into a track.
 
-ghost use Rattle.std.specs.Prelude.{◌≡◌, true, not, ◌&&◌};
+ghost use Rattle.std.specs.Prelude.{◌≡◌, true};
 ghost use Rattle.models.specs.Answers.{summary_places};
 ghost use Rattle.models.specs.Models.{state_of};
 ghost use Rattle.errors.specs.After.{after};
@@ -15,34 +15,13 @@ use models::layout::{INPUTS_SIZE, SUMMARY_SIZE};
 use models::states::{ModelState, state};
 use models::summaries::Summaries;
 use recheck::rechecks;
-use stored::{formed, parts};
+use stored::view::View;
 
 // Whether a model's summaries are disputed.
 fn is_disputed(all: Summaries, model: u8) -> bool
     ensures { result ≡ is_disputed (state_of model (summary_places all.entry)) }
 {
-    match state(all, model) {
-        ModelState::Disputed => true,
-        ModelState::Missing | ModelState::Agreed { .. } => false,
-    }
-}
-
-// Whether a model's summaries in a track are disputed.
-fn disputed_in(memory: &[u8], model: u8) -> bool
-    requires { well_formed memory.now ≡ true }
-    ensures { result ≡ is_disputed (state_of model (decode memory.now).summaries) }
-{
-    is_disputed(parts::summaries(memory), model)
-}
-
-// Whether summaries that were disputed or not have become so.
-fn becomes_disputed(was: bool, disputed_now: bool) -> bool
-    ensures { result ≡ (not «was» && disputed_now) }
-{
-    if was {
-        return false;
-    }
-    disputed_now
+    matches!(state(all, model), ModelState::Disputed)
 }
 
 // Puts a summary in, and checks the fixes again if its model is disputed now and was not.
@@ -51,12 +30,11 @@ fn hold(memory: &mut [u8], model: u8, p: &[u8; SUMMARY_SIZE]) -> Result<(), Erro
     requires formed { summary_formed (decode memory.old).convicted p.now ≡ true }
     ensures { after (answer_number result) memory.new ≡ commit memory.old (hold_pair model p.now (decode memory.old)) }
 {
-    let was = disputed_in(memory, model);
+    let was = is_disputed(View::of(memory).summaries(), model);
     stored::summaries::put_pair(memory, p)?;
-    if !becomes_disputed(was, disputed_in(memory, model)) {
-        return Ok(());
+    if !was && is_disputed(View::of(memory).summaries(), model) {
+        rechecks::recheck(memory);
     }
-    rechecks::recheck(memory);
     Ok(())
 }
 
@@ -71,9 +49,7 @@ pub fn summary(
 ) -> Result<(), Error>
     ensures { after (answer_number result) memory.new ≡ on_memory (track_summary engine model spec inputs.now) memory.old }
 {
-    if !formed::well_formed(memory) {
-        return Err(Error::Malformed);
-    }
+    let track = View::parse(memory)?;
     let Some(engine) = Engine::new(engine) else {
         return Err(Error::NoEngine);
     };
@@ -83,7 +59,7 @@ pub fn summary(
     let Ok(inputs) = <&[u8; INPUTS_SIZE]>::try_from(inputs) else {
         return Err(Error::NoSummary);
     };
-    if parts::convicted(memory).contains(engine) {
+    if track.convicted().contains(engine) {
         return Err(Error::Convicted);
     }
     hold(

@@ -17,7 +17,7 @@ pub returns-then-not-any_stale : goal.returns-then-not-any_stale
 returns-then-not-any_stale c =
     let m = c.args.memory.now in
     let y : Bytes m = all-bytes m (search rules) in
-    sym (encode-decode m (opened m c.requires.track) y) ∙ ap encode (all-stand (decode m) (sym c.any_stale.ensures ∙ c.if-not-any_stale.true))
+    sym (encode-decode m (opened m c.requires.track) y) ∙ ap encode (all-stand (decode m) (rw c.of.ensures at (sym c.any_stale.ensures ∙ c.if-not-any_stale.true)))
 
 pub split_at_mut-head-requires : goal.split_at_mut-head-requires
 split_at_mut-head-requires c = omega (arith, (opened c.args.memory.now c.requires.track).size)
@@ -56,4 +56,4 @@ returns c =
     let ts = transmissions-there m _ _ (count-read m h e) c.split_at_mut-head.ensures.back in
     let left = c.arrange-left.ensures.held ∙ ap arranged (c.renew_all.ensures.held ∙ ap₂ (λ (s : List (List _)) (t : List HeldTransmission). map (standing s) t) ss ts) in
     encoded m (opened m c.requires.track) y h c.arrange-left.new.t c.arrange-left.result _ e c.arrange-left.ensures.filled left
-    ∙ ap encode (some-stale (decode m) (sym c.any_stale.ensures ∙ c.if-not-any_stale.false))
+    ∙ ap encode (some-stale (decode m) (rw c.of.ensures at (sym c.any_stale.ensures ∙ c.if-not-any_stale.false)))

@@ -7,6 +7,7 @@ use native.Mathlib.Omega.{arith}
 use borrow.Author.Tests.{le-ltb, ltb-true}
 use Rattle.errors.specs.After.{after}
 use Rattle.engines.specs.Limits.{max_engine}
+use Rattle.errors.proofs.Parsed.{parsed}
 use Rattle.stored.specs.Memory.{well_formed, decode, encode, on_memory}
 use Rattle.recheck.specs.Recheck.{recheck, strike_engine}
 use Rattle.track.specs.Track.{track_conviction}
@@ -20,5 +21,5 @@ pub returns : goal.returns
 returns c =
     let m : List ℕ = c.args.memory.now in
     let left = c.convict.ensures in
-    convicted-0 m _ c.args.engine (sym c.well_formed-2.ensures ∙ c.if-not-well_formed.false) (ltb-true c.args.engine 32 (sym c.in-Some.ensures.small))
+    convicted-0 m _ c.args.engine (parsed (well_formed m) (decode m) _ c.parse.ensures _ c.in_ok-parse.was).0 (ltb-true c.args.engine 32 (sym c.in-Some.ensures.small))
     (left ∙ ap (λ (e : ℕ). encode (recheck (strike_engine e (decode m)))) c.in-Some.ensures.same)

@@ -1,4 +1,4 @@
-use Rattle.std.proofs.Common.{◌≡◌, ℕ, Bool, true, not, ◌&&◌, List, length, sym, ap, ◌∙◌, ap₂, rules}
+use Rattle.std.proofs.Common.{◌≡◌, ℕ, Bool, true, List, length, refl, sym, ap, ◌∙◌, rules}
 use Rattle.octets.specs.Bytes.{Bytes}
 use Rattle.octets.proofs.Numbers.{all-bytes}
 use Rattle.models.specs.Summary.{summary_size}
@@ -14,9 +14,10 @@ use Rattle.stored.proofs.Opened.{opened}
 use Rattle.stored.proofs.Valid.{Valid, decode-valid, formed-encode, decode-encode}
 use Rattle.stored.proofs.Pairs.{pair-valid}
 use Rattle.recheck.specs.Recheck.{recheck}
-use Rattle.track.specs.Track.{is_disputed, becomes_disputed}
+use Rattle.track.specs.Track.{is_disputed}
 use Rattle.track.proofs.Holding.{pair-room, pair-refused, pair_left, pair-plain, pair-rechecked}
 use Rattle.track.proofs.summaries.hold.Goals as goal
+use Rattle.track.proofs.summaries.hold.Goals.{In_ok-put_pair, else-not-was-via-then-not-was+else-is_disputed, else-not-was-via-else-not-was}
 
 -- a summary p was put into the track m, which is x then
 record Put (m p x : List ℕ) : Type 0 where
@@ -39,10 +40,15 @@ module _ {m p x : List ℕ} (u : Put m p x) where
   held : decode x ≡ t
   held = ap decode u.stored ∙ decode-encode t u.valid
 
-  -- whether the model is disputed now, and was not
-  becomes : (model : ℕ) (w v b : Bool) → w ≡ is_disputed (state_of model (decode m).summaries) → v ≡ is_disputed (state_of model (decode x).summaries) → b ≡ (not w && v)
-      → b ≡ becomes_disputed model (decode m).summaries t.summaries
-  becomes model w v b e f g = g ∙ ap₂ (λ (i j : Bool). not i && j) e (f ∙ ap (λ (s : Track). is_disputed (state_of model s.summaries)) held)
+put : (c : In_ok-put_pair) → Put c.args.memory.now c.args.p.now c.put_pair.new.memory
+put c =
+    let wide : length c.args.p.now ≡ summary_size = search rules in
+    let m = c.args.memory.now in
+    put-is m c.args.p.now c.put_pair.new.memory (answer_number c.put_pair.result) c.args.model (all-bytes m (search rules)) c.requires.track wide c.requires.formed c.put_pair.ensures (ap answer_number c.in_ok-put_pair.was)
+
+-- whether a model is disputed, asked of a track that is read
+asked : (model : ℕ) {b : Bool} {ss : List (List ℕ)} {v s : Track} → b ≡ is_disputed (state_of model ss) → ss ≡ v.summaries → v ≡ s → b ≡ is_disputed (state_of model s.summaries)
+asked model p q r = p ∙ ap (λ (ss : List (List ℕ)). is_disputed (state_of model ss)) (q ∙ ap (λ (s : Track). s.summaries) r)
 
 pub returns-in_err-put_pair : goal.returns-in_err-put_pair
 returns-in_err-put_pair c =
@@ -50,33 +56,29 @@ returns-in_err-put_pair c =
     let f : answer_number c.from_residual.result ≡ error_number c.in_err-put_pair.field-0.0 = search rules in
     rw f (pair-refused c.args.memory.now c.args.model c.args.p.now _ c.put_pair.new.memory (rw e at c.put_pair.ensures) (never-zero c.in_err-put_pair.field-0.0))
 
-pub disputed_in-requires : goal.disputed_in-requires
-disputed_in-requires c =
-    let wide : length c.args.p.now ≡ summary_size = search rules in
-    let m = c.args.memory.now in
-    is-track (put-is m c.args.p.now c.put_pair.new.memory (answer_number c.put_pair.result) c.args.model (all-bytes m (search rules)) c.requires.track wide c.requires.formed c.put_pair.ensures (ap answer_number c.in_ok-put_pair.was))
-
-pub returns-then-not-becomes_disputed : goal.returns-then-not-becomes_disputed
-returns-then-not-becomes_disputed c =
-    let wide : length c.args.p.now ≡ summary_size = search rules in
-    let m = c.args.memory.now in
-    let x = c.put_pair.new.memory in
-    let u = put-is m c.args.p.now x (answer_number c.put_pair.result) c.args.model (all-bytes m (search rules)) c.requires.track wide c.requires.formed c.put_pair.ensures (ap answer_number c.in_ok-put_pair.was) in
-    let told = becomes u c.args.model _ _ _ c.disputed_in-was.ensures c.disputed_in.ensures c.becomes_disputed.ensures in
-    pair-plain m c.args.model c.args.p.now (answer_number c.put_pair.result) x c.put_pair.ensures (ap answer_number c.in_ok-put_pair.was) (sym told ∙ c.if-not-becomes_disputed.true)
+pub of-requires-then-not-was : goal.of-requires-then-not-was
+of-requires-then-not-was c = is-track (put (goal.at.of-requires-then-not-was c).In_ok-put_pair)
 
 pub recheck-requires : goal.recheck-requires
-recheck-requires c =
-    let wide : length c.args.p.now ≡ summary_size = search rules in
-    let m = c.args.memory.now in
-    is-track (put-is m c.args.p.now c.put_pair.new.memory (answer_number c.put_pair.result) c.args.model (all-bytes m (search rules)) c.requires.track wide c.requires.formed c.put_pair.ensures (ap answer_number c.in_ok-put_pair.was))
+recheck-requires c = is-track (put (goal.at.recheck-requires c).In_ok-put_pair)
 
-pub returns : goal.returns
-returns c =
-    let wide : length c.args.p.now ≡ summary_size = search rules in
-    let m = c.args.memory.now in
-    let x = c.put_pair.new.memory in
-    let u = put-is m c.args.p.now x (answer_number c.put_pair.result) c.args.model (all-bytes m (search rules)) c.requires.track wide c.requires.formed c.put_pair.ensures (ap answer_number c.in_ok-put_pair.was) in
-    let told = becomes u c.args.model _ _ _ c.disputed_in-was.ensures c.disputed_in.ensures c.becomes_disputed.ensures in
-    pair-rechecked m c.args.model c.args.p.now (answer_number c.put_pair.result) x c.put_pair.ensures (ap answer_number c.in_ok-put_pair.was) (sym told ∙ c.if-not-becomes_disputed.false) _
+pub returns-else-not-was : goal.returns-else-not-was
+returns-else-not-was c =
+    let u = put (goal.at.returns-else-not-was c).In_ok-put_pair in
+    let told = sym (asked c.args.model c.is_disputed-was.ensures c.summaries.ensures c.of.ensures) in
+    let as-it-is = pair-plain c.args.memory.now c.args.model c.args.p.now (answer_number c.put_pair.result) c.put_pair.new.memory c.put_pair.ensures (ap answer_number c.in_ok-put_pair.was) in
+    elim c.else-not-was.branch [
+      | else-not-was-via-then-not-was+else-is_disputed w ↦
+          (let before = told ∙ w.if-not-was.true in
+          let now = sym (asked c.args.model w.is_disputed.ensures w.summaries-then-not-was.ensures (w.of-then-not-was.ensures ∙ held u)) ∙ w.if-is_disputed.false in
+          as-it-is (rw (before, now) refl))
+      | else-not-was-via-else-not-was w ↦ (let before = told ∙ w.if-not-was.false in as-it-is (rw before refl))
+    ]
+
+pub returns-then-is_disputed : goal.returns-then-is_disputed
+returns-then-is_disputed c =
+    let u = put (goal.at.returns-then-is_disputed c).In_ok-put_pair in
+    let before = sym (asked c.args.model c.is_disputed-was.ensures c.summaries.ensures c.of.ensures) ∙ c.if-not-was.true in
+    let now = sym (asked c.args.model c.is_disputed.ensures c.summaries-then-not-was.ensures (c.of-then-not-was.ensures ∙ held u)) ∙ c.if-is_disputed.true in
+    pair-rechecked c.args.memory.now c.args.model c.args.p.now (answer_number c.put_pair.result) c.put_pair.new.memory c.put_pair.ensures (ap answer_number c.in_ok-put_pair.was) (rw (before, now) refl) _
     (c.recheck.ensures ∙ ap (λ (s : Track). encode (recheck s)) (held u))
