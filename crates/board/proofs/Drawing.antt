@@ -1,75 +1,78 @@
--- A turn of the loop that writes transmissions one after another, and its end.
-use Rattle.std.proofs.Common.{◌≡◌, ◌+◌, ◌≤◌, ◌<◌, ◌++◌, ◌∙◌, sym, ap, length, drop, get_or, List, [], ◌∷◌, ℕ, zero, suc, ◌-◌, take, true, subst, add-one, arith, refl, map, take_all}
-use Rattle.std.proofs.Math.ListN.{drop_of_length-le, length-map, length-drop}
+-- What is written of a picture, line by line, is the text of what is shown.
+use Rattle.std.proofs.Common.{◌≡◌, ◌+◌, ◌-◌, ◌≤◌, ◌<◌, ◌++◌, ◌∙◌, refl, sym, ap, ap₂, length, drop, map, List, [], ◌∷◌, ℕ, zero, suc, add-one, flat_map}
+use Rattle.std.proofs.Math.ListN.{drop_of_length-le, length-map}
 use Rattle.std.proofs.Math.Seq.{drop-cons}
+use Rattle.std.proofs.lemmas.Grind.{flat_map-append}
 use Rattle.text.specs.declared.Text.{Text}
 use Rattle.text.specs.Texts.{append}
 use Rattle.text.proofs.Appending.{append-append, append-nil}
 use Rattle.shown.specs.Fix.{Fix}
 use Rattle.shown.specs.Shown.{Transmission, shown}
-use Rattle.shown.specs.Items.{AllFormed}
-use Rattle.items.specs.Layout.{max_items}
 use Rattle.ranges.specs.Lists.{sort}
 use Rattle.links.specs.Transmissions.{transmissions_of}
-use Rattle.fixes.specs.Order.{identities_ascend}
 use Rattle.transmissions.specs.Picture.{older_than, latest_of, max_shown}
-use Rattle.drawing.specs.Text.{text_of, text_from, board_text}
-use Rattle.transmissions.specs.Parts.{AllParts}
-use Rattle.transmissions.proofs.Parting.{parts-of}
-use Rattle.transmissions.proofs.Arranging.{latest-are, last-named}
+use Rattle.transmissions.specs.Lines.{ShownPart, line_of, refused_line_of, lines_of, part_of, no_part, part_at}
+use Rattle.drawing.specs.declared.Standing.TheVariants.{Ranked, Dominated}
+use Rattle.drawing.specs.Lines.{header}
+use Rattle.drawing.specs.Text.{ranked_text, dominated_text, refused_text, text_of, text_from, board_text}
+use Rattle.board.specs.Drawn.{line_text, part_text, parts_text}
 use Rattle.board.specs.Latest.{latest_over}
-use Rattle.transmissions.specs.declared.latest.Lead.{Lead}
-use Rattle.transmissions.specs.Leads.{before, leads_of, shown_at}
 
-at-map : {A B : Type 0} (f : A → B) (l : List A) (i : ℕ) (x : A) (y : B) → i < length l → get_or (map f l) i y ≡ f (get_or l i x)
-at-map f [] i x y h = absurd (omega arith)
-at-map f (z ∷ l) zero x y h = refl
-at-map f (z ∷ l) (suc i) x y h = at-map f l i x y (omega arith)
+-- ---- the lines of a transmission
+
+pub flat-map : {A B : Type 0} (f : B → List ℕ) (g : A → B) (l : List A) → flat_map f (map g l) ≡ flat_map (λ x. f (g x)) l
+flat-map f g [] = refl
+flat-map f g (x ∷ l) = ap (λ t. f (g x) ++ t) (flat-map f g l)
+
+module _ (t : Transmission) where
+  body : flat_map line_text (lines_of t) ≡ flat_map ranked_text t.ranked ++ (flat_map dominated_text t.dominated ++ flat_map refused_text t.refused)
+  body =
+      flat_map-append line_text (map (line_of Ranked) t.ranked) (map (line_of Dominated) t.dominated ++ map refused_line_of t.refused)
+      ∙ ap₂ (λ a b. a ++ b) (flat-map line_text (line_of Ranked) t.ranked)
+      (flat_map-append line_text (map (line_of Dominated) t.dominated) (map refused_line_of t.refused)
+      ∙ ap₂ (λ a b. a ++ b) (flat-map line_text (line_of Dominated) t.dominated) (flat-map line_text refused_line_of t.refused))
+
+  part-is : (number : ℕ) → part_text number (part_of t) ≡ text_of number t
+  unfolding text_of mathlib.Core.List.flat_map
+  part-is number = ap (λ (b : List ℕ). header number (length t.ranked) (length t.dominated) (length t.refused) ++ b) body
+
+pub parts-are : (number : ℕ) (us : List Transmission) → parts_text number (map part_of us) ≡ text_from number us
+unfolding parts_text text_from
+parts-are number [] = refl
+parts-are number (t ∷ us) = ap₂ (λ (a : List ℕ) (b : List ℕ). a ++ b) (part-is t number) (parts-are (suc number) us)
+
+-- ---- one after another, from the kth on
 
 -- one transmission, and what is left
-next : (a b : Text) (us : List Transmission) (i : ℕ) (u : Transmission) → i < length us → b ≡ append a (text_of (i + 1) (get_or us i u))
-    → append b (text_from (i + 1 + 1) (drop (i + 1) us)) ≡ append a (text_from (i + 1) (drop i us))
-unfolding text_from
-next a b us i u h e =
-    ap (λ (x : Text). append x (text_from (i + 1 + 1) (drop (i + 1) us))) e
-    ∙ append-append a (text_of (i + 1) (get_or us i u)) (text_from (i + 1 + 1) (drop (i + 1) us))
-    ∙ ap (append a)
-    (ap (λ (k : ℕ). text_of (i + 1) (get_or us i u) ++ text_from k (drop (i + 1) us)) (add-one (i + 1))
-    ∙ ap (λ (k : ℕ). text_of (i + 1) (get_or us i u) ++ text_from (suc (i + 1)) (drop k us)) (add-one i)
-    ∙ sym (ap (text_from (i + 1)) (drop-cons us i u h)))
-
-pub turn : (a b : Text) (ts : List (List Fix)) (ls : List Lead) (i : ℕ) (d : Lead) (t : Transmission) → i < length ls → t ≡ shown_at ts (get_or ls i d) → b ≡ append a (text_of (i + 1) t)
-    → append b (text_from (i + 1 + 1) (drop (i + 1) (map (shown_at ts) ls))) ≡ append a (text_from (i + 1) (drop i (map (shown_at ts) ls)))
-turn a b ts ls i d t h is e =
-    next a b (map (shown_at ts) ls) i t (rw (length-map ls (shown_at ts)) h)
-    (e ∙ ap (λ (u : Transmission). append a (text_of (i + 1) u)) (is ∙ sym (at-map (shown_at ts) ls i d t h)))
+pub next : (a b : Text) (ps : List ShownPart) (k n m : ℕ) → k < length ps → m ≡ n + 1 → b ≡ append a (part_text (n + 1) (part_at ps k))
+    → append b (parts_text (m + 1) (drop (k + 1) ps)) ≡ append a (parts_text (n + 1) (drop k ps))
+unfolding parts_text
+next a b ps k n m h more e =
+    let p = part_text (n + 1) (part_at ps k) in
+    ap (λ (i : ℕ). append b (parts_text (i + 1) (drop (k + 1) ps))) more
+    ∙ ap (λ (x : Text). append x (parts_text (n + 1 + 1) (drop (k + 1) ps))) e
+    ∙ append-append a p (parts_text (n + 1 + 1) (drop (k + 1) ps))
+    ∙ ap (append a) (rw (drop-cons ps k no_part h, add-one (n + 1), add-one k) refl)
 
 -- nothing is left
-pub end : (a b : Text) (ts : List (List Fix)) (ls : List Lead) (i : ℕ) → length ls ≤ i → append b (text_from (i + 1) (drop i (map (shown_at ts) ls))) ≡ a → b ≡ a
-unfolding text_from
-end a b ts ls i h e =
-    let us = map (shown_at ts) ls in
-    sym (append-nil b) ∙ sym (ap (λ (vs : List Transmission). append b (text_from (i + 1) vs)) (drop_of_length-le us (rw (length-map ls (shown_at ts)) h))) ∙ e
+pub end : (a b : Text) (ps : List ShownPart) (k n : ℕ) → length ps ≤ k → append b (parts_text n (drop k ps)) ≡ a → b ≡ a
+unfolding parts_text
+end a b ps k n h e = sym (append-nil b) ∙ sym (ap (λ (qs : List ShownPart). append b (parts_text n qs)) (drop_of_length-le ps h)) ∙ e
 
--- ---- the latest of all, as they are lent
+-- ---- the latest of all
 
-module _ (fs : List Fix) (w : AllFormed fs) (o : identities_ascend fs ≡ true) (few : length fs ≤ max_items) (ts : List (List Fix)) (is : ts ≡ transmissions_of fs)
-    (l : List Lead) (sorted : l ≡ sort before (leads_of ts)) (xs : List Lead) (lent : xs ≡ l) (k : ℕ) where
-  pub parts : AllParts ts
-  parts = subst AllParts (sym is) (parts-of fs w o few)
+drop-map : {A B : Type 0} (f : A → B) (k : ℕ) (l : List A) → drop k (map f l) ≡ map f (drop k l)
+drop-map f zero l = refl
+drop-map f (suc k) [] = refl
+drop-map f (suc k) (x ∷ l) = drop-map f k l
 
-  -- those from the kth on
-  abbrev some : List Lead
-  some = take (length xs - k) (drop k xs)
-
-  some-are : some ≡ drop k (sort before (leads_of ts))
-  some-are = take_all (length xs - k) (drop k xs) (rw (length-drop k xs) (omega arith)) ∙ ap (drop k) (lent ∙ sorted)
-
-  pub some-named : (i : ℕ) (d : Lead) → i < length some → (get_or some i d).number < length ts
-  some-named = subst (λ (z : List Lead). (i : ℕ) (d : Lead) → i < length z → (get_or z i d).number < length ts) (sym some-are) (last-named ts parts k)
-
-  -- the board, where there are as many of them as it shows
-  pub latest-drawn : k ≡ length l - max_shown → board_text (map (shown_at ts) some) ≡ board_text (latest_over fs)
-  latest-drawn from =
-      ap (λ (z : List Lead). board_text (map (shown_at ts) z)) (some-are ∙ ap (λ (i : ℕ). drop i (sort before (leads_of ts))) (from ∙ ap (λ (z : List Lead). length z - max_shown) sorted))
-      ∙ ap board_text (latest-are ts parts ∙ ap (λ (z : List (List Fix)). latest_of (sort older_than (map shown z))) is)
+pub latest-drawn : (fs : List Fix) (ts : List (List Fix)) → ts ≡ transmissions_of fs → (ps : List ShownPart) → ps ≡ map part_of (sort older_than (map shown ts)) → (k : ℕ) → k ≡ length ps - max_shown
+    → parts_text 1 (drop k ps) ≡ board_text (latest_over fs)
+latest-drawn fs ts is ps shows k from =
+    let s = sort older_than (map shown ts) in
+    let n : length ps ≡ length s = ap (λ (z : List ShownPart). length z) shows ∙ length-map s part_of in
+    ap (λ (z : List ShownPart). parts_text 1 (drop k z)) shows
+    ∙ ap (parts_text 1) (drop-map part_of k s)
+    ∙ parts-are 1 (drop k s)
+    ∙ ap (λ (i : ℕ). board_text (drop i s)) (from ∙ ap (λ (m : ℕ). m - max_shown) n)
+    ∙ ap (λ (z : List (List Fix)). board_text (latest_of (sort older_than (map shown z)))) is

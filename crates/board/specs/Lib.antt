@@ -12,3 +12,4 @@ pub mod Shortest
 pub mod Positions
 pub mod Worked
 pub mod Latest
+pub mod Drawn

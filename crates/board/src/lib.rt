@@ -12,12 +12,12 @@ ghost use Rattle.board.specs.Board.{board_in, draw_board};
 ghost use Rattle.board.specs.Preview.{draw_preview};
 ghost use Rattle.board.specs.Latest.{latest_over, drawn};
 
-use arrayvec::ArrayVec;
 use fixes::{Fix, Fixes, MAX_FIXES};
 use errors::Error;
 use links::Transmissions;
 use register::layout::REGISTER_SIZE;
 use register::view::View;
+use transmissions::Picture;
 
 pub mod claims;
 mod texts;
@@ -28,7 +28,8 @@ pub const BOARD_SIZE: usize = 16384;
 // The most transmissions on a board.
 const MAX_SHOWN: usize = 8;
 
-// Writes the board of fixes.
+// Writes the board of fixes. A function of its own, since room for a picture is cleared first.
+#[inline(never)]
 fn draw_fixes(fixes: &[Fix<'_>], out: &mut [u8]) -> usize
     requires few { length fixes.now ≤ MAX_FIXES }
     requires formed { AllFormed fixes.now }
@@ -37,10 +38,10 @@ fn draw_fixes(fixes: &[Fix<'_>], out: &mut [u8]) -> usize
     ensures { Put out.old 0 (board_text (latest_over fixes.now)) result out.new }
 {
     let transmissions = Transmissions::of(fixes);
-    let mut leads = ArrayVec::new();
-    transmissions::latest::arrange(&transmissions, &mut leads);
-    let start = leads.len().saturating_sub(MAX_SHOWN);
-    texts::write_latest(out, &transmissions, &leads[start..])
+    let mut picture = Picture::new();
+    picture.fill(&transmissions);
+    let start = picture.len().saturating_sub(MAX_SHOWN);
+    texts::write_latest(out, &picture, start)
 }
 
 // Writes the board of a register.
@@ -51,6 +52,9 @@ fn write(register: &View<'_>, out: &mut [u8]) -> usize
 {
     let mut fixes = Fixes::new();
     fixes::represent(register, &mut fixes);
+    if fixes.is_empty() {
+        return 0;
+    }
     draw_fixes(&fixes, out)
 }
 

@@ -7,7 +7,7 @@ ghost use Rattle.record.specs.Fields as F;
 ghost use Rattle.text.specs.Numbers.{decimal, signed_decimal};
 ghost use Rattle.text.specs.Texts.{append};
 ghost use Rattle.drawing.specs.Lines as L;
-ghost use Rattle.drawing.specs.Roles.{role_name};
+ghost use Rattle.drawing.specs.Standings.{standing_name, refusal_text, standing_line};
 
 use arithmetic::standing::ChiSquare;
 use engines::Signers;
@@ -16,23 +16,25 @@ use text::{Append, Hex, Metres, Text};
 
 pub mod claims;
 
-/// What became of a fix.
-#[derive(Clone, Copy)]
-pub enum Role {
+/// What became of a fix. One that is refused has the chi-square with the fix that it is refused against, where there is one.
+#[derive(Clone, Copy, Default)]
+pub enum Standing {
+    #[default]
     Ranked,
     Dominated,
-    Refused,
+    Refused(ChiSquare),
 }
 
-impl Append for Role {
-    ghost text = { role_name };
+// In a word.
+impl Append for Standing {
+    ghost text = { standing_name };
 
-    #[tactic(auto, unfolding(crate::specs::Roles::role_name, octets::specs::Ascii::ascii))]
+    #[tactic(auto, unfolding(crate::specs::Standings::standing_name, octets::specs::Ascii::ascii))]
     fn append_to(&self, out: &mut Text) {
         match self {
-            Role::Ranked => out.push_str("ranked"),
-            Role::Dominated => out.push_str("dominated"),
-            Role::Refused => out.push_str("refused"),
+            Standing::Ranked => out.push_str("ranked"),
+            Standing::Dominated => out.push_str("dominated"),
+            Standing::Refused(_) => out.push_str("refused"),
         }
     }
 }
@@ -85,22 +87,14 @@ fn push_weight(out: &mut Text, report: Record)
 }
 
 // What every line says of a fix.
-fn push_fix(out: &mut Text, role: Role, report: Record, signers: Signers)
-    ensures { out.new ≡ append out.old (L.fix_text (role_name role) report.entry.bytes.now signers) }
+fn push_fix(out: &mut Text, standing: Standing, report: Record, signers: Signers)
+    ensures { out.new ≡ append out.old (L.fix_text (standing_name standing) report.entry.bytes.now signers) }
 {
-    out.push_field("role=", &role);
+    out.push_field("role=", &standing);
     push_where_when(out, report);
     push_height(out, report);
     push_weight(out, report);
     out.push_field(" signers=", &Hex::<8>(signers.mask() as u64));
-}
-
-/// The line of a fix that is ranked or dominated.
-pub fn push_line(out: &mut Text, role: Role, report: Record, signers: Signers)
-    ensures { out.new ≡ append out.old (L.fix_line (role_name role) report.entry.bytes.now signers) }
-{
-    push_fix(out, role, report, signers);
-    out.push_str("\n");
 }
 
 // The bits of a chi-square, or that there is none.
@@ -114,16 +108,27 @@ fn push_chi_square(out: &mut Text, chi2: ChiSquare)
     }
 }
 
-/// The line of a refused fix, with its refusal's chi-square.
-pub fn push_refused(out: &mut Text, report: Record, signers: Signers, chi2: ChiSquare)
-    ensures { out.new ≡ append out.old (L.refused_line report.entry.bytes.now signers chi2) }
+// What is said besides of a fix that is refused.
+#[tactic(auto, unfolding(crate::specs::Standings::refusal_text))]
+fn push_refusal(out: &mut Text, standing: Standing)
+    ensures { out.new ≡ append out.old (refusal_text standing) }
 {
-    push_fix(out, Role::Refused, report, signers);
-    push_chi_square(out, chi2);
+    match standing {
+        Standing::Refused(chi2) => push_chi_square(out, chi2),
+        Standing::Ranked | Standing::Dominated => {}
+    }
+}
+
+/// The line of a fix, by what became of it.
+pub fn push_line(out: &mut Text, standing: Standing, report: Record, signers: Signers)
+    ensures { out.new ≡ append out.old (standing_line standing report.entry.bytes.now signers) }
+{
+    push_fix(out, standing, report, signers);
+    push_refusal(out, standing);
     out.push_str("\n");
 }
 
-/// The header of a transmission: its number, and how many of its fixes have each role.
+/// The header of a transmission: its number, and how many of its fixes have each standing.
 pub fn push_header(out: &mut Text, number: u64, ranked: usize, dominated: usize, refused: usize)
     ensures { out.new ≡ append out.old (L.header number ranked dominated refused) }
 {

@@ -12,3 +12,4 @@ pub mod Limits
 pub mod Bursts
 pub mod Linking
 pub mod Parting
+pub mod Counting

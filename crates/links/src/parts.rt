@@ -1,7 +1,9 @@
 //! The transmissions of fixes.
 
-ghost use Rattle.std.specs.Prelude.{◌≡◌, ◌≤◌, ◌<◌, length, slice_index_or, []};
-ghost use Rattle.shown.specs.Items.{AllFormed, Apart};
+ghost use Rattle.std.specs.Prelude.{◌≡◌, true, ◌≤◌, ◌<◌, length, slice_index_or, get_or, []};
+ghost use Rattle.fixes.specs.Order.{identities_ascend};
+ghost use Rattle.shown.specs.Items.{AllFormed, fix_at};
+ghost use Rattle.links.specs.Links.{members_of, Parts};
 ghost use Rattle.links.specs.Transmissions.{transmissions_of};
 
 use crate::visit;
@@ -18,18 +20,17 @@ pub struct Transmissions<'s, 'a> {
 }
 
 impl<'s, 'a> Model for Transmissions<'s, 'a> {
-    ghost use Rattle.std.specs.Prelude.{List, ◌≤◌, length, map};
-    ghost use Rattle.shown.specs.Fix as S;
-    ghost use Rattle.links.specs.Links.{fixes_labelled};
+    ghost use Rattle.std.specs.Prelude.{map};
+    ghost use Rattle.links.specs.Links.{Parted, Parts, fixes_labelled};
 
-    ghost Value = { List (List S.Fix) };
+    ghost Value = { Parted };
 
-    ghost view = { λ t. map (fixes_labelled t.fixes.now t.labels) t.firsts.items };
+    ghost view = { λ t. record { fixes = t.fixes.now; parts = map (fixes_labelled t.fixes.now t.labels) t.firsts.items } };
 
-    ghost invariant = { λ t. length t.fixes.now ≤ 96 };
+    ghost invariant = { λ t. Parts t.fixes.now (map (fixes_labelled t.fixes.now t.labels) t.firsts.items) };
 }
 
-/// A transmission: fixes, and which of them are its members.
+/// A transmission: fixes, and which of them are its members, of which there is one at least.
 #[derive(Drop)]
 pub struct Transmission<'s, 'a> {
     fixes: &'s [Fix<'a>],
@@ -37,25 +38,22 @@ pub struct Transmission<'s, 'a> {
 }
 
 impl<'s, 'a> Model for Transmission<'s, 'a> {
-    ghost use Rattle.std.specs.Prelude.{List, map};
-    ghost use Rattle.shown.specs.Fix as S;
-    ghost use Rattle.shown.specs.Items.{fix_at};
-    ghost use Rattle.links.specs.Links.{AllIndices};
+    ghost use Rattle.links.specs.Links.{Members, SomeIndices};
 
-    ghost Value = { List S.Fix };
+    ghost Value = { Members };
 
-    ghost view = { λ t. map (fix_at t.fixes.now) t.members.items };
+    ghost view = { λ t. record { fixes = t.fixes.now; indices = t.members.items } };
 
-    ghost invariant = { λ t. AllIndices t.fixes.now t.members.items };
+    ghost invariant = { λ t. SomeIndices t.fixes.now t.members.items };
 }
 
 impl<'s, 'a> Transmissions<'s, 'a> {
-    /// The transmissions of fixes.
+    /// The transmissions of fixes in ascending identity.
     pub fn of(fixes: &'s [Fix<'a>]) -> Transmissions<'s, 'a>
         requires few { length fixes.now ≤ MAX_FIXES }
         requires formed { AllFormed fixes.now }
-        requires apart { Apart fixes.now }
-        ensures { result ≡ transmissions_of fixes.now }
+        requires in_order { identities_ascend fixes.now ≡ true }
+        ensures { result ≡ record { fixes = fixes.now; parts = transmissions_of fixes.now } }
     {
         let mut marks = [false; MAX_FIXES];
         let mut labels = [0u8; MAX_FIXES];
@@ -73,17 +71,26 @@ impl<'s, 'a> Transmissions<'s, 'a> {
         }
     }
 
-    /// How many there are.
+    /// All fixes.
+    pub fn fixes(&self) -> &'s [Fix<'a>]
+        ensures fixes { result.now ≡ self.now.fixes }
+        ensures parts { Parts self.now.fixes self.now.parts }
+    {
+        self.fixes
+    }
+
+    /// How many transmissions there are.
     pub fn len(&self) -> usize
-        ensures { result ≡ length self.now }
+        ensures { result ≡ length self.now.parts }
     {
         self.firsts.len()
     }
 
     /// One of them.
     pub fn nth(&self, k: usize) -> Transmission<'s, 'a>
-        requires { k < length self.now }
-        ensures { result ≡ slice_index_or self.now k [] }
+        requires { k < length self.now.parts }
+        ensures fixes { result.fixes ≡ self.now.fixes }
+        ensures members { members_of result ≡ slice_index_or self.now.parts k [] }
     {
         let fixes = self.fixes;
         let first = self.firsts[k];
@@ -100,16 +107,26 @@ impl<'s, 'a> Transmissions<'s, 'a> {
 impl<'s, 'a> Transmission<'s, 'a> {
     /// How many fixes it has.
     pub fn len(&self) -> usize
-        ensures { result ≡ length self.now }
+        ensures value { result ≡ length self.now.indices }
+        ensures some { 0 < result }
     {
         self.members.len()
     }
 
     /// One of its fixes, in ascending identity.
     pub fn fix(&self, i: usize) -> &'s Fix<'a>
-        requires { i < length self.now }
-        ensures { result.now ≡ slice_index_or self.now i result.now }
+        requires { i < length self.now.indices }
+        ensures { result.now ≡ fix_at self.now.fixes (get_or self.now.indices i 0) }
     {
         &self.fixes[self.members[i] as usize]
+    }
+
+    /// Its index among the fixes of the board.
+    pub fn index(&self, i: usize) -> u8
+        requires { i < length self.now.indices }
+        ensures value { result ≡ get_or self.now.indices i 0 }
+        ensures within { result < length self.now.fixes }
+    {
+        self.members[i]
     }
 }

@@ -9,7 +9,7 @@ ghost use Rattle.errors.specs.Errors.{value_or_number};
 ghost use Rattle.drawing.specs.Text.{ranked_text};
 ghost use Rattle.listing.specs.Listing as T;
 
-use drawing::Role;
+use drawing::Standing;
 use errors::Error;
 use stored::view::View;
 use text::Text;
@@ -28,7 +28,7 @@ fn push_standing(out: &mut Text, block: &Block<'_>)
     let n = block.fix_count();
     for k in 0..n {
         let fix = block.fix(k);
-        drawing::push_line(out, Role::Ranked, fix.report, fix.signers);
+        drawing::push_line(out, Standing::Ranked, fix.report, fix.signers);
     }
 }
 
@@ -38,7 +38,7 @@ fn push_refusal(out: &mut Text, refusal: &RefusedFix<'_>)
 {
     let fix = &refusal.fix;
     let chi2 = arithmetic::stored_chi_square(refusal.chi2);
-    drawing::push_refused(out, fix.report, fix.signers, chi2);
+    drawing::push_line(out, Standing::Refused(chi2), fix.report, fix.signers);
 }
 
 // The lines of the refused fixes.

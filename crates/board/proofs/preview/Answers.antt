@@ -10,7 +10,7 @@ use Rattle.errors.proofs.Numbered.{never-zero}
 use Rattle.register.specs.Memory.{well_formed, decode}
 use Rattle.register.proofs.Opened.{other-size}
 use Rattle.board.specs.Board.{draw_board}
-use Rattle.board.specs.Preview.{convict, draw_preview}
+use Rattle.board.specs.Preview.{convict}
 use Rattle.board.proofs.Previewed.{preview-refused, preview-drawn, no_copy, copy-formed}
 use Rattle.board.proofs.preview.Goals as goal
 

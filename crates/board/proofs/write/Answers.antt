@@ -1,7 +1,7 @@
-use Rattle.std.proofs.Common.{◌≤◌, le_trans, length, ◌∙◌}
-use Rattle.octets.proofs.Puts.{put_as}
+use Rattle.std.proofs.Common.{◌≡◌, ◌≤◌, le_trans, length, sym, ◌∙◌, arith, eqb-true}
+use Rattle.octets.proofs.Puts.{put_as, put-none}
 use Rattle.fixes.specs.Slots.{max_fixes}
-use Rattle.board.proofs.Lent.{board-is, lies, board-lies}
+use Rattle.board.proofs.Lent.{board-is, none-written, lies, board-lies}
 use Rattle.board.proofs.write.Goals as goal
 
 pub draw_fixes-requires-clause-room : goal.draw_fixes-requires-clause-room
@@ -18,3 +18,13 @@ returns-clause-fits c =
     let k = c.represent.ensures in
     let few : length c.represent.new.fixes.items ≤ max_fixes = rw c.deref.ensures.0 at c.deref.ensures.1 in
     board-lies c.args.register.now _ k.fixes k.formed k.in_order few
+
+pub returns-then-is_empty-clause-board : goal.returns-then-is_empty-clause-board
+returns-then-is_empty-clause-board c =
+    let none : length c.represent.new.fixes.items ≡ 0 = eqb-true _ _ (sym c.is_empty.ensures ∙ c.if-is_empty.true) in
+    put_as (sym (none-written c.args.register.now _ c.represent.ensures.fixes none)) (put-none c.args.out.now 0)
+
+pub returns-then-is_empty-clause-fits : goal.returns-then-is_empty-clause-fits
+returns-then-is_empty-clause-fits c =
+    let none : length c.represent.new.fixes.items ≡ 0 = eqb-true _ _ (sym c.is_empty.ensures ∙ c.if-is_empty.true) in
+    rw (none-written c.args.register.now _ c.represent.ensures.fixes none) (omega arith)

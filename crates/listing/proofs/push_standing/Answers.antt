@@ -4,14 +4,12 @@ use Rattle.text.specs.Texts.{append}
 use Rattle.text.proofs.Appending.{append-nil, append_more}
 use Rattle.shown.specs.Fix.{Fix}
 use Rattle.drawing.specs.Text.{ranked_text}
-use Rattle.drawing.specs.Roles.{role_name}
 use Rattle.listing.proofs.push_standing.Goals as goal
 
 pub loop-k-init : goal.loop-k-init
 loop-k-init c = sym (append-nil c.args.out.now)
 
 pub loop-k-preserved : goal.loop-k-preserved
-unfolding role_name
 loop-k-preserved c =
     let h : c.loop-k.k < length c.args.block.now.fixes = omega (arith, c.loop-k-test.true, c.fix_count-n.ensures) in
     append_more ranked_text c.args.block.now.fixes c.loop-k.k c.fix-fix.result _ _ _ h c.loop-k.invariant

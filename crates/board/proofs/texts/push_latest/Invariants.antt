@@ -1,9 +1,11 @@
-use Rattle.std.proofs.Common.{◌≡◌, ◌+◌, drop, map}
+use Rattle.std.proofs.Common.{◌≡◌, ◌≤◌, ◌+◌, ◌-◌, drop}
 use Rattle.text.specs.Texts.{append}
-use Rattle.drawing.specs.Text.{text_from}
-use Rattle.transmissions.specs.Leads.{shown_at}
+use Rattle.board.specs.Drawn.{parts_text}
 use Rattle.board.proofs.texts.push_latest.Given as goal
 
 -- what is written and what is left are the whole
-abbrev pub invariant-loop-i : goal.invariant-loop-i
-invariant-loop-i l = append l.out (text_from (l.i + 1) (drop l.i (map (shown_at l.transmissions) l.leads))) ≡ append l.initial.out (text_from 1 (map (shown_at l.transmissions) l.leads))
+abbrev pub invariant-loop-k : goal.invariant-loop-k
+invariant-loop-k l = record {
+  from : l.start ≤ l.k;
+  whole : append l.out (parts_text (l.k - l.start + 1) (drop l.k l.picture.parts)) ≡ append l.initial.out (parts_text 1 (drop l.start l.picture.parts));
+}

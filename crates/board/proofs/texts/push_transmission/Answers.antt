@@ -1,7 +1,34 @@
-use Rattle.text.proofs.Appending.{append-then}
-use Rattle.drawing.specs.Text.{text_of}
+use Rattle.std.proofs.Common.{sym, ap, ◌∙◌, get_or, flat_map, take_all}
+use Rattle.text.specs.Texts.{append}
+use Rattle.text.proofs.Appending.{append-nil, append_more, append-then}
+use Rattle.shown.specs.Fix.{Fix}
+use Rattle.drawing.specs.declared.Standing.TheVariants.{Ranked}
+use Rattle.drawing.specs.Lines.{header}
+use Rattle.drawing.specs.Standings.{standing_line}
+use Rattle.transmissions.specs.declared.line.Line.{Line}
+use Rattle.transmissions.specs.declared.part.Counts.{Counts}
+use Rattle.transmissions.specs.Lines.{line_in}
+use Rattle.board.specs.Drawn.{line_text}
+use Rattle.board.proofs.Drawing.{flat-map}
 use Rattle.board.proofs.texts.push_transmission.Goals as goal
 
+pub loop-line-init : goal.loop-line-init
+loop-line-init c = sym (append-nil c.push_header.new.out)
+
+pub loop-line-preserved : goal.loop-line-preserved
+loop-line-preserved c =
+    let d : Line = record { fix = 0; standing = Ranked } in
+    let l : Line = get_or c.lines-line-items.result.now c.loop-line.line-index d in
+    append_more (λ x. line_text (line_in c.args.picture.now.fixes x)) c.lines-line-items.result.now c.loop-line.line-index d _ _ _ c.loop-line-test.true c.loop-line.invariant
+    (c.push_line.ensures ∙ ap (λ (f : Fix). append c.loop-line.out (standing_line l.standing f.record_bytes f.signers)) (c.fix.view_is ∙ c.fix-fix.ensures))
+
 pub returns : goal.returns
-unfolding text_of mathlib.Core.List.flat_map
-returns c = search append-then depth 10
+returns c =
+    let fs = c.args.picture.now.fixes in
+    append-then c.args.out.now c.push_header.new.out _ _ _
+    (c.push_header.ensures ∙ ap (λ (n : Counts). append c.args.out.now (header c.args.number n.ranked n.dominated n.refused)) c.counts-counts.ensures)
+    (c.loop-line.invariant
+    ∙ ap (append c.push_header.new.out)
+    (ap (flat_map (λ x. line_text (line_in fs x))) (take_all _ c.lines-line-items.result.now c.loop-line-test.false)
+    ∙ sym (flat-map line_text (line_in fs) c.lines-line-items.result.now)
+    ∙ ap (flat_map line_text) c.lines-line-items.ensures.lines))

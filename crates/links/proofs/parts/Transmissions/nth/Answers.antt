@@ -1,4 +1,5 @@
-use Rattle.std.proofs.Common.{ap, ◌∙◌, arith, eq-eqb, ne_eqb}
+use Rattle.std.proofs.Common.{get_or, ap, ◌∙◌, arith, eq-eqb, ne_eqb}
+use Rattle.links.proofs.Counting.{some-labelled}
 use Rattle.links.proofs.Parting.{filt-none, passed-in, passed-by, passed-few, all-below}
 use Rattle.links.proofs.parts.Transmissions.nth.Goals.{then-self-j, else-self-j}
 use Rattle.links.proofs.parts.Transmissions.nth.Goals as goal
@@ -7,7 +8,7 @@ pub loop-j-init : goal.loop-j-init
 loop-j-init c = c.new-members.ensures ∙ filt-none _
 
 pub push-requires : goal.push-requires
-push-requires c = let z = passed-few _ _ _ c.loop-j.invariant in let few = c.self.invariant in (omega arith, omega (arith, z, few))
+push-requires c = let z = passed-few _ _ _ c.loop-j.invariant in let few = c.self.invariant.few in (omega arith, omega (arith, z, few))
 
 pub loop-j-preserved : goal.loop-j-preserved
 loop-j-preserved c =
@@ -17,4 +18,7 @@ loop-j-preserved c =
     ]
 
 pub invariant_of-result : goal.invariant_of-result
-invariant_of-result c = all-below _ _ _ _ c.loop-j.invariant (omega arith)
+invariant_of-result c = record {
+  some = some-labelled _ _ _ c.self.invariant c.args.k _ (rw (← c.self.view_is) at c.requires) (ap (λ l. get_or l c.args.k 0) c.deref.ensures.0) _ _ c.loop-j.invariant (omega arith);
+  there = all-below _ _ _ _ c.loop-j.invariant (omega arith);
+}
