@@ -1,7 +1,6 @@
 pub mod Texts
 pub mod Heights
 pub mod Printed
-pub mod Encoded
 pub mod Swapped
 pub mod Forward
 pub mod Sessions

@@ -1,7 +1,7 @@
 -- The definitions of values at the steps of the loops that read them.
 use Rattle.std.proofs.Common.{sym, ap, ◌/◌, ◌++◌, append_assoc, append-nil, suc, option_map, MatchOption, ◌≡◌, refl, ℕ, ◌+◌, ◌-◌, ◌*◌, ◌≤◌, ◌<◌, List, [], ◌∷◌, length, drop, get_or, Option, Some, None, ◌∙◌, arith, drop-cons, add-one, le-ltb, drop_of_length-le}
 use Rattle.text.specs.Numbers.{decimal_value}
-use Rattle.grammar.specs.Numbers.{numbers_by, read_hex, hex_up_to, read_numbers, read_number, split_once, hex_byte, hex_bytes, all_digits, digits_after}
+use Rattle.grammar.specs.Numbers.{list_by, read_hex, hex_up_to, read_list, split_once, hex_byte, hex_bytes, all_digits, digits_after}
 
 pub value_grows : (a : ℕ) (t : List ℕ) → a ≤ decimal_value a t
 unfolding decimal_value
@@ -31,6 +31,11 @@ digits-end most a t i h l = rw (drop_of_length-le t h) (grind arith)
 
 pub ruleset digits_steps = (digit_low, digit-high, digit-more, digit-over, digits-end)
 
+-- what was read goes before what is read
+ahead : {A : Type 0} (b : List A) (x : A) (o : Option (List A)) → option_map (λ (m : List A). b ++ m) (option_map (λ (l : List A). x ∷ l) o) ≡ option_map (λ (m : List A). (b ++ x ∷ []) ++ m) o
+ahead b x None = refl
+ahead b x (Some l) = ap Some (sym (append_assoc b (x ∷ []) l))
+
 -- ---- hex
 
 -- two digits are a byte
@@ -43,11 +48,6 @@ hex_length (a ∷ b ∷ t) = grind (arith, hex_length t)
 pub hex_within : (n : ℕ) (t : List ℕ) → length t / 2 ≤ n → hex_up_to n t ≡ hex_bytes t
 hex_within n t h = rw (le-ltb n (length t / 2) h) refl
 
--- what was read goes before what is read
-moved : (b : List ℕ) (x : ℕ) (o : Option (List ℕ)) → option_map (λ (m : List ℕ). b ++ m) (option_map (λ (l : List ℕ). x ∷ l) o) ≡ option_map (λ (m : List ℕ). (b ++ x ∷ []) ++ m) o
-moved b x None = refl
-moved b x (Some l) = ap Some (sym (append_assoc b (x ∷ []) l))
-
 pub hex_none : (b s : List ℕ) → 2 ≤ length s → hex_byte (get_or s 0 0) (get_or s 1 0) ≡ None → option_map (λ (m : List ℕ). b ++ m) (hex_bytes s) ≡ None
 unfolding hex_bytes
 hex_none b [] h e = absurd (omega arith)
@@ -59,7 +59,7 @@ pub hex-more : (b s : List ℕ) (x : ℕ) → 2 ≤ length s → hex_byte (get_o
 unfolding hex_bytes
 hex-more b [] x h e = absurd (omega arith)
 hex-more b (a ∷ []) x h e = absurd (omega arith)
-hex-more b (a ∷ d ∷ s) x h e = rw e (moved b x (hex_bytes s))
+hex-more b (a ∷ d ∷ s) x h e = rw e (ahead b x (hex_bytes s))
 
 pub hex_end : (b s : List ℕ) → length s ≡ 0 → option_map (λ (m : List ℕ). b ++ m) (hex_bytes s) ≡ Some b
 unfolding hex_bytes
@@ -84,24 +84,24 @@ hex_part n t m e l = grind (arith, hex_length t)
 
 -- ---- lists
 
-module _ (most : ℕ) (p t : List ℕ) (n : ℕ) where
-  pub list_full : n ≡ 0 → option_map (λ (m : List ℕ). p ++ m) (read_numbers most n t) ≡ None
-  unfolding read_numbers
+module _ {A : Type 0} (read : List ℕ → Option A) (p : List A) (t : List ℕ) (n : ℕ) where
+  pub list_full : n ≡ 0 → option_map (λ (m : List A). p ++ m) (read_list read n t) ≡ None
+  unfolding read_list
   list_full z = rw z refl
 
-  list_step : 0 < n → (q : Option (List ℕ × List ℕ)) → split_once 44 t ≡ q → read_numbers most n t ≡ numbers_by most t (read_numbers most (n - 1)) q
-  unfolding read_numbers
-  list_step h q e = let z : n ≡ suc (n - 1) = omega arith in ap (λ (i : ℕ). read_numbers most i t) z ∙ ap (numbers_by most t (read_numbers most (n - 1))) e
+  list_step : 0 < n → (q : Option (List ℕ × List ℕ)) → split_once 44 t ≡ q → read_list read n t ≡ list_by read t (read_list read (n - 1)) q
+  unfolding read_list
+  list_step h q e = let z : n ≡ suc (n - 1) = omega arith in ap (λ (i : ℕ). read_list read i t) z ∙ ap (list_by read t (read_list read (n - 1))) e
 
-  pub list_bad : (f o : List ℕ) → 0 < n → split_once 44 t ≡ Some (f, o) → read_number most f ≡ None → option_map (λ (m : List ℕ). p ++ m) (read_numbers most n t) ≡ None
-  list_bad f o h e k = grind (arith, list_step h (Some (f, o)) e)
+  pub list_bad : (f o : List ℕ) → 0 < n → split_once 44 t ≡ Some (f, o) → read f ≡ None → option_map (λ (m : List A). p ++ m) (read_list read n t) ≡ None
+  list_bad f o h e k = rw (list_step h (Some (f, o)) e, k) refl
 
-  pub list-more : (f o : List ℕ) (x : ℕ) → 0 < n → split_once 44 t ≡ Some (f, o) → read_number most f ≡ Some x
-      → option_map (λ (m : List ℕ). p ++ m) (read_numbers most n t) ≡ option_map (λ (m : List ℕ). (p ++ x ∷ []) ++ m) (read_numbers most (n - 1) o)
-  list-more f o x h e k = grind (arith, list_step h (Some (f, o)) e, moved p x (read_numbers most (n - 1) o))
+  pub list-more : (f o : List ℕ) (x : A) → 0 < n → split_once 44 t ≡ Some (f, o) → read f ≡ Some x
+      → option_map (λ (m : List A). p ++ m) (read_list read n t) ≡ option_map (λ (m : List A). (p ++ x ∷ []) ++ m) (read_list read (n - 1) o)
+  list-more f o x h e k = rw (list_step h (Some (f, o)) e, k) (ahead p x (read_list read (n - 1) o))
 
-  pub last_bad : 0 < n → split_once 44 t ≡ None → read_number most t ≡ None → option_map (λ (m : List ℕ). p ++ m) (read_numbers most n t) ≡ None
-  last_bad h e k = grind (arith, list_step h None e)
+  pub last_bad : 0 < n → split_once 44 t ≡ None → read t ≡ None → option_map (λ (m : List A). p ++ m) (read_list read n t) ≡ None
+  last_bad h e k = rw (list_step h None e, k) refl
 
-  pub list-last : (x : ℕ) → 0 < n → split_once 44 t ≡ None → read_number most t ≡ Some x → option_map (λ (m : List ℕ). p ++ m) (read_numbers most n t) ≡ Some (p ++ x ∷ [])
-  list-last x h e k = grind (arith, list_step h None e)
+  pub list-last : (x : A) → 0 < n → split_once 44 t ≡ None → read t ≡ Some x → option_map (λ (m : List A). p ++ m) (read_list read n t) ≡ Some (p ++ x ∷ [])
+  list-last x h e k = rw (list_step h None e, k) refl

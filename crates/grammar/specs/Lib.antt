@@ -1,5 +1,4 @@
 pub mod Numbers
-pub mod Records
 pub mod Keys
 pub mod Lines
 pub mod Operations

@@ -66,22 +66,22 @@ read_height t = if bytes_eq t (codes "none") then Some None else option_map Some
 
 -- ---- lists of numbers
 
--- a number, and what others there are behind a comma
-abbrev pub numbers_by : ℕ → List ℕ → (List ℕ → Option (List ℕ)) → Option (List ℕ × List ℕ) → Option (List ℕ)
-numbers_by most t others None = option_map (λ (x : ℕ). x ∷ []) (read_number most t)
-numbers_by most t others (Some p) = read_number most p.0 >>= λ (x : ℕ). option_map (λ (l : List ℕ). x ∷ l) (others p.1)
+-- a value, and what others there are behind a comma
+abbrev pub list_by : {A : Type 0} → (List ℕ → Option A) → List ℕ → (List ℕ → Option (List A)) → Option (List ℕ × List ℕ) → Option (List A)
+list_by {A} read t others None = option_map (λ (x : A). x ∷ []) (read t)
+list_by {A} read t others (Some p) = read p.0 >>= λ (x : A). option_map (λ (l : List A). x ∷ l) (others p.1)
 
--- numbers with commas between them, at least one and no more than there is room for
-unfoldable pub read_numbers : ℕ → ℕ → List ℕ → Option (List ℕ)
-read_numbers most zero t = None
-read_numbers most (suc room) t = numbers_by most t (read_numbers most room) (split_once 44 t)
+-- values with commas between them, at least one and no more than there is room for
+unfoldable pub read_list : {A : Type 0} → (List ℕ → Option A) → ℕ → List ℕ → Option (List A)
+read_list read zero t = None
+read_list read (suc room) t = list_by read t (read_list read room) (split_once 44 t)
 
 -- models with commas between, or the word `none`
 unfoldable pub read_models : List ℕ → Option (List ℕ)
-read_models t = if bytes_eq t (codes "none") then Some [] else read_numbers u8 max_models t
+read_models t = if bytes_eq t (codes "none") then Some [] else read_list (read_number u8) max_models t
 
 abbrev pub read_tags : List ℕ → Option (List ℕ)
-read_tags t = read_numbers u64 max_tags t
+read_tags t = read_list (read_number u64) max_tags t
 
 -- ---- hex
 

@@ -5,7 +5,7 @@ use Rattle.std.specs.Str.{bytes_eq}
 use Rattle.record.specs.Layout.{max_tags, max_models}
 use Rattle.models.specs.Summary.{inputs_size}
 use Rattle.register.specs.Calls.{Call, report, summary, conviction}
-use Rattle.grammar.specs.Records.{unsigned_of, pad, height_bytes, message_bytes, place_bytes, sighting_bytes, cited_bytes}
+use Rattle.record.specs.Encoded.{unsigned_of, pad, height_bytes, message_bytes, place_bytes, sighting_bytes, cited_bytes}
 use Rattle.grammar.specs.declared.lines.Due.TheVariants as due
 use Rattle.grammar.specs.declared.lines.Kind.{Kind}
 use Rattle.grammar.specs.declared.lines.Kind.TheVariants as kind

@@ -6,9 +6,9 @@ pub mod claims;
 mod lines;
 mod numbers;
 mod reader;
-mod reports;
 mod session;
+mod values;
 
-pub use lines::{BadLine, Call, Due, Lines, Report};
+pub use lines::{BadLine, Call, Due, Lines};
 pub use numbers::split_once;
 pub use session::check;

@@ -2,7 +2,8 @@
 
 ghost use Rattle.std.specs.Prelude.{◌+◌, ◌^◌, ◌<◌, length};
 
-use arrayvec::ArrayVec;
+use models::layout::INPUTS_SIZE;
+use record::Fields;
 
 /// The lines that are left, and the number of the first of them.
 #[derive(Drop)]
@@ -46,22 +47,6 @@ pub enum Kind {
     Report,
 }
 
-/// A report's lines after the engine's. Time is in nanoseconds, places in 1e-7 degree, a height in millimetres.
-#[derive(Drop)]
-pub struct Report {
-    pub time: u64,
-    pub lat: i32,
-    pub lon: i32,
-    pub height: Option<i32>,
-    pub message: ArrayVec<u8, 14>,
-    pub tags: ArrayVec<u64, 16>,
-    pub used: u16,
-    pub models: ArrayVec<u64, 4>,
-    pub spec: u16,
-    /// The bits of its six numbers, as they stand in memory.
-    pub covariance: [u8; 48],
-}
-
 /// A call on a register.
 #[derive(Drop)]
 pub enum Call {
@@ -69,13 +54,13 @@ pub enum Call {
         engine: u8,
         model: u8,
         spec: u16,
-        inputs: [u8; 32],
+        inputs: [u8; INPUTS_SIZE],
     },
     Conviction {
         engine: u8,
     },
     Report {
         engine: u8,
-        report: Report,
+        fields: Fields,
     },
 }

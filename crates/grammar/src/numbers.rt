@@ -1,11 +1,14 @@
 //! The values of lines, each from the whole text of a value.
 
-ghost use Rattle.std.specs.Prelude.{◌≡◌, ◌≤◌, ◌<◌, ◌==◌, ◌&&◌, nat_lt, slice_index, length, IfSome, option_map, position};
+ghost use Rattle.std.specs.Prelude.{◌≡◌, ◌+◌, ◌≤◌, ◌<◌, ◌==◌, ◌&&◌, nat_lt, slice_index, length, take, drop, reverse, IfSome, option_map, position};
+ghost use Rattle.octets.specs.Words.{word_bytes};
+ghost use Rattle.record.specs.Encoded.{words};
 ghost use Rattle.grammar.specs.Numbers as Val;
 ghost use Rattle.grammar.specs.Operations.{kind_of};
 
 use crate::lines::Kind;
 use arrayvec::ArrayVec;
+use record::layout::{COVARIANCE_NUMBERS, COVARIANCE_SIZE, MESSAGE_ROOM, SHORT_MESSAGE};
 
 // Where a byte stands first.
 fn find(bytes: &[u8], byte: u8) -> Option<usize>
@@ -135,69 +138,46 @@ pub fn hex_array<const SIZE: usize>(text: &[u8]) -> Option<[u8; SIZE]>
     }
 }
 
-/// A message of 7 or 14 bytes.
+/// The bytes of a message, 7 or 14.
 #[tactic(auto, unfolding(crate::specs::Numbers::read_message))]
-pub fn message(text: &[u8]) -> Option<ArrayVec<u8, 14>>
+pub fn message(text: &[u8]) -> Option<ArrayVec<u8, MESSAGE_ROOM>>
     ensures { option_map (λ v. v.items) result ≡ Val.read_message text.now }
 {
-    if text.len() == 14 || text.len() == 28 {
+    if text.len() == 2 * (SHORT_MESSAGE as usize) || text.len() == 2 * MESSAGE_ROOM {
         return hex(text);
     }
     None
 }
 
-/// Numbers with commas between, each of at most `most`: at least one, and no more than there is room for.
-pub fn list<const ROOM: usize>(text: &[u8], most: u64) -> Option<ArrayVec<u64, ROOM>>
-    ensures { option_map (λ v. v.items) result ≡ Val.read_numbers most ROOM text.now }
+// The number in the 8 bytes at a place, the highest first.
+fn number_at(bytes: &[u8; COVARIANCE_SIZE], at: usize) -> u64
+    requires { at + 8 ≤ 48 }
+    ensures { word_bytes 8 result ≡ reverse (take 8 (drop at bytes.now)) }
 {
-    let mut numbers = ArrayVec::new();
-    let mut rest = text;
-    while !numbers.is_full() {
-        match split_once(rest, b',') {
-            Some((first, others)) => {
-                numbers.push(number(first, most)?);
-                rest = others;
-            }
-            None => {
-                numbers.push(number(rest, most)?);
-                return Some(numbers);
-            }
-        }
-    }
-    None
+    octets::words::u64_at(bytes, at).swap_bytes()
 }
 
-/// Models, of which there may be none.
-#[tactic(auto, unfolding(crate::specs::Numbers::read_models))]
-pub fn models(text: &[u8]) -> Option<ArrayVec<u64, 4>>
-    ensures { option_map (λ v. v.items) result ≡ Val.read_models text.now }
+// Six numbers, each of 8 bytes with the highest first.
+fn six_numbers(bytes: &[u8; COVARIANCE_SIZE]) -> [u64; COVARIANCE_NUMBERS]
+    ensures { words 8 result ≡ Val.swap_bytes 6 bytes.now }
 {
-    if text == b"none".as_slice() {
-        return Some(ArrayVec::new());
-    }
-    list(text, 255)
+    [
+        number_at(bytes, 0),
+        number_at(bytes, 8),
+        number_at(bytes, 16),
+        number_at(bytes, 24),
+        number_at(bytes, 32),
+        number_at(bytes, 40),
+    ]
 }
 
-// Six numbers of 8 bytes each, from the highest byte first to the lowest first.
-fn swap_bytes(s: &[u8]) -> [u8; 48]
-    requires { length s.now ≡ 48 }
-    ensures { result ≡ Val.swap_bytes 6 s.now }
-{
-    let mut out = [0u8; 48];
-    let mut i: usize = 0;
-    while i < 48 {
-        out[i] = s[i + 7 - 2 * (i % 8)];
-        i += 1;
-    }
-    out
-}
-
-/// The bits of a covariance's six numbers, as they stand in memory.
+/// The bits of a covariance's six numbers.
 #[tactic(auto, unfolding(crate::specs::Numbers::read_covariance))]
-pub fn covariance(text: &[u8]) -> Option<[u8; 48]>
-    ensures { result ≡ Val.read_covariance text.now }
+pub fn covariance(text: &[u8]) -> Option<[u64; COVARIANCE_NUMBERS]>
+    ensures { option_map (words 8) result ≡ Val.read_covariance text.now }
 {
-    Some(swap_bytes(&hex_array::<48>(text)?))
+    let bytes = hex_array(text)?;
+    Some(six_numbers(&bytes))
 }
 
 /// The operation that a text names.

@@ -1,16 +1,15 @@
 //! Reading the lines.
 
 ghost use Rattle.std.specs.Prelude.{◌≡◌, ◌≤◌, ◌+◌, ◌<◌, length, List, ℕ, take, drop, MatchOption, IfOk, OnErr};
-ghost use Rattle.models.specs.Summary.{inputs_size};
-ghost use Rattle.grammar.specs.Numbers as Val;
 ghost use Rattle.grammar.specs.Operations as G;
 ghost use Rattle.grammar.specs.Lines as R;
 ghost use Rattle.grammar.specs.Gives.{Gives, lines_left, call_of};
 ghost use Rattle.grammar.specs.Keys.{key_of, value_in_words};
 
-use crate::lines::{BadLine, Call, Due, Kind, Lines, Report};
+use crate::lines::{BadLine, Call, Due, Kind, Lines};
 use crate::numbers;
-use arrayvec::ArrayVec;
+use crate::values::{Covariance, Message, Models, Tags, Value};
+use record::Fields;
 
 impl Due {
     /// What the line begins with.
@@ -94,102 +93,21 @@ impl<'a> Lines<'a> {
         Ok(text)
     }
 
-    // The number of at most `most` on the line due.
+    // The value of the line due.
     #[tactic(auto, unfolding(crate::specs::Lines::value))]
-    fn number(&mut self, due: Due, most: u64) -> Result<u64, BadLine>
-        ensures value { Gives (λ n. n) result self.new (R.value due (Val.read_number most) (lines_left self.old)) }
-        ensures bound { IfOk result (λ n. n ≤ most) }
+    fn value<T: Value>(&mut self, due: Due) -> Result<T, BadLine>
+        ensures { Gives (λ v. v) result self.new (R.value due T.reading (lines_left self.old)) }
     {
         let bad = self.bad(due);
         let text = self.text(due)?;
-        numbers::number(text, most).ok_or(bad)
-    }
-
-    // The signed number on the line due.
-    #[tactic(auto, unfolding(crate::specs::Lines::value))]
-    fn signed(&mut self, due: Due) -> Result<i32, BadLine>
-        ensures { Gives (λ z. z) result self.new (R.value due Val.read_signed (lines_left self.old)) }
-    {
-        let bad = self.bad(due);
-        let text = self.text(due)?;
-        numbers::signed(text).ok_or(bad)
-    }
-
-    // The height on the line due.
-    #[tactic(auto, unfolding(crate::specs::Lines::value))]
-    fn height(&mut self, due: Due) -> Result<Option<i32>, BadLine>
-        ensures { Gives (λ h. h) result self.new (R.value due Val.read_height (lines_left self.old)) }
-    {
-        let bad = self.bad(due);
-        let text = self.text(due)?;
-        numbers::height(text).ok_or(bad)
-    }
-
-    // The message on the line due.
-    #[tactic(auto, unfolding(crate::specs::Lines::value))]
-    fn message(&mut self, due: Due) -> Result<ArrayVec<u8, 14>, BadLine>
-        ensures { Gives (λ v. v.items) result self.new (R.value due Val.read_message (lines_left self.old)) }
-    {
-        let bad = self.bad(due);
-        let text = self.text(due)?;
-        numbers::message(text).ok_or(bad)
-    }
-
-    // The tags on the line due.
-    #[tactic(auto, unfolding(crate::specs::Lines::value))]
-    fn tags(&mut self, due: Due) -> Result<ArrayVec<u64, 16>, BadLine>
-        ensures { Gives (λ v. v.items) result self.new (R.value due Val.read_tags (lines_left self.old)) }
-    {
-        let bad = self.bad(due);
-        let text = self.text(due)?;
-        numbers::list(text, u64::MAX).ok_or(bad)
-    }
-
-    // The models on the line due.
-    #[tactic(auto, unfolding(crate::specs::Lines::value))]
-    fn models(&mut self, due: Due) -> Result<ArrayVec<u64, 4>, BadLine>
-        ensures { Gives (λ v. v.items) result self.new (R.value due Val.read_models (lines_left self.old)) }
-    {
-        let bad = self.bad(due);
-        let text = self.text(due)?;
-        numbers::models(text).ok_or(bad)
-    }
-
-    // The inputs on the line due.
-    #[tactic(auto, unfolding(crate::specs::Lines::value))]
-    fn inputs(&mut self, due: Due) -> Result<[u8; 32], BadLine>
-        ensures { Gives (λ v. v) result self.new (R.value due (Val.read_hex inputs_size) (lines_left self.old)) }
-    {
-        let bad = self.bad(due);
-        let text = self.text(due)?;
-        numbers::hex_array(text).ok_or(bad)
-    }
-
-    // The covariance on the line due.
-    #[tactic(auto, unfolding(crate::specs::Lines::value))]
-    fn covariance(&mut self, due: Due) -> Result<[u8; 48], BadLine>
-        ensures { Gives (λ v. v) result self.new (R.value due Val.read_covariance (lines_left self.old)) }
-    {
-        let bad = self.bad(due);
-        let text = self.text(due)?;
-        numbers::covariance(text).ok_or(bad)
-    }
-
-    // The operation on the line due.
-    #[tactic(auto, unfolding(crate::specs::Lines::value))]
-    fn kind(&mut self, due: Due) -> Result<Kind, BadLine>
-        ensures { Gives (λ k. k) result self.new (R.value due G.kind_of (lines_left self.old)) }
-    {
-        let bad = self.bad(due);
-        let text = self.text(due)?;
-        numbers::kind(text).ok_or(bad)
+        T::read(text).ok_or(bad)
     }
 
     #[tactic(auto, unfolding(crate::specs::Operations::conviction_at))]
     fn conviction(&mut self) -> Result<Call, BadLine>
         ensures { Gives call_of result self.new (G.conviction_at (lines_left self.old)) }
     {
-        let engine = self.number(Due::Engine, 255)? as u8;
+        let engine = self.value(Due::Engine)?;
         Ok(Call::Conviction { engine })
     }
 
@@ -197,10 +115,10 @@ impl<'a> Lines<'a> {
     fn summary(&mut self) -> Result<Call, BadLine>
         ensures { Gives call_of result self.new (G.summary_at (lines_left self.old)) }
     {
-        let engine = self.number(Due::Engine, 255)? as u8;
-        let model = self.number(Due::Model, 255)? as u8;
-        let spec = self.number(Due::Spec, 0xffff)? as u16;
-        let inputs = self.inputs(Due::Inputs)?;
+        let engine = self.value(Due::Engine)?;
+        let model = self.value(Due::Model)?;
+        let spec = self.value(Due::Spec)?;
+        let inputs = self.value(Due::Inputs)?;
         Ok(Call::Summary {
             engine,
             model,
@@ -209,34 +127,34 @@ impl<'a> Lines<'a> {
         })
     }
 
-    #[tactic(auto, unfolding(crate::specs::Operations::report_at))]
+    #[tactic(auto, unfolding(crate::specs::Operations::report_at, record::specs::Encoded::bytes_of))]
     fn report(&mut self) -> Result<Call, BadLine>
         ensures { Gives call_of result self.new (G.report_at (lines_left self.old)) }
     {
-        let engine = self.number(Due::Engine, 255)? as u8;
-        let time = self.number(Due::Time, u64::MAX)?;
-        let lat = self.signed(Due::Lat)?;
-        let lon = self.signed(Due::Lon)?;
-        let height = self.height(Due::Height)?;
-        let message = self.message(Due::Message)?;
-        let tags = self.tags(Due::Tags)?;
-        let used = self.number(Due::Used, 65535)? as u16;
-        let models = self.models(Due::Models)?;
-        let spec = self.number(Due::Spec, 0xffff)? as u16;
-        let cov = self.covariance(Due::Cov)?;
+        let engine = self.value(Due::Engine)?;
+        let time = self.value(Due::Time)?;
+        let latitude = self.value(Due::Lat)?;
+        let longitude = self.value(Due::Lon)?;
+        let height = self.value(Due::Height)?;
+        let Message(message) = self.value(Due::Message)?;
+        let Tags(tags) = self.value(Due::Tags)?;
+        let used = self.value(Due::Used)?;
+        let Models(models) = self.value(Due::Models)?;
+        let spec = self.value(Due::Spec)?;
+        let Covariance(covariance) = self.value(Due::Cov)?;
         Ok(Call::Report {
             engine,
-            report: Report {
+            fields: Fields {
                 time,
-                lat,
-                lon,
+                latitude,
+                longitude,
                 height,
                 message,
                 tags,
                 used,
                 models,
                 spec,
-                covariance: cov,
+                covariance,
             },
         })
     }
@@ -246,7 +164,7 @@ impl<'a> Lines<'a> {
     fn read_operation(&mut self) -> Result<Call, BadLine>
         ensures { Gives call_of result self.new (G.operation_at (lines_left self.old)) }
     {
-        match self.kind(Due::Op)? {
+        match self.value(Due::Op)? {
             Kind::Summary => self.summary(),
             Kind::Conviction => self.conviction(),
             Kind::Report => self.report(),

@@ -1,4 +1,4 @@
--- What is told of a session, by whether it is refused.
+-- What is told of a session follows from whether it is refused, and why.
 use Rattle.std.proofs.Common.{◌≡◌, refl, ap, sym, ℕ, List, Some, None, Result, Ok, Err}
 use Rattle.std.specs.Result.{result_err}
 use Rattle.register.specs.Calls.{Call}
@@ -8,45 +8,17 @@ use Rattle.grammar.proofs.Forward.{calls-good}
 use Rattle.sessions.specs.declared.refusals.Refusal.{Refusal}
 use Rattle.sessions.specs.Output.{calls_of}
 use Rattle.sessions.proofs.Quiet.{session-good}
-use Rattle.reasons.specs.Reasons.{reason_of}
-use Rattle.notices.specs.declared.saying.Ending.TheVariants as ending
+use Rattle.sessions.proofs.Refused.{reason-some}
 use Rattle.notices.specs.Notices.{notices}
-use Rattle.notices.specs.Told.{told_by, told_of, ending_with, ending_by, ending_of}
+use Rattle.notices.specs.Told.{told_by, told_of, ending_with, ending_by, ending_of, said_of, ended_as}
+use Rattle.notices.specs.Claims.{ToldByRefusal}
 
--- refused
-module _ (s : List ℕ) (r : Refusal) (e : Some r ≡ result_err (calls_of s)) where
-  pub told-refused : told_of s ≡ reason_of s
-  unfolding told_of
-  told-refused = go (calls_of s) e
-    where
-      go : (m : Result (List Call) Refusal) → Some r ≡ result_err m → told_by s m ≡ reason_of s
-      go (Ok cs) e = cc
-      go (Err q) e = refl
+said-by : (s : List ℕ) (m : Result (List Call) Refusal) → calls_of s ≡ m → (said_of s (result_err m) ≡ told_by s m) × (ended_as s (result_err m) ≡ ending_by m)
+said-by s (Ok cs) q =
+    let same : calls_from (at_start s) ≡ cs = calls-good (at_start s) cs (session-good s cs q) in
+    (ap (notices 1 1 fresh) same, ap (λ (calls : List Call). ending_with (notices 1 1 fresh calls)) same)
+said-by s (Err r) q = (sym (reason-some s r (sym (ap result_err q))), refl)
 
-  pub ending-refused : ending_of s ≡ ending.Refused
-  unfolding ending_of
-  ending-refused = go (calls_of s) e
-    where
-      go : (m : Result (List Call) Refusal) → Some r ≡ result_err m → ending_by m ≡ ending.Refused
-      go (Ok cs) e = cc
-      go (Err q) e = refl
-
--- not refused
-module _ (s : List ℕ) (e : None ≡ result_err (calls_of s)) where
-  abbrev calls : List Call
-  calls = calls_from (at_start s)
-
-  read : calls_of s ≡ Ok calls
-  read = go (calls_of s) refl e
-    where
-      go : (m : Result (List Call) Refusal) → calls_of s ≡ m → None ≡ result_err m → m ≡ Ok calls
-      go (Ok cs) q e = ap Ok (sym (calls-good (at_start s) cs (session-good s cs q)))
-      go (Err b) q e = cc
-
-  pub told-done : told_of s ≡ notices 1 1 fresh calls
-  unfolding told_of
-  told-done = ap (told_by s) read
-
-  pub ending-done : ending_of s ≡ ending_with (notices 1 1 fresh calls)
-  unfolding ending_of
-  ending-done = ap ending_by read
+pub told-by-refusal : ToldByRefusal
+unfolding told_of ending_of
+told-by-refusal s = let b = said-by s (calls_of s) refl in record { text = b.0; ending = b.1 }

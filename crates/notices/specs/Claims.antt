@@ -1,6 +1,8 @@
--- What is claimed of what is said of a session. The contracts of src/claims.rt name it; the proofs are in proofs/Nothing and proofs/Counted.
+-- What is claimed of what is said of a session. The contracts of src/claims.rt name it; the proofs are in proofs/Nothing,
+-- proofs/Counted and proofs/Cases.
 -- Source: docs/REFERENCE.md, 'Session'.
 use Rattle.std.specs.Prelude.{ℕ, ◌+◌, ◌≡◌, List, length, ◌==◌, if◌then◌else◌, Ok}
+use Rattle.std.specs.Result.{result_err}
 use Rattle.register.specs.Calls.{Call}
 use Rattle.register.specs.Memory.{fresh}
 use Rattle.grammar.specs.Lines.{At}
@@ -8,7 +10,7 @@ use Rattle.grammar.specs.Operations.{operation_at}
 use Rattle.sessions.specs.Output.{calls_of}
 use Rattle.notices.specs.declared.saying.Ending.TheVariants as ending
 use Rattle.notices.specs.Notices.{lines_of, notices, all_done}
-use Rattle.notices.specs.Told.{ending_of}
+use Rattle.notices.specs.Told.{told_of, ending_of, said_of, ended_as}
 
 -- there are notices exactly where some call is answered otherwise than 0
 abbrev pub NothingSaid : Type 0
@@ -21,3 +23,11 @@ DoneExactlyWhen = (s : List ℕ) (cs : List Call) → calls_of s ≡ Ok cs → e
 -- the line on which the next operation begins is found by counting the lines of those before it
 abbrev pub LinesCounted : Type 0
 LinesCounted = (s : At) (c : Call) (r : At) → operation_at s ≡ Ok (c, r) → r.line ≡ s.line + lines_of c
+
+-- where it is known whether a session is refused, and why, what is said of it and how it ends needs no further reading of its lines
+pub record SaidAsTold (s : List ℕ) : Type 0 where
+  pub text : said_of s (result_err (calls_of s)) ≡ told_of s
+  pub ending : ended_as s (result_err (calls_of s)) ≡ ending_of s
+
+abbrev pub ToldByRefusal : Type 0
+ToldByRefusal = (s : List ℕ) → SaidAsTold s

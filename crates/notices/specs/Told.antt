@@ -1,10 +1,11 @@
 -- What is said of a session on standard error, and the status that the program ends with (docs/REFERENCE.md, 'Session').
-use Rattle.std.specs.Prelude.{ℕ, Bool, List, length, ◌==◌, if◌then◌else◌, Result, Ok, Err}
+use Rattle.std.specs.Prelude.{ℕ, Bool, List, length, ◌==◌, if◌then◌else◌, Result, Ok, Err, Option, Some, None}
 use Rattle.register.specs.Calls.{Call}
 use Rattle.register.specs.Memory.{fresh}
+use Rattle.grammar.specs.Session.{at_start, calls_from}
 use Rattle.sessions.specs.declared.refusals.Refusal.{Refusal}
 use Rattle.sessions.specs.Output.{calls_of}
-use Rattle.reasons.specs.Reasons.{reason_of}
+use Rattle.sessions.specs.Reasons.{reason_text, reason_of}
 use Rattle.notices.specs.declared.saying.Ending.{Ending}
 use Rattle.notices.specs.declared.saying.Ending.TheVariants as ending
 use Rattle.notices.specs.Notices.{notices}
@@ -28,6 +29,19 @@ ending_by (Err r) = ending.Refused
 
 unfoldable pub ending_of : List ℕ → Ending
 ending_of input = ending_by (calls_of input)
+
+-- ---- the same where it is known whether the session was refused, and why
+
+-- the sentence on that refusal, else the notices of the calls before the first bad line
+abbrev pub said_of : List ℕ → Option Refusal → List ℕ
+said_of input None = notices 1 1 fresh (calls_from (at_start input))
+said_of input (Some r) = reason_text input r
+
+abbrev pub ended_as : List ℕ → Option Refusal → Ending
+ended_as input None = ending_with (notices 1 1 fresh (calls_from (at_start input)))
+ended_as input (Some r) = ending.Refused
+
+-- ---- the exit status
 
 abbrev pub status_of : Ending → Bool → ℕ
 status_of ending.Done strict = 0

@@ -1,11 +1,11 @@
 //! What is said of a session on standard error, and how it ends.
 
 ghost use Rattle.std.specs.Prelude.{◌≡◌, IfOk};
-ghost use Rattle.reasons.specs.Reasons.{reason_of};
+ghost use Rattle.sessions.specs.Reasons.{reason_text};
 ghost use Rattle.notices.specs.Told as T;
 
 use crate::noting::notices;
-use reasons::REASON_SIZE;
+use sessions::{REASON_SIZE, Refusal};
 use std::alloc::{AllocError, Global};
 
 /// How a session ends.
@@ -41,11 +41,11 @@ pub struct Said {
 }
 
 // What is said of a session that is refused.
-fn refused(alloc: Global, input: &[u8]) -> Result<Vec<u8>, AllocError>
-    ensures { IfOk result (λ v. v.items ≡ reason_of input.now) }
+fn reason(alloc: Global, input: &[u8], refusal: Refusal) -> Result<Vec<u8>, AllocError>
+    ensures { IfOk result (λ v. v.items ≡ reason_text input.now refusal) }
 {
     let mut text = [0u8; REASON_SIZE];
-    let n = reasons::reason(input, &mut text);
+    let n = refusal.write_reason(input, &mut text);
     Vec::from_slice(alloc, &text[..n])
 }
 
@@ -60,17 +60,17 @@ fn ending_by(notices: &[u8]) -> Ending
     }
 }
 
-/// What is said of a session, and how it ends.
-pub fn told(alloc: Global, input: &[u8]) -> Result<Said, AllocError>
-    ensures text { IfOk result (λ t. t.text.items ≡ T.told_of input.now) }
-    ensures ending { IfOk result (λ t. t.ending ≡ T.ending_of input.now) }
+/// What is said of a session that was refused so, or was not, and how it ends.
+pub fn told(alloc: Global, input: &[u8], refused: Option<Refusal>) -> Result<Said, AllocError>
+    ensures text { IfOk result (λ t. t.text.items ≡ T.said_of input.now refused) }
+    ensures ending { IfOk result (λ t. t.ending ≡ T.ended_as input.now refused) }
 {
-    match sessions::check(input) {
-        Err(_) => Ok(Said {
-            text: refused(alloc, input)?,
+    match refused {
+        Some(refusal) => Ok(Said {
+            text: reason(alloc, input, refusal)?,
             ending: Ending::Refused,
         }),
-        Ok(()) => {
+        None => {
             let text = notices(alloc, input)?;
             let ending = ending_by(&text);
             Ok(Said { text, ending })

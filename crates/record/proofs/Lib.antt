@@ -3,3 +3,5 @@ pub mod Parts
 pub mod Laws
 pub mod Whole
 pub mod Values
+pub mod Encoded
+pub mod Written

@@ -3,6 +3,8 @@ pub mod Fields
 pub mod Formed
 pub mod Relations
 pub mod Value
+pub mod Encoded
+pub mod Fits
 pub mod Worked
 pub mod Added
 pub mod Claims

@@ -1,10 +1,15 @@
 //! What is claimed of records. Each function's contract is the claim; there is nothing to run.
 
-ghost use Rattle.record.specs.Claims.{RecordIsItsValue, RelationsAreOfValues, SubsetIsAnOrder};
+ghost use Rattle.record.specs.Claims.{RecordIsItsValue, BytesSayTheValue, RelationsAreOfValues, SubsetIsAnOrder};
 
 /// A record's value determines its bytes.
 pub fn record_is_its_value()
     ensures { RecordIsItsValue }
+{}
+
+/// What fields say is what is read from their bytes.
+pub fn bytes_say_the_value()
+    ensures { BytesSayTheValue }
 {}
 
 /// Whether one record is a subset of another, or tied to it, is said by their values.

@@ -8,9 +8,12 @@ ghost use Rattle.record.specs.Fields as F;
 ghost use Rattle.record.specs.Formed.{well_formed};
 
 pub mod claims;
+mod fields;
 pub mod formed;
 pub mod layout;
 pub mod relations;
+
+pub use fields::Fields;
 
 /// The fields of `formed` that the code goes by stand beside it, so that they are at hand wherever a record is.
 #[derive(Clone, Copy)]

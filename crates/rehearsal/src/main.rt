@@ -46,7 +46,10 @@ fn rehearse(rt: &(impl Input + Print), size: usize) -> io::Result<()>
     let mut input = input_buffer();
     let n = read_session(rt, &mut input, size)?;
     let mut out = output_buffer();
-    let length = sessions::run(&input[..n], &mut out);
+    let length = match sessions::run(&input[..n], &mut out) {
+        Ok(length) => length,
+        Err(refusal) => refusal.write_line(&mut out),
+    };
     rt.write_all(&out[..length])
 }
 

@@ -57,9 +57,12 @@ fn conduct(
     strict: bool,
 ) -> io::Result<u8> {
     let mut out = output_buffer();
-    let size = sessions::run(input, &mut out);
+    let (size, refused) = match sessions::run(input, &mut out) {
+        Ok(size) => (size, None),
+        Err(refusal) => (refusal.write_line(&mut out), Some(refusal)),
+    };
     rt.write_all(&out[..size])?;
-    let told = notices::told(rt.alloc(), input)?;
+    let told = notices::told(rt.alloc(), input, refused)?;
     errors.write_all(told.text.as_slice())?;
     Ok(told.ending.status(strict))
 }

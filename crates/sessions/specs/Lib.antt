@@ -1,2 +1,5 @@
 pub mod Output
+pub mod Found
+pub mod Reasons
 pub mod Claims
+pub mod Worked

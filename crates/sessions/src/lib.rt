@@ -1,7 +1,8 @@
-//! A session: its bytes to the bytes that it prints. All lines are read before any answer is written.
+//! A session: its bytes to the bytes that it prints, or why it is refused. All lines are read before any answer is written.
 #![tactic(auto)]
 
-ghost use Rattle.std.specs.Prelude.{◌≡◌, true, ◌+◌, ◌≤◌, length};
+ghost use Rattle.std.specs.Prelude.{◌≡◌, true, ◌+◌, ◌≤◌, length, IfOk, IfErr, OnErr};
+ghost use Rattle.std.specs.Result.{result_err};
 ghost use Rattle.octets.specs.Put.{Put};
 ghost use Rattle.text.specs.Texts.{append};
 ghost use Rattle.drawing.specs.Text.{board_size};
@@ -20,9 +21,13 @@ use register::layout::REGISTER_SIZE;
 use text::Text;
 
 pub mod claims;
+mod found;
+mod reasons;
 mod refusals;
 
-pub use refusals::{Refusal, check};
+pub use reasons::REASON_SIZE;
+pub use refusals::Refusal;
+use refusals::check;
 
 /// The longest input that is read.
 pub const MAX_INPUT: usize = 65536;
@@ -50,8 +55,8 @@ pub fn perform(memory: &mut [u8], call: &Call) -> Result<(), Error>
             inputs,
         } => register::summaries::summary(memory, *engine as u32, *model as u32, *spec, inputs),
         Call::Conviction { engine } => register::convictions::conviction(memory, *engine as u32),
-        Call::Report { engine, report } => {
-            register::reports::report(memory, *engine as u32, &report.record())
+        Call::Report { engine, fields } => {
+            register::reports::report(memory, *engine as u32, &fields.bytes())
         }
     }
 }
@@ -104,12 +109,14 @@ fn perform_all(input: &[u8], out: &mut [u8]) -> usize
     end + write_board(&memory, &mut out[end..])
 }
 
-/// What a session prints, at the start of `out`; the answer is its length.
-pub fn run(input: &[u8], out: &mut [u8; OUTPUT_SIZE]) -> usize
-    ensures { (result ≤ O.output_size) × Put out.old 0 (O.output_of input.now) result out.new }
+/// Performs a session on a fresh register. What it prints is then at the start of `out`, and the answer is its length. A session that is
+/// refused is not performed, and `out` stays as it was: the error says why, and what such a session prints `Refusal::write_line` writes.
+pub fn run(input: &[u8], out: &mut [u8; OUTPUT_SIZE]) -> Result<usize, Refusal>
+    ensures printed { IfOk result (λ n. (n ≤ O.output_size) × Put out.old 0 (O.output_of input.now) n out.new) }
+    ensures refused { result_err result ≡ result_err (O.calls_of input.now) }
+    ensures line { IfErr result (λ r. O.output_of input.now ≡ O.refusal_text r) }
+    ensures unchanged { OnErr result (out.new ≡ out.old) }
 {
-    match check(input) {
-        Ok(()) => perform_all(input, out),
-        Err(refusal) => text::write(out, &refusal),
-    }
+    check(input)?;
+    Ok(perform_all(input, out))
 }

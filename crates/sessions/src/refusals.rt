@@ -1,10 +1,11 @@
 //! Why a session is refused, and what it prints then.
 
-ghost use Rattle.std.specs.Prelude.{◌≡◌};
+ghost use Rattle.std.specs.Prelude.{◌≡◌, ◌≤◌};
 ghost use Rattle.std.specs.Result.{result_err};
-ghost use Rattle.sessions.specs.Output.{calls_of, refusal_text};
+ghost use Rattle.octets.specs.Put.{Put};
+ghost use Rattle.sessions.specs.Output.{calls_of, refusal_text, output_size};
 
-use crate::MAX_INPUT;
+use crate::{MAX_INPUT, OUTPUT_SIZE};
 use grammar::BadLine;
 use text::{Append, Text};
 
@@ -29,6 +30,15 @@ impl Append for Refusal {
                 out.push_str("\n");
             }
         }
+    }
+}
+
+impl Refusal {
+    /// What a session prints that is refused so, at the start of `out`; the answer is its length.
+    pub fn write_line(self, out: &mut [u8; OUTPUT_SIZE]) -> usize
+        ensures { (result ≤ output_size) × Put out.old 0 (refusal_text self) result out.new }
+    {
+        text::write(out, &self)
     }
 }
 

@@ -1,3 +1,0 @@
-pub mod Refused
-pub mod There
-pub mod Worked

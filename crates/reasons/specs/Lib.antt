@@ -1,4 +1,0 @@
-pub mod Found
-pub mod Reasons
-pub mod Claims
-pub mod Worked
