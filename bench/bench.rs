@@ -185,6 +185,21 @@ fn decide(random: &mut Random, n: usize) {
     let what = format!("decide, {n} items");
     line(&what, "the Rust, items in structs", 1.0, binding::DECIDE, &mut ours, &mut theirs);
     line(&what, "the Rust, items read from the same bytes", 1.0, binding::DECIDE, &mut ours, &mut from_bytes);
+    let (mut answer, mut given) = ([0u8; binding::ANSWER], [0u8; binding::ANSWER]);
+    let mut any = || {
+        black_box(binding::decide_any_into(black_box(&bytes), &mut answer));
+        black_box(&answer);
+    };
+    let mut in_order = || {
+        black_box(binding::decide_into(black_box(&bytes), &mut given));
+        black_box(&given);
+    };
+    let mut sorted = || {
+        black_box(oracle::decide::decide_any(black_box(&bytes)));
+    };
+    let what = format!("decide in any order, {n} items");
+    line(&what, "the decision in the order given", 1.0, binding::DECIDE_ANY, &mut any, &mut in_order);
+    line(&what, "the Rust, items read from the same bytes and sorted", 1.0, binding::DECIDE_ANY, &mut any, &mut sorted);
 }
 
 /// A full register, made by the peer: 96 records of 16 tags and 256 summaries, with the last record and summary put in. They differ

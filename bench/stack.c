@@ -72,6 +72,8 @@ static void nothing(void) {}
 
 static void decide(void) { tl_decide(items, (size_t)count * TL_ITEM_SIZE, answer); }
 
+static void decide_any(void) { tl_decide_any(items, (size_t)count * TL_ITEM_SIZE, answer); }
+
 static void board(void) { tl_board(memory, sizeof memory, out, sizeof out); }
 
 /* Without engine 4 all records are still on the board, and without engine 3 every other one; the deeper call counts. */
@@ -166,12 +168,13 @@ static void line(const char *what, const char *of, void (*call)(void)) {
 }
 
 int main(void) {
-    static const int counts[] = {0, 1, 2, 4, 10, 11, TL_MAX_ITEMS};
+    static const int counts[] = {0, 1, 2, 4, 10, 11, 32, TL_MAX_ITEMS};
     printf("| call | stack, bytes |\n|---|---|\n");
     write_items();
     for (size_t i = 0; i < sizeof counts / sizeof *counts; i++) {
         count = counts[i];
         line("decide", "items", decide);
+        line("decide in any order", "items", decide_any);
     }
     for (size_t i = 0; i < sizeof counts / sizeof *counts; i++) {
         count = counts[i];

@@ -23,7 +23,7 @@
  * - The floating-point environment that a thread begins with: rounding to nearest, no flush to zero and no denormals as zero
  *   (MXCSR 1f80 but for its flags), no exception unmasked. Another changes chi-squares, and so which fixes are refused, and the
  *   result of tl_horizontal_sigma.
- * - Stack: 48 KB for tl_decide, 112 KB for tl_board and each function of a track, 144 KB for tl_register_preview, 4 KB for each
+ * - Stack: 48 KB for tl_decide and tl_decide_any, 112 KB for tl_board and each function of a track, 144 KB for tl_register_preview, 4 KB for each
  *   other function (a KB is 1,024 bytes). bench/stack measures it; seen were up to 18 KB for a decision of up to 32 items and 42
  *   KB for one of more, 62 KB for a board, 93 KB for a preview, which has a copy of the register there, 25 to 28 KB for a call on
  *   a track and 1 to 3 KB for the others. What a dynamic linker takes at a first call is not in these: bind names at the start
@@ -51,9 +51,9 @@ extern "C" {
 
 #define TL_VERSION_MAJOR 0
 #define TL_VERSION_MINOR 9
-#define TL_VERSION_PATCH 1
+#define TL_VERSION_PATCH 2
 #define TL_VERSION (TL_VERSION_MAJOR * 1000000 + TL_VERSION_MINOR * 1000 + TL_VERSION_PATCH)
-#define TL_VERSION_TEXT TL_VERSION_JOINED(TL_VERSION_MAJOR, TL_VERSION_MINOR, TL_VERSION_PATCH) /* "0.9.1" */
+#define TL_VERSION_TEXT TL_VERSION_JOINED(TL_VERSION_MAJOR, TL_VERSION_MINOR, TL_VERSION_PATCH) /* "0.9.2" */
 #define TL_VERSION_JOINED(major, minor, patch) TL_VERSION_QUOTED(major, minor, patch)
 #define TL_VERSION_QUOTED(major, minor, patch) #major "." #minor "." #patch
 
@@ -273,6 +273,11 @@ uint32_t tl_agreement(int32_t lat, int32_t lon, bool has_height, int32_t height,
 /* Which of one transmission's fixes stand, in rank, which are dominated and which are refused. The items follow each other without
  * a gap. Returns TL_OK and fills the answer, or TL_BAD_ITEMS and leaves it. */
 uint32_t tl_decide(const uint8_t *items, size_t items_len, uint8_t answer[TL_ANSWER_SIZE]);
+
+/* The same decision, for a caller whose items have no fixed order: the dominated and the refusals are in ascending identity (bytes
+ * compared from the first on), where tl_decide has them by ascending index. The indices are those of the items as they are passed.
+ * So the same items in any two orders have one answer, by the items that its indices stand for. */
+uint32_t tl_decide_any(const uint8_t *items, size_t items_len, uint8_t answer[TL_ANSWER_SIZE]);
 
 /* Reports a record for an engine: it is put in with its signer, or gains the signer where it is held already. A record that cites
  * a model without an agreed summary is held and TL_OK is returned too; it is on no board until the model is agreed. Returns TL_OK,

@@ -7,7 +7,7 @@ if [ ! -f "$library" ] && [ -z "${TOASTLAGOON_LIB:-}" ] && command -v rt >/dev/n
     (cd "$root" && mkdir -p target && ./build library >target/staticlib.log 2>&1) || echo "it is not built; target/staticlib.log says why"
 fi
 if [ -f "$library" ]; then
-    for name in tl_blake2s256 tl_root tl_horizontal_sigma tl_agreement tl_decide; do
+    for name in tl_blake2s256 tl_root tl_horizontal_sigma tl_agreement tl_decide tl_decide_any; do
         if nm "$library" 2>/dev/null | grep -q " T $name\$"; then library_flags="$library_flags --cfg has_$name"; fi
     done
     # A symbol, and what is there where the library has it.

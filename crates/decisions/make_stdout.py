@@ -186,7 +186,18 @@ def decide(items):
         )
         (dominated if over else ranked).append(at)
     ranked.sort(key=lambda at: (not items[at]["preferred"], -items[at]["standing"], -len(items[at]["record"]["used"]), items[at]["identity"]))
-    return ranked, dominated, refusals
+    return ranked, dominated, dict(sorted(refusals.items()))
+
+
+def in_any_order(items):
+    """What is decided of the items in ascending identity, with their places in the order given."""
+    order = sorted(range(len(items)), key=lambda at: items[at]["identity"])
+    answer = decide([items[at] for at in order])
+    if answer is None:
+        return None
+    ranked, dominated, refusals = answer
+    back = lambda places: [order[at] for at in places]
+    return back(ranked), back(dominated), {order[at]: (order[kept], chi2, taken) for at, (kept, chi2, taken) in sorted(refusals.items())}
 
 
 def measured(chi2):
@@ -199,7 +210,7 @@ def show(answer):
         return "answer 8 ranked dominated refused\n"
     ranked, dominated, refusals = answer
     out = "answer 0 ranked" + "".join(" %d" % i for i in ranked) + " dominated" + "".join(" %d" % i for i in dominated) + " refused"
-    for at in sorted(refusals):
+    for at in refusals:
         kept, chi2, taken = refusals[at]
         out += " %s %d %d %s" % ("superseded" if taken else "contested", at, kept, measured(chi2))
     return out + "\n"
@@ -266,6 +277,22 @@ def randoms():
         ]
 
 
+def by_identity(items, answer):
+    """The answer with each place replaced by the identity of the item there."""
+    ranked, dominated, refusals = answer
+    name = lambda at: items[at]["identity"][0]
+    return [name(at) for at in ranked], [name(at) for at in dominated], [(name(at), name(kept), *rest) for at, (kept, *rest) in refusals.items()]
+
+
+def reordered():
+    """Some of the random lists in other orders. In ascending identity each order has one answer, by the identities of its items."""
+    for items in list(randoms())[:12]:
+        answer = by_identity(items, in_any_order(items))
+        for other in (items[::-1], items[1:] + items[:1]):
+            assert by_identity(other, in_any_order(other)) == answer
+            yield other
+
+
 def broken(items):
     """Lists that hold a malformed item: a byte short, a byte more, a flag of 2, a tag repeated, a mask bit too many."""
     whole = b"".join(item_bytes(i) for i in items)
@@ -277,15 +304,15 @@ def broken(items):
 
 def main():
     stdin, stdout = b"", ""
-    for items in list(named()) + list(randoms()):
+    for items in list(named()) + list(randoms()) + list(reordered()):
         data = b"".join(item_bytes(i) for i in items)
         stdin += struct.pack("<H", len(data)) + data
-        stdout += show(decide(items))
+        stdout += show(decide(items)) + show(in_any_order(items))
         stdout += show_verdict(items[0]["record"], items[1]["record"]) if len(items) > 1 else "malformed added\n"
     for data in broken([item(rec([1], 0), 1), item(rec([1, 2], 0), 2)]):
         stdin += struct.pack("<H", len(data)) + data
         whole = data[297 + 39 + 8] == 2 and len(data) > 297 and all(data[k] == v for k, v in ((16, 1), (21, 7), (36, 1), (37, 1), (167, 0)))
-        stdout += show(None) + ("agrees added\n" if whole else "malformed added\n")
+        stdout += show(None) + show(None) + ("agrees added\n" if whole else "malformed added\n")
     with open(os.path.join(HERE, "stdin"), "wb") as out:
         out.write(stdin)
     with open(os.path.join(HERE, "stdout"), "w") as out:

@@ -1,5 +1,5 @@
-/* The sizes of the layouts, a hash, the three outcomes of an agreement, a decision over three fixes of one transmission, reports into a
- * register, a conviction that is shown first, and the same three fixes in two orders into tracks, called from C. */
+/* The sizes of the layouts, a hash, the three outcomes of an agreement, decisions over three fixes of one transmission, also in another order,
+ * reports into a register, a conviction that is shown first, and the same three fixes in two orders into tracks, called from C. */
 #include <inttypes.h>
 #include <stdio.h>
 #include <string.h>
@@ -151,6 +151,30 @@ static void decide(void) {
     show("decide nothing", tl_decide(items, 0, answer));
 }
 
+typedef uint32_t decide_function(const uint8_t *items, size_t items_len, uint8_t answer[TL_ANSWER_SIZE]);
+
+/* Three fixes at one place, in this order: what is decided of them, with the first byte of each identity in place of the index. */
+static void identities(const char *what, decide_function *decide, const int order[FIXES]) {
+    uint8_t items[FIXES * TL_ITEM_SIZE], answer[TL_ANSWER_SIZE];
+    for (int i = 0; i < FIXES; i++) write_item(items + i * TL_ITEM_SIZE, order[i] + 1, 0);
+    printf("%s, items %d %d %d: answer %" PRIu32, what, order[0] + 1, order[1] + 1, order[2] + 1, decide(items, sizeof items, answer));
+    for (int list = 0; list < 2; list++) {
+        uint8_t *at = answer + (list ? TL_DOMINATED_AT : TL_RANKED_AT);
+        for (int i = 0; i < at[0]; i++) at[1 + i] = items[at[1 + i] * TL_ITEM_SIZE + TL_ITEM_IDENTITY_AT];
+        show_indices(list ? "dominated" : "ranked", at);
+    }
+    printf("\n");
+}
+
+/* In the order given the dominated stand by their indices; in any order they stand by their identities. */
+static void orders(void) {
+    static const int ascending[FIXES] = {0, 1, 2}, other[FIXES] = {1, 0, 2};
+    identities("decide", tl_decide, ascending);
+    identities("decide", tl_decide, other);
+    identities("decide in any order", tl_decide_any, ascending);
+    identities("decide in any order", tl_decide_any, other);
+}
+
 static void reports(void) {
     static uint8_t memory[TL_REGISTER_SIZE], out[TL_BOARD_SIZE];
     uint8_t r[TL_RECORD_SIZE];
@@ -219,6 +243,7 @@ int main(void) {
     agreement("the same place, variances of zero", 0, 0.0);
     agreement("1 cm north, variances of 1e-320", 1, 1e-320);
     decide();
+    orders();
     reports();
     track(smallest_first);
     track(largest_first);

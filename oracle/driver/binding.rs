@@ -53,6 +53,11 @@ unsafe extern "C" {
     fn tl_decide(items: *const u8, len: usize, answer: *mut u8) -> u32;
 }
 
+#[cfg(has_tl_decide_any)]
+unsafe extern "C" {
+    fn tl_decide_any(items: *const u8, len: usize, answer: *mut u8) -> u32;
+}
+
 #[cfg(has_register)]
 unsafe extern "C" {
     fn tl_register_report(memory: *mut u8, len: usize, engine: u32, record: *const u8, record_len: usize) -> u32;
@@ -217,6 +222,7 @@ pub const ROOT: bool = cfg!(has_tl_root);
 pub const SIGMA: bool = cfg!(has_tl_horizontal_sigma);
 pub const AGREEMENT: bool = cfg!(has_tl_agreement);
 pub const DECIDE: bool = cfg!(has_tl_decide);
+pub const DECIDE_ANY: bool = cfg!(has_tl_decide_any);
 
 pub fn blake2s256(input: &[u8]) -> Option<[u8; 32]> {
     #[cfg(has_tl_blake2s256)]
@@ -336,6 +342,21 @@ pub fn decide_into(items: &[u8], answer: &mut [u8; ANSWER]) -> Option<u32> {
     }
 }
 
+/// The same of the items in ascending identity.
+#[inline(always)]
+pub fn decide_any_into(items: &[u8], answer: &mut [u8; ANSWER]) -> Option<u32> {
+    #[cfg(has_tl_decide_any)]
+    return Some(unsafe { tl_decide_any(items.as_ptr(), items.len(), answer.as_mut_ptr()) });
+    #[cfg(not(has_tl_decide_any))]
+    {
+        let _ = (items, answer);
+        None
+    }
+}
+
+/// One of the library's two functions that decide items.
+pub type Decide = fn(&[u8], &mut [u8; ANSWER]) -> Option<u32>;
+
 /// The bytes that an answer has before it is written.
 const PAINT: u8 = 7;
 
@@ -371,9 +392,9 @@ fn used_bytes(b: &[u8; ANSWER]) -> String {
 
 /// What is wrong, in words, with the library's answer to items of which this is decided; without a decision they are refused with 8, and
 /// the answer stays as it is. All its bytes are compared.
-pub fn decide_differs(items: &[u8], decided: Option<&Decision>) -> Option<String> {
+pub fn decide_differs(decide: Decide, items: &[u8], decided: Option<&Decision>) -> Option<String> {
     let mut answer = [PAINT; ANSWER];
-    let number = decide_into(items, &mut answer)?;
+    let number = decide(items, &mut answer)?;
     let (due, bytes) = decided.map_or((8, [PAINT; ANSWER]), |d| (0, write_answer(d)));
     if number == due && answer == bytes {
         return None;

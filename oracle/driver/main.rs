@@ -130,9 +130,59 @@ fn beside(has: bool) -> &'static str {
     if has { "library and Rust alike" } else { "the Rust alone (not in the library)" }
 }
 
-/// What is wrong with the library's answer, in words.
-fn decide_differs(bytes: &[u8]) -> Option<String> {
-    binding::decide_differs(bytes, oracle::decide::decide(bytes).as_ref())
+/// A function of the library that decides items, its name, and what the Rust says.
+#[derive(Clone, Copy)]
+struct Decides {
+    name: &'static str,
+    library: binding::Decide,
+    rust: fn(&[u8]) -> Option<Decision>,
+}
+
+const GIVEN: Decides = Decides { name: "decide", library: binding::decide_into, rust: oracle::decide::decide };
+
+const ANY: Decides = Decides { name: "decide_any", library: binding::decide_any_into, rust: oracle::decide::decide_any };
+
+impl Decides {
+    /// What is wrong with the library's answer, in words.
+    fn differs(self, bytes: &[u8]) -> Option<String> {
+        binding::decide_differs(self.library, bytes, (self.rust)(bytes).as_ref())
+    }
+
+    fn compare(self, bytes: &[u8]) {
+        if self.differs(bytes).is_none() {
+            return;
+        }
+        let least = lists::shrink(bytes.to_vec(), &|fewer| self.differs(fewer).is_some());
+        println!("DIFFERENT: {} of {} bytes", self.name, least.len());
+        for item in least.chunks(SIZE) {
+            println!("  {}", hex::write(item));
+        }
+        println!("  Rust    {}", (self.rust)(&least).map_or("answer=8".to_string(), |d| d.line()));
+        println!("  library {}", self.differs(&least).unwrap());
+        std::process::exit(1);
+    }
+}
+
+/// The items in the order given, the other way round, and in any order.
+fn orders(random: &mut Random, bytes: &[u8]) -> [Vec<u8>; 3] {
+    let items: Vec<&[u8]> = bytes.chunks(SIZE).collect();
+    let mut any = items.clone();
+    for i in (1..any.len()).rev() {
+        any.swap(i, random.below(i as u64 + 1) as usize);
+    }
+    [items.concat(), items.iter().rev().copied().collect::<Vec<_>>().concat(), any.concat()]
+}
+
+/// The decision in ascending identity beside the one in the order given: the same ranked, and the same others but for their order.
+fn compare_any(random: &mut Random, bytes: &[u8]) {
+    for list in orders(random, bytes) {
+        ANY.compare(&list);
+        let (given, any) = (oracle::decide::decide(&list), oracle::decide::decide_any(&list));
+        if given.map(Decision::in_places) != any.map(Decision::in_places) {
+            println!("DIFFERENT: the Rust's decisions of {}, in the order given and in ascending identity", hex::write(&list));
+            std::process::exit(1);
+        }
+    }
 }
 
 fn no_chi2(decision: &Decision) -> Decision {
@@ -156,24 +206,18 @@ fn compare_list(bytes: &[u8], counts: &mut Counts) {
         }
         _ => count(counts, kinds::refusal_kind(bytes), 1),
     }
-    if decide_differs(bytes).is_some() {
-        let least = lists::shrink(bytes.to_vec(), &|fewer| decide_differs(fewer).is_some());
-        println!("DIFFERENT: decide of {} bytes", least.len());
-        for item in least.chunks(SIZE) {
-            println!("  {}", hex::write(item));
-        }
-        println!("  Rust    {}", oracle::decide::decide(&least).map_or("answer=8".to_string(), |d| d.line()));
-        println!("  library {}", decide_differs(&least).unwrap());
-        std::process::exit(1);
-    }
+    GIVEN.compare(bytes);
 }
 
 fn compare_decide(random: &mut Random, lists: u64) {
     let mut counts = Counts::new();
     for _ in 0..lists {
-        compare_list(&lists::list(random), &mut counts);
+        let list = lists::list(random);
+        compare_list(&list, &mut counts);
+        compare_any(random, &list);
     }
     print(&format!("decide: {lists} lists, {}", beside(binding::DECIDE)), &counts);
+    println!("decide_any: the same lists in three orders, {}", beside(binding::DECIDE_ANY));
     tried::all(measured::REFUSALS, |kind| counts.contains_key(kind), lists);
 }
 

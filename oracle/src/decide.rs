@@ -154,7 +154,20 @@ pub fn decide(bytes: &[u8]) -> Option<Decision> {
     Some(decided(&candidates(bytes)?))
 }
 
-/// The same with the real `libm`.
+/// The Rust's decision of the items in ascending identity, with their places in the order given, or `None` where the items are bad.
+pub fn decide_any(bytes: &[u8]) -> Option<Decision> {
+    let mut all: Vec<(u8, Candidate)> = (0u8..).zip(candidates(bytes)?).collect();
+    all.sort_by_key(|(_, candidate)| candidate.0.identity);
+    let (places, sorted): (Vec<u8>, Vec<Candidate>) = all.into_iter().unzip();
+    let mut told = decided(&sorted);
+    let lists = told.ranked.iter_mut().chain(&mut told.dominated);
+    for place in lists.chain(told.refusals.iter_mut().flat_map(|one| [&mut one.refused, &mut one.kept])) {
+        *place = places[*place as usize];
+    }
+    Some(told)
+}
+
+/// The same as `decide`, with the real `libm`.
 #[cfg(real_libm)]
 pub fn decide_real(bytes: &[u8]) -> Option<Decision> {
     let all: Vec<RealCandidate> = items(bytes)?.into_iter().map(RealCandidate).collect();
@@ -162,6 +175,13 @@ pub fn decide_real(bytes: &[u8]) -> Option<Decision> {
 }
 
 impl Decision {
+    /// The same with the dominated and the refusals ascending by their places.
+    pub fn in_places(mut self) -> Self {
+        self.dominated.sort_unstable();
+        self.refusals.sort_unstable_by_key(|one| one.refused);
+        self
+    }
+
     /// One line: `ranked=1,0 dominated=none refused=2:0:4041d3951c37e7a3:0`, a refusal being refused:kept:chi-square:superseded, with
     /// `none` for a chi-square where none was measured.
     pub fn line(&self) -> String {

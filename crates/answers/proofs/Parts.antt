@@ -1,7 +1,8 @@
 -- Laws of a decision's bytes: how wide each part is, where it stands, and how one refusal more is written.
 use mathlib.Core.Path.{◌≡◌, refl, sym, ap, ap₂, ◌∙◌, subst}
 use mathlib.Core.Bool.{false}
-use mathlib.Core.List.{List, [], ◌∷◌, ◌++◌, map, append_assoc, append-nil}
+use mathlib.Core.List.Permᴰ
+use mathlib.Core.List.{List, [], ◌∷◌, ◌++◌, map, append_assoc, append-nil, Permᴰ}
 use Prim.Native.Nat.{ℕ, zero, suc, ◌+◌, ◌-◌, ◌*◌, ◌/◌, ◌≤◌, ◌<◌}
 use native.Mathlib.Nat.{sub-zero}
 use native.Mathlib.Omega.{arith}
@@ -20,13 +21,17 @@ use Rattle.rule.specs.Outcome.{Refused, Outcome}
 use Rattle.decision.specs.declared.Refusal.{Refusal}
 use Rattle.decision.specs.Arrays.{Refusals, Indices, DecisionArrays}
 use Rattle.decision.specs.Answer.{is_bad, outcome, indices, refusal, no_refusal, refusals, arrays_of, refused_decision, decided_arrays}
+use Rattle.decision.specs.Claims.{listed_in}
+use Rattle.decision.specs.Sorted.{by_identity, sorted_outcome, sorted_arrays}
 use Rattle.decision.proofs.Laws.{listed-once}
+use Rattle.decision.proofs.Sorted.{same-items}
 use Rattle.decision.proofs.Passed.{few-items}
 use Rattle.ranges.specs.Lists.{up_to}
 use Rattle.ranges.proofs.Bools.{by}
 use Rattle.ranges.proofs.Lists.{count-length}
 use Rattle.ranges.proofs.Orders.{perm-length}
 use Rattle.rule.specs.Related.{item_relations}
+use Rattle.rule.specs.Standing.{decide}
 use Rattle.decision.specs.Working.{plain_decision}
 use Rattle.answers.specs.Layout.{chi_square_size, refusal_size}
 use Rattle.answers.specs.Offsets.{indices_size, refusals_size, ranked_at, dominated_at, refusals_at, answer_size, list_bytes}
@@ -171,13 +176,9 @@ padded l d h =
     let f = length-replicate (max_items - length l) d in
     omega (arith, h)
 
-arrays-roomy : (s : List ℕ) → is_bad s ≡ false → HasAllPlaces (arrays_of (outcome s))
+arrays-roomy : (o : Outcome ℕ ChiSquare) → length (listed_in o) ≤ max_items → HasAllPlaces (arrays_of o)
 unfolding arrays_of indices refusals
-arrays-roomy s good =
-    let o = outcome s in
-    let p = perm-length (listed-once (item_relations s) (up_to (length s / item_size))) in
-    let n = count-length 0 (length s / item_size) in
-    let m = few-items s good in
+arrays-roomy o few =
     let e = length-append o.ranked (o.dominated ++ map (λ (x : Refused ℕ ChiSquare). x.item) o.refused) in
     let f = length-append o.dominated (map (λ (x : Refused ℕ ChiSquare). x.item) o.refused) in
     let g = length-map o.refused (λ (x : Refused ℕ ChiSquare). x.item) in
@@ -187,16 +188,31 @@ arrays-roomy s good =
     let c : length (map refusal o.refused) ≤ max_items = omega arith in
     record { ranked = padded o.ranked 0 a; dominated = padded o.dominated 0 b; refusals = padded (map refusal o.refused) no_refusal c }
 
+-- what is decided of the items in some order lists no more than there are
+listed-few : (s : List ℕ) → is_bad s ≡ false → (l : List ℕ) → Permᴰ l (up_to (length s / item_size)) → length (listed_in (decide (item_relations s) l)) ≤ max_items
+listed-few s good l p =
+    let q = perm-length (listed-once (item_relations s) l) in
+    let r = perm-length p in
+    let n = count-length 0 (length s / item_size) in
+    omega (arith, few-items s good)
+
 bad-roomy : HasAllPlaces refused_decision
 unfolding refused_decision indices refusals
 bad-roomy = record { ranked = padded {A = ℕ} [] 0 (omega arith); dominated = padded {A = ℕ} [] 0 (omega arith); refusals = padded [] no_refusal (omega arith) }
 
 roomy : (s : List ℕ) → HasAllPlaces (decided_arrays s)
 unfolding decided_arrays
-roomy s = by (is_bad s) (λ e. rw e bad-roomy) (λ e. rw e (arrays-roomy s e))
+roomy s = by (is_bad s) (λ e. rw e bad-roomy) (λ e. rw e (arrays-roomy (outcome s) (listed-few s e (up_to (length s / item_size)) (Permᴰ.refl (up_to (length s / item_size))))))
 
-pub parts-stand : PartsStand
+sorted-roomy : (s : List ℕ) → HasAllPlaces (sorted_arrays s)
+unfolding sorted_arrays
+sorted-roomy s = by (is_bad s) (λ e. rw e bad-roomy) (λ e. rw e (arrays-roomy (sorted_outcome s) (listed-few s e (by_identity s) (same-items s e))))
+
+pub parts-stand : PartsStand decided_arrays
 parts-stand s = (roomy s, parts-of (decided_arrays s) (roomy s))
+
+pub sorted-stand : PartsStand sorted_arrays
+sorted-stand s = (sorted-roomy s, parts-of (sorted_arrays s) (sorted-roomy s))
 
 -- a list that is padded with zeros, after its count
 pub indices-put : (l k xs : List ℕ) (at : ℕ) {r : ℕ} {k' : List ℕ} → length l ≤ max_items → xs ≡ l ++ drop (length l) (replicate max_items 0)

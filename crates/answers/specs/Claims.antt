@@ -3,7 +3,6 @@
 use Rattle.std.specs.Prelude.{◌≡◌, List, ℕ, drop, length, take}
 use Rattle.items.specs.Layout.{max_items}
 use Rattle.decision.specs.Arrays.{DecisionArrays}
-use Rattle.decision.specs.Answer.{decided_arrays}
 use Rattle.answers.specs.Answer.{answer_bytes, indices_bytes, refusals_bytes}
 use Rattle.answers.specs.Offsets.{answer_size, dominated_at, indices_size, ranked_at, refusals_at}
 
@@ -19,6 +18,6 @@ pub record PartsOf (d : DecisionArrays) : Type 0 where
   pub dominated : take indices_size (drop dominated_at (answer_bytes d)) ≡ indices_bytes d.dominated
   pub refusals : drop refusals_at (answer_bytes d) ≡ refusals_bytes d.refusals
 
--- so it is of whatever is decided of bytes, bad ones too
-abbrev pub PartsStand : Type 0
-PartsStand = (s : List ℕ) → HasAllPlaces (decided_arrays s) × PartsOf (decided_arrays s)
+-- so it is of what is decided of any bytes, bad ones too
+abbrev pub PartsStand : (List ℕ → DecisionArrays) → Type 0
+PartsStand decided = (s : List ℕ) → HasAllPlaces (decided s) × PartsOf (decided s)

@@ -11,6 +11,8 @@ ghost use Rattle.rule.specs.Outcome.{Outcome};
 ghost use Rattle.arithmetic.specs.declared.standing.ChiSquare.{ChiSquare as Squared};
 ghost use Rattle.decision.specs.Answer.{indices, is_bad, outcome, arrays_of, decided_arrays};
 ghost use Rattle.decision.specs.Answered.{Says};
+ghost use Rattle.decision.specs.Sorted.{sorted_arrays};
+ghost use Rattle.answers.specs.Orders.{outcome_in, arrays_in};
 ghost use Rattle.errors.specs.After.{after};
 ghost use Rattle.answers.specs.Layout.{chi_square_size, refusal_size};
 ghost use Rattle.answers.specs.Offsets.{indices_size, refusals_size, answer_size};
@@ -115,25 +117,52 @@ fn put_decision<const N: usize>(out: &mut [u8], decision: &Decision<N>)
     put_refusals(out, third, &decision.refusals);
 }
 
-// Decides two items or more in tables of their size. A function of its own, so that whoever is alone does not wait for the tables.
+/// In which order the dominated and the refusals stand.
+#[derive(Clone, Copy)]
+enum Order {
+    /// In that in which the items were given.
+    Given,
+    /// In ascending identity.
+    Identity,
+}
+
+// The decision in an order.
+fn put_ordered<const N: usize>(
+    out: &mut [u8],
+    items: &Items<'_>,
+    decision: &mut Decision<N>,
+    order: Order,
+)
+    requires zeros { out.old ≡ replicate answer_size 0 }
+    requires few { N ≤ max_items }
+    ensures { Says decision.old (outcome items.now.bytes.now) → out.new ≡ answer_bytes (arrays_of (outcome_in order items.now.bytes.now)) }
+{
+    match order {
+        Order::Given => {}
+        Order::Identity => decision.sort_by_identity(items),
+    }
+    put_decision(out, decision);
+}
+
+// Decides two items or more in tables of their size. A function of its own, so that one item alone does not wait for the tables.
 #[inline(never)]
-fn put_decided(out: &mut [u8; ANSWER_SIZE], items: &Items<'_>)
+fn put_decided(out: &mut [u8; ANSWER_SIZE], items: &Items<'_>, order: Order)
     requires zeros { out.old ≡ replicate answer_size 0 }
     requires some { 1 < length items.now.bytes.now / item_size }
-    ensures { out.new ≡ answer_bytes (arrays_of (outcome items.now.bytes.now)) }
+    ensures { out.new ≡ answer_bytes (arrays_of (outcome_in order items.now.bytes.now)) }
 {
     let n = items.len();
     match n {
-        ..=LEAST => put_decision(out, &decide_least(n, |i| items.get(i))),
-        ..=FEW => put_decision(out, &decide_few(n, |i| items.get(i))),
-        ..=SOME => put_decision(out, &decide_some(n, |i| items.get(i))),
-        _ => put_decision(out, &decide_each(n, |i| items.get(i))),
+        ..=LEAST => put_ordered(out, items, &mut decide_least(n, |i| items.get(i)), order),
+        ..=FEW => put_ordered(out, items, &mut decide_few(n, |i| items.get(i)), order),
+        ..=SOME => put_ordered(out, items, &mut decide_some(n, |i| items.get(i)), order),
+        _ => put_ordered(out, items, &mut decide_each(n, |i| items.get(i)), order),
     }
 }
 
-/// Decides items in bytes. The array is written where something is decided, and stays as it is on a refusal.
-pub fn decide(s: &[u8], out: &mut [u8; ANSWER_SIZE]) -> u32
-    ensures { after result out.new ≡ hand_out (decided_arrays s.now) out.old }
+// Decides items in bytes, and answers in an order.
+fn decide_in(s: &[u8], out: &mut [u8; ANSWER_SIZE], order: Order) -> u32
+    ensures { after result out.new ≡ hand_out (arrays_in order s.now) out.old }
 {
     let Some(items) = Items::parse(s) else {
         return BAD_ITEMS;
@@ -144,7 +173,22 @@ pub fn decide(s: &[u8], out: &mut [u8; ANSWER_SIZE]) -> u32
         // An item that is alone is ranked.
         out[0] = n as u8;
     } else {
-        put_decided(out, &items);
+        put_decided(out, &items, order);
     }
     DECIDED
+}
+
+/// Decides items in bytes. The array is written where something is decided, and stays as it is on a refusal.
+pub fn decide(s: &[u8], out: &mut [u8; ANSWER_SIZE]) -> u32
+    ensures { after result out.new ≡ hand_out (decided_arrays s.now) out.old }
+{
+    decide_in(s, out, Order::Given)
+}
+
+/// Decides items in bytes as `decide` does, and answers the dominated and the refusals in ascending identity: so the answer does not follow
+/// the order in which the items were given.
+pub fn decide_any(s: &[u8], out: &mut [u8; ANSWER_SIZE]) -> u32
+    ensures { after result out.new ≡ hand_out (sorted_arrays s.now) out.old }
+{
+    decide_in(s, out, Order::Identity)
 }

@@ -1,18 +1,22 @@
 -- What is decided of an item that is alone: it is ranked.
 use mathlib.Core.Path.{◌≡◌, refl, sym, ap, ◌∙◌, subst}
-use mathlib.Core.Bool.{false}
+use mathlib.Core.Bool.{Bool, false}
 use mathlib.Core.List.Memᴰ
 use mathlib.Core.List.Permᴰ
 use mathlib.Core.List.{List, [], ◌∷◌, ◌++◌, map, Permᴰ}
 use Prim.Native.Nat.{ℕ, zero, suc, ◌+◌, ◌*◌, ◌/◌, ◌≤◌}
 use native.Mathlib.Omega.{arith}
 use lib.ListN.{length, length-append, length-map}
-use Rattle.ranges.specs.Lists.{count_from, up_to}
+use Rattle.ranges.specs.Lists.{count_from, up_to, insert, sort}
 use Rattle.ranges.proofs.Lists.{count-length, up_in}
 use Rattle.ranges.proofs.Orders.{perm-length, perm-mem}
 use Rattle.items.specs.Layout.{item_size}
+use Rattle.items.specs.Items.{lower_at}
 use Rattle.rule.specs.Outcome.{Refused, Outcome}
+use Rattle.rule.specs.Related.{item_relations}
+use Rattle.rule.specs.Standing.{decide}
 use Rattle.decision.specs.Answer.{is_bad, outcome, arrays_of, indices, refusals}
+use Rattle.decision.specs.Sorted.{sorted_outcome}
 use Rattle.decision.specs.Claims.{listed_in}
 use Rattle.decision.specs.Working.{plain_decision}
 use Rattle.decision.proofs.Decided.{lawful}
@@ -51,6 +55,12 @@ ranks zero h o (a, b, c) = rw (a, b, c) refl
 ranks (suc zero) h o (a, b, c) = rw (a, b, c) refl
 ranks (suc (suc n)) h o w = absurd (omega arith)
 
+one-sorted : (before : ℕ → ℕ → Bool) (n : ℕ) → n ≤ 1 → up_to n ≡ sort before (up_to n)
+unfolding count_from sort insert
+one-sorted before zero h = refl
+one-sorted before (suc zero) h = refl
+one-sorted before (suc (suc n)) h = absurd (omega arith)
+
 module _ (s : List ℕ) (n : ℕ) (long : length s ≡ n * item_size) (few : n ≤ 1) where
   pub ranked-alone : is_bad s ≡ false → ((outcome s).ranked ≡ up_to n) × ((outcome s).dominated ≡ []) × ((outcome s).refused ≡ [])
   ranked-alone e =
@@ -60,3 +70,9 @@ module _ (s : List ℕ) (n : ℕ) (long : length s ≡ n * item_size) (few : n �
 
   pub alone : is_bad s ≡ false → plain_decision 0 n ≡ arrays_of (outcome s)
   alone e = ranks n few (outcome s) (ranked-alone e)
+
+  -- there is nothing to put into order
+  pub alone-sorted : outcome s ≡ sorted_outcome s
+  alone-sorted =
+      let z : length s / item_size ≡ n = omega arith in
+      ap (decide (item_relations s)) (ap up_to z ∙ one-sorted (lower_at s) n few ∙ ap (λ (k : ℕ). sort (lower_at s) (up_to k)) (sym z))

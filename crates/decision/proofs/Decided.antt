@@ -72,41 +72,41 @@ module _ (s t : List ℕ) (to : ℕ → ℕ) (w : Reordered s t to) where
   n = item_count s
 
   -- the items relate as they did
-  alike : Alike (item_relations s) (item_relations t) to (λ c. c) (up_to n)
+  pub alike : (l : List ℕ) → ((i : ℕ) → Memᴰ i l → i < n) → Alike (item_relations s) (item_relations t) to (λ c. c) l
   unfolding disagrees_at within_at subset_at agreement_at ahead_at ahead_by_standing ahead_by_weight
-  alike = record {
-    disagrees = λ i j h l. rw (same-consistent s t j (to j) (at j l), same-record s t j (to j) (at j l), same-record s t i (to i) (at i h)) refl;
-    chi_square = λ i j h l. rw (same-record s t j (to j) (at j l), same-record s t i (to i) (at i h)) refl;
-    outstands = λ i j h l. rw (same-standing s t j (to j) (at j l), same-standing s t i (to i) (at i h)) refl;
+  alike l sub = record {
+    disagrees = λ i j h k. rw (same-consistent s t j (to j) (at j k), same-record s t j (to j) (at j k), same-record s t i (to i) (at i h)) refl;
+    chi_square = λ i j h k. rw (same-record s t j (to j) (at j k), same-record s t i (to i) (at i h)) refl;
+    outstands = λ i j h k. rw (same-standing s t j (to j) (at j k), same-standing s t i (to i) (at i h)) refl;
     passed = λ i h. rw (same-verified s t i (to i) (at i h)) refl;
-    within = λ i j h l.
-        rw (same-record s t i (to i) (at i h), same-record s t j (to j) (at j l), same_inputs s t i (to i) (at i h), same_inputs s t j (to j) (at j l)) refl;
-    lower = λ i j h l. rw (same-identity s t i (to i) (at i h), same-identity s t j (to j) (at j l)) refl;
-    ahead = λ i j h l.
+    within = λ i j h k.
+        rw (same-record s t i (to i) (at i h), same-record s t j (to j) (at j k), same_inputs s t i (to i) (at i h), same_inputs s t j (to j) (at j k)) refl;
+    lower = λ i j h k. rw (same-identity s t i (to i) (at i h), same-identity s t j (to j) (at j k)) refl;
+    ahead = λ i j h k.
         rw (
           same-preferred s t i (to i) (at i h),
-          same-preferred s t j (to j) (at j l),
+          same-preferred s t j (to j) (at j k),
           same-standing s t i (to i) (at i h),
-          same-standing s t j (to j) (at j l),
+          same-standing s t j (to j) (at j k),
           same-record s t i (to i) (at i h),
-          same-record s t j (to j) (at j l),
+          same-record s t j (to j) (at j k),
           same-identity s t i (to i) (at i h),
-          same-identity s t j (to j) (at j l),
+          same-identity s t j (to j) (at j k),
         ) refl;
   }
     where
-      at : (i : ℕ) → Memᴰ i (up_to n) → item_at t (to i) ≡ item_at s i
-      at i m = w.items i (up_in n i m)
+      at : (i : ℕ) → Memᴰ i l → item_at t (to i) ≡ item_at s i
+      at i m = w.items i (sub i m)
 
   moved-over : decide (item_relations t) (map to (up_to n)) ≡ carried_outcome to (λ c. c) (outcome s)
-  moved-over = carried (item_relations s) (item_relations t) to (λ c. c) (up_to n) alike
+  moved-over = carried (item_relations s) (item_relations t) to (λ c. c) (up_to n) (alike (up_to n) (up_in n))
 
   module _ (good : is_bad t ≡ false) where
     -- identity and rank order the items of t, in either order
     turned : {before : ℕ → ℕ → Bool} → Strict before (up_to (item_count t)) → Strict before (map to (up_to n))
     turned {before} o = strict-sub before (λ i m. perm-mem (Permᴰ.symm w.places) m) o
 
-    lower : Strict (lower_at t) (map to (up_to n))
+    pub lower : Strict (lower_at t) (map to (up_to n))
     lower = turned (by-identity t (item_count t) (good-items t good))
 
     same : SameDecision s t to

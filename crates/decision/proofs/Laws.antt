@@ -13,10 +13,10 @@ use lib.Dec.{leb}
 use borrow.Author.Tests.{leb-true, leb-false}
 use Rattle.std.specs.List.{filter, list_any}
 use Rattle.ranges.proofs.Bools.{clash, no_true, and_both, and_left, and_right, not_t, not_f, by, or}
-use Rattle.ranges.specs.Lists.{foremost}
+use Rattle.ranges.specs.Lists.{foremost, Ascending}
 use Rattle.ranges.proofs.Orders.{perm-mem}
 use Rattle.ranges.proofs.Lists.{any-in, any-of, any-perm, any_same, filter-in, filter-of, filter-some, filter_same, filter-perm, sort-perm, foremost-in, flat_in, flat-same, flat-perm}
-use Rattle.ranges.proofs.Sorting.{Strict, strict-sub, foremost-perm, sort-same}
+use Rattle.ranges.proofs.Sorting.{Strict, strict-sub, foremost-perm, sort-same, ascending-filter, ascending-flat}
 use Rattle.rule.specs.Standing.{Relations, supersedes, replaces, is_superseded, opposes, is_contested, is_refused, is_covered, replaced, opposed, refusal_of, decide}
 use Rattle.rule.specs.Outcome.{Refused}
 use Rattle.decision.specs.Claims.{listed_in}
@@ -294,3 +294,17 @@ module _ {A C : Type 0} (r : Relations A C) (l m : List A) (p : Permᴰ l m) whe
         sort-same r.ahead
         (filters g (λ f. not (is_refused r m f) && not (is_covered r m f)) (λ f. ap₂ (λ (a b : Bool). not a && not b) (refused-same f) (covered_same f)))
         (strict-sub r.ahead (λ f k. (filter-in g l f k).0) o)
+
+-- ---- the decision of items that ascend
+
+module _ {A C : Type 0} (r : Relations A C) (all : List A) (up : Ascending r.lower all) where
+  one-refusal : (f : A) → (refusal_of r all f ≡ []) ⊎ ((x : Refused A C) × (refusal_of r all f ≡ x ∷ []) × (x.item ≡ f))
+  one-refusal f = by (is_refused r all f) (λ e. inr (refused-one r all f e)) (λ e. inl (refused_none r all f e))
+
+  pub dominated-ascend : Ascending r.lower (decide r all).dominated
+  unfolding decide
+  dominated-ascend = ascending-filter r.lower (λ f. not (is_refused r all f) && is_covered r all f) all up
+
+  pub refused-ascend : Ascending (λ x y. r.lower x.item y.item) (decide r all).refused
+  unfolding decide
+  refused-ascend = ascending-flat r.lower (refusal_of r all) (λ x. x.item) one-refusal all up

@@ -10,3 +10,5 @@ pub mod Alone
 pub mod Remeasured
 pub mod Holding
 pub mod Answering
+pub mod Sorted
+pub mod AnyOrder

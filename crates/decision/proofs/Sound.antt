@@ -17,8 +17,8 @@ use Rattle.record.proofs.Laws.{subset-fewer}
 use Rattle.std.specs.List.{filter, list_any}
 use Rattle.ranges.proofs.Bools.{by, or, and_left, and_right, not_t, neither_right}
 use Rattle.ranges.specs.Lists.{count_from, up_to}
-use Rattle.ranges.proofs.Lists.{any-no, filter-in, count-in, up_in, up_of}
-use Rattle.ranges.proofs.Sorting.{Strict, Apart, single, also}
+use Rattle.ranges.proofs.Lists.{any-no, count-in, up_in, up_of}
+use Rattle.ranges.proofs.Sorting.{Strict, Apart, single, also, apart-filter}
 use Rattle.arithmetic.specs.Agree.{agrees_of}
 use Rattle.items.specs.Items.{item_record, item_identity, item_standing, item_weight, item_consistent, item_preferred, subset_at, agreement_at, disagrees_at, within_at, same_inputs, same_identity, lower_at, ahead_by_weight, ahead_by_standing, ahead_at}
 use Rattle.items.specs.Claimed.{more_first}
@@ -162,17 +162,18 @@ module _ (s : List ℕ) where
     pub by_rank : Strict (ahead_at s) (up_to n)
     by_rank = record { irrefl = ahead-irrefl; trans = ahead-trans; total = λ i j h l. rank-total i j (up_in n i h) (up_in n j l) }
 
-    -- and any two of those that pass a test rank one before the other
-    pub rank-apart : (test : ℕ → Bool) → Apart (ahead_at s) (filter test (up_to n))
+    -- any two of them compare
+    pub items-apart : {before : ℕ → ℕ → Bool} → Strict before (up_to n) → Apart before (up_to n)
     unfolding count_from
-    rank-apart test = go 0 n (omega arith)
+    items-apart {before} o = go 0 n (omega arith)
       where
-        go : (k f : ℕ) → k + f ≤ n → Apart (ahead_at s) (filter test (count_from k f))
+        go : (k f : ℕ) → k + f ≤ n → Apart before (count_from k f)
         go k zero h = single
         go k (suc f) h =
-            by (test k)
-            (λ t. rw t (also
-            (λ y m. let r = count-in (suc k) f y (filter-in test (count_from (suc k) f) y m).0 in
-            or (rank-total k y (omega arith) (omega arith)) (λ e. absurd (omega arith)) (λ e. e))
-            (go (suc k) f (omega arith))))
-            (λ t. rw t (go (suc k) f (omega arith)))
+            also
+            (λ y m. let r = count-in (suc k) f y m in or (o.total k y (up_of n k (omega arith)) (up_of n y (omega arith))) (λ e. absurd (omega arith)) (λ e. e))
+            (go (suc k) f (omega arith))
+
+    -- and of those that pass a test one ranks before the other
+    pub rank-apart : (test : ℕ → Bool) → Apart (ahead_at s) (filter test (up_to n))
+    rank-apart test = apart-filter (ahead_at s) test (up_to n) (items-apart by_rank)

@@ -6,12 +6,13 @@ use mathlib.Core.List.{List, [], ◌∷◌, ◌++◌, map, Memᴰ, Permᴰ}
 use Rattle.ranges.specs.Lists.{Ascending, up_to}
 use Rattle.arithmetic.specs.Agree.{agreement_of, agrees_of, chi_square_in}
 use Rattle.items.specs.Layout.{item_size}
-use Rattle.items.specs.Items.{item_consistent, subset_at, agreement_at, outstands_at, ahead_at, item_verified, is_passed}
+use Rattle.items.specs.Items.{item_identity, item_consistent, subset_at, agreement_at, outstands_at, lower_at, ahead_at, item_verified, is_passed}
 use Rattle.items.specs.Claimed.{claim_of}
 use Rattle.rule.specs.Standing.{Relations, is_superseded, decide}
 use Rattle.rule.specs.Outcome.{Refused, Outcome}
 use Rattle.rule.specs.Related.{item_relations}
 use Rattle.decision.specs.Answer.{is_bad, outcome, decided_arrays, indices, refusals}
+use Rattle.decision.specs.Sorted.{sorted_outcome}
 use Rattle.decision.specs.Positions.{item, S, M, L}
 use Rattle.arithmetic.specs.declared.standing.ChiSquare.{ChiSquare}
 
@@ -87,6 +88,33 @@ pub record SameDecision (s t : List ℕ) (to : ℕ → ℕ) : Type 0 where
 -- What is decided does not depend on the order of the items.
 abbrev pub OrderFree : Type 0
 OrderFree = (s t : List ℕ) (to : ℕ → ℕ) → is_bad s ≡ false → is_bad t ≡ false → Reordered s t to → SameDecision s t to
+
+-- ---- decided in ascending identity
+
+-- an outcome by the identities of its items
+abbrev pub by_identities : List ℕ → Outcome ℕ ChiSquare → Outcome (List ℕ) ChiSquare
+by_identities s o = record {
+  ranked = map (item_identity s) o.ranked;
+  dominated = map (item_identity s) o.dominated;
+  refused = map (λ x. record { item = item_identity s x.item; against = item_identity s x.against; chi2 = x.chi2; superseded = x.superseded }) o.refused;
+}
+
+-- Whoever gives the same items in another order gets the same identities, in the same order in each list, and the same of each refusal.
+abbrev pub OneDecision : Type 0
+OneDecision =
+    (s t : List ℕ) (to : ℕ → ℕ) → is_bad s ≡ false → is_bad t ≡ false → Reordered s t to
+    → by_identities t (sorted_outcome t) ≡ by_identities s (sorted_outcome s)
+
+-- It is no other decision than that of the items in the order given: only the dominated and the refused may stand in another order, which is that of their identities.
+pub record OnlyInOrder (s : List ℕ) : Type 0 where
+  pub ranked : (sorted_outcome s).ranked ≡ (outcome s).ranked
+  pub dominated : Permᴰ (sorted_outcome s).dominated (outcome s).dominated
+  pub refused : Permᴰ (sorted_outcome s).refused (outcome s).refused
+  pub dominated_ascend : Ascending (lower_at s) (sorted_outcome s).dominated
+  pub refused_ascend : Ascending (λ x y. lower_at s x.item y.item) (sorted_outcome s).refused
+
+abbrev pub NoOtherDecision : Type 0
+NoOtherDecision = (s : List ℕ) → is_bad s ≡ false → OnlyInOrder s
 
 -- ---- three nested sets
 

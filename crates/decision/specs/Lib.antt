@@ -2,6 +2,7 @@
 -- stands to the decision that the Rust makes (Before), and what the code keeps while it decides (Working), of items that are given by their places (Each).
 pub mod Arrays
 pub mod Answer
+pub mod Sorted
 pub mod Answered
 pub mod Positions
 pub mod Claims

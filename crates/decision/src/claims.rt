@@ -1,6 +1,6 @@
 //! What is claimed of every decision. Each function's contract is the claim; there is nothing to run.
 
-ghost use Rattle.decision.specs.Claims.{EachOnce, DecisionsLawful, OrderFree, OnlyTheEndsDisagree, Position3};
+ghost use Rattle.decision.specs.Claims.{EachOnce, DecisionsLawful, OrderFree, OneDecision, NoOtherDecision, OnlyTheEndsDisagree, Position3};
 ghost use Rattle.decision.specs.Before.{DecidedAsBefore};
 
 /// Items of any type A, with a measure of any type C between them, are ranked, dominated or refused, each exactly once.
@@ -28,4 +28,15 @@ pub fn decided_as_before()
 pub fn middle_of_three_is_ranked()
     ensures disagree { OnlyTheEndsDisagree }
     ensures decided { Position3 }
+{}
+
+/// Decided in ascending identity, the same items in another order get the same decision by their identities: the same in each list, in the
+/// same order.
+pub fn one_decision_in_any_order()
+    ensures { OneDecision }
+{}
+
+/// That is the decision of the items in the order given, but for the order of the dominated and of the refused.
+pub fn no_other_decision_in_any_order()
+    ensures { NoOtherDecision }
 {}

@@ -7,7 +7,8 @@
 ghost use Rattle.std.specs.Prelude.{◌≡◌, ℕ, false, [], ◌+◌, ◌*◌, ◌≤◌, ◌<◌, length};
 ghost use Rattle.ranges.specs.Lists.{up_to};
 ghost use Rattle.items.specs.Layout.{item_size, max_items};
-ghost use Rattle.decision.specs.Answer.{decided_arrays};
+ghost use Rattle.decision.specs.Answer.{outcome, decided_arrays};
+ghost use Rattle.decision.specs.Sorted.{sorted_outcome};
 ghost use Rattle.decision.specs.Answered.{Says, answered};
 ghost use Rattle.rule.specs.Phases.{items_of};
 ghost use Rattle.decision.specs.Working.{among};
@@ -64,6 +65,21 @@ pub struct Decision<const N: usize> {
     pub ranked: ArrayVec<u8, N>,
     pub dominated: ArrayVec<u8, N>,
     pub refusals: ArrayVec<Refusal, N>,
+}
+
+impl<const N: usize> Decision<N> {
+    /// Puts the dominated and the refusals into ascending identity of their items, so that they do not follow the order in which the
+    /// items were given.
+    pub fn sort_by_identity(&mut self, items: &Items<'_>)
+        ensures { Says self.old (outcome items.now.bytes.now) → Says self.new (sorted_outcome items.now.bytes.now) }
+    {
+        self.dominated
+            .as_mut_slice()
+            .sort_unstable_by(|a, b| items.compare(*a, *b));
+        self.refusals
+            .as_mut_slice()
+            .sort_unstable_by(|a, b| items.compare(a.refused, b.refused));
+    }
 }
 
 // What is decided of settled items.

@@ -5,13 +5,15 @@ ghost use Rattle.std.specs.Prelude.{◌≡◌, false, not, ◌+◌, ◌*◌, ◌
 ghost use Rattle.std.specs.List.{list_any};
 ghost use Rattle.ranges.specs.Lists.{up_to};
 ghost use Rattle.items.specs.Layout.{item_size, max_items};
-ghost use Rattle.items.specs.Items.{same_identity};
+ghost use Rattle.std.specs.Ordering.{is_lt};
+ghost use Rattle.items.specs.Items.{item_identity, lower_at, same_identity};
 ghost use Rattle.items.specs.Values.{IsItem};
 ghost use Rattle.decision.specs.Answer.{bad_at, is_bad};
 
 use items::Item;
-use items::layout::{ITEM_SIZE, MAX_ITEMS};
+use items::layout::{HASH_SIZE, IDENTITY_AT, ITEM_SIZE, MAX_ITEMS};
 use places::table::places_of;
+use std::cmp::Ordering;
 
 /// At most 96 items in bytes of `items::layout::ITEM_SIZE` each, of which every record is well-formed and no two have one identity.
 #[derive(Clone, Copy)]
@@ -95,5 +97,21 @@ impl<'a> Items<'a> {
     {
         let places = places_of::<ITEM_SIZE>(self.bytes, i + 1);
         Item::of(&places[i])
+    }
+
+    // The identity of item i. It has no byte where there are not so many items.
+    fn identity(&self, i: u8) -> &'a [u8]
+        ensures { result.now ≡ item_identity self.now.bytes.now i }
+    {
+        let at = i as usize * ITEM_SIZE + IDENTITY_AT;
+        let bytes = self.bytes;
+        bytes.get(at..at + HASH_SIZE).unwrap_or(&[])
+    }
+
+    /// How the identities of two items compare, byte by byte.
+    pub fn compare(&self, i: u8, j: u8) -> Ordering
+        ensures { is_lt result ≡ lower_at self.now.bytes.now i j }
+    {
+        self.identity(i).cmp(self.identity(j))
     }
 }

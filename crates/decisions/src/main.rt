@@ -1,10 +1,10 @@
 //! Decides lists of items read from standard input, each as its length in two bytes, lowest first, and its bytes, and prints what
-//! is decided. Then, of the first two records of each list, the verdict. make_stdout.py writes the lists and works out the same
+//! is decided, in the order given and in ascending identity. Then, of the first two records of each list, the verdict. make_stdout.py writes the lists and works out the same
 //! from the rules and the Rust's text.
 #![tactic(auto)]
 
 use arithmetic::standing::ChiSquare;
-use decision::{Decision, Refusal};
+use decision::{Decision, Items, Refusal};
 use items::layout::MAX_ITEMS;
 use std::io;
 use verdict::{Comparison, SupersetVerdict};
@@ -68,11 +68,19 @@ fn show_lists(
     println!(rt;)
 }
 
-fn show_decision(rt: &impl Print, decided: Option<Decision<MAX_ITEMS>>) -> io::Result<()> {
-    match decided {
-        Some(d) => show_lists(rt, 0, &d.ranked, &d.dominated, &d.refusals),
-        None => show_lists(rt, 8, &[], &[], &[]),
-    }
+fn show_decision(rt: &impl Print, d: &Decision<MAX_ITEMS>) -> io::Result<()> {
+    show_lists(rt, 0, &d.ranked, &d.dominated, &d.refusals)
+}
+
+// What is decided of items, in the order given and in ascending identity.
+fn show_decisions(rt: &impl Print, s: &[u8]) -> io::Result<()> {
+    let (Some(items), Some(mut d)) = (Items::parse(s), decision::decide(s)) else {
+        show_lists(rt, 8, &[], &[], &[])?;
+        return show_lists(rt, 8, &[], &[], &[]);
+    };
+    show_decision(rt, &d)?;
+    d.sort_by_identity(&items);
+    show_decision(rt, &d)
 }
 
 fn show_tags(rt: &impl Print, tags: &[u64]) -> io::Result<()> {
@@ -104,7 +112,7 @@ fn show_comparison(rt: &impl Print, comparison: Comparison) -> io::Result<()> {
 
 // The bytes of a list of items, and of the records of its first two.
 fn run(rt: &impl Print, s: &[u8]) -> io::Result<()> {
-    show_decision(rt, decision::decide(s))?;
+    show_decisions(rt, s)?;
     if s.len() < 519 {
         return show_comparison(rt, verdict::superset_verdict(s, s));
     }

@@ -12,7 +12,7 @@ abbrev pub minor : ℕ
 minor = 9
 
 abbrev pub patch : ℕ
-patch = 1
+patch = 2
 
 -- as one number, which grows with the version
 abbrev pub version_number : ℕ

@@ -5,3 +5,4 @@ pub mod Orders
 pub mod Lists
 pub mod Sorting
 pub mod Searches
+pub mod Standard

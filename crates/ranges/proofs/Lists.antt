@@ -211,6 +211,14 @@ module _ {A B : Type 0} where
   flat-perm f (Permᴰ.trans p q) = Permᴰ.trans (flat-perm f p) (flat-perm f q)
 
 -- two tests that agree on the members
+-- what a list maps to, it maps to from a member
+pub map-from : {A B : Type 0} (f : A → B) (l : List A) (z : B) → Memᴰ z (map f l) → (x : A) × Memᴰ x l × (z ≡ f x)
+map-from f [] z m = absurd (Memᴰ.not-nil m)
+map-from f (y ∷ l) z m =
+    or (Memᴰ.cases_cons m)
+    (λ e. (y, Memᴰ.head refl, e))
+    (λ k. let r = map-from f l z k in (r.0, Memᴰ.tail r.1, r.2))
+
 pub any_same : {A : Type 0} (p q : A → Bool) (l : List A) → ((x : A) → Memᴰ x l → p x ≡ q x) → list_any p l ≡ list_any q l
 any_same p q [] e = refl
 any_same p q (x ∷ l) e = ap₂ ◌||◌ (e x (Memᴰ.head refl)) (any_same p q l (λ y m. e y (Memᴰ.tail m)))

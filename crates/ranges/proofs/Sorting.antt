@@ -5,11 +5,12 @@ use mathlib.Core.Bool.{Bool, true, false}
 use mathlib.Core.Logic.{◌⊎◌, inl, inr}
 use mathlib.Core.List.Memᴰ
 use mathlib.Core.List.Permᴰ
-use mathlib.Core.List.{List, [], ◌∷◌, Memᴰ, Permᴰ}
+use mathlib.Core.List.{List, [], ◌∷◌, ◌++◌, map, flat_map, Memᴰ, Permᴰ}
+use Rattle.std.specs.List.{filter}
 use Rattle.ranges.specs.Lists.{insert, sort, foremost, Ascending, none, next}
 use Rattle.ranges.proofs.Bools.{by, or, clash, no_true}
 use Rattle.ranges.proofs.Orders.{perm-mem}
-use Rattle.ranges.proofs.Lists.{sort-in, foremost-in, foremost-next}
+use Rattle.ranges.proofs.Lists.{filter-in, sort-in, foremost-in, foremost-next, flat_in, map-from}
 
 module _ {A : Type 0} (before : A → A → Bool) where
   -- a strict order, by which any two members compare
@@ -190,3 +191,72 @@ module _ {A : Type 0} (before : A → A → Bool) where
     unfolding sort
     sort-ascends [] single = none
     sort-ascends (x ∷ l) (also f w) = insert-ascends x (sort before l) (sort-ascends l w) (λ y m. f y (sort-in before l y m))
+
+  -- ---- what ascends is sorted
+
+  ascending-stays : {l : List A} → Strict l → (m : List A) → ((x : A) → Memᴰ x m → Memᴰ x l) → Ascending before m → sort before m ≡ m
+  unfolding sort
+  ascending-stays o [] sub none = refl
+  ascending-stays o (x ∷ m) sub (next f a) =
+      ap (insert before x) (ascending-stays o m (λ y k. sub y (Memᴰ.tail k)) a)
+      ∙ insert-first x m (λ y k. asym o x y (f y k))
+
+  -- a rearrangement that ascends is the sort
+  pub ascending-is : {l m : List A} → Strict l → Permᴰ m l → Ascending before m → m ≡ sort before l
+  ascending-is {l} {m} o p a =
+      let sub : (x : A) → Memᴰ x m → Memᴰ x l = λ x k. perm-mem (Permᴰ.symm p) k in
+      sym (ascending-stays o m sub a) ∙ sort-same p (strict-sub sub o)
+
+  ascending-total : (m : List A) → Ascending before m → (x y : A) → Memᴰ x m → Memᴰ y m → (x ≡ y) ⊎ ((before x y ≡ true) ⊎ (before y x ≡ true))
+  ascending-total [] a x y h k = absurd (Memᴰ.not-nil h)
+  ascending-total (z ∷ m) (next f a) x y h k =
+      or (Memᴰ.cases_cons h)
+      (λ p. or (Memᴰ.cases_cons k)
+      (λ q. inl (p ∙ sym q))
+      (λ j. inr (inl (ap (λ (v : A). before v y) p ∙ f y j))))
+      (λ i. or (Memᴰ.cases_cons k)
+      (λ q. inr (inr (ap (λ (v : A). before v x) q ∙ f x i)))
+      (λ j. ascending-total m a x y i j))
+
+  -- any two members of a list that ascends compare
+  pub ascending-strict : ((x : A) → before x x ≡ false) → ((x y z : A) → before x y ≡ true → before y z ≡ true → before x z ≡ true) → {m : List A} → Ascending before m → Strict m
+  ascending-strict i t {m} a = record { irrefl = i; trans = t; total = ascending-total m a }
+
+  -- some of them, in their order, ascend too
+  pub ascending-filter : (test : A → Bool) (l : List A) → Ascending before l → Ascending before (filter test l)
+  ascending-filter test [] a = none
+  ascending-filter test (x ∷ l) (next f a) =
+      by (test x)
+      (λ t. rw t (next (λ y k. f y (filter-in test l y k).0) (ascending-filter test l a)))
+      (λ t. rw t (ascending-filter test l a))
+
+  pub apart-filter : (test : A → Bool) (l : List A) → Apart l → Apart (filter test l)
+  apart-filter test [] a = single
+  apart-filter test (x ∷ l) (also f a) =
+      by (test x)
+      (λ t. rw t (also (λ y k. f y (filter-in test l y k).0) (apart-filter test l a)))
+      (λ t. rw t (apart-filter test l a))
+
+-- of each member at most one, which is known by it: in the order of the members
+module _ {A B : Type 0} (before : A → A → Bool) (f : A → List B) (key : B → A) (few : (x : A) → (f x ≡ []) ⊎ ((y : B) × (f x ≡ y ∷ []) × (key y ≡ x))) where
+  key-of : (x : A) (y : B) → Memᴰ y (f x) → key y ≡ x
+  key-of x y m =
+      or (few x)
+      (λ e. absurd (Memᴰ.not-nil (subst (λ (l : List B). Memᴰ y l) e m)))
+      (λ w. or (Memᴰ.cases_cons (subst (λ (l : List B). Memᴰ y l) w.1 m)) (λ e. ap key e ∙ w.2) (λ k. absurd (Memᴰ.not-nil k)))
+
+  pub ascending-flat : (l : List A) → Ascending before l → Ascending (λ u v. before (key u) (key v)) (flat_map f l)
+  unfolding flat_map
+  ascending-flat [] a = none
+  ascending-flat (x ∷ l) (next h a) =
+      or (few x)
+      (λ e. rw e (ascending-flat l a))
+      (λ w. rw w.1 (next
+      (λ z m. let r = flat_in f l z m in ap₂ before w.2 (key-of r.0 z r.2) ∙ h r.0 r.1)
+      (ascending-flat l a)))
+
+-- what is mapped ascends by what it is mapped from
+pub ascending-map : {A B : Type 0} (h : A → B) (before : B → B → Bool) (l : List A) → Ascending (λ x y. before (h x) (h y)) l → Ascending before (map h l)
+ascending-map h before [] a = none
+ascending-map h before (x ∷ l) (next f a) =
+    next (λ y m. let r = map-from h l y m in ap (before (h x)) r.2 ∙ f r.0 r.1) (ascending-map h before l a)

@@ -8,6 +8,7 @@ ghost use Rattle.hashing.specs.Blake2s as Hash;
 ghost use Rattle.floats.specs.Root as Root;
 ghost use Rattle.arithmetic.specs.Agree.{agreement_of, sigma_of};
 ghost use Rattle.decision.specs.Answer.{decided_arrays};
+ghost use Rattle.decision.specs.Sorted.{sorted_arrays};
 ghost use Rattle.errors.specs.After.{after};
 ghost use Rattle.register.specs.Register.{take_report, take_summary, take_conviction};
 ghost use Rattle.register.specs.Memory.{on_memory};
@@ -188,6 +189,15 @@ pub extern "C" fn tl_decide(items: &[u8], answer: &mut [u8; ANSWER_SIZE]) -> u32
     ensures { after result answer.new ≡ hand_out (decided_arrays items.now) answer.old }
 {
     answers::decide(items, answer)
+}
+
+/// Decides items in bytes as `tl_decide` does, and answers the dominated and the refusals in ascending identity: so the answer does not
+/// follow the order in which the items were given.
+#[unsafe(no_mangle)]
+pub extern "C" fn tl_decide_any(items: &[u8], answer: &mut [u8; ANSWER_SIZE]) -> u32
+    ensures { after result answer.new ≡ hand_out (sorted_arrays items.now) answer.old }
+{
+    answers::decide_any(items, answer)
 }
 
 /// Reports a record for an engine into a register.

@@ -78,6 +78,10 @@ fn with_state(answer: impl std::fmt::Display, track: &Track) -> String {
     format!("answer={answer} state={}", hex::write(&track.bytes()))
 }
 
+fn decision(decided: Option<oracle::decide::Decision>) -> String {
+    decided.map_or("answer=8".to_string(), |decision| decision.line())
+}
+
 fn answer(line: &str, track: &mut Track) -> Result<String, String> {
     let mut words = Words(line.split_ascii_whitespace());
     let told = match words.word()? {
@@ -92,10 +96,8 @@ fn answer(line: &str, track: &mut Track) -> Result<String, String> {
         }
         "hash" => hex::write(&oracle::blake2s256(&words.bytes()?)),
         "record" => record(&mut words)?,
-        "decide" => match oracle::decide::decide(&words.bytes()?) {
-            Some(decision) => decision.line(),
-            None => "answer=8".to_string(),
-        },
+        "decide" => decision(oracle::decide::decide(&words.bytes()?)),
+        "decide-any" => decision(oracle::decide::decide_any(&words.bytes()?)),
         "fresh" => {
             *track = Track::default();
             with_state(0, track)
