@@ -1,6 +1,6 @@
 -- Laws of records with signers: reading and writing the signers, and that a place stays formed as engines sign and are convicted.
-use Rattle.std.proofs.Common.{ℕ, zero, suc, ◌+◌, ◌*◌, ◌^◌, ◌≤◌, ◌<◌, ◌≡◌, refl, sym, ap, ◌∙◌, Bool, true, false, ◌&&◌, List, [], ◌++◌, arith, lt_of_le_of_lt, eqb, length, take, drop, length-take, length-drop, take_at, drop_at, take_all, drop-drop, take-add, length-take-le, eq-eqb, eqb-true}
-use lib.Bits.{bit_and, bit_or}
+use Rattle.std.proofs.Common.{ℕ, zero, suc, ◌+◌, ◌*◌, ◌^◌, ◌≤◌, ◌<◌, ◌≡◌, refl, sym, ap, ◌∙◌, Bool, true, false, ◌&&◌, List, [], ◌++◌, arith, eqb, length, take, drop, length-take, length-drop, take_at, drop_at, take_all, drop-drop, take-add, length-take-le}
+use lib.Bits.{bit_and}
 use Rattle.std.specs.List.{list_all}
 use Rattle.ranges.proofs.Bools.{and_left, and_right, and_both}
 use Rattle.octets.specs.Bytes.{Bytes}
@@ -8,7 +8,6 @@ use Rattle.octets.specs.Masks.{bit, with_bit, without_bit}
 use Rattle.octets.specs.Order.{same}
 use Rattle.octets.specs.Words.{word, word_bytes, word_at}
 use Rattle.octets.proofs.Comparison.{same_refl, same-eq}
-use Rattle.octets.proofs.Lookup.{bit-set, bit-clear, bit-zero, bit-and, bit-ext, with-lt, without-le, bit-or}
 use Rattle.octets.proofs.Numbers.{length-word-bytes, word-of-bytes, bytes-word-bytes, bytes-of-word, bytes_take, bytes_drop, word_lt}
 use Rattle.places.specs.Places.{places}
 use Rattle.places.proofs.Keeping.{changed}

@@ -1,5 +1,4 @@
-use Rattle.std.proofs.Common.{rules, ◌≡◌, refl, ap, ap₂, sym, ◌∙◌, subst, true, [], ◌∷◌, take}
-use Rattle.record.specs.Layout.{record_size}
+use Rattle.std.proofs.Common.{rules, ◌≡◌, refl, ap, ap₂, sym, ◌∙◌, subst}
 use Rattle.models.specs.Cited.{cited}
 use Rattle.shown.specs.Fix.{Fix}
 use Rattle.shown.specs.Items.{AllFormed}
