@@ -12,8 +12,8 @@ ghost use Rattle.board.specs.Board.{board_in, draw_board};
 ghost use Rattle.board.specs.Preview.{draw_preview};
 ghost use Rattle.board.specs.Latest.{latest_over, drawn};
 
-use fixes::{Fix, Fixes, MAX_FIXES};
 use errors::Error;
+use fixes::{Fix, Fixes, MAX_FIXES};
 use links::Transmissions;
 use register::layout::REGISTER_SIZE;
 use register::view::View;
@@ -44,8 +44,8 @@ fn draw_fixes(fixes: &[Fix<'_>], out: &mut [u8]) -> usize
     texts::write_latest(out, &picture, start)
 }
 
-// Writes the board of a register.
-fn write(register: &View<'_>, out: &mut [u8]) -> usize
+/// Writes the board of a register at the start of `out`: its length, which is 0 where nothing is shown.
+pub fn write(register: &View<'_>, out: &mut [u8]) -> usize
     requires room { board_size ≤ length out.old }
     ensures board { Put out.old 0 (board_in register.now) result out.new }
     ensures fits { length (board_in register.now) ≤ board_size }

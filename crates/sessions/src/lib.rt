@@ -1,23 +1,24 @@
 //! A session: its bytes to the bytes that it prints, or why it is refused. All lines are read before any answer is written.
 #![tactic(auto)]
 
-ghost use Rattle.std.specs.Prelude.{◌≡◌, true, ◌+◌, ◌≤◌, length, IfOk, IfErr, OnErr};
+ghost use Rattle.std.specs.Prelude.{◌≡◌, ◌+◌, ◌≤◌, length, IfOk, IfErr, OnErr};
 ghost use Rattle.std.specs.Result.{result_err};
 ghost use Rattle.octets.specs.Put.{Put};
 ghost use Rattle.text.specs.Texts.{append};
 ghost use Rattle.drawing.specs.Text.{board_size};
 ghost use Rattle.errors.specs.After.{after};
 ghost use Rattle.errors.specs.Errors.{answer_number};
-ghost use Rattle.register.specs.Memory.{well_formed, decode, on_memory, fresh};
+ghost use Rattle.register.specs.Memory.{on_memory, fresh};
 ghost use Rattle.register.specs.Calls.{act, runs};
 ghost use Rattle.board.specs.Board.{board_in};
 ghost use Rattle.grammar.specs.Gives.{call_of};
 ghost use Rattle.grammar.specs.Session.{at_start, calls_from};
 ghost use Rattle.sessions.specs.Output as O;
 
+use errors::{Error, answer_number};
 use grammar::{Call, Lines};
-use errors::{Error, answer_number, value_or_number};
 use register::layout::REGISTER_SIZE;
+use register::view::View;
 use text::Text;
 
 pub mod claims;
@@ -86,15 +87,14 @@ fn write_answers(input: &[u8], memory: &mut [u8], out: &mut [u8]) -> usize
 }
 
 // The board of a register at the start of `out`, or the line that says that it has no bytes.
-fn write_board(memory: &[u8], out: &mut [u8]) -> usize
-    requires memory_value { well_formed memory.now ≡ true }
-    requires room { board_size ≤ length out.old }
-    ensures text { Put out.old 0 (O.printed (board_in (decode memory.now))) result out.new }
+fn write_board(register: &View<'_>, out: &mut [u8]) -> usize
+    requires { board_size ≤ length out.old }
+    ensures text { Put out.old 0 (O.printed (board_in register.now)) result out.new }
     ensures bound { result ≤ board_size }
 {
-    match value_or_number(board::board(memory, out)) {
+    match board::write(register, out) {
         0 => octets::runs::put_bytes(out, 0, b"transmissions=0\n"),
-        n => n as usize,
+        n => n,
     }
 }
 
@@ -106,7 +106,7 @@ fn perform_all(input: &[u8], out: &mut [u8]) -> usize
 {
     let mut memory = [0u8; REGISTER_SIZE];
     let end = write_answers(input, &mut memory, out);
-    end + write_board(&memory, &mut out[end..])
+    end + write_board(&View::of(&memory), &mut out[end..])
 }
 
 /// Performs a session on a fresh register. What it prints is then at the start of `out`, and the answer is its length. A session that is

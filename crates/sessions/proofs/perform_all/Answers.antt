@@ -1,5 +1,6 @@
-use Rattle.std.proofs.Common.{ℕ, List, ap, arith}
+use Rattle.std.proofs.Common.{ℕ, List, ap, ◌∙◌, arith}
 use Rattle.octets.proofs.Puts.{put-put, put_as, put-length}
+use Rattle.register.specs.Register.{Register}
 use Rattle.register.specs.Memory.{decode, fresh}
 use Rattle.register.specs.Calls.{runs}
 use Rattle.register.proofs.Further.{runs-formed}
@@ -9,8 +10,8 @@ use Rattle.sessions.specs.Output.{printed, answers_then_board}
 use Rattle.sessions.proofs.Ending.{put-behind}
 use Rattle.sessions.proofs.perform_all.Goals as goal
 
-pub write_board-requires-clause-memory_value : goal.write_board-requires-clause-memory_value
-write_board-requires-clause-memory_value c = rw c.write_answers-end.ensures.left (runs-formed (calls_from (at_start c.args.input.now)))
+pub of-requires : goal.of-requires
+of-requires c = rw c.write_answers-end.ensures.left (runs-formed (calls_from (at_start c.args.input.now)))
 
 pub returns-clause-text : goal.returns-clause-text
 unfolding answers_then_board
@@ -18,6 +19,6 @@ returns-clause-text c =
     let first = c.write_answers-end.ensures in
     let board = c.write_board.ensures in
     let drawing : List ℕ = printed (board_in (decode (runs fresh (calls_from (at_start c.args.input.now))))) in
-    let later = put_as (ap (λ (m : List ℕ). printed (board_in (decode m))) first.left) board.text in
+    let later = put_as (ap (λ (s : Register). printed (board_in s)) (c.of.ensures ∙ ap decode first.left)) board.text in
     let same = put-length first.text in
     put-put first.text (put-behind _ _ drawing _ _ (omega (arith, later.next, board.bound, first.bound, same, c.requires)) later)

@@ -1,4 +1,4 @@
-use Rattle.std.proofs.Common.{◌≡◌, ℕ, Bool, true, List, length, refl, sym, ap, ◌∙◌, rules}
+use Rattle.std.proofs.Common.{◌≡◌, ℕ, Bool, true, false, List, length, refl, sym, ap, ◌∙◌, rules}
 use Rattle.octets.specs.Bytes.{Bytes}
 use Rattle.octets.proofs.Numbers.{all-bytes}
 use Rattle.models.specs.Summary.{summary_size}
@@ -50,6 +50,9 @@ put c =
 asked : (model : ℕ) {b : Bool} {ss : List (List ℕ)} {v s : Track} → b ≡ is_disputed (state_of model ss) → ss ≡ v.summaries → v ≡ s → b ≡ is_disputed (state_of model s.summaries)
 asked model p q r = p ∙ ap (λ (ss : List (List ℕ)). is_disputed (state_of model ss)) (q ∙ ap (λ (s : Track). s.summaries) r)
 
+was-disputed : (c : In_ok-put_pair) → is_disputed (state_of c.args.model (decode c.args.memory.now).summaries) ≡ c.is_disputed-was.result
+was-disputed c = sym (asked c.args.model c.is_disputed-was.ensures c.summaries.ensures c.of.ensures)
+
 pub returns-in_err-put_pair : goal.returns-in_err-put_pair
 returns-in_err-put_pair c =
     let e : answer_number c.put_pair.result ≡ error_number c.in_err-put_pair.field-0.0 = ap answer_number c.in_err-put_pair.was in
@@ -65,11 +68,11 @@ recheck-requires c = is-track (put (goal.at.recheck-requires c).In_ok-put_pair)
 pub returns-else-not-was : goal.returns-else-not-was
 returns-else-not-was c =
     let u = put (goal.at.returns-else-not-was c).In_ok-put_pair in
-    let told = sym (asked c.args.model c.is_disputed-was.ensures c.summaries.ensures c.of.ensures) in
+    let told = was-disputed (goal.at.returns-else-not-was c).In_ok-put_pair in
     let as-it-is = pair-plain c.args.memory.now c.args.model c.args.p.now (answer_number c.put_pair.result) c.put_pair.new.memory c.put_pair.ensures (ap answer_number c.in_ok-put_pair.was) in
     elim c.else-not-was.branch [
       | else-not-was-via-then-not-was+else-is_disputed w ↦
-          (let before = told ∙ w.if-not-was.true in
+          (let before : is_disputed (state_of c.args.model (decode c.args.memory.now).summaries) ≡ false = told ∙ w.if-not-was.true in
           let now = sym (asked c.args.model w.is_disputed.ensures w.summaries-then-not-was.ensures (w.of-then-not-was.ensures ∙ held u)) ∙ w.if-is_disputed.false in
           as-it-is (rw (before, now) refl))
       | else-not-was-via-else-not-was w ↦ (let before = told ∙ w.if-not-was.false in as-it-is (rw before refl))
@@ -78,7 +81,7 @@ returns-else-not-was c =
 pub returns-then-is_disputed : goal.returns-then-is_disputed
 returns-then-is_disputed c =
     let u = put (goal.at.returns-then-is_disputed c).In_ok-put_pair in
-    let before = sym (asked c.args.model c.is_disputed-was.ensures c.summaries.ensures c.of.ensures) ∙ c.if-not-was.true in
+    let before : is_disputed (state_of c.args.model (decode c.args.memory.now).summaries) ≡ false = was-disputed (goal.at.returns-then-is_disputed c).In_ok-put_pair ∙ c.if-not-was.true in
     let now = sym (asked c.args.model c.is_disputed.ensures c.summaries-then-not-was.ensures (c.of-then-not-was.ensures ∙ held u)) ∙ c.if-is_disputed.true in
     pair-rechecked c.args.memory.now c.args.model c.args.p.now (answer_number c.put_pair.result) c.put_pair.new.memory c.put_pair.ensures (ap answer_number c.in_ok-put_pair.was) (rw (before, now) refl) _
     (c.recheck.ensures ∙ ap (λ (s : Track). encode (recheck s)) (held u))
