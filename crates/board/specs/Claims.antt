@@ -22,7 +22,7 @@ board_over cs = board_of (summaries_held (remaining cs)) (records_held (remainin
 
 -- the greatest number that a refusal has
 abbrev pub greatest_refusal : ℕ
-greatest_refusal = 12
+greatest_refusal = 17
 
 -- two rooms after their lists
 pub record SameInBothRooms (north south : List Call) : Type 0 where

@@ -38,6 +38,7 @@ name_of n =
     else if n == 8 then codes "bad items"
     else if n == 9 then codes "bad summary"
     else if n == 10 then codes "output too small"
+    else if n == 17 then codes "not the length of a register"
     else if n == 20 then codes "changed"
     else if n == 21 then codes "contested"
     else if n == 22 then codes "duplicate"

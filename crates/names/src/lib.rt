@@ -40,6 +40,7 @@ pub fn name(answer: u32) -> &'static [u8]
         8 => b"bad items",
         9 => b"bad summary",
         10 => b"output too small",
+        17 => b"not the length of a register",
         20 => b"changed",
         21 => b"contested",
         22 => b"duplicate",

@@ -12,6 +12,7 @@ ghost use Rattle.decision.specs.Sorted.{sorted_arrays};
 ghost use Rattle.errors.specs.After.{after};
 ghost use Rattle.register.specs.Register.{take_report, take_summary, take_conviction};
 ghost use Rattle.register.specs.Memory.{on_memory};
+ghost use Rattle.columns.specs.Columns.{columns, uncolumns, rearrange};
 ghost use Rattle.board.specs.Board.{draw_board};
 ghost use Rattle.board.specs.Preview.{draw_preview};
 ghost use Rattle.stored.specs.Memory as T;
@@ -236,6 +237,23 @@ pub extern "C" fn tl_board(memory: &[u8], out: &mut [u8]) -> u32
     ensures { after result out.new ≡ draw_board memory.now out.old }
 {
     value_or_number(board::board(memory, out))
+}
+
+/// Writes a register's bytes for an archive: those of its places with the first byte of each together, then the second, and so on. Answers 0,
+/// or 17 where `input` or `out` has another length than a register, and then nothing is written.
+#[unsafe(no_mangle)]
+pub extern "C" fn tl_register_columns(input: &[u8], out: &mut [u8]) -> u32
+    ensures { after result out.new ≡ rearrange columns input.now out.old }
+{
+    answer_number(columns::columns(input, out))
+}
+
+/// Undoes `tl_register_columns`, and is undone by it. Answers as it does.
+#[unsafe(no_mangle)]
+pub extern "C" fn tl_register_uncolumns(input: &[u8], out: &mut [u8]) -> u32
+    ensures { after result out.new ≡ rearrange uncolumns input.now out.old }
+{
+    answer_number(columns::uncolumns(input, out))
 }
 
 /// The board of a register as it would be if an engine were convicted, into `out`: 1, 2 or 10, or its length, which is 0 or greater than

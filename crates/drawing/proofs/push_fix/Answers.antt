@@ -3,12 +3,12 @@ use Rattle.text.specs.Texts.{append}
 use Rattle.text.proofs.Appending.{append-then}
 use Rattle.octets.specs.Ascii.{ascii}
 use Rattle.drawing.specs.Lines.{fix_text}
-use Rattle.drawing.specs.Roles.{role_name}
+use Rattle.drawing.specs.Standings.{standing_name}
 use Rattle.drawing.proofs.push_fix.Goals as goal
 
 pub returns : goal.returns
 unfolding fix_text ascii
 returns c =
-    let line = λ (signers : ℕ). append c.args.out.now (fix_text (role_name c.args.role) c.args.report.bytes.now signers) in
+    let line = λ (signers : ℕ). append c.args.out.now (fix_text (standing_name c.args.standing) c.args.report.bytes.now signers) in
     let written : c.push_field-2.new.self ≡ line c.mask.result = search append-then depth 10 in
     written ∙ ap line c.mask.ensures
