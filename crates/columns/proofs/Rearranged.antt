@@ -58,5 +58,5 @@ refused-where-other f s found =
     (λ t. (rw t refl, λ z. absurd (zero-no (rw t at z))))
     (λ t. (rw t refl, λ z. rw t refl))
   where
-    zero-no : 0 ≡ 17 → ⊥
+    zero-no : ◌≡◌ {A = ℕ} 0 17 → ⊥
     zero-no z = omega arith
