@@ -1,5 +1,5 @@
 -- What a register lends to whoever reads it: its tables lie in its bytes, and each place of the second begins with a record.
-use Rattle.std.proofs.Common.{ℕ, ◌*◌, ◌≤◌, ◌≡◌, true, false, cond, List, arith, length, take, Result, Ok, Err}
+use Rattle.std.proofs.Common.{ℕ, ◌*◌, ◌≤◌, ◌≡◌, true, List, arith, length, take}
 use Rattle.std.specs.List.{list_all}
 use Rattle.ranges.proofs.Bools.{and_left}
 use Rattle.record.specs.Layout.{record_size}
@@ -9,9 +9,6 @@ use Rattle.signed.specs.Signed.{place_size, place_formed}
 use Rattle.signed.specs.Read.{record_formed}
 use Rattle.places.proofs.Testing.{all-weaken}
 use Rattle.register.specs.Layout.{max_records}
-use Rattle.register.specs.Register.{Register}
-use Rattle.errors.specs.declared.Error.{Error}
-use Rattle.errors.specs.declared.Error.TheVariants.{Malformed}
 use Rattle.register.specs.Memory.{well_formed, convicted_in, summary_count, record_count, summary_table, record_table, records_in, decode}
 use Rattle.register.proofs.Opened.{opened, summary-bytes-length, record-bytes-length, records-length}
 
@@ -32,11 +29,3 @@ module _ (m : List ℕ) (w : well_formed m ≡ true) where
   pub records-few : length (decode m).records ≤ max_records
   unfolding decode
   records-few = let o = opened m w in rw (records-length m o) o.few_records
-
--- what is known where bytes were tested
-module _ (m : List ℕ) (r : Result Register Error) (is : r ≡ cond (well_formed m) (Ok (decode m)) (Err Malformed)) where
-  pub read-register : (s : Register) → r ≡ Ok s → (well_formed m ≡ true) × (decode m ≡ s)
-  read-register s e = grind (arith, is, e)
-
-  pub no-register : (x : Error) → r ≡ Err x → (well_formed m ≡ false) × (x ≡ Malformed)
-  no-register x e = grind (arith, is, e)
