@@ -75,6 +75,7 @@ uint32_t tl_version(void);
 #define TL_BAD_ITEMS 8          /* over 96 items, no whole number of items, a malformed item, or two of one identity */
 #define TL_BAD_SUMMARY 9        /* a model over 63, or inputs that are not of 32 bytes */
 #define TL_OUTPUT_TOO_SMALL 10  /* under TL_BOARD_SIZE bytes for a board or a preview, under TL_LISTING_SIZE for a listing */
+#define TL_BAD_LENGTH 17        /* what is turned, or the output, is not of TL_REGISTER_SIZE bytes */
 
 /* What a report did to a track. */
 #define TL_CHANGED 20   /* a fix of its identity stands in the transmission that it joined, or is first in the one that it opened;
@@ -104,6 +105,7 @@ static inline const char *tl_answer_name(uint32_t answer) {
     case TL_BAD_ITEMS: return "bad items";
     case TL_BAD_SUMMARY: return "bad summary";
     case TL_OUTPUT_TOO_SMALL: return "output too small";
+    case TL_BAD_LENGTH: return "not the length of a register";
     case TL_CHANGED: return "changed";
     case TL_CONTESTED: return "contested";
     case TL_DUPLICATE: return "duplicate";
@@ -307,6 +309,15 @@ uint32_t tl_board(const uint8_t *memory, size_t memory_len, uint8_t *out, size_t
  * call, stay as found. */
 uint32_t tl_register_preview(const uint8_t *memory, size_t memory_len, uint32_t engine, uint8_t *out, size_t out_len);
 
+/* Writes the bytes of a register, or any other TL_REGISTER_SIZE bytes, so that like bytes of its places are together, for an archive
+ * that packs them: after the first TL_REGISTER_RECORDS_AT bytes, which are copied, comes the first byte of each of the 96 places (a
+ * record and its signers, 226 bytes, in use or not), then the second byte of each, and so on. So byte j of place i is at
+ * TL_REGISTER_RECORDS_AT + 96 j + i. Nothing is asked of what the bytes mean. Returns TL_OK, or TL_BAD_LENGTH and leaves out. */
+uint32_t tl_register_columns(const uint8_t *in, size_t in_len, uint8_t *out, size_t out_len);
+
+/* Undoes tl_register_columns, and is undone by it: on any bytes of that length. Returns as it does. */
+uint32_t tl_register_uncolumns(const uint8_t *in, size_t in_len, uint8_t *out, size_t out_len);
+
 /* A track is what the merge of sky-commons/tally holds of one aircraft, decided report by report: it depends on the order of the
  * calls, as a register does not. */
 
@@ -325,7 +336,7 @@ uint32_t tl_track_summary(uint8_t *memory, size_t memory_len, uint32_t engine, u
  * holds of TL_MALFORMED_TRACK, TL_ENGINE_OVER_31. */
 uint32_t tl_track_conviction(uint8_t *memory, size_t memory_len, uint32_t engine);
 
-/* Writes the listing of a track to the start of out and returns the length, which is greater than every refusal's number; or the
+/* Writes the listing of a track to the start of out and returns the length, which is greater than both numbers below; or the
  * first that holds of TL_MALFORMED_TRACK, TL_OUTPUT_TOO_SMALL. The text has no zero byte at its end. Bytes past the length, and
  * all bytes of a refused call, stay as found. */
 uint32_t tl_track_listing(const uint8_t *memory, size_t memory_len, uint8_t *out, size_t out_len);

@@ -9,9 +9,13 @@ import math
 import os
 import random
 import struct
+import sys
 from fractions import Fraction
 
 HERE = os.path.dirname(os.path.abspath(__file__))
+sys.path.insert(0, os.path.join(HERE, "..", "..", "oracle"))
+import layouts  # noqa: E402
+
 E7 = float("1e-7")
 DEGREE = float(Fraction("3.14159265358979323846264338327950288419716939937510") / 180)
 A = 6_378_137.0
@@ -128,16 +132,9 @@ def agreement(smaller, larger):
 
 
 def encode(r):
-    tags = r["tags"]
-    mask = sum(1 << k for k, t in enumerate(tags) if t in r["used"])
-    out = struct.pack("<Qii", r["time"], r["lat"], r["lon"])
-    out += struct.pack("<Bi", 0 if r["height"] is None else 1, r["height"] or 0)
-    out += struct.pack("<B14s", len(r["message"]), r["message"])
-    out += struct.pack("<BH", len(tags), mask) + b"".join(struct.pack("<Q", t) for t in tags + [0] * (16 - len(tags)))
-    out += bytes(5) + struct.pack("<H", 0)
-    out += b"".join(struct.pack("<Q", to_bits(x)) for x in r["cov"])
-    assert len(out) == 222
-    return out
+    used = sum(1 << k for k, t in enumerate(r["tags"]) if t in r["used"])
+    fields = ("time", "lat", "lon", "height", "message")
+    return layouts.record(r["tags"], used=used, covariance=r["cov"], **{name: r[name] for name in fields})
 
 
 def item_bytes(i):

@@ -8,27 +8,23 @@ import hashlib
 import os
 import random
 import struct
+import sys
 
 HERE = os.path.dirname(os.path.abspath(__file__))
-SHORT = b"\x8d" + bytes(6)
+sys.path.insert(0, os.path.join(HERE, "..", "..", "oracle"))
+import layouts  # noqa: E402
+from layouts import SHORT  # noqa: E402
 
 
 def record(models, spec=3, tags=(11, 12), message=SHORT, time=1000, height=1500):
-    """The bytes of a record."""
-    data = struct.pack("<Qii", time, 500_000_000, 100_000_000)
-    data += struct.pack("<Bi", height is not None, height or 0)
-    data += bytes([len(message)]) + message.ljust(14, b"\0")
-    data += struct.pack("<BH", len(tags), 1)
-    data += b"".join(struct.pack("<Q", t) for t in tags).ljust(128, b"\0")
-    data += bytes([len(models)]) + bytes(models).ljust(4, b"\0")
-    data += struct.pack("<H", spec) + bytes(48)
-    assert len(data) == 222
-    return data
+    """A record by its models, with no covariance and its first tag used."""
+    place = {"time": time, "lat": 500_000_000, "lon": 100_000_000, "height": height}
+    return layouts.record(tags, **place, message=message, used=1, models=models, spec=spec, covariance=layouts.diagonal(0.0))
 
 
 def summary(engine, model, spec=3, inputs=b"i"):
-    """The bytes of a summary; inputs are spread over 32 bytes."""
-    return struct.pack("<BBH", engine, model, spec) + inputs.ljust(32, b"\x2e")
+    """A summary; its inputs are spread over 32 bytes."""
+    return layouts.summary(engine, model, spec, inputs.ljust(32, b"\x2e"))
 
 
 def blake2s(data):

@@ -9,10 +9,13 @@ Nothing of ours is asked."""
 import os
 import struct
 import subprocess
+import sys
 
 HERE = os.path.dirname(os.path.abspath(__file__))
+sys.path.insert(0, os.path.join(HERE, "..", "..", "oracle"))
+import layouts  # noqa: E402
+
 PEER = os.path.join(HERE, "..", "..", "target", "oracle", "peer")
-REGISTER, SUMMARIES, PLACES = 30920, 256, 96
 HUNDRED = struct.pack("<d", 100.0)
 ZERO = bytes(8)
 QUIET = b"transmissions=0\n"
@@ -28,14 +31,8 @@ class Report:
         self.covariance = (HUNDRED, ZERO, ZERO, HUNDRED, ZERO, HUNDRED)
 
     def record(self):
-        flag, height = (0, 0) if self.height is None else (1, self.height)
-        used = (1 << len(self.tags)) - 1
-        return (
-            struct.pack("<QiiBiB14s", self.time, self.lat, 0, flag, height, len(self.message), self.message)
-            + struct.pack("<BH16Q", len(self.tags), used, *self.tags, *[0] * (16 - len(self.tags)))
-            + struct.pack("<B4BH", len(self.models), *self.models, *[0] * (4 - len(self.models)), self.spec)
-            + b"".join(self.covariance)
-        )
+        fields = {"time": self.time, "lat": self.lat, "height": self.height, "message": self.message}
+        return layouts.record(self.tags, models=self.models, spec=self.spec, **fields)
 
     def lines(self):
         listed = lambda numbers: ",".join(map(str, numbers)) or "none"
@@ -54,7 +51,7 @@ class Summary:
         self.engine, self.model, self.byte, self.spec = engine, model, byte, spec
 
     def place(self):
-        return struct.pack("<BBH", self.engine, self.model, self.spec) + bytes([self.byte]) * 32
+        return layouts.summary(self.engine, self.model, self.spec, bytes([self.byte]) * 32)
 
     def lines(self):
         return f"op=summary\nengine={self.engine}\nmodel={self.model}\nspec={self.spec}\ninputs={bytes([self.byte]).hex() * 32}\n"
@@ -69,13 +66,7 @@ def register(calls, convicted=()):
     signers = {}
     for call in held(calls, Report):
         signers[call.record()] = signers.get(call.record(), 0) | 1 << call.engine
-    summaries = sorted({call.place() for call in held(calls, Summary)})
-    records = [record + struct.pack("<I", signers[record]) for record in sorted(signers)]
-    table = lambda places, size, count: b"".join(places) + bytes(size * (count - len(places)))
-    mask = sum(1 << engine for engine in convicted)
-    bytes_ = struct.pack("<IHH", mask, len(summaries), len(records)) + table(summaries, 36, SUMMARIES) + table(records, 226, PLACES)
-    assert len(bytes_) == REGISTER and all(len(place) == 226 for place in records)
-    return bytes_
+    return layouts.register({call.place() for call in held(calls, Summary)}, signers, convicted)
 
 
 def text(calls, engines):

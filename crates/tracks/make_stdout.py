@@ -14,6 +14,9 @@ import subprocess
 import sys
 
 HERE = pathlib.Path(__file__).resolve().parent
+sys.path.insert(0, str(HERE.parent.parent / "oracle"))
+import layouts  # noqa: E402
+
 ORACLE = HERE.parent.parent / "target" / "oracle" / "oracle-program"
 NUMBERS = {"Changed": 20, "Contested": 21, "Duplicate": 22, "Dropped": 23}
 SIZES = {0: 223, 1: 36, 2: 1, 3: 0}
@@ -21,18 +24,8 @@ TRANSMISSIONS_AT, TRANSMISSION, FIX, REFUSED_AT, REFUSED = 9232, 2484, 258, 1292
 INFINITY = 0x7FF0_0000_0000_0000
 
 
-def record(tags, lat):
-    """A record as the worked cases have it: a 7-byte message, all tags used, no models, covariance diag(100, 100, 100)."""
-    numbers = struct.pack("<QiiBi", 1000, lat, 0, 1, 1500)
-    message = bytes([7, 0x8D]) + bytes(13)
-    room = b"".join(struct.pack("<Q", t) for t in tags).ljust(128, b"\0")
-    hundred = struct.pack("<d", 100.0)
-    covariance = hundred + bytes(16) + hundred + bytes(8) + hundred
-    return numbers + message + struct.pack("<BH", len(tags), 2 ** len(tags) - 1) + room + bytes(7) + covariance
-
-
 def own_lists():
-    small, middle, large = (b"\0\1" + record([1, 2, 3][:n], lat) for n, lat in ((1, 0), (2, 2700), (3, 5400)))
+    small, middle, large = (b"\0\1" + layouts.record([1, 2, 3][:n], lat=lat) for n, lat in ((1, 0), (2, 2700), (3, 5400)))
     convict, listing = b"\2\7", b"\3"
     orders = [[small, middle, large], [large, small, middle]]
     more = [orders[0] + [small], orders[0] + [small, middle], orders[1] + [convict]]

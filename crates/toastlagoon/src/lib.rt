@@ -295,7 +295,7 @@ pub extern "C" fn tl_track_conviction(memory: &mut [u8], engine: u32) -> u32
     answer_number(track::convictions::conviction(memory, engine))
 }
 
-/// The listing of a track into `out`: 1 or 10, or its length, which is 0 or greater than every refusal's number.
+/// The listing of a track into `out`: 1 or 10, or its length, which is greater than both.
 #[unsafe(no_mangle)]
 pub extern "C" fn tl_track_listing(memory: &[u8], out: &mut [u8]) -> u32
     ensures { after result out.new ≡ list_track memory.now out.old }
