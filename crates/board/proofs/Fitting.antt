@@ -1,5 +1,5 @@
 -- Every board fits what a caller lends, and its length is 0 or greater than every refusal's number.
-use Rattle.std.proofs.Common.{ℕ, ◌+◌, ◌-◌, ◌≤◌, ◌<◌, ◌≡◌, refl, ap, true, ◌⊎◌, inl, inr, ⊎_elim, List, [], ◌∷◌, map, arith, length, length-drop, lt-ltb}
+use Rattle.std.proofs.Common.{ℕ, ◌+◌, ◌-◌, ◌≤◌, ◌<◌, ◌≡◌, refl, ap, true, ◌⊎◌, inl, inr, ⊎_elim, List, [], ◌∷◌, map, arith, length, length-drop}
 use Rattle.ranges.specs.Lists.{sort}
 use Rattle.ranges.proofs.Lists.{sort-perm}
 use Rattle.fixes.specs.Slots.{max_fixes}
@@ -15,13 +15,12 @@ use Rattle.drawing.specs.Text.{board_text, board_size}
 use Rattle.drawing.proofs.Lengths.{lines_in, all_lines, texts-width, board-long}
 use Rattle.octets.specs.Bytes.{Bytes}
 use Rattle.fixes.specs.Fixes.{fixes_of}
-use Rattle.errors.specs.After.{after}
 use Rattle.register.specs.Register.{Register}
 use Rattle.register.specs.Memory.{well_formed, decode}
 use Rattle.register.proofs.Opened.{opened}
 use Rattle.register.proofs.Valid.{Valid}
 use Rattle.register.proofs.Kept.{decode-valid}
-use Rattle.board.specs.Board.{board_of, board_in, draw_board}
+use Rattle.board.specs.Board.{board_of, board_in}
 use Rattle.board.specs.Claims.{greatest_refusal}
 use Rattle.board.specs.Latest.{latest_over}
 use Rattle.board.proofs.Standing.{standing}
@@ -63,8 +62,3 @@ module _ (s : Register) (v : Valid s) where
 -- in memory
 pub fits-board : (m : List ℕ) → Bytes m → well_formed m ≡ true → length (board_in (decode m)) ≤ board_size
 fits-board m b w = fits (decode m) (decode-valid m (opened m w) b)
-
--- an output that is too small
-pub too_small : (m out : List ℕ) → well_formed m ≡ true → length out < board_size → after 10 out ≡ draw_board m out
-unfolding draw_board
-too_small m out w l = rw (w, lt-ltb (length out) board_size l) refl

@@ -48,7 +48,7 @@ unfolding insert
 insert-total n b x [] = refl
 insert-total n b x (y ∷ l) = let r = insert-total n b x l in by (b y x) (λ t. rw t (omega (arith, r))) (λ t. rw t refl)
 
--- what stands before the end stays
+-- what is before the end stays
 kept : {A : Type 0} (s n : ℕ) (l m : List A) → s + n ≤ length l → take n (drop s (l ++ m)) ≡ take n (drop s l)
 kept zero n l m h = take-append-le n l m (omega (arith, h))
 kept (suc s) n [] m h = absurd (omega arith)
@@ -57,7 +57,7 @@ kept (suc s) n (x ∷ l) m h = kept s n l m (omega arith)
 -- ---- the order
 
 module _ (fs : List Fix) (o : identities_ascend fs ≡ true) where
-  -- of fixes that ascend, an index stands for the identity
+  -- of fixes that ascend, the order of indices is that of identities
   index-lower : (i j : ℕ) → i < length fs → j < length fs → ltb i j ≡ lower (fix_at fs i) (fix_at fs j)
   index-lower i j h k =
       by (ltb i j)
@@ -72,7 +72,7 @@ module _ (fs : List Fix) (o : identities_ascend fs ≡ true) where
       let e = index-lower p.first q.first v.there w.there ∙ ap₂ lower v.is w.is in
       rw (v.sent, w.sent, e) refl
 
--- ---- one more: of a transmission lines were appended, of which the first is at i; l are the lines as they are lent
+-- ---- one more: of a transmission lines were appended, of which the first is at i; l are the lines as the code reads them
 
 module _ (fs : List Fix) (old new : List Line) (qs : List Part) (w : Within fs old qs) (m : Members) (n : Counts) (made : Decides m old new n) (same : m.fixes ≡ fs) (some : 0 < length m.indices)
     (l : List Line) (lent : l ≡ new) (i : ℕ) (at_end : i ≡ length old) (d : Line) where
@@ -170,7 +170,7 @@ module _ (fs : List Fix) (old new : List Line) (qs : List Part) (w : Within fs o
 pub none-yet : (fs : List Fix) → identities_ascend fs ≡ true → (ls : List Line) → ls ≡ [] → (qs : List Part) → qs ≡ [] → Within fs ls qs
 none-yet fs o ls e qs r = rw (e, r) (record { in_order = o; known = λ i d h. absurd (omega arith); lie = λ q m. absurd (Memᴰ.not-nil m); all = omega arith })
 
--- ---- where a part lies; m are the parts as they are lent
+-- ---- where a part lies; m are the parts as the code reads them
 
 module _ (fs : List Fix) (ls : List Line) (qs : List Part) (w : Within fs ls qs) (m : List Part) (e : m ≡ qs) (k : ℕ) (d : Part) (h : k < length (map (part_in (with_fixes fs ls)) qs)) where
   here : k < length qs

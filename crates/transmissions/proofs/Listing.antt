@@ -59,7 +59,7 @@ module _ (fs : List Fix) where
       let t = length-take i xs in
       omega (arith, n, m, t, r, h)
 
-  -- how many lines there are then; m is the list as it is lent
+  -- how many lines there are then; m is the list as the code reads it
   pub room-then : {A : Type 0} (f : A → ShownLine) (l : List A) {m : List A} {old new : List Line} → m ≡ l → Appends fs old new (map f m) → length new ≡ length old + length l
   room-then f l {m} e a = let n = appended a in let k = length-map m f in let z = ap (λ (y : List _). length y) e in omega (arith, n, k, z)
 

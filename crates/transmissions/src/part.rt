@@ -32,7 +32,7 @@ pub struct Part {
 }
 
 impl Part {
-    /// Whether it is older than another: by time, then by identity, in the order of which the fixes stand.
+    /// Whether it is older than another: by time, then by identity, in which the fixes ascend.
     pub fn is_older(&self, other: &Part) -> bool
         ensures { result ≡ before self.now other.now }
     {

@@ -19,7 +19,7 @@ use fixes::{Fix, MAX_FIXES};
 use links::{Transmission, Transmissions};
 use std::marker::Model;
 
-/// All transmissions of a board's fixes, the oldest first, each decided once. The lines of all stand in one list, since no fix is of two.
+/// All transmissions of a board's fixes, the oldest first, each decided once. All lines are in one list, since no fix is of two transmissions.
 #[derive(Drop)]
 pub struct Picture<'s, 'a> {
     fixes: &'s [Fix<'a>],
@@ -39,7 +39,7 @@ impl<'s, 'a> Model for Picture<'s, 'a> {
     ghost invariant = { λ p. Within p.fixes.now p.lines.items p.parts.items };
 }
 
-// Where the first part stands that is not older, if there is one.
+// The place of the first part that is not older, if there is one.
 fn place_of(parts: &[Part], part: &Part) -> Option<usize>
     ensures { result ≡ position (λ p. not (before p part.now)) parts.now }
 {
