@@ -1,5 +1,5 @@
 /* The sizes of the layouts, a hash, the three outcomes of an agreement, decisions over three fixes of one transmission, also in another order,
- * reports into a register, a conviction that is shown first, and the same three fixes in two orders into tracks, called from C. */
+ * reports into a register, a conviction that is shown first, a register turned for an archive, and the same three fixes in two orders into tracks, called from C. */
 #include <inttypes.h>
 #include <stdio.h>
 #include <string.h>
@@ -195,6 +195,22 @@ static void reports(void) {
     show("board into too little", tl_board(memory, sizeof memory, out, TOO_LITTLE));
 }
 
+/* A register is turned for an archive and turned back, and its board computed from what came back. */
+static void archive(void) {
+    static uint8_t memory[TL_REGISTER_SIZE], columns[TL_REGISTER_SIZE], back[TL_REGISTER_SIZE], out[TL_BOARD_SIZE];
+    uint8_t r[TL_RECORD_SIZE];
+    write_record(r, 2, STEP);
+    show("report to be archived", tl_register_report(memory, sizeof memory, 4, r, sizeof r));
+    show("columns", tl_register_columns(memory, sizeof memory, columns, sizeof columns));
+    /* The record's ninth byte is the first of its latitude: byte 8 of place 0 is at 8 * 96. */
+    printf("byte 8 of place 0: %d and %d\n", memory[TL_REGISTER_RECORDS_AT + TL_RECORD_LAT_AT],
+           columns[TL_REGISTER_RECORDS_AT + TL_RECORD_LAT_AT * TL_MAX_RECORDS]);
+    show("turned back", tl_register_uncolumns(columns, sizeof columns, back, sizeof back));
+    printf("the same bytes: %s\n", memcmp(memory, back, sizeof memory) == 0 ? "yes" : "no");
+    show_text("board of what came back", tl_board(back, sizeof back, out, sizeof out), out);
+    show("columns of too little", tl_register_columns(memory, sizeof memory - 1, columns, sizeof columns));
+}
+
 /* Fix i has i + 1 receivers and lies i steps north: the first disagrees with the third, and the second with none. */
 static void track(const int order[FIXES]) {
     static uint8_t memory[TL_TRACK_SIZE], out[TL_LISTING_SIZE];
@@ -245,6 +261,7 @@ int main(void) {
     decide();
     orders();
     reports();
+    archive();
     track(smallest_first);
     track(largest_first);
     disputes();
