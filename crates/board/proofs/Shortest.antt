@@ -5,7 +5,7 @@ use mathlib.Core.List.Permᴰ
 use mathlib.Core.List.{Memᴰ, flat_map}
 use Rattle.std.specs.List.{filter}
 use Rattle.ranges.specs.Lists.{sort}
-use Rattle.ranges.proofs.Lists.{filter-in, sort-perm}
+use Rattle.ranges.proofs.Lists.{filter-in, sort-perm, map-from}
 use Rattle.ranges.proofs.Orders.{perm-mem}
 use Rattle.octets.specs.Ascii.{ascii}
 use Rattle.text.specs.Numbers.{signed_decimal}
@@ -16,7 +16,6 @@ use Rattle.shown.specs.Fix.{Fix}
 use Rattle.shown.specs.Shown.{Transmission, shown}
 use Rattle.shown.proofs.Showing.{ranked-some}
 use Rattle.links.specs.Transmissions.{transmission_of, leads, is_first, transmissions_of}
-use Rattle.links.proofs.Partition.{map-from}
 use Rattle.transmissions.specs.Picture.{older_than, picture, latest_of, max_shown}
 use Rattle.drawing.specs.Lines.{where_when, metres_text, height_text, fix_text, fix_line}
 use Rattle.drawing.specs.Text.{ranked_text, text_of, text_from, board_text}

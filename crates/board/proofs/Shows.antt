@@ -11,7 +11,7 @@ use Rattle.record.proofs.Laws.{subset-fewer}
 use Rattle.arithmetic.specs.Agree.{agrees_of}
 use Rattle.std.specs.List.{filter}
 use Rattle.ranges.specs.Lists.{sort, Ascending}
-use Rattle.ranges.proofs.Lists.{filter-in, sort-perm}
+use Rattle.ranges.proofs.Lists.{filter-in, sort-perm, map-from}
 use Rattle.ranges.proofs.Orders.{perm-mem}
 use Rattle.ranges.proofs.Sorting as S
 use Rattle.ranges.proofs.Sorting.{sort-ascends}
@@ -27,7 +27,7 @@ use Rattle.links.specs.Transmissions.{transmission_of, leads, is_first, transmis
 use Rattle.links.specs.Claims.{Partition}
 use Rattle.links.proofs.Indexed.{map-map}
 use Rattle.links.proofs.Reaching.{chain-in}
-use Rattle.links.proofs.Partition.{partition, map_of, map-from}
+use Rattle.links.proofs.Partition.{partition, map_of}
 use Rattle.links.proofs.Fitness.{self-linked}
 use Rattle.shown.specs.Shown.{Transmission, subset_of, agreement, shown}
 use Rattle.shown.specs.Ages.{older, older_first}

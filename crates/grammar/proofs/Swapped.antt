@@ -1,7 +1,7 @@
 -- Numbers with the highest byte first as numbers in memory.
 use Rattle.std.proofs.lemmas.Nat.{be_bytes_8}
-use Rattle.std.proofs.Common.{ℕ, zero, suc, [], ◌∷◌, ◌+◌, ◌^◌, ◌≤◌, ◌<◌, ◌≡◌, refl, sym, ap, ◌∙◌, List, ◌++◌, append-nil, reverse, w64, arith, length, take, drop, get_or, length-drop, length-take-le}
-use Rattle.std.specs.Int.{to_le_bytes, to_be_bytes, from_be_bytes, swap_bytes}
+use Rattle.std.proofs.Common.{ℕ, zero, suc, [], ◌∷◌, ◌+◌, ◌≤◌, ◌<◌, ◌≡◌, refl, sym, ap, ◌∙◌, List, ◌++◌, reverse, w64, arith, length, take, drop, get_or, length-drop, length-take-le}
+use Rattle.std.specs.Int.{to_le_bytes, from_be_bytes, swap_bytes}
 use lib.Seq.{drop-drop}
 use Rattle.grammar.specs.Numbers as Val
 use Rattle.octets.specs.Words.{word_bytes, word_at}

@@ -5,7 +5,7 @@ use mathlib.Core.List.{Memᴰ, Permᴰ}
 use lib.ListN.{length-map}
 use Rattle.std.specs.List.{filter}
 use Rattle.ranges.specs.Lists.{up_to}
-use Rattle.ranges.proofs.Lists.{count-length, filter-in, filter-few}
+use Rattle.ranges.proofs.Lists.{count-length, filter-in, filter-few, map-from}
 use Rattle.ranges.proofs.Searches.{filter_range}
 use Rattle.ranges.specs.Range.{first, filt}
 use Rattle.ranges.proofs.Range.{first-is, first-not-past, filt-at, filt-ext}
@@ -22,7 +22,6 @@ use Rattle.links.specs.Transmissions.{transmission_of, leads, is_first, transmis
 use Rattle.links.proofs.Fitness.{self-linked}
 use Rattle.links.proofs.Indexed.{together_at, first_at, together-at-is, transmissions-are}
 use Rattle.links.proofs.Parting.{first-once}
-use Rattle.links.proofs.Partition.{map-from}
 use Rattle.links.proofs.Reaching.{SelfLinked, chain-joined, chain-turned}
 
 -- ---- sums over lists

@@ -5,7 +5,7 @@ use mathlib.Core.List.{Memᴰ}
 use Rattle.octets.proofs.Comparison.{same_refl}
 use Rattle.ranges.proofs.Bools.{or}
 use Rattle.std.specs.List.{filter}
-use Rattle.ranges.proofs.Lists.{filter-in, filter-of}
+use Rattle.ranges.proofs.Lists.{filter-in, filter-of, map-from}
 use Rattle.shown.specs.Fix.{Fix}
 use Rattle.links.specs.Transmissions.{Chain, here, transmission_of, leads, is_first, transmissions_of}
 use Rattle.links.specs.Claims.{Partition}
@@ -15,13 +15,6 @@ module _ {A B : Type 0} (f : A → B) where
   pub map_of : (l : List A) (x : A) → Memᴰ x l → Memᴰ (f x) (map f l)
   map_of [] x m = absurd (Memᴰ.not-nil m)
   map_of (y ∷ l) x m = or (Memᴰ.cases_cons m) (λ e. Memᴰ.head (ap f e)) (λ k. Memᴰ.tail (map_of l x k))
-
-  pub map-from : (l : List A) (z : B) → Memᴰ z (map f l) → (x : A) × Memᴰ x l × (z ≡ f x)
-  map-from [] z m = absurd (Memᴰ.not-nil m)
-  map-from (y ∷ l) z m =
-      or (Memᴰ.cases_cons m)
-      (λ e. (y, Memᴰ.head refl, e))
-      (λ k. let r = map-from l z k in (r.0, Memᴰ.tail r.1, r.2))
 
 cons-of : {A : Type 0} (l : List A) (x : A) → Memᴰ x l → (y : A) × (rest : List A) × (l ≡ y ∷ rest)
 cons-of [] x m = absurd (Memᴰ.not-nil m)

@@ -7,8 +7,8 @@ ghost use Rattle.register.specs.Memory.{fresh};
 ghost use Rattle.grammar.specs.Session.{at_start, calls_from};
 ghost use Rattle.notices.specs.Notices as N;
 
-use grammar::Lines;
 use errors::answer_number;
+use grammar::Lines;
 use register::layout::REGISTER_SIZE;
 use std::alloc::{AllocError, Global};
 use text::Text;

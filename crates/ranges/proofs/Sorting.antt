@@ -5,7 +5,7 @@ use mathlib.Core.Bool.{Bool, true, false}
 use mathlib.Core.Logic.{◌⊎◌, inl, inr}
 use mathlib.Core.List.Memᴰ
 use mathlib.Core.List.Permᴰ
-use mathlib.Core.List.{List, [], ◌∷◌, ◌++◌, map, flat_map, Memᴰ, Permᴰ}
+use mathlib.Core.List.{List, [], ◌∷◌, map, flat_map, Memᴰ, Permᴰ}
 use Rattle.std.specs.List.{filter}
 use Rattle.ranges.specs.Lists.{insert, sort, foremost, Ascending, none, next}
 use Rattle.ranges.proofs.Bools.{by, or, clash, no_true}

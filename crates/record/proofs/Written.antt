@@ -1,7 +1,7 @@
 -- The bytes that say a value are read back as that value.
-use Rattle.std.proofs.Common.{◌≡◌, ◌∙◌, sym, ap, ap₂, refl, ℕ, zero, suc, ◌+◌, ◌*◌, ◌^◌, ◌-◌, ◌≤◌, ◌<◌, ◌++◌, Option, Some, None, All, IfSome, append_assoc, length-append, append-nil, List, [], ◌∷◌, length, take, drop, replicate, get_or, w32, arith, ℤ, pos, negsuc, FitsSigned}
-use Rattle.std.proofs.lemmas.List.{get_or-drop, length-replicate}
-use Rattle.std.proofs.lemmas.Grind.{common_steps, flat_map-append}
+use Rattle.std.proofs.Common.{◌≡◌, ◌∙◌, sym, ap, ap₂, refl, ℕ, zero, suc, ◌+◌, ◌*◌, ◌^◌, ◌-◌, ◌<◌, ◌++◌, Option, Some, None, All, IfSome, append_assoc, append-nil, List, [], ◌∷◌, length, take, drop, replicate, get_or, w32, arith, ℤ, FitsSigned}
+use Rattle.std.proofs.lemmas.List.{get_or-drop}
+use Rattle.std.proofs.lemmas.Grind.{flat_map-append}
 use Rattle.std.proofs.Math.Seq.{drop-append_seam, take-append_seam}
 use lib.Seq.{drop-drop}
 use mir.Facts.{to_z-of_z, Fits-of_z}

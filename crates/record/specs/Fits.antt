@@ -1,6 +1,6 @@
 -- Which values a record has room for: what each field's type allows.
 -- Source: docs/REFERENCE.md, 'Record'.
-use Rattle.std.specs.Prelude.{ℕ, ◌≡◌, ◌^◌, ◌<◌, ◌≤◌, length, IfSome, All, FitsSigned}
+use Rattle.std.specs.Prelude.{◌≡◌, ◌^◌, ◌<◌, ◌≤◌, length, IfSome, All, FitsSigned}
 use Rattle.std.specs.Int.{w32}
 use Rattle.octets.specs.Bytes.{Bytes}
 use Rattle.record.specs.Layout.{max_tags, max_models, long_message}

@@ -23,8 +23,8 @@ ghost use Rattle.answers.specs.Answer.{hand_out};
 
 use answers::ANSWER_SIZE;
 use arithmetic::standing::{Agreement, Claimed, Measure};
-use geometry::linalg::Covariance;
 use errors::{answer_number, value_or_number};
+use geometry::linalg::Covariance;
 use track::reports::reported_number;
 
 // The answers for how a larger fix stands to a smaller one.

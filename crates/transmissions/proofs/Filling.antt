@@ -4,10 +4,9 @@ use Rattle.std.proofs.Math.ListN.{drop_of_length-le, length-map, length-drop}
 use Rattle.std.proofs.Math.Seq.{drop-cons}
 use mathlib.Core.List.{Memᴰ}
 use Rattle.ranges.specs.Lists.{insert, sort}
-use Rattle.ranges.proofs.Lists.{sort-map, sort-perm}
+use Rattle.ranges.proofs.Lists.{sort-map, sort-perm, map-from}
 use Rattle.ranges.proofs.Orders.{perm-length}
 use Rattle.links.proofs.Indexed.{map-map}
-use Rattle.links.proofs.Partition.{map-from}
 use Rattle.shown.specs.Fix.{Fix}
 use Rattle.shown.specs.Shown.{Transmission, shown}
 use Rattle.shown.specs.Ages.{older, older_first}

@@ -1,4 +1,4 @@
-use Rattle.std.proofs.Common.{ℕ, ◌∙◌, ap, ◌+◌, ◌≤◌, length, w64, arith, rules}
+use Rattle.std.proofs.Common.{◌∙◌, ap, w64, rules}
 use Rattle.std.specs.Int.{swap_bytes}
 use Rattle.octets.proofs.Numbers.{all-bytes}
 use Rattle.grammar.proofs.Swapped.{swapped}

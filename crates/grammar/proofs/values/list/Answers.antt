@@ -1,4 +1,4 @@
-use Rattle.std.proofs.Common.{◌≡◌, ◌∙◌, sym, ap, ℕ, List, [], ◌∷◌, ◌-◌, ◌<◌, ◌++◌, Some, option_map, arith}
+use Rattle.std.proofs.Common.{◌≡◌, ◌∙◌, sym, ap, ℕ, [], ◌∷◌, ◌-◌, ◌<◌, ◌++◌, Some, option_map, arith}
 use Rattle.arrayvec.specs.ArrayVec.{array_vec_len}
 use Rattle.grammar.specs.Numbers.{read_list}
 use Rattle.grammar.proofs.Texts.{list_full, list_bad, list-more, last_bad, list-last}

@@ -1,4 +1,4 @@
-use Rattle.std.proofs.Common.{◌≡◌, ◌-◌, ◌++◌, List, ℕ, option_map}
+use Rattle.std.proofs.Common.{◌≡◌, ◌-◌, ◌++◌, List, option_map}
 use Rattle.arrayvec.specs.ArrayVec.{array_vec_len}
 use Rattle.grammar.specs.Numbers as Val
 use Rattle.grammar.proofs.values.list.Given as goal

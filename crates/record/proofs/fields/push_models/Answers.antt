@@ -1,9 +1,8 @@
-use Rattle.std.proofs.Common.{◌≡◌, ◌∙◌, ap, List, ℕ, [], ◌∷◌, ◌++◌, ◌-◌, length, replicate, rules}
+use Rattle.std.proofs.Common.{◌∙◌, ap, List, ℕ, [], ◌∷◌, ◌++◌, ◌-◌, length, replicate, rules}
 use Rattle.octets.specs.Bytes.{Bytes}
 use Rattle.octets.proofs.Numbers.{all-bytes}
 use Rattle.text.specs.Texts.{append}
 use Rattle.text.proofs.Appending.{append-then}
-use Rattle.record.specs.Encoded.{pad, words}
 use Rattle.record.proofs.Encoded.{zeros-behind, words-of-pad}
 use Rattle.record.proofs.fields.push_models.Goals as goal
 
