@@ -23,11 +23,11 @@
  * - The floating-point environment that a thread begins with: rounding to nearest, no flush to zero and no denormals as zero
  *   (MXCSR 1f80 but for its flags), no exception unmasked. Another changes chi-squares, and so which fixes are refused, and the
  *   result of tl_horizontal_sigma.
- * - Stack: 48 KB for tl_decide and tl_decide_any, 112 KB for tl_board and each function of a track, 144 KB for tl_register_preview, 4 KB for each
- *   other function (a KB is 1,024 bytes). bench/stack measures it; seen were up to 18 KB for a decision of up to 32 items and 42
- *   KB for one of more, 72 KB for a board, 102 KB for a preview, which has a copy of the register there, 25 to 28 KB for a call on
- *   a track and 1 to 3 KB for the others. What a dynamic linker takes at a first call is not in these: bind names at the start
- *   (-Wl,-z,now).
+ * - Stack: 48 KB for tl_decide and tl_decide_any, 112 KB for tl_board and each function of a track, 144 KB for
+ *   tl_register_preview, 4 KB for each other function (a KB is 1,024 bytes). bench/stack measures it; seen were up to 14 KB for
+ *   a decision of up to 32 items and 43 KB for one of more, 72 KB for a board, 102 KB for a preview, which has a copy of the
+ *   register there, 25 to 29 KB for a call on a track and 1 to 3 KB for the others. What a dynamic linker takes at a first call
+ *   is not in these: bind names at the start (-Wl,-z,now).
  * - Threads: any number of them may call at once, as long as no two calls have memory in common that one of them may write. A
  *   register or a track that several threads use needs the caller's lock.
  *

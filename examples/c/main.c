@@ -154,10 +154,10 @@ static void decide(void) {
 typedef uint32_t decide_function(const uint8_t *items, size_t items_len, uint8_t answer[TL_ANSWER_SIZE]);
 
 /* Three fixes at one place, in this order: what is decided of them, with the first byte of each identity in place of the index. */
-static void identities(const char *what, decide_function *decide, const int order[FIXES]) {
+static void identities(const char *what, decide_function *function, const int order[FIXES]) {
     uint8_t items[FIXES * TL_ITEM_SIZE], answer[TL_ANSWER_SIZE];
     for (int i = 0; i < FIXES; i++) write_item(items + i * TL_ITEM_SIZE, order[i] + 1, 0);
-    printf("%s, items %d %d %d: answer %" PRIu32, what, order[0] + 1, order[1] + 1, order[2] + 1, decide(items, sizeof items, answer));
+    printf("%s, items %d %d %d: answer %" PRIu32, what, order[0] + 1, order[1] + 1, order[2] + 1, function(items, sizeof items, answer));
     for (int list = 0; list < 2; list++) {
         uint8_t *at = answer + (list ? TL_DOMINATED_AT : TL_RANKED_AT);
         for (int i = 0; i < at[0]; i++) at[1 + i] = items[at[1 + i] * TL_ITEM_SIZE + TL_ITEM_IDENTITY_AT];

@@ -126,7 +126,8 @@ enum Order {
     Identity,
 }
 
-// The decision in an order.
+// The decision in an order. A function of its own, so that what a sort needs is no part of the frame in which items are decided.
+#[inline(never)]
 fn put_ordered<const N: usize>(
     out: &mut [u8],
     items: &Items<'_>,
@@ -144,6 +145,50 @@ fn put_ordered<const N: usize>(
     put_decision(out, decision);
 }
 
+// Decides at most `LEAST` items. Each size has a function, and so a frame, of its own.
+#[inline(never)]
+fn put_least(out: &mut [u8], items: &Items<'_>, order: Order)
+    requires zeros { out.old ≡ replicate answer_size 0 }
+    requires some { (0 < length items.now.bytes.now / item_size) × (length items.now.bytes.now / item_size ≤ LEAST) }
+    ensures { out.new ≡ answer_bytes (arrays_of (outcome_in order items.now.bytes.now)) }
+{
+    let mut decision = decide_least(items.len(), |i| items.get(i));
+    put_ordered(out, items, &mut decision, order);
+}
+
+// Decides at most `FEW` items.
+#[inline(never)]
+fn put_few(out: &mut [u8], items: &Items<'_>, order: Order)
+    requires zeros { out.old ≡ replicate answer_size 0 }
+    requires some { (0 < length items.now.bytes.now / item_size) × (length items.now.bytes.now / item_size ≤ FEW) }
+    ensures { out.new ≡ answer_bytes (arrays_of (outcome_in order items.now.bytes.now)) }
+{
+    let mut decision = decide_few(items.len(), |i| items.get(i));
+    put_ordered(out, items, &mut decision, order);
+}
+
+// Decides at most `SOME` items.
+#[inline(never)]
+fn put_some(out: &mut [u8], items: &Items<'_>, order: Order)
+    requires zeros { out.old ≡ replicate answer_size 0 }
+    requires some { (0 < length items.now.bytes.now / item_size) × (length items.now.bytes.now / item_size ≤ SOME) }
+    ensures { out.new ≡ answer_bytes (arrays_of (outcome_in order items.now.bytes.now)) }
+{
+    let mut decision = decide_some(items.len(), |i| items.get(i));
+    put_ordered(out, items, &mut decision, order);
+}
+
+// Decides any items.
+#[inline(never)]
+fn put_many(out: &mut [u8], items: &Items<'_>, order: Order)
+    requires zeros { out.old ≡ replicate answer_size 0 }
+    requires some { (0 < length items.now.bytes.now / item_size) × (length items.now.bytes.now / item_size ≤ max_items) }
+    ensures { out.new ≡ answer_bytes (arrays_of (outcome_in order items.now.bytes.now)) }
+{
+    let mut decision = decide_each(items.len(), |i| items.get(i));
+    put_ordered(out, items, &mut decision, order);
+}
+
 // Decides two items or more in tables of their size. A function of its own, so that one item alone does not wait for the tables.
 #[inline(never)]
 fn put_decided(out: &mut [u8; ANSWER_SIZE], items: &Items<'_>, order: Order)
@@ -151,12 +196,11 @@ fn put_decided(out: &mut [u8; ANSWER_SIZE], items: &Items<'_>, order: Order)
     requires some { 1 < length items.now.bytes.now / item_size }
     ensures { out.new ≡ answer_bytes (arrays_of (outcome_in order items.now.bytes.now)) }
 {
-    let n = items.len();
-    match n {
-        ..=LEAST => put_ordered(out, items, &mut decide_least(n, |i| items.get(i)), order),
-        ..=FEW => put_ordered(out, items, &mut decide_few(n, |i| items.get(i)), order),
-        ..=SOME => put_ordered(out, items, &mut decide_some(n, |i| items.get(i)), order),
-        _ => put_ordered(out, items, &mut decide_each(n, |i| items.get(i)), order),
+    match items.len() {
+        ..=LEAST => put_least(out, items, order),
+        ..=FEW => put_few(out, items, order),
+        ..=SOME => put_some(out, items, order),
+        _ => put_many(out, items, order),
     }
 }
 
