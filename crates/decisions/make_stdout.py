@@ -316,4 +316,5 @@ def main():
         out.write(stdout)
 
 
-main()
+if __name__ == "__main__":
+    main()

@@ -1,0 +1,9 @@
+//! Prints every small picture, a line each.
+#![tactic(auto)]
+
+use std::io;
+
+fn main(rt: HostRuntime) -> io::Result<()> {
+    let text = situations::pictures(rt.alloc())?;
+    rt.write_all(text.as_slice())
+}
