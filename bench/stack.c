@@ -82,6 +82,12 @@ static void preview(void) {
     tl_register_preview(memory, sizeof memory, 3, out, sizeof out);
 }
 
+static uint8_t turned[TL_REGISTER_SIZE];
+
+static void columns(void) { tl_register_columns(memory, sizeof memory, turned, sizeof turned); }
+
+static void uncolumns(void) { tl_register_uncolumns(memory, sizeof memory, turned, sizeof turned); }
+
 static void write_items(void) {
     for (int i = 0; i < TL_MAX_ITEMS; i++) {
         uint8_t *item = items + i * TL_ITEM_SIZE;
@@ -182,6 +188,8 @@ int main(void) {
         line("board", "records", board);
         line("preview", "records", preview);
     }
+    row("columns of a register", columns);
+    row("columns turned back", uncolumns);
     write_track();
     row("track report that joins 9 fixes, 72 held", join);
     row("track conviction, 72 fixes held", conviction);

@@ -1,5 +1,7 @@
 //! Requests on standard input, one a line; answers on standard output, one a line. README.md has the lines.
 
+mod pictures;
+
 use oracle::{Claim, Record, hex, track::Track};
 use std::io::{BufRead, Write};
 
@@ -129,8 +131,10 @@ fn angles() {
 }
 
 fn main() {
-    if std::env::args().nth(1).as_deref() == Some("angles") {
-        return angles();
+    match std::env::args().nth(1).as_deref() {
+        Some("angles") => return angles(),
+        Some("pictures") => return print!("{}", pictures::all()),
+        _ => {}
     }
     let mut track = Track::default();
     let mut out = std::io::stdout().lock();
