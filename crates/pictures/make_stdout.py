@@ -3,7 +3,7 @@
 
     oracle/build && crates/pictures/make_stdout.py
 
-What is decided of a case is worked out twice: by the rules of crates/decisions/make_stdout.py, and by the Rust (target/oracle/oracle-program)
+What is decided of a case is worked out twice: by the rules of crates/test_decisions/make_stdout.py, and by the Rust (target/oracle/oracle-program)
 from the items' bytes. The two are compared, and nothing is written where they differ. Nothing is taken from the proved crates."""
 import importlib.util
 import itertools

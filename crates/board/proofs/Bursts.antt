@@ -1,5 +1,5 @@
 -- The fixes of every board are parted and well-formed, so bursts stay apart on it.
-use Rattle.links.proofs.Bursts.{bursts-stay-apart}
+use Rattle.board_transmissions.proofs.Bursts.{bursts-stay-apart}
 use Rattle.board.specs.Shows.{fixes_over}
 use Rattle.board.specs.Bursts.{BurstsOnBoards}
 use Rattle.board.proofs.Shows.{standing-over, what-is-shown}

@@ -6,15 +6,15 @@ use Rattle.std.proofs.lemmas.Grind.{flat_map-append}
 use Rattle.text.specs.declared.Text.{Text}
 use Rattle.text.specs.Texts.{append}
 use Rattle.text.proofs.Appending.{append-append, append-nil}
-use Rattle.shown.specs.Fix.{Fix}
-use Rattle.shown.specs.Shown.{Transmission, shown}
-use Rattle.ranges.specs.Lists.{sort}
-use Rattle.links.specs.Transmissions.{transmissions_of}
-use Rattle.transmissions.specs.Picture.{older_than, latest_of, max_shown}
-use Rattle.transmissions.specs.Lines.{ShownPart, line_of, refused_line_of, lines_of, part_of, no_part, part_at}
-use Rattle.drawing.specs.declared.Standing.TheVariants.{Ranked, Dominated}
-use Rattle.drawing.specs.Lines.{header}
-use Rattle.drawing.specs.Text.{ranked_text, dominated_text, refused_text, text_of, text_from, board_text}
+use Rattle.fixes.specs.Fix.{Fix}
+use Rattle.fixes.specs.Shown.{Transmission, shown}
+use Rattle.lists.specs.Lists.{sort}
+use Rattle.board_transmissions.specs.Transmissions.{transmissions_of}
+use Rattle.board_picture.specs.Picture.{older_than, latest_of, max_shown}
+use Rattle.board_picture.specs.Lines.{ShownPart, line_of, refused_line_of, lines_of, part_of, no_part, part_at}
+use Rattle.fix_lines.specs.declared.Standing.TheVariants.{Ranked, Dominated}
+use Rattle.fix_lines.specs.Lines.{header}
+use Rattle.fix_lines.specs.Text.{ranked_text, dominated_text, refused_text, text_of, text_from, board_text}
 use Rattle.board.specs.Drawn.{line_text, part_text, parts_text}
 use Rattle.board.specs.Latest.{latest_over}
 

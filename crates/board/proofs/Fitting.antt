@@ -1,20 +1,20 @@
 -- Every board fits what a caller lends, and its length is 0 or greater than every refusal's number.
 use Rattle.std.proofs.Common.{ℕ, ◌+◌, ◌-◌, ◌≤◌, ◌<◌, ◌≡◌, refl, ap, true, ◌⊎◌, inl, inr, ⊎_elim, List, [], ◌∷◌, map, arith, length, length-drop}
-use Rattle.ranges.specs.Lists.{sort}
-use Rattle.ranges.proofs.Lists.{sort-perm}
-use Rattle.fixes.specs.Slots.{max_fixes}
-use Rattle.shown.specs.Fix.{Fix}
-use Rattle.shown.specs.Items.{AllFormed, Apart}
-use Rattle.shown.specs.Shown.{Transmission, shown}
-use Rattle.links.specs.Transmissions.{transmissions_of}
-use Rattle.transmissions.specs.Picture.{older_than, picture, latest_of, max_shown}
-use Rattle.links.specs.Links.{total}
-use Rattle.links.proofs.Counting.{total-drop, total-perm, total-map, total-same, parted}
-use Rattle.transmissions.proofs.Counting.{shown-all}
-use Rattle.drawing.specs.Text.{board_text, board_size}
-use Rattle.drawing.proofs.Lengths.{lines_in, all_lines, texts-width, board-long}
+use Rattle.lists.specs.Lists.{sort}
+use Rattle.lists.proofs.Lists.{sort-perm}
+use Rattle.board_fixes.specs.Slots.{max_fixes}
+use Rattle.fixes.specs.Fix.{Fix}
+use Rattle.fixes.specs.Items.{AllFormed, Apart}
+use Rattle.fixes.specs.Shown.{Transmission, shown}
+use Rattle.board_transmissions.specs.Transmissions.{transmissions_of}
+use Rattle.board_picture.specs.Picture.{older_than, picture, latest_of, max_shown}
+use Rattle.board_transmissions.specs.Links.{total}
+use Rattle.board_transmissions.proofs.Counting.{total-drop, total-perm, total-map, total-same, parted}
+use Rattle.board_picture.proofs.Counting.{shown-all}
+use Rattle.fix_lines.specs.Text.{board_text, board_size}
+use Rattle.fix_lines.proofs.Lengths.{lines_in, all_lines, texts-width, board-long}
 use Rattle.octets.specs.Bytes.{Bytes}
-use Rattle.fixes.specs.Fixes.{fixes_of}
+use Rattle.board_fixes.specs.Fixes.{fixes_of}
 use Rattle.register.specs.Register.{Register}
 use Rattle.register.specs.Memory.{well_formed, decode}
 use Rattle.register.proofs.Opened.{opened}

@@ -1,15 +1,15 @@
 -- The board of the fixes of a register is the register's.
 use Rattle.std.proofs.Common.{◌≤◌, ◌≡◌, refl, sym, ap, ◌∙◌, true, List, [], ◌∷◌, arith, length}
-use Rattle.fixes.specs.Slots.{max_fixes}
-use Rattle.fixes.specs.Fixes.{fixes_of}
-use Rattle.fixes.specs.Order.{identities_ascend}
-use Rattle.fixes.proofs.Kept.{apart}
-use Rattle.shown.specs.Fix.{Fix}
-use Rattle.shown.specs.Items.{AllFormed}
-use Rattle.ranges.specs.Lists.{sort}
-use Rattle.links.specs.Transmissions.{transmissions_of}
-use Rattle.transmissions.specs.Picture.{picture}
-use Rattle.drawing.specs.Text.{text_from, board_text, board_size}
+use Rattle.board_fixes.specs.Slots.{max_fixes}
+use Rattle.board_fixes.specs.Fixes.{fixes_of}
+use Rattle.board_fixes.specs.Order.{identities_ascend}
+use Rattle.board_fixes.proofs.Kept.{apart}
+use Rattle.fixes.specs.Fix.{Fix}
+use Rattle.fixes.specs.Items.{AllFormed}
+use Rattle.lists.specs.Lists.{sort}
+use Rattle.board_transmissions.specs.Transmissions.{transmissions_of}
+use Rattle.board_picture.specs.Picture.{picture}
+use Rattle.fix_lines.specs.Text.{text_from, board_text, board_size}
 use Rattle.register.specs.Register.{Register}
 use Rattle.board.specs.Board.{board_of, board_in}
 use Rattle.board.specs.Latest.{latest_over}

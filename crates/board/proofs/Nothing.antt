@@ -3,22 +3,22 @@ use Rattle.std.proofs.Common.{ℕ, ◌-◌, ◌<◌, ◌≡◌, refl, Bool, true
 use mathlib.Core.List.Memᴰ
 use mathlib.Core.List.{Memᴰ}
 use Rattle.std.specs.List.{list_any}
-use Rattle.ranges.specs.Lists.{sort}
-use Rattle.ranges.proofs.Bools.{by}
-use Rattle.ranges.proofs.Lists.{filter_none, filter-some, sort-perm}
-use Rattle.ranges.proofs.Orders.{perm-mem}
+use Rattle.lists.specs.Lists.{sort}
+use Rattle.lists.proofs.Bools.{by}
+use Rattle.lists.proofs.Lists.{filter_none, filter-some, sort-perm}
+use Rattle.lists.proofs.Orders.{perm-mem}
 use Rattle.octets.specs.Ascii.{ascii}
 use Rattle.octets.specs.Order.{is_before}
 use Rattle.models.specs.Models.{counts}
-use Rattle.shown.specs.Fix.{Fix}
-use Rattle.shown.specs.Shown.{Transmission, shown}
-use Rattle.fixes.specs.Fixes.{record_in, fix_of_place, unite, enter, enter_all, fixes_of}
-use Rattle.links.specs.Transmissions.{transmissions_of}
-use Rattle.links.proofs.Partition.{partition, map_of}
-use Rattle.links.proofs.Fitness.{self-linked}
-use Rattle.transmissions.specs.Picture.{older_than, picture, max_shown, latest_of}
-use Rattle.drawing.specs.Lines.{header}
-use Rattle.drawing.specs.Text.{text_of, text_from}
+use Rattle.fixes.specs.Fix.{Fix}
+use Rattle.fixes.specs.Shown.{Transmission, shown}
+use Rattle.board_fixes.specs.Fixes.{record_in, fix_of_place, unite, enter, enter_all, fixes_of}
+use Rattle.board_transmissions.specs.Transmissions.{transmissions_of}
+use Rattle.board_transmissions.proofs.Partition.{partition, map_of}
+use Rattle.board_transmissions.proofs.Fitness.{self-linked}
+use Rattle.board_picture.specs.Picture.{older_than, picture, max_shown, latest_of}
+use Rattle.fix_lines.specs.Lines.{header}
+use Rattle.fix_lines.specs.Text.{text_of, text_from}
 use Rattle.register.specs.Register.{Register}
 use Rattle.register.specs.Memory.{decode}
 use Rattle.register.proofs.Opened.{opened}

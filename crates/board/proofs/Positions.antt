@@ -5,12 +5,12 @@ use Rattle.text.proofs.Readback.{height-texts}
 use Rattle.geometry.proofs.Positions.{position-4}
 use Rattle.arithmetic.proofs.Positions.{position-1, position-2}
 use Rattle.decision.proofs.Positions.{position-3, ends-only}
-use Rattle.ranges.specs.Lists.{sort}
-use Rattle.fixes.specs.Fixes.{enter_all, fixes_of}
-use Rattle.links.specs.Transmissions.{transmissions_of}
-use Rattle.links.proofs.Positions.{position-6}
-use Rattle.transmissions.specs.Picture.{picture}
-use Rattle.drawing.specs.Text.{text_from}
+use Rattle.lists.specs.Lists.{sort}
+use Rattle.board_fixes.specs.Fixes.{enter_all, fixes_of}
+use Rattle.board_transmissions.specs.Transmissions.{transmissions_of}
+use Rattle.board_transmissions.proofs.Positions.{position-6}
+use Rattle.board_picture.specs.Picture.{picture}
+use Rattle.fix_lines.specs.Text.{text_from}
 use Rattle.board.specs.Board.{board_of}
 use Rattle.board.specs.Positions.{Positions}
 

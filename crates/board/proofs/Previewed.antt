@@ -2,16 +2,16 @@
 -- calls the board after that list with the conviction at its end.
 use Rattle.std.proofs.Common.{ℕ, ◌≤◌, ◌≡◌, refl, sym, ap, ap₂, ◌∙◌, true, false, cond, not, ◌&&◌, List, [], ◌∷◌, arith, ltb, eqb, length, ne_eqb, le-ltb, ltb-true, ltb-false}
 use borrow.Author.Tests.{eqb-false}
-use Rattle.ranges.proofs.Bools.{by, and_both}
+use Rattle.lists.proofs.Bools.{by, and_both}
 use Rattle.octets.specs.Bytes.{Bytes}
-use Rattle.places.specs.Places.{keep_places}
+use Rattle.tables.specs.Places.{keep_places}
 use Rattle.models.specs.Summary.{summary_size}
 use Rattle.record.specs.Layout.{record_size}
 use Rattle.errors.specs.After.{After, after, write_text}
 use Rattle.engines.specs.Limits.{max_engine}
 use Rattle.models.specs.Summaries.{is_of_another, no_value}
-use Rattle.signed.specs.Signed.{drop_signer, has_another_signer}
-use Rattle.drawing.specs.Text.{board_size}
+use Rattle.signed_records.specs.Signed.{drop_signer, has_another_signer}
+use Rattle.fix_lines.specs.Text.{board_size}
 use Rattle.register.specs.Register.{Register, take_conviction, strike_engine}
 use Rattle.register.specs.Memory.{well_formed, decode, encode, fresh}
 use Rattle.register.specs.Calls.{Call, conviction, runs, none_full}

@@ -4,22 +4,22 @@ use mathlib.Core.Bool.{false≢true}
 use mathlib.Core.List.Permᴰ
 use mathlib.Core.List.{Memᴰ, flat_map}
 use Rattle.std.specs.List.{filter}
-use Rattle.ranges.specs.Lists.{sort}
-use Rattle.ranges.proofs.Lists.{filter-in, sort-perm, map-from}
-use Rattle.ranges.proofs.Orders.{perm-mem}
+use Rattle.lists.specs.Lists.{sort}
+use Rattle.lists.proofs.Lists.{filter-in, sort-perm, map-from}
+use Rattle.lists.proofs.Orders.{perm-mem}
 use Rattle.octets.specs.Ascii.{ascii}
 use Rattle.text.specs.Numbers.{signed_decimal}
 use Rattle.text.specs.Heights.{metres}
 use Rattle.text.proofs.Readback.{digits-width, hex-width}
 use Rattle.record.specs.Fields.{time, latitude, longitude, height, weight}
-use Rattle.shown.specs.Fix.{Fix}
-use Rattle.shown.specs.Shown.{Transmission, shown}
-use Rattle.shown.proofs.Showing.{ranked-some}
-use Rattle.links.specs.Transmissions.{transmission_of, leads, is_first, transmissions_of}
-use Rattle.transmissions.specs.Picture.{older_than, picture, latest_of, max_shown}
-use Rattle.drawing.specs.Lines.{where_when, metres_text, height_text, fix_text, fix_line}
-use Rattle.drawing.specs.Text.{ranked_text, text_of, text_from, board_text}
-use Rattle.drawing.proofs.Widths.{header-width}
+use Rattle.fixes.specs.Fix.{Fix}
+use Rattle.fixes.specs.Shown.{Transmission, shown}
+use Rattle.fixes.proofs.Showing.{ranked-some}
+use Rattle.board_transmissions.specs.Transmissions.{transmission_of, leads, is_first, transmissions_of}
+use Rattle.board_picture.specs.Picture.{older_than, picture, latest_of, max_shown}
+use Rattle.fix_lines.specs.Lines.{where_when, metres_text, height_text, fix_text, fix_line}
+use Rattle.fix_lines.specs.Text.{ranked_text, text_of, text_from, board_text}
+use Rattle.fix_lines.proofs.Widths.{header-width}
 use Rattle.register.specs.Register.{Register}
 use Rattle.register.specs.Memory.{decode}
 use Rattle.board.specs.Board.{board_of, board_in}

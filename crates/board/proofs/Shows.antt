@@ -10,32 +10,32 @@ use Rattle.record.specs.Fields.{tag_count}
 use Rattle.record.proofs.Laws.{subset-fewer}
 use Rattle.arithmetic.specs.Agree.{agrees_of}
 use Rattle.std.specs.List.{filter}
-use Rattle.ranges.specs.Lists.{sort, Ascending}
-use Rattle.ranges.proofs.Lists.{filter-in, sort-perm, map-from}
-use Rattle.ranges.proofs.Orders.{perm-mem}
-use Rattle.ranges.proofs.Sorting as S
-use Rattle.ranges.proofs.Sorting.{sort-ascends}
-use Rattle.ranges.proofs.Bools.{by, or, and_left}
-use Rattle.rule.specs.Outcome.{Outcome}
+use Rattle.lists.specs.Lists.{sort, Ascending}
+use Rattle.lists.proofs.Lists.{filter-in, sort-perm, map-from}
+use Rattle.lists.proofs.Orders.{perm-mem}
+use Rattle.lists.proofs.Sorting as S
+use Rattle.lists.proofs.Sorting.{sort-ascends}
+use Rattle.lists.proofs.Bools.{by, or, and_left}
+use Rattle.decision_rule.specs.Outcome.{Outcome}
 use Rattle.decision.specs.Claims.{listed_in}
 use Rattle.decision.proofs.Laws.{Sound, listed-once, some_ranked}
-use Rattle.shown.specs.Fix.{Fix}
-use Rattle.fixes.specs.Fixes.{fixes_of}
-use Rattle.shown.specs.Items.{no_fix, fix_at, Apart}
-use Rattle.shown.proofs.Indexed.{in-at}
-use Rattle.links.specs.Transmissions.{transmission_of, leads, is_first, transmissions_of}
-use Rattle.links.specs.Claims.{Partition}
-use Rattle.links.proofs.Indexed.{map-map}
-use Rattle.links.proofs.Reaching.{chain-in}
-use Rattle.links.proofs.Partition.{partition, map_of}
-use Rattle.links.proofs.Fitness.{self-linked}
-use Rattle.shown.specs.Shown.{Transmission, subset_of, agreement, shown}
-use Rattle.shown.specs.Ages.{older, older_first}
-use Rattle.transmissions.specs.Picture.{older_than, picture}
-use Rattle.shown.specs.Claims.{fix_relations}
-use Rattle.shown.proofs.Plainly.{shown-is-decided}
-use Rattle.shown.proofs.Ages.{older-total}
-use Rattle.transmissions.proofs.Ages.{older_than-trans}
+use Rattle.fixes.specs.Fix.{Fix}
+use Rattle.board_fixes.specs.Fixes.{fixes_of}
+use Rattle.fixes.specs.Items.{no_fix, fix_at, Apart}
+use Rattle.fixes.proofs.Indexed.{in-at}
+use Rattle.board_transmissions.specs.Transmissions.{transmission_of, leads, is_first, transmissions_of}
+use Rattle.board_transmissions.specs.Claims.{Partition}
+use Rattle.board_transmissions.proofs.Indexed.{map-map}
+use Rattle.board_transmissions.proofs.Reaching.{chain-in}
+use Rattle.board_transmissions.proofs.Partition.{partition, map_of}
+use Rattle.board_transmissions.proofs.Fitness.{self-linked}
+use Rattle.fixes.specs.Shown.{Transmission, subset_of, agreement, shown}
+use Rattle.fixes.specs.Ages.{older, older_first}
+use Rattle.board_picture.specs.Picture.{older_than, picture}
+use Rattle.fixes.specs.Claims.{fix_relations}
+use Rattle.fixes.proofs.Plainly.{shown-is-decided}
+use Rattle.fixes.proofs.Ages.{older-total}
+use Rattle.board_picture.proofs.Ages.{older_than-trans}
 use Rattle.register.specs.Memory.{decode, fresh}
 use Rattle.register.specs.Calls.{Call, runs, none_full, remaining}
 use Rattle.register.specs.Remains.{summaries_held, records_held}

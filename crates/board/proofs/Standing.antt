@@ -4,15 +4,15 @@ use Rattle.octets.specs.Order.{same}
 use Rattle.octets.specs.Words.{word_bytes}
 use Rattle.record.specs.Layout.{record_size}
 use Rattle.record.specs.Formed as R
-use Rattle.ranges.proofs.Bools.{and_left}
-use Rattle.fixes.specs.Slots.{max_fixes}
-use Rattle.fixes.specs.Fixes.{fixes_of}
-use Rattle.shown.specs.Items.{AllFormed, Apart}
-use Rattle.fixes.proofs.Kept.{fixes-formed, fixes-apart, fixes-few}
-use Rattle.signed.specs.Read.{record_formed}
-use Rattle.signed.specs.Signed.{signers_in, place_formed}
-use Rattle.places.proofs.Testing.{all-weaken}
-use Rattle.signed.proofs.Signatures.{place_held}
+use Rattle.lists.proofs.Bools.{and_left}
+use Rattle.board_fixes.specs.Slots.{max_fixes}
+use Rattle.board_fixes.specs.Fixes.{fixes_of}
+use Rattle.fixes.specs.Items.{AllFormed, Apart}
+use Rattle.board_fixes.proofs.Kept.{fixes-formed, fixes-apart, fixes-few}
+use Rattle.signed_records.specs.Read.{record_formed}
+use Rattle.signed_records.specs.Signed.{signers_in, place_formed}
+use Rattle.tables.proofs.Testing.{all-weaken}
+use Rattle.signed_records.proofs.Signatures.{place_held}
 use Rattle.register.specs.Register.{Register}
 use Rattle.register.proofs.Valid.{Valid}
 

@@ -1,6 +1,6 @@
 -- The claim about whole lists: both rooms hold and show the same.
 use Rattle.std.proofs.Common.{ℕ, ◌≤◌, ◌≡◌, sym, ap, ap₂, ◌∙◌, subst, true, List, length, le-ltb}
-use Rattle.drawing.specs.Text.{board_size}
+use Rattle.fix_lines.specs.Text.{board_size}
 use Rattle.errors.specs.After.{write_text}
 use Rattle.register.specs.Memory.{decode, fresh}
 use Rattle.register.specs.Calls.{Call, runs, none_full}

@@ -7,7 +7,7 @@ use Rattle.octets.specs.Ascii.{ascii}
 use Rattle.octets.specs.Words.{word_bytes, word}
 use Rattle.octets.specs.Order.{same, is_before}
 use Rattle.octets.specs.Masks.{bit_count, without_bit}
-use Rattle.places.specs.Places.{keep_places}
+use Rattle.tables.specs.Places.{keep_places}
 use Rattle.text.specs.Numbers.{digits, signed_decimal, hex}
 use Rattle.hashing.specs.Blake2s as B
 use Rattle.record.specs.Fields.{tags_from}
@@ -18,16 +18,16 @@ use Rattle.geometry.specs.Angles.{degree, radians_of, factorial, coefficient, si
 use Rattle.geometry.specs.Geodesy.{flattening, eccentricity2, to_ecef, enu_basis, sub_of, dot_of}
 use Rattle.geometry.specs.Linalg.{minus_each, rows_below, columns, cholesky_of, forwards, forward, backwards, backward, solve_of, sum_to}
 use Rattle.arithmetic.specs.Agree.{limit_of, geodetic_of, matrix_of, sum_under, finitely, length_under, chi_square_of, difference_of, agreement_under, agreement_of, agrees_of, chi_square_in}
-use Rattle.ranges.specs.Lists.{insert, sort, foremost}
-use Rattle.items.specs.Claimed.{claim_of}
+use Rattle.lists.specs.Lists.{insert, sort, foremost}
+use Rattle.decision_items.specs.Claimed.{claim_of}
 use Rattle.models.specs.Models.{all_agreed, state_from, summaries_for}
 use Rattle.models.specs.Identity.{cited_inputs, set_hash, identity_from, inputs_in_order}
-use Rattle.fixes.specs.Fixes.{enter, enter_all, fixes_of}
-use Rattle.links.specs.Transmissions.{records_link, reach, transmissions_of}
-use Rattle.shown.specs.Shown.{shown}
-use Rattle.transmissions.specs.Picture.{picture}
-use Rattle.drawing.specs.Lines.{header, fix_line, chi_square_text, refused_line, fix_text, where_when, metres_text, height_text}
-use Rattle.drawing.specs.Text.{text_of, text_from}
+use Rattle.board_fixes.specs.Fixes.{enter, enter_all, fixes_of}
+use Rattle.board_transmissions.specs.Transmissions.{records_link, reach, transmissions_of}
+use Rattle.fixes.specs.Shown.{shown}
+use Rattle.board_picture.specs.Picture.{picture}
+use Rattle.fix_lines.specs.Lines.{header, fix_line, chi_square_text, refused_line, fix_text, where_when, metres_text, height_text}
+use Rattle.fix_lines.specs.Text.{text_of, text_from}
 use Rattle.board.specs.Board.{board_of}
 use Rattle.board.specs.Worked.{BoardsWorked}
 

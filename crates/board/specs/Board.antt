@@ -1,7 +1,7 @@
 -- The board of a register (docs/REFERENCE.md, 'Operations' and 'Register and board').
 use Rattle.std.specs.Prelude.{ℕ, cond, List, ltb, length}
-use Rattle.transmissions.specs.Picture.{picture, latest_of}
-use Rattle.drawing.specs.Text.{board_text, board_size}
+use Rattle.board_picture.specs.Picture.{picture, latest_of}
+use Rattle.fix_lines.specs.Text.{board_text, board_size}
 use Rattle.errors.specs.After.{After, after, write_text}
 use Rattle.register.specs.Register.{Register}
 use Rattle.register.specs.Memory.{well_formed, decode}

@@ -2,7 +2,7 @@
 -- they would be without each other. A fix was sent when the record that represents it says. The theorem is `bursts-on-boards` in proofs/Bursts.
 -- Source: docs/REFERENCE.md, 'Register and board'.
 use Rattle.std.specs.Prelude.{ℕ, ◌≡◌, true, List}
-use Rattle.links.specs.Bursts.{Pause, BurstsApart}
+use Rattle.board_transmissions.specs.Bursts.{Pause, BurstsApart}
 use Rattle.register.specs.Memory.{fresh}
 use Rattle.register.specs.Calls.{Call, none_full}
 use Rattle.board.specs.Shows.{fixes_over}

@@ -7,7 +7,7 @@
 -- board cites.
 -- Source: docs/REFERENCE.md, 'Any order of calls'.
 use Rattle.std.specs.Prelude.{ℕ, ◌≤◌, ◌<◌, ◌≡◌, ◌⊎◌, true, List, length, drop}
-use Rattle.drawing.specs.Text.{board_size}
+use Rattle.fix_lines.specs.Text.{board_size}
 use Rattle.register.specs.Layout.{summary_count_at}
 use Rattle.register.specs.Memory.{fresh}
 use Rattle.register.specs.Calls.{Call, runs, none_full, remaining}

@@ -1,8 +1,8 @@
 -- No claim rests on these definitions: they say what is written of a picture, line by line.
 use Rattle.std.specs.Prelude.{ℕ, suc, List, [], ◌∷◌, ◌++◌, flat_map}
-use Rattle.drawing.specs.Lines.{header}
-use Rattle.drawing.specs.Standings.{standing_line}
-use Rattle.transmissions.specs.Lines.{ShownLine, ShownPart}
+use Rattle.fix_lines.specs.Lines.{header}
+use Rattle.fix_lines.specs.Standings.{standing_line}
+use Rattle.board_picture.specs.Lines.{ShownLine, ShownPart}
 
 abbrev pub line_text : ShownLine → List ℕ
 line_text l = standing_line l.standing l.fix.record_bytes l.fix.signers

@@ -1,11 +1,11 @@
 -- No claim rests on these definitions: they say what a board shows of fixes, and what is left of an output when a register is drawn.
 use Rattle.std.specs.Prelude.{ℕ, cond, List, map, ltb, length}
-use Rattle.ranges.specs.Lists.{sort}
-use Rattle.shown.specs.Fix.{Fix}
-use Rattle.shown.specs.Shown.{Transmission, shown}
-use Rattle.links.specs.Transmissions.{transmissions_of}
-use Rattle.transmissions.specs.Picture.{older_than, latest_of}
-use Rattle.drawing.specs.Text.{board_size}
+use Rattle.lists.specs.Lists.{sort}
+use Rattle.fixes.specs.Fix.{Fix}
+use Rattle.fixes.specs.Shown.{Transmission, shown}
+use Rattle.board_transmissions.specs.Transmissions.{transmissions_of}
+use Rattle.board_picture.specs.Picture.{older_than, latest_of}
+use Rattle.fix_lines.specs.Text.{board_size}
 use Rattle.errors.specs.After.{After, after, write_text}
 use Rattle.register.specs.Register.{Register}
 use Rattle.board.specs.Board.{board_in}

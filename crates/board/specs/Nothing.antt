@@ -4,7 +4,7 @@ use Rattle.std.specs.Prelude.{ℕ, ◌≡◌, Bool, true, not, List, eqb, length
 use Rattle.std.specs.List.{list_any}
 use Rattle.octets.specs.Bytes.{Bytes}
 use Rattle.models.specs.Models.{counts}
-use Rattle.fixes.specs.Fixes.{record_in}
+use Rattle.board_fixes.specs.Fixes.{record_in}
 use Rattle.register.specs.Register.{Register}
 use Rattle.register.specs.Memory.{well_formed, decode}
 use Rattle.board.specs.Board.{board_in}

@@ -8,7 +8,7 @@ use Rattle.text.specs.Claims.{HeightTexts}
 use Rattle.geometry.specs.Claims.{Position4}
 use Rattle.arithmetic.specs.Claims.{Position1, Position2}
 use Rattle.decision.specs.Claims.{Position3, OnlyTheEndsDisagree}
-use Rattle.links.specs.Claims.{Position6}
+use Rattle.board_transmissions.specs.Claims.{Position6}
 use Rattle.board.specs.Board.{board_of}
 
 pub record Positions : Type 0 where

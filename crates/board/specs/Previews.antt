@@ -2,12 +2,12 @@
 use Rattle.std.specs.Prelude.{ℕ, ◌≤◌, ◌<◌, ◌≡◌, ◌⊎◌, true, false, cond, not, List, [], ◌∷◌, ◌++◌, ltb, length}
 use Rattle.octets.specs.Bytes.{Bytes}
 use Rattle.octets.specs.Masks.{bit}
-use Rattle.places.specs.Places.{holds}
+use Rattle.tables.specs.Places.{holds}
 use Rattle.models.specs.Summary.{summary_size}
 use Rattle.errors.specs.After.{after, write_text}
 use Rattle.engines.specs.Limits.{max_engine}
 use Rattle.models.specs.Summaries.{is_of_another}
-use Rattle.drawing.specs.Text.{board_size}
+use Rattle.fix_lines.specs.Text.{board_size}
 use Rattle.register.specs.Register.{Register, strike_engine}
 use Rattle.register.specs.Memory.{well_formed, decode, fresh}
 use Rattle.register.specs.Calls.{Call, conviction, runs, none_full}

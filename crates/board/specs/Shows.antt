@@ -3,14 +3,14 @@
 -- Source: docs/REFERENCE.md, 'Register and board' and 'Any order of calls'.
 use Rattle.std.specs.Prelude.{◌≡◌, true}
 use mathlib.Core.List.{List, map, Memᴰ, Permᴰ}
-use Rattle.ranges.specs.Lists.{Ascending}
+use Rattle.lists.specs.Lists.{Ascending}
 use Rattle.decision.specs.Claims.{listed_in}
-use Rattle.shown.specs.Fix.{Fix}
-use Rattle.fixes.specs.Fixes.{fixes_of}
-use Rattle.links.specs.Transmissions.{transmissions_of}
-use Rattle.links.specs.Claims.{Partition}
-use Rattle.shown.specs.Shown.{Transmission, shown}
-use Rattle.transmissions.specs.Picture.{older_than, picture}
+use Rattle.fixes.specs.Fix.{Fix}
+use Rattle.board_fixes.specs.Fixes.{fixes_of}
+use Rattle.board_transmissions.specs.Transmissions.{transmissions_of}
+use Rattle.board_transmissions.specs.Claims.{Partition}
+use Rattle.fixes.specs.Shown.{Transmission, shown}
+use Rattle.board_picture.specs.Picture.{older_than, picture}
 use Rattle.register.specs.Memory.{fresh}
 use Rattle.register.specs.Calls.{Call, none_full, remaining}
 use Rattle.register.specs.Remains.{summaries_held, records_held}

@@ -2,7 +2,7 @@
 
 ghost use Rattle.std.specs.Prelude.{ℕ, ◌≡◌, ◌≤◌, ◌⊎◌, ◌<◌, List, true, length};
 ghost use Rattle.octets.specs.Bytes.{Bytes};
-ghost use Rattle.drawing.specs.Text.{board_size};
+ghost use Rattle.fix_lines.specs.Text.{board_size};
 ghost use Rattle.register.specs.Memory.{well_formed, decode};
 ghost use Rattle.board.specs.Board.{board_in};
 ghost use Rattle.board.specs.Claims.{WholeLists, greatest_refusal};

@@ -3,21 +3,21 @@
 
 ghost use Rattle.std.specs.Prelude.{◌≡◌, true, ◌≤◌, length};
 ghost use Rattle.octets.specs.Put.{Put};
-ghost use Rattle.shown.specs.Items.{AllFormed};
-ghost use Rattle.fixes.specs.Order.{identities_ascend};
-ghost use Rattle.drawing.specs.Text.{board_size, board_text};
+ghost use Rattle.fixes.specs.Items.{AllFormed};
+ghost use Rattle.board_fixes.specs.Order.{identities_ascend};
+ghost use Rattle.fix_lines.specs.Text.{board_size, board_text};
 ghost use Rattle.errors.specs.After.{after};
 ghost use Rattle.errors.specs.Errors.{value_or_number};
 ghost use Rattle.board.specs.Board.{board_in, draw_board};
 ghost use Rattle.board.specs.Preview.{draw_preview};
 ghost use Rattle.board.specs.Latest.{latest_over, drawn};
 
+use board_fixes::{Fix, Fixes, MAX_FIXES};
+use board_picture::Picture;
+use board_transmissions::Transmissions;
 use errors::Error;
-use fixes::{Fix, Fixes, MAX_FIXES};
-use links::Transmissions;
 use register::layout::REGISTER_SIZE;
 use register::view::View;
-use transmissions::Picture;
 
 pub mod claims;
 mod texts;
@@ -51,7 +51,7 @@ pub fn write(register: &View<'_>, out: &mut [u8]) -> usize
     ensures fits { length (board_in register.now) ≤ board_size }
 {
     let mut fixes = Fixes::new();
-    fixes::represent(register, &mut fixes);
+    board_fixes::represent(register, &mut fixes);
     if fixes.is_empty() {
         return 0;
     }

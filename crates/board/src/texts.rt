@@ -3,11 +3,11 @@
 ghost use Rattle.std.specs.Prelude.{◌≡◌, ◌≤◌, ◌<◌, length, drop};
 ghost use Rattle.octets.specs.Put.{Put};
 ghost use Rattle.text.specs.Texts.{append};
-ghost use Rattle.transmissions.specs.Lines.{part_at};
+ghost use Rattle.board_picture.specs.Lines.{part_at};
 ghost use Rattle.board.specs.Drawn.{part_text, parts_text};
 
+use board_picture::Picture;
 use text::Text;
-use transmissions::Picture;
 
 // The header and the lines of one of the transmissions, with its number.
 fn push_transmission(out: &mut Text, number: u64, picture: &Picture<'_, '_>, k: usize)
@@ -15,7 +15,7 @@ fn push_transmission(out: &mut Text, number: u64, picture: &Picture<'_, '_>, k: 
     ensures { out.new ≡ append out.old (part_text number (part_at picture.now.parts k)) }
 {
     let counts = picture.counts(k);
-    drawing::push_header(
+    fix_lines::push_header(
         out,
         number,
         counts.ranked as usize,
@@ -24,7 +24,7 @@ fn push_transmission(out: &mut Text, number: u64, picture: &Picture<'_, '_>, k: 
     );
     for line in picture.lines(k) {
         let fix = picture.fix(line);
-        drawing::push_line(out, line.standing, fix.report, fix.signers);
+        fix_lines::push_line(out, line.standing, fix.report, fix.signers);
     }
 }
 

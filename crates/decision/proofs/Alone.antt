@@ -7,14 +7,14 @@ use mathlib.Core.List.{List, [], ◌∷◌, ◌++◌, map, Permᴰ}
 use Prim.Native.Nat.{ℕ, zero, suc, ◌+◌, ◌*◌, ◌/◌, ◌≤◌}
 use native.Mathlib.Omega.{arith}
 use lib.ListN.{length, length-append, length-map}
-use Rattle.ranges.specs.Lists.{count_from, up_to, insert, sort}
-use Rattle.ranges.proofs.Lists.{count-length, up_in}
-use Rattle.ranges.proofs.Orders.{perm-length, perm-mem}
-use Rattle.items.specs.Layout.{item_size}
-use Rattle.items.specs.Items.{lower_at}
-use Rattle.rule.specs.Outcome.{Refused, Outcome}
-use Rattle.rule.specs.Related.{item_relations}
-use Rattle.rule.specs.Standing.{decide}
+use Rattle.lists.specs.Lists.{count_from, up_to, insert, sort}
+use Rattle.lists.proofs.Lists.{count-length, up_in}
+use Rattle.lists.proofs.Orders.{perm-length, perm-mem}
+use Rattle.decision_items.specs.Layout.{item_size}
+use Rattle.decision_items.specs.Items.{lower_at}
+use Rattle.decision_rule.specs.Outcome.{Refused, Outcome}
+use Rattle.decision_rule.specs.Related.{item_relations}
+use Rattle.decision_rule.specs.Standing.{decide}
 use Rattle.decision.specs.Answer.{is_bad, outcome, arrays_of, indices, refusals}
 use Rattle.decision.specs.Sorted.{sorted_outcome}
 use Rattle.decision.specs.Claims.{listed_in}

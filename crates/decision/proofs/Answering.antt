@@ -2,9 +2,9 @@
 use Rattle.std.proofs.Common.{◌≡◌, ℕ, ◌*◌, ◌≤◌, false, refl, sym, ap, ◌∙◌, length}
 use Rattle.std.specs.Prelude.{Some, not, true}
 use mathlib.Core.List.{List, [], map}
-use Rattle.ranges.specs.Lists.{up_to}
-use Rattle.ranges.proofs.Bools.{not-false-t}
-use Rattle.items.specs.Layout.{item_size}
+use Rattle.lists.specs.Lists.{up_to}
+use Rattle.lists.proofs.Bools.{not-false-t}
+use Rattle.decision_items.specs.Layout.{item_size}
 use Rattle.decision.specs.declared.Decision.{Decision}
 use Rattle.decision.specs.Answer.{is_bad, outcome, decided_arrays, arrays_of, refusal}
 use Rattle.decision.specs.Answered.{Says, answered}

@@ -5,15 +5,15 @@ use mathlib.Core.List.Memᴰ
 use mathlib.Core.List.Permᴰ
 use mathlib.Core.List.{List, [], ◌∷◌, ◌++◌, map, Memᴰ, Permᴰ}
 use Prim.Native.Nat.{ℕ, ◌<◌}
-use Rattle.ranges.specs.Lists.{up_to}
-use Rattle.ranges.proofs.Lists.{up_in, sort-in, sort-map}
-use Rattle.ranges.proofs.Orders.{perm-mem}
-use Rattle.ranges.proofs.Sorting.{sort-same}
-use Rattle.items.specs.Items.{item_identity, lower_at}
-use Rattle.items.proofs.Reading.{same-identity}
-use Rattle.rule.specs.Standing.{decide}
-use Rattle.rule.specs.Outcome.{Refused, Outcome}
-use Rattle.rule.specs.Related.{item_relations}
+use Rattle.lists.specs.Lists.{up_to}
+use Rattle.lists.proofs.Lists.{up_in, sort-in, sort-map}
+use Rattle.lists.proofs.Orders.{perm-mem}
+use Rattle.lists.proofs.Sorting.{sort-same}
+use Rattle.decision_items.specs.Items.{item_identity, lower_at}
+use Rattle.decision_items.proofs.Reading.{same-identity}
+use Rattle.decision_rule.specs.Standing.{decide}
+use Rattle.decision_rule.specs.Outcome.{Refused, Outcome}
+use Rattle.decision_rule.specs.Related.{item_relations}
 use Rattle.decision.specs.Answer.{is_bad}
 use Rattle.decision.specs.Sorted.{by_identity, sorted_outcome}
 use Rattle.decision.specs.Claims.{listed_in, item_count, item_at, Reordered, by_identities, OneDecision, NoOtherDecision}

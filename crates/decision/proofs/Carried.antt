@@ -4,11 +4,11 @@ use mathlib.Core.Path.{◌≡◌, refl, sym, ap, ap₂, ◌∙◌}
 use mathlib.Core.Bool.{Bool, not, ◌&&◌, ◌||◌}
 use mathlib.Core.List.{List, [], ◌∷◌, ◌++◌, map, flat_map, Memᴰ}
 use Rattle.std.specs.List.{filter}
-use Rattle.ranges.proofs.Bools.{by}
-use Rattle.ranges.specs.Lists.{sort, foremost}
-use Rattle.ranges.proofs.Lists.{any-map, filter_map, filter-in, sort-map, foremost-map, foremost-in}
-use Rattle.rule.specs.Standing.{Relations, supersedes, replaces, is_superseded, opposes, is_contested, is_refused, is_covered, replaced, opposed, refusal_of, decide}
-use Rattle.rule.specs.Outcome.{Refused, Outcome}
+use Rattle.lists.proofs.Bools.{by}
+use Rattle.lists.specs.Lists.{sort, foremost}
+use Rattle.lists.proofs.Lists.{any-map, filter_map, filter-in, sort-map, foremost-map, foremost-in}
+use Rattle.decision_rule.specs.Standing.{Relations, supersedes, replaces, is_superseded, opposes, is_contested, is_refused, is_covered, replaced, opposed, refusal_of, decide}
+use Rattle.decision_rule.specs.Outcome.{Refused, Outcome}
 
 -- members of l relate as what h makes of them
 pub record Alike {A B C D : Type 0} (a : Relations A C) (b : Relations B D) (h : A → B) (u : C → D) (l : List A) : Type 0 where

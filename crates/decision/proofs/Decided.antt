@@ -6,15 +6,15 @@ use mathlib.Core.List.Permᴰ
 use mathlib.Core.List.{List, [], map, Memᴰ, Permᴰ}
 use Prim.Native.Nat.{ℕ, zero, suc, ◌<◌}
 use native.Mathlib.Omega.{arith}
-use Rattle.ranges.specs.Lists.{up_to}
-use Rattle.ranges.proofs.Lists.{up_in, up_of}
-use Rattle.ranges.proofs.Orders.{perm-mem}
-use Rattle.ranges.proofs.Sorting.{Strict, strict-sub, sort-ascends}
-use Rattle.items.specs.Items.{subset_at, agreement_at, disagrees_at, within_at, lower_at, ahead_at, ahead_by_standing, ahead_by_weight}
-use Rattle.items.proofs.Reading.{same-record, same_inputs, same-identity, same-standing, same-consistent, same-preferred, same-verified}
-use Rattle.rule.specs.Standing.{decide}
-use Rattle.rule.specs.Outcome.{Refused, Outcome}
-use Rattle.rule.specs.Related.{item_relations}
+use Rattle.lists.specs.Lists.{up_to}
+use Rattle.lists.proofs.Lists.{up_in, up_of}
+use Rattle.lists.proofs.Orders.{perm-mem}
+use Rattle.lists.proofs.Sorting.{Strict, strict-sub, sort-ascends}
+use Rattle.decision_items.specs.Items.{subset_at, agreement_at, disagrees_at, within_at, lower_at, ahead_at, ahead_by_standing, ahead_by_weight}
+use Rattle.decision_items.proofs.Reading.{same-record, same_inputs, same-identity, same-standing, same-consistent, same-preferred, same-verified}
+use Rattle.decision_rule.specs.Standing.{decide}
+use Rattle.decision_rule.specs.Outcome.{Refused, Outcome}
+use Rattle.decision_rule.specs.Related.{item_relations}
 use Rattle.decision.specs.Answer.{is_bad, outcome}
 use Rattle.decision.specs.Claims.{EachOnce, Names, contest, succession, DecisionsLawful, item_count, item_at, Reordered, SameDecision, OrderFree}
 use Rattle.decision.proofs.Carried.{Alike, carried, carried_outcome}

@@ -5,14 +5,14 @@ use mathlib.Core.List.{List, [], ◌∷◌, ◌++◌, map, flat_map, append-nil}
 use Prim.Native.Nat.{ℕ, ◌+◌, ◌≤◌}
 use native.Mathlib.Omega.{arith}
 use Rattle.std.specs.List.{filter}
-use Rattle.ranges.proofs.Bools.{by}
-use Rattle.ranges.specs.Lists.{foremost, count_from, up_to}
-use Rattle.ranges.proofs.Searches.{flat-more}
+use Rattle.lists.proofs.Bools.{by}
+use Rattle.lists.specs.Lists.{foremost, count_from, up_to}
+use Rattle.lists.proofs.Searches.{flat-more}
 use Rattle.std.specs.Prelude.{Option, None, Some, is_some, unwrap_or}
-use Rattle.rule.specs.Outcome as O
-use Rattle.rule.specs.Standing as S
-use Rattle.rule.specs.Standing.{Relations, replaces, is_superseded, opposes, is_contested, is_refused, replaced, opposed, refusal_of}
-use Rattle.rule.specs.First.{foremost_of}
+use Rattle.decision_rule.specs.Outcome as O
+use Rattle.decision_rule.specs.Standing as S
+use Rattle.decision_rule.specs.Standing.{Relations, replaces, is_superseded, opposes, is_contested, is_refused, replaced, opposed, refusal_of}
+use Rattle.decision_rule.specs.First.{foremost_of}
 use Rattle.decision.specs.declared.Refusal.{Refusal}
 use Rattle.decision.specs.Answer.{refusal, no_refusal}
 use Rattle.decision.specs.Working.{finding}

@@ -9,24 +9,24 @@ use lib.Dec.{eqb}
 use lib.ListN.{set, length-take}
 use lib.Seq.{get_or-set_same, get_or-set_other, take_at}
 use borrow.Author.Tests.{eqb-true, eqb-false}
-use Rattle.places.specs.Places.{places}
-use Rattle.places.proofs.Walks.{place_of}
-use Rattle.places.proofs.Tables.{length-places}
+use Rattle.tables.specs.Places.{places}
+use Rattle.tables.proofs.Walks.{place_of}
+use Rattle.tables.proofs.Tables.{length-places}
 use Rattle.record.specs.Formed.{well_formed}
-use Rattle.ranges.proofs.Bools.{by}
-use Rattle.ranges.specs.Lists.{up_to}
-use Rattle.ranges.proofs.Lists.{up_in}
-use Rattle.items.specs.Layout.{item_size}
-use Rattle.items.proofs.Reading.{read-alone, same-alone}
-use Rattle.items.specs.Items.{item_record, disagrees_at, within_at, subset_at, agreement_at, ahead_at, ahead_by_standing, ahead_by_weight}
-use Rattle.items.specs.Values as V
-use Rattle.items.specs.Values.{IsItem, Whole}
-use Rattle.items.specs.declared.item.Item.{Item}
-use Rattle.rule.specs.Standing.{decide}
-use Rattle.rule.specs.Related.{item_relations}
-use Rattle.rule.specs.Listed.{relations}
-use Rattle.rule.specs.Rows.{all}
-use Rattle.rule.proofs.Known.{some-here}
+use Rattle.lists.proofs.Bools.{by}
+use Rattle.lists.specs.Lists.{up_to}
+use Rattle.lists.proofs.Lists.{up_in}
+use Rattle.decision_items.specs.Layout.{item_size}
+use Rattle.decision_items.proofs.Reading.{read-alone, same-alone}
+use Rattle.decision_items.specs.Items.{item_record, disagrees_at, within_at, subset_at, agreement_at, ahead_at, ahead_by_standing, ahead_by_weight}
+use Rattle.decision_items.specs.Values as V
+use Rattle.decision_items.specs.Values.{IsItem, Whole}
+use Rattle.decision_items.specs.declared.item.Item.{Item}
+use Rattle.decision_rule.specs.Standing.{decide}
+use Rattle.decision_rule.specs.Related.{item_relations}
+use Rattle.decision_rule.specs.Listed.{relations}
+use Rattle.decision_rule.specs.Rows.{all}
+use Rattle.decision_rule.proofs.Known.{some-here}
 use Rattle.decision.specs.Answer.{is_bad, outcome}
 use Rattle.decision.specs.Each.{Each, DecidesEach}
 use Rattle.decision.specs.declared.Decision.{Decision}

@@ -12,13 +12,13 @@ use native.Mathlib.Nat.{le_trans, le_of_lt}
 use lib.Dec.{leb}
 use borrow.Author.Tests.{leb-true, leb-false}
 use Rattle.std.specs.List.{filter, list_any}
-use Rattle.ranges.proofs.Bools.{clash, no_true, and_both, and_left, and_right, not_t, not_f, by, or}
-use Rattle.ranges.specs.Lists.{foremost, Ascending}
-use Rattle.ranges.proofs.Orders.{perm-mem}
-use Rattle.ranges.proofs.Lists.{any-in, any-of, any-perm, any_same, filter-in, filter-of, filter-some, filter_same, filter-perm, sort-perm, foremost-in, flat_in, flat-same, flat-perm}
-use Rattle.ranges.proofs.Sorting.{Strict, strict-sub, foremost-perm, sort-same, ascending-filter, ascending-flat}
-use Rattle.rule.specs.Standing.{Relations, supersedes, replaces, is_superseded, opposes, is_contested, is_refused, is_covered, replaced, opposed, refusal_of, decide}
-use Rattle.rule.specs.Outcome.{Refused}
+use Rattle.lists.proofs.Bools.{clash, no_true, and_both, and_left, and_right, not_t, not_f, by, or}
+use Rattle.lists.specs.Lists.{foremost, Ascending}
+use Rattle.lists.proofs.Orders.{perm-mem}
+use Rattle.lists.proofs.Lists.{any-in, any-of, any-perm, any_same, filter-in, filter-of, filter-some, filter_same, filter-perm, sort-perm, foremost-in, flat_in, flat-same, flat-perm}
+use Rattle.lists.proofs.Sorting.{Strict, strict-sub, foremost-perm, sort-same, ascending-filter, ascending-flat}
+use Rattle.decision_rule.specs.Standing.{Relations, supersedes, replaces, is_superseded, opposes, is_contested, is_refused, is_covered, replaced, opposed, refusal_of, decide}
+use Rattle.decision_rule.specs.Outcome.{Refused}
 use Rattle.decision.specs.Claims.{listed_in}
 
 total : (a b : ℕ) → (a ≤ b) ⊎ (b ≤ a)

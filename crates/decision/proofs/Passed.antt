@@ -8,15 +8,15 @@ use lib.Dec.{ltb, eqb}
 use lib.ListN.{length}
 use borrow.Author.Tests.{eqb-true, ltb-false}
 use Rattle.std.specs.List.{list_any}
-use Rattle.ranges.proofs.Bools.{not-false-t, neither_left, neither_right}
-use Rattle.ranges.specs.Lists.{up_to}
-use Rattle.ranges.proofs.Lists.{any-no, up_of}
+use Rattle.lists.proofs.Bools.{not-false-t, neither_left, neither_right}
+use Rattle.lists.specs.Lists.{up_to}
+use Rattle.lists.proofs.Lists.{any-no, up_of}
 use Rattle.record.specs.Formed.{well_formed}
-use Rattle.items.specs.Layout.{max_items, item_size}
-use Rattle.items.specs.Items.{item_record, same_identity}
-use Rattle.items.specs.Values.{Whole}
-use Rattle.rule.specs.Standing.{decide}
-use Rattle.rule.specs.Related.{item_relations}
+use Rattle.decision_items.specs.Layout.{max_items, item_size}
+use Rattle.decision_items.specs.Items.{item_record, same_identity}
+use Rattle.decision_items.specs.Values.{Whole}
+use Rattle.decision_rule.specs.Standing.{decide}
+use Rattle.decision_rule.specs.Related.{item_relations}
 use Rattle.decision.specs.Answer.{bad_at, is_bad, outcome}
 
 -- they are not too many

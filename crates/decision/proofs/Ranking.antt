@@ -3,11 +3,11 @@ use Rattle.std.proofs.Common.{◌≡◌, ℕ, zero, suc, ◌+◌, ◌-◌, ◌�
 use mathlib.Core.List.{List, [], ◌∷◌, Memᴰ}
 use Rattle.std.specs.List as L
 use Rattle.std.specs.List.{prefix_len, filter}
-use Rattle.ranges.specs.Lists.{insert, sort, count_from}
-use Rattle.ranges.proofs.Bools.{by}
-use Rattle.ranges.proofs.Lists.{filter-in, filter-few, count-in, count-length, sort-in, sort-perm}
-use Rattle.ranges.proofs.Orders.{perm-length}
-use Rattle.ranges.proofs.Searches.{count_turn}
+use Rattle.lists.specs.Lists.{insert, sort, count_from}
+use Rattle.lists.proofs.Bools.{by}
+use Rattle.lists.proofs.Lists.{filter-in, filter-few, count-in, count-length, sort-in, sort-perm}
+use Rattle.lists.proofs.Orders.{perm-length}
+use Rattle.lists.proofs.Searches.{count_turn}
 use Rattle.decision.specs.Working.{MembersBelow}
 
 module _ {A : Type 0} (before : A → A → Bool) (x : A) where

@@ -4,7 +4,7 @@ use mathlib.Core.Bool.{Bool, not, ◌&&◌}
 use mathlib.Core.List.{List, [], ◌∷◌, map}
 use Prim.Native.Nat.{ℕ, ◌/◌}
 use lib.ListN.{length}
-use Rattle.ranges.specs.Lists.{up_to}
+use Rattle.lists.specs.Lists.{up_to}
 use Rattle.arithmetic.specs.Agree.{agreement_of, chi_square_in, measure_in}
 use Rattle.arithmetic.specs.Before.{agreement_before}
 use Rattle.arithmetic.proofs.Outcomes.{agrees-as-before, numbers-as-before, unmeasurable-was-infinite}
@@ -12,11 +12,11 @@ use Rattle.arithmetic.specs.declared.standing.Claimed.{Claimed}
 use Rattle.arithmetic.specs.declared.standing.Measure.{Measure}
 use Rattle.arithmetic.specs.declared.standing.Agreement.{Agreement}
 use Rattle.arithmetic.specs.declared.standing.Agreement.TheVariants.{Inside, Outside, Unmeasurable}
-use Rattle.items.specs.Layout.{item_size}
-use Rattle.items.specs.Claimed.{claim_of}
-use Rattle.items.specs.Items.{item_record, item_consistent, subset_at, agreement_at, disagrees_at}
-use Rattle.rule.specs.Standing.{decide}
-use Rattle.rule.specs.Related.{item_relations}
+use Rattle.decision_items.specs.Layout.{item_size}
+use Rattle.decision_items.specs.Claimed.{claim_of}
+use Rattle.decision_items.specs.Items.{item_record, item_consistent, subset_at, agreement_at, disagrees_at}
+use Rattle.decision_rule.specs.Standing.{decide}
+use Rattle.decision_rule.specs.Related.{item_relations}
 use Rattle.decision.specs.Answer.{outcome}
 use Rattle.decision.specs.Before.{relations_before, number_before, refused_before, DecidedAsBefore}
 use Rattle.decision.proofs.Carried.{Alike, carried}

@@ -11,19 +11,19 @@ use Rattle.std.specs.Ordering.{is_lt, nat_cmp}
 use Rattle.std.specs.List.Sorted.{IsPermutation, IsSortedBy}
 use Rattle.std.proofs.lemmas.Cmp.{nat_list_cmp_total}
 use Rattle.std.proofs.lemmas.List.MinMax.{ranks_by}
-use Rattle.ranges.proofs.Bools.{by}
+use Rattle.lists.proofs.Bools.{by}
 use Rattle.octets.specs.Order.{is_before}
 use Rattle.octets.proofs.Comparison.{before-trans, before-irrefl}
-use Rattle.ranges.specs.Lists.{up_to, Ascending}
-use Rattle.ranges.proofs.Lists.{sort-perm, sort-in}
-use Rattle.ranges.proofs.Orders.{perm-map}
-use Rattle.ranges.proofs.Sorting.{Strict, strict-sub, sort-ascends, ascending-map}
-use Rattle.ranges.proofs.Standard.{sorted_is}
-use Rattle.items.specs.Layout.{item_size}
-use Rattle.items.specs.Items.{item_identity, lower_at, ahead_at}
-use Rattle.rule.specs.Standing.{decide}
-use Rattle.rule.specs.Outcome.{Refused}
-use Rattle.rule.specs.Related.{item_relations}
+use Rattle.lists.specs.Lists.{up_to, Ascending}
+use Rattle.lists.proofs.Lists.{sort-perm, sort-in}
+use Rattle.lists.proofs.Orders.{perm-map}
+use Rattle.lists.proofs.Sorting.{Strict, strict-sub, sort-ascends, ascending-map}
+use Rattle.lists.proofs.Standard.{sorted_is}
+use Rattle.decision_items.specs.Layout.{item_size}
+use Rattle.decision_items.specs.Items.{item_identity, lower_at, ahead_at}
+use Rattle.decision_rule.specs.Standing.{decide}
+use Rattle.decision_rule.specs.Outcome.{Refused}
+use Rattle.decision_rule.specs.Related.{item_relations}
 use Rattle.decision.specs.declared.Refusal.{Refusal}
 use Rattle.decision.specs.Answer.{is_bad, outcome, refusal}
 use Rattle.decision.specs.Sorted.{by_identity, sorted_outcome}

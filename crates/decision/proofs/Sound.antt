@@ -15,14 +15,14 @@ use Rattle.record.specs.Fields.{tag_count}
 use Rattle.record.specs.Formed.{well_formed}
 use Rattle.record.proofs.Laws.{subset-fewer}
 use Rattle.std.specs.List.{filter, list_any}
-use Rattle.ranges.proofs.Bools.{by, or, and_left, and_right, not_t, neither_right}
-use Rattle.ranges.specs.Lists.{count_from, up_to}
-use Rattle.ranges.proofs.Lists.{any-no, count-in, up_in, up_of}
-use Rattle.ranges.proofs.Sorting.{Strict, Apart, single, also, apart-filter}
+use Rattle.lists.proofs.Bools.{by, or, and_left, and_right, not_t, neither_right}
+use Rattle.lists.specs.Lists.{count_from, up_to}
+use Rattle.lists.proofs.Lists.{any-no, count-in, up_in, up_of}
+use Rattle.lists.proofs.Sorting.{Strict, Apart, single, also, apart-filter}
 use Rattle.arithmetic.specs.Agree.{agrees_of}
-use Rattle.items.specs.Items.{item_record, item_identity, item_standing, item_weight, item_consistent, item_preferred, subset_at, agreement_at, disagrees_at, within_at, same_inputs, same_identity, lower_at, ahead_by_weight, ahead_by_standing, ahead_at}
-use Rattle.items.specs.Claimed.{more_first}
-use Rattle.rule.specs.Related.{item_relations}
+use Rattle.decision_items.specs.Items.{item_record, item_identity, item_standing, item_weight, item_consistent, item_preferred, subset_at, agreement_at, disagrees_at, within_at, same_inputs, same_identity, lower_at, ahead_by_weight, ahead_by_standing, ahead_at}
+use Rattle.decision_items.specs.Claimed.{more_first}
+use Rattle.decision_rule.specs.Related.{item_relations}
 use Rattle.decision.specs.Answer.{bad_at}
 use Rattle.decision.proofs.Laws.{Sound}
 

@@ -2,13 +2,13 @@
 -- else 0 with what is decided, in arrays with counts whose unused places are fixed.
 use Rattle.std.specs.Prelude.{Bool, false, not, cond, ◌||◌, List, [], ◌++◌, map, ℕ, ◌-◌, ◌*◌, ◌/◌, ◌%◌, ltb, eqb, length, replicate}
 use Rattle.std.specs.List.{list_any}
-use Rattle.ranges.specs.Lists.{up_to}
+use Rattle.lists.specs.Lists.{up_to}
 use Rattle.record.specs.Formed.{well_formed}
-use Rattle.items.specs.Layout.{max_items, item_size}
-use Rattle.items.specs.Items.{item_record, same_identity}
-use Rattle.rule.specs.Standing.{decide}
-use Rattle.rule.specs.Outcome.{Refused, Outcome}
-use Rattle.rule.specs.Related.{item_relations}
+use Rattle.decision_items.specs.Layout.{max_items, item_size}
+use Rattle.decision_items.specs.Items.{item_record, same_identity}
+use Rattle.decision_rule.specs.Standing.{decide}
+use Rattle.decision_rule.specs.Outcome.{Refused, Outcome}
+use Rattle.decision_rule.specs.Related.{item_relations}
 use Rattle.decision.specs.declared.Refusal.{Refusal}
 use Rattle.decision.specs.Arrays.{Refusals, Indices, DecisionArrays}
 use Rattle.arithmetic.specs.declared.standing.ChiSquare.{ChiSquare}

@@ -1,7 +1,7 @@
 -- No claim rests on these definitions: they say what the code answers, whose lists have no unused places.
 use Rattle.std.specs.Prelude.{◌≡◌, ℕ, map, Option, None, Some}
 use Rattle.arithmetic.specs.declared.standing.ChiSquare.{ChiSquare}
-use Rattle.rule.specs.Outcome.{Outcome}
+use Rattle.decision_rule.specs.Outcome.{Outcome}
 use Rattle.decision.specs.declared.Decision as D
 use Rattle.decision.specs.Arrays.{DecisionArrays}
 use Rattle.decision.specs.Answer.{indices, refusal, refusals, refused_decision}

@@ -3,17 +3,17 @@
 -- Source: docs/REFERENCE.md, 'Decision', and standing.rs of sky-commons/tally.
 use Rattle.std.specs.Prelude.{◌≡◌, Bool, false, not, ◌&&◌, List, map, ℕ, ◌/◌, Float, length}
 use Rattle.std.specs.Float.{inf}
-use Rattle.ranges.specs.Lists.{up_to}
+use Rattle.lists.specs.Lists.{up_to}
 use Rattle.arithmetic.specs.Before.{agreement_before, agreed_before}
 use Rattle.arithmetic.specs.declared.standing.Measure.{Measure}
 use Rattle.arithmetic.specs.declared.standing.ChiSquare.{ChiSquare}
 use Rattle.arithmetic.specs.declared.standing.ChiSquare.TheVariants.{Measured, Unmeasured}
-use Rattle.items.specs.Layout.{item_size}
-use Rattle.items.specs.Claimed.{claim_of}
-use Rattle.items.specs.Items.{item_record, item_consistent, subset_at}
-use Rattle.rule.specs.Standing.{Relations, decide}
-use Rattle.rule.specs.Outcome.{Refused, Outcome}
-use Rattle.rule.specs.Related.{item_relations}
+use Rattle.decision_items.specs.Layout.{item_size}
+use Rattle.decision_items.specs.Claimed.{claim_of}
+use Rattle.decision_items.specs.Items.{item_record, item_consistent, subset_at}
+use Rattle.decision_rule.specs.Standing.{Relations, decide}
+use Rattle.decision_rule.specs.Outcome.{Refused, Outcome}
+use Rattle.decision_rule.specs.Related.{item_relations}
 use Rattle.decision.specs.Answer.{outcome}
 
 -- item i against its subset j

@@ -3,14 +3,14 @@
 -- Source: docs/REFERENCE.md, 'Decision'.
 use Rattle.std.specs.Prelude.{◌≡◌, true, false, ℕ, ◌*◌, ◌/◌, ◌<◌, length, take, drop}
 use mathlib.Core.List.{List, [], ◌∷◌, ◌++◌, map, Memᴰ, Permᴰ}
-use Rattle.ranges.specs.Lists.{Ascending, up_to}
+use Rattle.lists.specs.Lists.{Ascending, up_to}
 use Rattle.arithmetic.specs.Agree.{agreement_of, agrees_of, chi_square_in}
-use Rattle.items.specs.Layout.{item_size}
-use Rattle.items.specs.Items.{item_identity, item_consistent, subset_at, agreement_at, outstands_at, lower_at, ahead_at, item_verified, is_passed}
-use Rattle.items.specs.Claimed.{claim_of}
-use Rattle.rule.specs.Standing.{Relations, is_superseded, decide}
-use Rattle.rule.specs.Outcome.{Refused, Outcome}
-use Rattle.rule.specs.Related.{item_relations}
+use Rattle.decision_items.specs.Layout.{item_size}
+use Rattle.decision_items.specs.Items.{item_identity, item_consistent, subset_at, agreement_at, outstands_at, lower_at, ahead_at, item_verified, is_passed}
+use Rattle.decision_items.specs.Claimed.{claim_of}
+use Rattle.decision_rule.specs.Standing.{Relations, is_superseded, decide}
+use Rattle.decision_rule.specs.Outcome.{Refused, Outcome}
+use Rattle.decision_rule.specs.Related.{item_relations}
 use Rattle.decision.specs.Answer.{is_bad, outcome, decided_arrays, indices, refusals}
 use Rattle.decision.specs.Sorted.{sorted_outcome}
 use Rattle.decision.specs.Positions.{item, S, M, L}

@@ -1,7 +1,7 @@
 -- No claim rests on these definitions: they say which items a decision is of, where each was given by its place.
 use Rattle.std.specs.Prelude.{◌≡◌, ◌<◌, ℕ, length, slice_get, Some}
 use mathlib.Core.List.{List}
-use Rattle.items.specs.declared.item.Item.{Item}
+use Rattle.decision_items.specs.declared.item.Item.{Item}
 use Rattle.decision.specs.declared.Decision.{Decision}
 use Rattle.decision.specs.Answered.{Says}
 use Rattle.decision.specs.Working.{among}

@@ -1,13 +1,13 @@
 -- What is decided of the items in ascending identity, with their indices as they were given: so no list of it follows the order in which they were given.
 -- Source: docs/REFERENCE.md, 'Decision'.
 use Rattle.std.specs.Prelude.{cond, List, ℕ, ◌/◌, length}
-use Rattle.ranges.specs.Lists.{sort, up_to}
+use Rattle.lists.specs.Lists.{sort, up_to}
 use Rattle.arithmetic.specs.declared.standing.ChiSquare.{ChiSquare}
-use Rattle.items.specs.Layout.{item_size}
-use Rattle.items.specs.Items.{lower_at}
-use Rattle.rule.specs.Outcome.{Outcome}
-use Rattle.rule.specs.Related.{item_relations}
-use Rattle.rule.specs.Standing.{decide}
+use Rattle.decision_items.specs.Layout.{item_size}
+use Rattle.decision_items.specs.Items.{lower_at}
+use Rattle.decision_rule.specs.Outcome.{Outcome}
+use Rattle.decision_rule.specs.Related.{item_relations}
+use Rattle.decision_rule.specs.Standing.{decide}
 use Rattle.decision.specs.Arrays.{DecisionArrays}
 use Rattle.decision.specs.Answer.{is_bad, arrays_of, refused_decision}
 

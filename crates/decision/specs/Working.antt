@@ -1,14 +1,14 @@
 -- No claim rests on these definitions: they say what is found of an item, and what is decided of at most one.
 use Rattle.std.specs.Prelude.{◌<◌, ℕ, replicate, Option, None, Some}
 use mathlib.Core.List.{List, [], ◌∷◌, Memᴰ}
-use Rattle.items.specs.Layout.{max_items}
-use Rattle.items.specs.declared.item.Item.{Item}
-use Rattle.rule.specs.Outcome as O
+use Rattle.decision_items.specs.Layout.{max_items}
+use Rattle.decision_items.specs.declared.item.Item.{Item}
+use Rattle.decision_rule.specs.Outcome as O
 use Rattle.std.specs.List.{filter}
-use Rattle.rule.specs.Standing as S
-use Rattle.rule.specs.Standing.{decide}
-use Rattle.rule.specs.Listed.{relations}
-use Rattle.rule.specs.Rows.{all, replaces, opposes}
+use Rattle.decision_rule.specs.Standing as S
+use Rattle.decision_rule.specs.Standing.{decide}
+use Rattle.decision_rule.specs.Listed.{relations}
+use Rattle.decision_rule.specs.Rows.{all, replaces, opposes}
 use Rattle.decision.specs.Arrays.{DecisionArrays}
 use Rattle.decision.specs.declared.Refusal.{Refusal}
 use Rattle.decision.specs.Answer.{indices, refusal, refusals}

@@ -5,25 +5,25 @@
 #![tactic(auto)]
 
 ghost use Rattle.std.specs.Prelude.{◌≡◌, ℕ, false, [], ◌+◌, ◌*◌, ◌≤◌, ◌<◌, length};
-ghost use Rattle.ranges.specs.Lists.{up_to};
-ghost use Rattle.items.specs.Layout.{item_size, max_items};
+ghost use Rattle.lists.specs.Lists.{up_to};
+ghost use Rattle.decision_items.specs.Layout.{item_size, max_items};
 ghost use Rattle.decision.specs.Answer.{outcome, decided_arrays};
 ghost use Rattle.decision.specs.Sorted.{sorted_outcome};
 ghost use Rattle.decision.specs.Answered.{Says, answered};
-ghost use Rattle.rule.specs.Phases.{items_of};
+ghost use Rattle.decision_rule.specs.Phases.{items_of};
 ghost use Rattle.decision.specs.Working.{among};
 ghost use Rattle.decision.specs.Each.{Each, DecidesEach};
 
 use arithmetic::standing::ChiSquare;
 use arrayvec::ArrayVec;
-use items::Item;
-use items::layout::{ITEM_SIZE, MAX_ITEMS};
-use rule::listed::Listed;
-use rule::row::Row;
-use rule::settled::Settled;
+use decision_items::Item;
+use decision_items::layout::{ITEM_SIZE, MAX_ITEMS};
+use decision_rule::listed::Listed;
+use decision_rule::row::Row;
+use decision_rule::settled::Settled;
 
 pub mod claims;
-mod lists;
+mod listing;
 mod parsed;
 
 pub use parsed::Items;
@@ -92,9 +92,9 @@ fn decision_of<const N: usize>(settled: &Settled<'_>) -> Decision<N>
         dominated: ArrayVec::new(),
         refusals: ArrayVec::new(),
     };
-    lists::list_ranked(settled, &mut decision.ranked);
-    lists::list_dominated(settled, &mut decision.dominated);
-    lists::list_refusals(settled, &mut decision.refusals);
+    listing::list_ranked(settled, &mut decision.ranked);
+    listing::list_dominated(settled, &mut decision.dominated);
+    listing::list_refusals(settled, &mut decision.refusals);
     decision
 }
 
@@ -215,7 +215,7 @@ pub fn decide_alone<const N: usize>(n: usize) -> Decision<N>
     }
 }
 
-/// What is decided of items in bytes, of `items::layout::ITEM_SIZE` each: any bytes may be lent. Nothing is decided of bad items
+/// What is decided of items in bytes, of `decision_items::layout::ITEM_SIZE` each: any bytes may be lent. Nothing is decided of bad items
 /// (`Items::parse`).
 pub fn decide(s: &[u8]) -> Option<Decision<MAX_ITEMS>>
     ensures { answered result ≡ decided_arrays s.now }

@@ -3,19 +3,19 @@
 
 ghost use Rattle.std.specs.Prelude.{◌≡◌, false, not, ◌+◌, ◌*◌, ◌/◌, ◌≤◌, ◌<◌, length, is_some, IfSome};
 ghost use Rattle.std.specs.List.{list_any};
-ghost use Rattle.ranges.specs.Lists.{up_to};
-ghost use Rattle.items.specs.Layout.{item_size, max_items};
+ghost use Rattle.lists.specs.Lists.{up_to};
+ghost use Rattle.decision_items.specs.Layout.{item_size, max_items};
 ghost use Rattle.std.specs.Ordering.{is_lt};
-ghost use Rattle.items.specs.Items.{item_identity, lower_at, same_identity};
-ghost use Rattle.items.specs.Values.{IsItem};
+ghost use Rattle.decision_items.specs.Items.{item_identity, lower_at, same_identity};
+ghost use Rattle.decision_items.specs.Values.{IsItem};
 ghost use Rattle.decision.specs.Answer.{bad_at, is_bad};
 
-use items::Item;
-use items::layout::{HASH_SIZE, IDENTITY_AT, ITEM_SIZE, MAX_ITEMS};
-use places::table::places_of;
+use decision_items::Item;
+use decision_items::layout::{HASH_SIZE, IDENTITY_AT, ITEM_SIZE, MAX_ITEMS};
 use std::cmp::Ordering;
+use tables::table::places_of;
 
-/// At most 96 items in bytes of `items::layout::ITEM_SIZE` each, of which every record is well-formed and no two have one identity.
+/// At most 96 items in bytes of `decision_items::layout::ITEM_SIZE` each, of which every record is well-formed and no two have one identity.
 #[derive(Clone, Copy)]
 pub struct Items<'a> {
     bytes: &'a [u8],
@@ -30,7 +30,7 @@ fn repeated(s: &[u8], i: u8) -> bool
     ensures { result ≡ list_any (same_identity s.now i) (up_to i) }
 {
     for j in 0..i {
-        if items::same_identity(s, i, j) {
+        if decision_items::same_identity(s, i, j) {
             return true;
         }
     }
@@ -42,7 +42,7 @@ fn bad_at(s: &[u8], i: u8) -> bool
     requires { i * item_size + item_size ≤ length s.now }
     ensures { result ≡ bad_at s.now i }
 {
-    items::parsed_record(s, i).is_none() || repeated(s, i)
+    decision_items::parsed_record(s, i).is_none() || repeated(s, i)
 }
 
 fn any_bad(s: &[u8], n: u8) -> bool

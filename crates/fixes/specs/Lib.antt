@@ -1,4 +1,8 @@
--- The fixes of a board: what they are (Fixes), how they stand in the order of identities (Order), and what they are made of (Slots).
-pub mod Fixes
-pub mod Order
-pub mod Slots
+-- A fix (Fix), what is shown of fixes (Shown), which of two is older (Ages), that what is shown is the decision of it (Claims); and fixes as the items of a
+-- decision, for the code (Items, Decided).
+pub mod Fix
+pub mod Shown
+pub mod Ages
+pub mod Claims
+pub mod Items
+pub mod Decided

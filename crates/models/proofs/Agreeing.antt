@@ -5,7 +5,7 @@ use denote.Ref.{Bor}
 use Rattle.std.specs.Fn.{CalledAt}
 use Rattle.std.specs.Iterator.{YieldsFirstBy, Yields, FindsItem}
 use Rattle.std.specs.List.{FoldsTo, list_all, find, enumerate_from}
-use Rattle.places.proofs.Tables.{length-places}
+use Rattle.tables.proofs.Tables.{length-places}
 use Rattle.models.specs.Summary.{summary_size, model_of, spec_of, summary_inputs}
 use Rattle.models.specs.Models.{summaries_for, has_spec_and_inputs, state_of, state_from, agreed, disputed}
 use Rattle.models.specs.Answers.{summary_places, concurs, first_of}

@@ -3,10 +3,10 @@ use Rattle.std.proofs.Common.{ℕ, ◌+◌, ◌≤◌, ◌≡◌, refl, ap, ◌�
 use Rattle.octets.specs.Masks.{with_bit}
 use Rattle.octets.proofs.Lookup.{bit-set}
 use Rattle.octets.proofs.Numbers.{length-word-bytes}
-use Rattle.places.proofs.Keeping.{changed}
+use Rattle.tables.proofs.Keeping.{changed}
 use Rattle.models.specs.Summary.{engine_of, model_of, summary_of, summary_size, inputs_size}
 use Rattle.models.specs.Summaries.{summary_formed, is_of_another, no_value}
-use Rattle.places.proofs.Striking.{Strike}
+use Rattle.tables.proofs.Striking.{Strike}
 
 pub summary-length : (e model spec : ℕ) (inputs : List ℕ) → length inputs ≡ inputs_size → length (summary_of e model spec inputs) ≡ summary_size
 summary-length e model spec inputs h = rw (length-append, length-word-bytes 2 spec, h) refl

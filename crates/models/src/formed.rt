@@ -2,7 +2,7 @@
 
 ghost use Rattle.std.specs.Prelude.{◌≡◌, ◌&&◌};
 ghost use Rattle.std.specs.List.{list_all};
-ghost use Rattle.places.specs.Places.{is_table};
+ghost use Rattle.tables.specs.Places.{is_table};
 ghost use Rattle.models.specs.Answers.{summary_places};
 ghost use Rattle.models.specs.Summary.{summary_size};
 ghost use Rattle.models.specs.Summaries.{summary_formed};
@@ -10,7 +10,7 @@ ghost use Rattle.models.specs.Summaries.{summary_formed};
 use crate::layout::{self, SUMMARY_SIZE};
 use crate::summaries::{Summaries, Summary};
 use engines::{Engine, Signers};
-use places::table::is_table;
+use tables::table::is_table;
 
 // Whether a summary is within the limits, of an engine that is not convicted.
 fn summary_formed(s: Summary, convicted: Signers) -> bool

@@ -1,14 +1,14 @@
 //! A convicted engine's summaries taken out of a table.
 
 ghost use Rattle.std.specs.Prelude.{◌*◌, ◌≤◌, length};
-ghost use Rattle.places.specs.Places.{places, keep_places};
-ghost use Rattle.places.specs.Strikes.{Struck};
+ghost use Rattle.tables.specs.Places.{places, keep_places};
+ghost use Rattle.tables.specs.Strikes.{Struck};
 ghost use Rattle.models.specs.Summary.{summary_size};
 ghost use Rattle.models.specs.Summaries.{is_of_another, no_value};
 
 use crate::layout::SUMMARY_SIZE;
 use engines::Engine;
-use places::strikes::{clear_rest, move_down};
+use tables::strikes::{clear_rest, move_down};
 
 /// Takes an engine's summaries out of the first n of a table, and returns how many are left.
 pub fn strike_summaries(t: &mut [u8], n: usize, engine: Engine) -> usize

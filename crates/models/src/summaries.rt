@@ -2,7 +2,7 @@
 
 ghost use Rattle.std.specs.Prelude.{◌≡◌, ◌*◌, ◌≤◌, length};
 ghost use Rattle.std.specs.Iterator.{YieldsFirstBy, item_count};
-ghost use Rattle.places.specs.Places.{places};
+ghost use Rattle.tables.specs.Places.{places};
 ghost use Rattle.models.specs.Summary.{summary_size, inputs_size, model_of, spec_of, summary_inputs, summary_of};
 
 use crate::layout;

@@ -14,7 +14,7 @@ use borrow.Author.Tests.{le-ltb}
 use Rattle.octets.specs.Order.{is_before, same}
 use Rattle.octets.specs.Lesser.{lesser_of}
 use Rattle.octets.specs.Words.{word_bytes, word, word_at}
-use Rattle.ranges.proofs.Bools.{by}
+use Rattle.lists.proofs.Bools.{by}
 use Rattle.octets.specs.Bytes.{Bytes}
 use Rattle.octets.proofs.Numbers.{bytes_take, bytes_drop, bytes-of-word}
 

@@ -10,7 +10,7 @@ use lib.Bits.{bit_and, bit_or, and_step, or_step, or_zero_r}
 use lib.Pow.{pow_mono, shr-shr, shl_exact}
 use lib.Arith.{bin_ind}
 use lib.Count.{ones, ones_in, ones_step}
-use Rattle.ranges.proofs.Bools.{by}
+use Rattle.lists.proofs.Bools.{by}
 use borrow.Author.Tests.{ne_eqb, eqb-false, ltb-true, ltb-false}
 use Rattle.octets.specs.Masks.{bit, with_bit, without_bit, bit_count}
 

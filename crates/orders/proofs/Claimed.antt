@@ -3,7 +3,7 @@ use Prim.Native.Nat.{ℕ}
 use mathlib.Core.Path.{◌≡◌, refl, ap, ◌∙◌}
 use mathlib.Core.List.{List, Permᴰ}
 use native.Mathlib.Omega.{arith}
-use Rattle.stored.specs.Memory.{decode}
+use Rattle.track_memory.specs.Memory.{decode}
 use Rattle.board.proofs.WholeLists.{whole-lists}
 use Rattle.orders.specs.Claims.{track_bytes, growing, largest_first, OrderFreeBoard, OrderMatters}
 use Rattle.orders.proofs.Positions.{position_9}

@@ -15,13 +15,13 @@ use Rattle.models.specs.Missing.{any_missing, cites_missing}
 use Rattle.models.specs.Identity.{cited_domain, cited_inputs, inputs_in_order, identity_of}
 use Rattle.errors.specs.After.{After, after}
 use Rattle.decision.specs.Positions.{S, M, L}
-use Rattle.shown.specs.Fix.{Fix}
-use Rattle.tracked.specs.Held.{HeldTransmission}
-use Rattle.merge.specs.Merged.{Step, merged_number, merged}
-use Rattle.merge.specs.declared.Merged.TheVariants.{Changed}
-use Rattle.stored.specs.Track.{Track, done}
-use Rattle.stored.specs.Memory.{fresh, decode, encode, commit, on_memory}
-use Rattle.stored.proofs.Valid.{Valid, decode-encode, on-encode}
+use Rattle.fixes.specs.Fix.{Fix}
+use Rattle.track_transmission.specs.Held.{HeldTransmission}
+use Rattle.track_merge.specs.Merged.{Step, merged_number, merged}
+use Rattle.track_merge.specs.declared.Merged.TheVariants.{Changed}
+use Rattle.track_memory.specs.Track.{Track, done}
+use Rattle.track_memory.specs.Memory.{fresh, decode, encode, commit, on_memory}
+use Rattle.track_memory.proofs.Valid.{Valid, decode-encode, on-encode}
 use Rattle.track.specs.Track.{reported_fix, track_report}
 use Rattle.track.specs.Calls.{runs}
 use Rattle.track.proofs.Merging.{stepped-valid}

@@ -9,8 +9,8 @@ use borrow.Author.Tests.{le-leb}
 use lib.Dec.{leb, eqb}
 use Rattle.octets.specs.Order.{same}
 use Rattle.std.specs.List.{filter, list_any}
-use Rattle.ranges.proofs.Bools.{by, and_both}
-use Rattle.ranges.proofs.Lists.{any-perm, filter-perm, filter-few}
+use Rattle.lists.proofs.Bools.{by, and_both}
+use Rattle.lists.proofs.Lists.{any-perm, filter-perm, filter-few}
 use Rattle.models.specs.Summary.{summary_of}
 use Rattle.engines.specs.Limits.{max_engine}
 use Rattle.models.specs.Limits.{max_summaries}

@@ -9,7 +9,7 @@ use Rattle.octets.specs.Words.{word_bytes, word}
 use Rattle.octets.specs.Order.{same, is_before}
 use Rattle.octets.specs.Masks.{bit_count}
 use Rattle.arithmetic.specs.Bits.{stored_bits}
-use Rattle.ranges.specs.Lists.{insert, sort, foremost}
+use Rattle.lists.specs.Lists.{insert, sort, foremost}
 use Rattle.hashing.specs.Blake2s as B
 use Rattle.record.specs.Fields.{tags_from}
 use Rattle.record.specs.Relations.{subset, all_in, any_in, member, shares_tag, tied}
@@ -19,16 +19,16 @@ use Rattle.geometry.specs.Angles.{degree, radians_of, factorial, coefficient, si
 use Rattle.geometry.specs.Geodesy.{flattening, eccentricity2, to_ecef, enu_basis, sub_of, dot_of}
 use Rattle.geometry.specs.Linalg.{minus_each, rows_below, columns, cholesky_of, forwards, forward, backwards, backward, solve_of, sum_to}
 use Rattle.arithmetic.specs.Agree.{limit_of, geodetic_of, matrix_of, sum_under, finitely, length_under, chi_square_of, difference_of, agreement_under, agreement_of, agrees_of, chi_square_in}
-use Rattle.items.specs.Claimed.{claim_of}
+use Rattle.decision_items.specs.Claimed.{claim_of}
 use Rattle.models.specs.Identity.{cited_domain, cited_inputs, set_hash, identity_from, identity_of, inputs_in_order}
 use Rattle.decision.specs.Positions.{S, M, L}
-use Rattle.shown.specs.Fix.{Fix}
-use Rattle.shown.specs.Shown.{shown}
-use Rattle.tracked.specs.Held.{HeldTransmission}
-use Rattle.normalize.specs.Normal.{gather_all, sign_first, normalized}
-use Rattle.arrange.specs.Arranged.{arranged}
-use Rattle.merge.specs.declared.Merged.TheVariants.{Changed}
-use Rattle.merge.specs.Merged.{Step, opened, joined, merged}
+use Rattle.fixes.specs.Fix.{Fix}
+use Rattle.fixes.specs.Shown.{shown}
+use Rattle.track_transmission.specs.Held.{HeldTransmission}
+use Rattle.track_normalize.specs.Normal.{gather_all, sign_first, normalized}
+use Rattle.track_arrange.specs.Arranged.{arranged}
+use Rattle.track_merge.specs.declared.Merged.TheVariants.{Changed}
+use Rattle.track_merge.specs.Merged.{Step, opened, joined, merged}
 
 -- ---- what is computed with: who unfolds one of these two unfolds what stands on its line
 

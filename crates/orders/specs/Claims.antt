@@ -8,10 +8,10 @@ use Rattle.decision.specs.Positions.{S, M, L}
 use Rattle.register.specs.Layout.{max_records}
 use Rattle.register.specs.Calls.{Call, report, summary, conviction, none_full}
 use Rattle.register.specs.Memory as R
-use Rattle.merge.specs.Merged.{merged_number}
-use Rattle.merge.specs.declared.Merged.TheVariants.{Changed}
-use Rattle.stored.specs.Track.{Track}
-use Rattle.stored.specs.Memory as T
+use Rattle.track_merge.specs.Merged.{merged_number}
+use Rattle.track_merge.specs.declared.Merged.TheVariants.{Changed}
+use Rattle.track_memory.specs.Track.{Track}
+use Rattle.track_memory.specs.Memory as T
 use Rattle.track.specs.Served.{served}
 use Rattle.track.specs.Calls as C
 use Rattle.board.specs.Claims.{SameInBothRooms}

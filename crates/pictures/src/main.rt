@@ -4,6 +4,6 @@
 use std::io;
 
 fn main(rt: HostRuntime) -> io::Result<()> {
-    let text = situations::pictures(rt.alloc())?;
+    let text = pictures_text::pictures(rt.alloc())?;
     rt.write_all(text.as_slice())
 }

@@ -6,7 +6,7 @@ use Rattle.std.proofs.Math.Seq.{drop-append_seam, take-append_seam}
 use lib.Seq.{drop-drop}
 use mir.Facts.{to_z-of_z, Fits-of_z}
 use mir.Val.{to_z}
-use Rattle.ranges.proofs.Bools.{by}
+use Rattle.lists.proofs.Bools.{by}
 use lib.Dec.{ltb}
 use Rattle.octets.specs.Words.{word, word_bytes, word_at, signed_of}
 use Rattle.octets.proofs.Numbers.{length-word-bytes, word-of-bytes}

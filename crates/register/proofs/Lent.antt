@@ -1,13 +1,13 @@
 -- What a register lends to whoever reads it: its tables lie in its bytes, and each place of the second begins with a record.
 use Rattle.std.proofs.Common.{ℕ, ◌*◌, ◌≤◌, ◌≡◌, true, List, arith, length, take}
 use Rattle.std.specs.List.{list_all}
-use Rattle.ranges.proofs.Bools.{and_left}
+use Rattle.lists.proofs.Bools.{and_left}
 use Rattle.record.specs.Layout.{record_size}
 use Rattle.record.specs.Formed as R
 use Rattle.models.specs.Summary.{summary_size}
-use Rattle.signed.specs.Signed.{place_size, place_formed}
-use Rattle.signed.specs.Read.{record_formed}
-use Rattle.places.proofs.Testing.{all-weaken}
+use Rattle.signed_records.specs.Signed.{place_size, place_formed}
+use Rattle.signed_records.specs.Read.{record_formed}
+use Rattle.tables.proofs.Testing.{all-weaken}
 use Rattle.register.specs.Layout.{max_records}
 use Rattle.register.specs.Memory.{well_formed, convicted_in, summary_count, record_count, summary_table, record_table, records_in, decode}
 use Rattle.register.proofs.Opened.{opened, summary-bytes-length, record-bytes-length, records-length}

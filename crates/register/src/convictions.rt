@@ -1,11 +1,11 @@
 //! A conviction in a register.
 
 ghost use Rattle.std.specs.Prelude.{◌≡◌, true, ◌+◌, ◌*◌, ◌≤◌, length};
-ghost use Rattle.places.specs.Places.{places, keep_places};
+ghost use Rattle.tables.specs.Places.{places, keep_places};
 ghost use Rattle.record.specs.Layout.{record_size};
 ghost use Rattle.errors.specs.After.{after};
-ghost use Rattle.signed.specs.Signed.{place_size, drop_signer, has_another_signer};
-ghost use Rattle.places.specs.Strikes.{Struck};
+ghost use Rattle.signed_records.specs.Signed.{place_size, drop_signer, has_another_signer};
+ghost use Rattle.tables.specs.Strikes.{Struck};
 ghost use Rattle.errors.specs.Errors.{answer_number};
 ghost use Rattle.register.specs.Register.{strike_engine, take_conviction};
 ghost use Rattle.register.specs.Memory.{well_formed, decode, on_memory};
@@ -19,9 +19,9 @@ use errors::Error;
 use models::layout::SUMMARIES_SIZE;
 use models::strikes::strike_summaries;
 use octets::words::{put_u16, put_u32, u16_at, u32_at};
-use places::strikes::{clear_rest, move_down};
 use record::layout::RECORD_SIZE;
-use signed::PLACE_SIZE;
+use signed_records::PLACE_SIZE;
+use tables::strikes::{clear_rest, move_down};
 
 // Copies the record at one byte down to another, with these signers.
 fn keep_place(t: &mut [u8], from: usize, to: usize, signers: Signers)

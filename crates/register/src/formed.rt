@@ -2,18 +2,18 @@
 
 ghost use Rattle.std.specs.Prelude.{◌≡◌, ◌&&◌, ◌*◌, ◌≤◌, length};
 ghost use Rattle.std.specs.List.{list_all};
-ghost use Rattle.places.specs.Places.{places, is_table};
+ghost use Rattle.tables.specs.Places.{places, is_table};
 ghost use Rattle.record.specs.Layout.{record_size};
-ghost use Rattle.signed.specs.Signed.{place_size, place_formed};
+ghost use Rattle.signed_records.specs.Signed.{place_size, place_formed};
 ghost use Rattle.register.specs.Memory.{well_formed};
 
 use crate::layout;
 use engines::Signers;
 use models::layout::{MAX_SUMMARIES, SUMMARY_SIZE};
 use models::summaries::Summaries;
-use places::table::is_table;
 use record::layout::RECORD_SIZE;
-use signed::PLACE_SIZE;
+use signed_records::PLACE_SIZE;
+use tables::table::is_table;
 
 // Whether t holds a table of n records with signers, none of them convicted.
 fn place_table_formed(t: &[u8], n: usize, convicted: Signers) -> bool
@@ -21,7 +21,7 @@ fn place_table_formed(t: &[u8], n: usize, convicted: Signers) -> bool
     ensures { result ≡ (is_table record_size place_size n t.now && list_all (place_formed convicted) (places place_size n t.now)) }
 {
     is_table::<PLACE_SIZE, RECORD_SIZE>(t, n)
-        && signed::formed::places_formed(t, n, PLACE_SIZE, convicted)
+        && signed_records::formed::places_formed(t, n, PLACE_SIZE, convicted)
 }
 
 /// Whether the bytes are a register.

@@ -17,10 +17,10 @@ use errors::Error;
 use models::layout::SUMMARIES_SIZE;
 use octets::runs::copy;
 use octets::words::{put_u16, put_u32, u16_at, u32_at};
-use places::table::Table;
 use record::Record;
 use record::layout::RECORD_SIZE;
-use signed::PLACE_SIZE;
+use signed_records::PLACE_SIZE;
+use tables::table::Table;
 
 // The records held, each with its signers.
 type Records<'a> = Table<'a, PLACE_SIZE, RECORD_SIZE, MAX_RECORDS>;

@@ -15,8 +15,8 @@ use errors::Error;
 use models::layout::{INPUTS_SIZE, MAX_SUMMARIES, SUMMARIES_SIZE, SUMMARY_SIZE};
 use models::summaries::new_summary;
 use octets::words::{put_u16, u16_at};
-use places::table::Table;
 use record::layout::MAX_MODEL;
+use tables::table::Table;
 
 // The summaries held.
 type Summaries<'a> = Table<'a, SUMMARY_SIZE, SUMMARY_SIZE, MAX_SUMMARIES>;

@@ -2,7 +2,7 @@
 
 ghost use Rattle.std.specs.Prelude.{◌≡◌, ◌≤◌, true, length, Ok, Err, cond};
 ghost use Rattle.std.specs.List.{list_all};
-ghost use Rattle.signed.specs.Read.{record_formed};
+ghost use Rattle.signed_records.specs.Read.{record_formed};
 ghost use Rattle.models.specs.Answers.{summary_places};
 ghost use Rattle.register.specs.Layout.{max_records};
 ghost use Rattle.errors.specs.declared.Error.TheVariants.{Malformed};
@@ -16,9 +16,9 @@ use engines::Signers;
 use errors::Error;
 use models::summaries::Summaries;
 use octets::words::{u16_at, u32_at};
-use places::table::places_of;
-use signed::{PLACE_SIZE, SignedRecords};
+use signed_records::{PLACE_SIZE, SignedRecords};
 use std::marker::Model;
+use tables::table::places_of;
 
 /// Lent bytes that are a register. Whoever has one asks for nothing more: in a contract it is the register that they hold.
 #[derive(Drop)]

@@ -4,8 +4,8 @@
 
 ghost use Rattle.std.specs.Io.{ReadsAtMost};
 
-use calling::{Instead, Wish};
-use sessions::{MAX_INPUT, OUTPUT_SIZE};
+use session_arguments::{Instead, Wish};
+use session_text::{MAX_INPUT, OUTPUT_SIZE};
 use std::process::ExitCode;
 use std::rt::{Env, Files};
 use std::{env, fs, io};
@@ -57,12 +57,12 @@ fn conduct(
     strict: bool,
 ) -> io::Result<u8> {
     let mut out = output_buffer();
-    let (size, refused) = match sessions::run(input, &mut out) {
+    let (size, refused) = match session_text::run(input, &mut out) {
         Ok(size) => (size, None),
         Err(refusal) => (refusal.write_line(&mut out), Some(refusal)),
     };
     rt.write_all(&out[..size])?;
-    let told = notices::told(rt.alloc(), input, refused)?;
+    let told = session_notices::told(rt.alloc(), input, refused)?;
     errors.write_all(told.text.as_slice())?;
     Ok(told.ending.status(strict))
 }
@@ -116,14 +116,14 @@ fn answer(
     errors: &impl Print,
 ) -> io::Result<u8> {
     let words = words(rt)?;
-    match calling::asked(&words) {
+    match session_arguments::asked(&words) {
         Ok(wish) => session(rt, errors, name_of(wish, &words), wish.strict),
         Err(Instead::Help) => {
             rt.write_all(HELP.as_bytes())?;
             Ok(0)
         }
         Err(Instead::Version) => {
-            rt.write_all(names::version_text())?;
+            rt.write_all(toastlagoon_names::version_text())?;
             rt.write_all(b"\n")?;
             Ok(0)
         }

@@ -9,7 +9,7 @@ use lib.Dec.{ltb}
 use lib.IntN.{ℤ, pos, negsuc}
 use lib.Signed.{mag}
 use lib.ListN.{length, get_or, length-append, get_or-append}
-use Rattle.ranges.proofs.Bools.{by}
+use Rattle.lists.proofs.Bools.{by}
 use Rattle.octets.specs.Ascii.{ascii}
 use Rattle.text.specs.Numbers.{digits, signed_decimal, hex, hex_digit, decimal_value}
 use Rattle.text.specs.Heights.{metres}

@@ -7,7 +7,7 @@ use native.Mathlib.Nat.{le_of_lt, le_of_eq, le_antisymm, not-le_of_lt, add_comm}
 use borrow.Author.Tests.{ltb-true, ltb-false}
 use lib.Dec.{ltb}
 use lib.IntN.{ℤ, pos, negsuc, neg_ℤ, nat_abs, sub_ℕ, ◌+ℤ◌, ◌-ℤ◌, ◌*ℤ◌, neg_ℤ-neg_ℤ, neg_ℤ-+ℤ}
-use Rattle.ranges.proofs.Bools.{by}
+use Rattle.lists.proofs.Bools.{by}
 use Rattle.text.specs.Heights.{distance, Even, NearestMetre, rounded_metres, metres}
 use Rattle.text.specs.Claims.{MetresAreNearest, OnlyHalvesMoved}
 

@@ -3,7 +3,7 @@
 #![tactic(auto)]
 
 ghost use Rattle.std.specs.Prelude.{◌≡◌};
-ghost use Rattle.names.specs.Names.{version_number, write_name};
+ghost use Rattle.toastlagoon_names.specs.Names.{version_number, write_name};
 ghost use Rattle.hashing.specs.Blake2s as Hash;
 ghost use Rattle.floats.specs.Root as Root;
 ghost use Rattle.arithmetic.specs.Agree.{agreement_of, sigma_of};
@@ -12,17 +12,17 @@ ghost use Rattle.decision.specs.Sorted.{sorted_arrays};
 ghost use Rattle.errors.specs.After.{after};
 ghost use Rattle.register.specs.Register.{take_report, take_summary, take_conviction};
 ghost use Rattle.register.specs.Memory.{on_memory};
-ghost use Rattle.columns.specs.Columns.{columns, uncolumns, rearrange};
+ghost use Rattle.register_columns.specs.Columns.{columns, uncolumns, rearrange};
 ghost use Rattle.board.specs.Board.{draw_board};
 ghost use Rattle.board.specs.Preview.{draw_preview};
-ghost use Rattle.stored.specs.Memory as T;
+ghost use Rattle.track_memory.specs.Memory as T;
 ghost use Rattle.track.specs.Track.{track_report, track_summary, track_conviction};
-ghost use Rattle.listing.specs.Listing.{list_track};
+ghost use Rattle.track_listing.specs.Listing.{list_track};
 ghost use Rattle.toastlagoon.specs.Border.{covariance_from, claim_from, agreement_out};
-ghost use Rattle.answers.specs.Answer.{hand_out};
+ghost use Rattle.decision_bytes.specs.Answer.{hand_out};
 
-use answers::ANSWER_SIZE;
 use arithmetic::standing::{Agreement, Claimed, Measure};
+use decision_bytes::ANSWER_SIZE;
 use errors::{answer_number, value_or_number};
 use geometry::linalg::Covariance;
 use track::reports::reported_number;
@@ -39,7 +39,7 @@ const UNMEASURABLE: u32 = 2;
 pub extern "C" fn tl_version() -> u32
     ensures { result ≡ version_number }
 {
-    names::version()
+    toastlagoon_names::version()
 }
 
 /// What an answer says, in words, at the start of `out`, and the length of the words. Where `out` is shorter nothing is written.
@@ -47,7 +47,7 @@ pub extern "C" fn tl_version() -> u32
 pub extern "C" fn tl_answer_text(answer: u32, out: &mut [u8]) -> u32
     ensures { after result out.new ≡ write_name answer out.old }
 {
-    names::write_name(answer, out)
+    toastlagoon_names::write_name(answer, out)
 }
 
 /// The BLAKE2s-256 hash of any bytes. Answers 0.
@@ -189,7 +189,7 @@ pub extern "C" fn tl_agreement(
 pub extern "C" fn tl_decide(items: &[u8], answer: &mut [u8; ANSWER_SIZE]) -> u32
     ensures { after result answer.new ≡ hand_out (decided_arrays items.now) answer.old }
 {
-    answers::decide(items, answer)
+    decision_bytes::decide(items, answer)
 }
 
 /// Decides items in bytes as `tl_decide` does, and answers the dominated and the refusals in ascending identity: so the answer does not
@@ -198,7 +198,7 @@ pub extern "C" fn tl_decide(items: &[u8], answer: &mut [u8; ANSWER_SIZE]) -> u32
 pub extern "C" fn tl_decide_any(items: &[u8], answer: &mut [u8; ANSWER_SIZE]) -> u32
     ensures { after result answer.new ≡ hand_out (sorted_arrays items.now) answer.old }
 {
-    answers::decide_any(items, answer)
+    decision_bytes::decide_any(items, answer)
 }
 
 /// Reports a record for an engine into a register.
@@ -245,7 +245,7 @@ pub extern "C" fn tl_board(memory: &[u8], out: &mut [u8]) -> u32
 pub extern "C" fn tl_register_columns(input: &[u8], out: &mut [u8]) -> u32
     ensures { after result out.new ≡ rearrange columns input.now out.old }
 {
-    answer_number(columns::columns(input, out))
+    answer_number(register_columns::columns(input, out))
 }
 
 /// Undoes `tl_register_columns`, and is undone by it. Answers as it does.
@@ -253,7 +253,7 @@ pub extern "C" fn tl_register_columns(input: &[u8], out: &mut [u8]) -> u32
 pub extern "C" fn tl_register_uncolumns(input: &[u8], out: &mut [u8]) -> u32
     ensures { after result out.new ≡ rearrange uncolumns input.now out.old }
 {
-    answer_number(columns::uncolumns(input, out))
+    answer_number(register_columns::uncolumns(input, out))
 }
 
 /// The board of a register as it would be if an engine were convicted, into `out`: 1, 2 or 10, or its length, which is 0 or greater than
@@ -300,5 +300,5 @@ pub extern "C" fn tl_track_conviction(memory: &mut [u8], engine: u32) -> u32
 pub extern "C" fn tl_track_listing(memory: &[u8], out: &mut [u8]) -> u32
     ensures { after result out.new ≡ list_track memory.now out.old }
 {
-    value_or_number(listing::listing(memory, out))
+    value_or_number(track_listing::listing(memory, out))
 }

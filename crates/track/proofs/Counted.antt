@@ -1,10 +1,10 @@
 -- The claims about the contested count.
 use Rattle.std.proofs.Common.{◌≡◌, ℕ, ◌+◌, ◌%◌, ◌^◌, refl, ap, ◌∙◌, subst}
 use Rattle.std.specs.List.{list_any}
-use Rattle.ranges.proofs.Bools.{by}
-use Rattle.merge.specs.Merged.{merged}
-use Rattle.stored.specs.Track.{Track, Transition}
-use Rattle.recheck.specs.Recheck.{has_stale, recheck, strike_engine}
+use Rattle.lists.proofs.Bools.{by}
+use Rattle.track_merge.specs.Merged.{merged}
+use Rattle.track_memory.specs.Track.{Track, Transition}
+use Rattle.track_recheck.specs.Recheck.{has_stale, recheck, strike_engine}
 use Rattle.track.specs.Track.{reported_fix, track_summary, track_conviction}
 use Rattle.track.specs.Calls.{left_by}
 use Rattle.track.specs.Claims.{ReportCounts, RefusalCountsNone, SummaryCountsNone, ConvictionCountsNone}

@@ -1,14 +1,14 @@
 -- The whole of a summary that is held: what is answered and left where it is put in, with a recheck and without.
 use Rattle.std.proofs.Common.{◌≡◌, ℕ, Bool, true, false, not, ◌&&◌, leb, List, length, take, sym, refl, ap, ◌∙◌, arith}
-use Rattle.ranges.proofs.Bools.{by, no_true}
-use Rattle.places.specs.Places.{holds}
+use Rattle.lists.proofs.Bools.{by, no_true}
+use Rattle.tables.specs.Places.{holds}
 use Rattle.errors.specs.After.{After, after}
 use Rattle.models.specs.Limits.{max_summaries}
-use Rattle.stored.specs.Layout.{pair_size}
-use Rattle.stored.specs.Track.{Track}
-use Rattle.stored.specs.Memory.{decode, encode, commit}
-use Rattle.stored.specs.Steps.{with_pair, put_pair}
-use Rattle.recheck.specs.Recheck.{recheck}
+use Rattle.track_memory.specs.Layout.{pair_size}
+use Rattle.track_memory.specs.Track.{Track}
+use Rattle.track_memory.specs.Memory.{decode, encode, commit}
+use Rattle.track_memory.specs.Steps.{with_pair, put_pair}
+use Rattle.track_recheck.specs.Recheck.{recheck}
 use Rattle.track.specs.Track.{becomes_disputed, hold_pair}
 
 module _ (m : List ℕ) (model : ℕ) (p : List ℕ) where

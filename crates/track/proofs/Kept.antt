@@ -1,19 +1,19 @@
 -- The claims about every track in memory and every call on it.
 use Rattle.std.proofs.Common.{◌≡◌, ℕ, true, List, refl, le-leb}
-use Rattle.ranges.proofs.Bools.{by}
+use Rattle.lists.proofs.Bools.{by}
 use Rattle.octets.specs.Bytes.{Bytes}
 use Rattle.record.specs.Layout.{max_model}
 use Rattle.models.specs.Summary.{summary_of}
 use Rattle.engines.specs.Limits.{max_engine}
 use Rattle.models.proofs.Summarized.{summary-length}
-use Rattle.stored.specs.Track.{Track, Transition, refused, done}
-use Rattle.stored.specs.Memory.{well_formed, decode, commit, on_memory}
-use Rattle.stored.proofs.Opened as O
-use Rattle.stored.proofs.Opened.{opened}
-use Rattle.stored.proofs.Valid.{Valid, decode-valid, formed-encode, decode-encode}
-use Rattle.stored.proofs.Pairs.{pair-valid}
-use Rattle.recheck.specs.Recheck.{strike_engine}
-use Rattle.recheck.proofs.Renewing.{recheck-valid, strike-valid}
+use Rattle.track_memory.specs.Track.{Track, Transition, refused, done}
+use Rattle.track_memory.specs.Memory.{well_formed, decode, commit, on_memory}
+use Rattle.track_memory.proofs.Opened as O
+use Rattle.track_memory.proofs.Opened.{opened}
+use Rattle.track_memory.proofs.Valid.{Valid, decode-valid, formed-encode, decode-encode}
+use Rattle.track_memory.proofs.Pairs.{pair-valid}
+use Rattle.track_recheck.specs.Recheck.{strike_engine}
+use Rattle.track_recheck.proofs.Renewing.{recheck-valid, strike-valid}
 use Rattle.track.specs.Calls.{Call, report, summary, conviction, act, left_by}
 use Rattle.track.specs.Claims.{EncodeDecode, LeavesTrack, HoldsLeft, RefusalLeaves, MalformedLeaves}
 use Rattle.track.proofs.Leaving.{Leaves, report-leaves, summary-leaves, conviction-leaves}

@@ -1,9 +1,9 @@
 -- What holds of the track that an operation leaves, if it leaves one.
 use Rattle.std.proofs.Common.{◌≡◌, ℕ, ◌≤◌, true, false, not, ◌&&◌, ◌||◌, eqb, ltb, leb, List, length, take, ltb-false, eqb-true}
 use borrow.Author.Tests.{not-false}
-use Rattle.ranges.proofs.Bools.{by, neither_left, neither_right}
+use Rattle.lists.proofs.Bools.{by, neither_left, neither_right}
 use Rattle.octets.specs.Masks.{bit}
-use Rattle.places.specs.Places.{holds}
+use Rattle.tables.specs.Places.{holds}
 use Rattle.record.specs.Formed as R
 use Rattle.record.specs.Layout.{max_model}
 use Rattle.models.specs.Summary.{inputs_size, summary_of}
@@ -11,11 +11,11 @@ use Rattle.models.specs.Models.{counts}
 use Rattle.models.specs.Missing.{cites_missing}
 use Rattle.engines.specs.Limits.{max_engine}
 use Rattle.models.specs.Limits.{max_summaries}
-use Rattle.merge.specs.Merged.{merged}
-use Rattle.stored.specs.Layout.{pair_size}
-use Rattle.stored.specs.Track.{Track, Transition, refused, done}
-use Rattle.stored.specs.Steps.{with_pair}
-use Rattle.recheck.specs.Recheck.{recheck, strike_engine}
+use Rattle.track_merge.specs.Merged.{merged}
+use Rattle.track_memory.specs.Layout.{pair_size}
+use Rattle.track_memory.specs.Track.{Track, Transition, refused, done}
+use Rattle.track_memory.specs.Steps.{with_pair}
+use Rattle.track_recheck.specs.Recheck.{recheck, strike_engine}
 use Rattle.track.specs.Track.{reported_fix, stepped, track_report, becomes_disputed, put_summary, track_summary, track_conviction}
 use Rattle.track.specs.Calls.{left_by}
 

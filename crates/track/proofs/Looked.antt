@@ -1,6 +1,6 @@
 -- One look at the models that a record cites: its model inputs, or 6 or 7.
 use Rattle.std.proofs.Common.{ℕ, ◌<◌, ◌≡◌, refl, true, false, List, arith, Result, Ok, Err, le-ltb}
-use Rattle.ranges.proofs.Bools.{by}
+use Rattle.lists.proofs.Bools.{by}
 use Rattle.octets.specs.Masks.{bit}
 use Rattle.record.specs.Formed as R
 use Rattle.record.specs.Fields.{models, spec}
@@ -13,7 +13,7 @@ use Rattle.errors.specs.After.{after}
 use Rattle.errors.specs.Errors.{error_number}
 use Rattle.engines.specs.Limits.{max_engine}
 use Rattle.errors.specs.declared.Error.{Error}
-use Rattle.stored.specs.Memory.{well_formed, decode, commit, on_memory}
+use Rattle.track_memory.specs.Memory.{well_formed, decode, commit, on_memory}
 use Rattle.track.specs.Eligible.{refusal, inputs_or_error}
 use Rattle.track.specs.Track.{take_cited, track_report}
 

@@ -5,28 +5,28 @@ use mathlib.Core.List.{Memᴰ}
 use lib.Bits.{or_lt}
 use lib.ListN.{length-map}
 use Rattle.std.specs.List.{filter, list_any}
-use Rattle.ranges.proofs.Bools.{by, or}
-use Rattle.ranges.proofs.Lists.{filter-in}
+use Rattle.lists.proofs.Bools.{by, or}
+use Rattle.lists.proofs.Lists.{filter-in}
 use Rattle.octets.specs.Masks.{bit}
 use Rattle.octets.proofs.Zeros.{or-zero}
 use Rattle.record.specs.Formed as R
 use Rattle.models.proofs.Sets.{cited-length}
 use Rattle.engines.specs.Limits.{max_engine}
 use Rattle.engines.proofs.Masks.{or_apart, with-apart, nothing-apart, with-some, with-small}
-use Rattle.signed.proofs.Signatures.{record-length}
-use Rattle.shown.specs.Fix.{Fix}
-use Rattle.items.specs.Layout.{hash_size}
-use Rattle.tracked.specs.Layout.{max_standing, max_refused}
-use Rattle.tracked.specs.Held.{RefusedFix, HeldTransmission, fix_of, held_in, is_of, tied_to}
-use Rattle.normalize.specs.Normal.{signed_by, sign_first, normalized}
-use Rattle.normalize.specs.Joining.{with_fix, upholds}
-use Rattle.normalize.proofs.Distinct.{sign-length}
-use Rattle.arrange.specs.Arranged.{max_transmissions}
-use Rattle.merge.specs.Merged.{opened, in_place, sign_refused, sign_in, joined, merged_into, merged}
-use Rattle.stored.specs.Track.{Track}
-use Rattle.stored.proofs.Blocks.{Upheld, Kept, Held, of_map}
-use Rattle.stored.proofs.Valid.{Valid}
-use Rattle.recheck.proofs.Renewing.{Fit, normalized-kept, held-fit, arranged-held, arranged-at-most}
+use Rattle.signed_records.proofs.Signatures.{record-length}
+use Rattle.fixes.specs.Fix.{Fix}
+use Rattle.decision_items.specs.Layout.{hash_size}
+use Rattle.track_transmission.specs.Layout.{max_standing, max_refused}
+use Rattle.track_transmission.specs.Held.{RefusedFix, HeldTransmission, fix_of, held_in, is_of, tied_to}
+use Rattle.track_normalize.specs.Normal.{signed_by, sign_first, normalized}
+use Rattle.track_normalize.specs.Joining.{with_fix, upholds}
+use Rattle.track_normalize.proofs.Distinct.{sign-length}
+use Rattle.track_arrange.specs.Arranged.{max_transmissions}
+use Rattle.track_merge.specs.Merged.{opened, in_place, sign_refused, sign_in, joined, merged_into, merged}
+use Rattle.track_memory.specs.Track.{Track}
+use Rattle.track_memory.proofs.Blocks.{Upheld, Kept, Held, of_map}
+use Rattle.track_memory.proofs.Valid.{Valid}
+use Rattle.track_recheck.proofs.Renewing.{Fit, normalized-kept, held-fit, arranged-held, arranged-at-most}
 use Rattle.track.specs.Track.{reported_fix, stepped}
 
 -- ---- a fix that gains signers

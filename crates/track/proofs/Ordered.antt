@@ -5,27 +5,27 @@ use mathlib.Core.List.Memᴰ
 use mathlib.Core.List.{flat_map, Memᴰ}
 use lib.ListN.{replicate-append-replicate}
 use Rattle.std.specs.List.{list_any}
-use Rattle.ranges.specs.Lists.{last_of}
-use Rattle.ranges.proofs.Bools.{by, or}
-use Rattle.ranges.proofs.Lists.{flat_in}
+use Rattle.lists.specs.Lists.{last_of}
+use Rattle.lists.proofs.Bools.{by, or}
+use Rattle.lists.proofs.Lists.{flat_in}
 use Rattle.octets.specs.Words.{word_bytes}
-use Rattle.places.specs.Places.{flat, ascending}
+use Rattle.tables.specs.Places.{flat, ascending}
 use Rattle.errors.specs.After.{After}
 use Rattle.models.specs.Limits.{summaries_size}
-use Rattle.shown.specs.Fix.{Fix}
-use Rattle.shown.specs.Ages.{older, older_first}
-use Rattle.shown.proofs.Ages.{older-irrefl}
-use Rattle.tracked.specs.Held.{HeldTransmission}
-use Rattle.arrange.specs.Arranged.{is_nonempty, has_fix, older_than}
-use Rattle.arrange.specs.Claims.{InOrder, none, next}
-use Rattle.arrange.proofs.Tables.{drop-in}
-use Rattle.arrange.proofs.Claimed.{arranged-in-order}
-use Rattle.merge.proofs.Claimed.{order-kept}
-use Rattle.stored.specs.Layout.{summaries_at, transmissions_size}
-use Rattle.stored.specs.Track.{Track, Transition, refused, done}
-use Rattle.stored.specs.Memory.{encode, fresh, commit, on_memory}
-use Rattle.stored.proofs.Valid.{Valid, formed-encode, decode-encode, on-encode}
-use Rattle.recheck.specs.Recheck.{has_stale, recheck, strike_engine}
+use Rattle.fixes.specs.Fix.{Fix}
+use Rattle.fixes.specs.Ages.{older, older_first}
+use Rattle.fixes.proofs.Ages.{older-irrefl}
+use Rattle.track_transmission.specs.Held.{HeldTransmission}
+use Rattle.track_arrange.specs.Arranged.{is_nonempty, has_fix, older_than}
+use Rattle.track_arrange.specs.Claims.{InOrder, none, next}
+use Rattle.track_arrange.proofs.Tables.{drop-in}
+use Rattle.track_arrange.proofs.Claimed.{arranged-in-order}
+use Rattle.track_merge.proofs.Claimed.{order-kept}
+use Rattle.track_memory.specs.Layout.{summaries_at, transmissions_size}
+use Rattle.track_memory.specs.Track.{Track, Transition, refused, done}
+use Rattle.track_memory.specs.Memory.{encode, fresh, commit, on_memory}
+use Rattle.track_memory.proofs.Valid.{Valid, formed-encode, decode-encode, on-encode}
+use Rattle.track_recheck.specs.Recheck.{has_stale, recheck, strike_engine}
 use Rattle.track.specs.Track.{reported_fix}
 use Rattle.track.specs.Served.{kept_of}
 use Rattle.track.specs.Calls.{Call, report, summary, conviction, act, runs}

@@ -8,15 +8,15 @@ use Rattle.octets.proofs.Moves.{tail-lent, tail-back}
 use Rattle.models.specs.Models.{counts}
 use Rattle.errors.specs.After.{after}
 use Rattle.octets.proofs.Framing.{word_small}
-use Rattle.shown.specs.Fix.{Fix}
-use Rattle.tracked.specs.Bytes.{transmission_in, transmission_bytes}
-use Rattle.arrange.specs.Arranged.{max_transmissions}
-use Rattle.arrange.specs.Blocks.{block_table, held, Filled}
-use Rattle.merge.specs.Merged.{Step, merged_number, merged}
-use Rattle.stored.specs.Layout.{transmission_count_at, contested_at, transmissions_at}
-use Rattle.stored.specs.Memory.{convicted_in, summary_count, transmission_count, contested_in, summary_table, transmission_table, summaries_in, transmission_places, decode, encode, commit}
-use Rattle.stored.proofs.Frames.{frame, read-contested, set-transmission-count, put-contested, frame-transmissions-back}
-use Rattle.stored.proofs.Opened.{Opened, summaries-length, summaries-are, summary-bytes-length, framed, filled, transmissions-length}
+use Rattle.fixes.specs.Fix.{Fix}
+use Rattle.track_transmission.specs.Bytes.{transmission_in, transmission_bytes}
+use Rattle.track_arrange.specs.Arranged.{max_transmissions}
+use Rattle.track_arrange.specs.Blocks.{block_table, held, Filled}
+use Rattle.track_merge.specs.Merged.{Step, merged_number, merged}
+use Rattle.track_memory.specs.Layout.{transmission_count_at, contested_at, transmissions_at}
+use Rattle.track_memory.specs.Memory.{convicted_in, summary_count, transmission_count, contested_in, summary_table, transmission_table, summaries_in, transmission_places, decode, encode, commit}
+use Rattle.track_memory.proofs.Frames.{frame, read-contested, set-transmission-count, put-contested, frame-transmissions-back}
+use Rattle.track_memory.proofs.Opened.{Opened, summaries-length, summaries-are, summary-bytes-length, framed, filled, transmissions-length}
 use Rattle.track.specs.Track.{reported_fix, stepped, take_cited}
 use Rattle.track.proofs.Merging.{merged-few}
 

@@ -2,8 +2,8 @@
 use Rattle.std.specs.Prelude.{ℕ, Result, Ok, Err}
 use Rattle.errors.specs.Errors.{error_number}
 use Rattle.errors.specs.declared.Error.{Error}
-use Rattle.merge.specs.Merged.{merged_number}
-use Rattle.merge.specs.declared.Merged.{Merged}
+use Rattle.track_merge.specs.Merged.{merged_number}
+use Rattle.track_merge.specs.declared.Merged.{Merged}
 
 -- what became of the fix, or why the record is refused
 abbrev pub reported_number : Result Merged Error → ℕ

@@ -1,7 +1,7 @@
 -- The calls of a track (docs/REFERENCE.md, 'Operations'), and the track that a call leaves.
 use Rattle.std.specs.Prelude.{ℕ, List, [], ◌∷◌}
-use Rattle.stored.specs.Track.{Track, Transition, refused, done}
-use Rattle.stored.specs.Memory.{on_memory}
+use Rattle.track_memory.specs.Track.{Track, Transition, refused, done}
+use Rattle.track_memory.specs.Memory.{on_memory}
 use Rattle.track.specs.Track.{track_report, track_summary, track_conviction}
 
 -- report(engine, record), summary(engine, model, spec, inputs), conviction(engine)

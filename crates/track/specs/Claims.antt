@@ -3,13 +3,13 @@
 use Rattle.std.specs.Prelude.{◌≡◌, ℕ, ◌+◌, ◌%◌, ◌^◌, ◌≤◌, true, false, List, length}
 use mathlib.Core.List.{Memᴰ}
 use Rattle.octets.specs.Bytes.{Bytes}
-use Rattle.shown.specs.Fix.{Fix}
-use Rattle.shown.specs.Ages.{older}
-use Rattle.tracked.specs.Held.{HeldTransmission}
-use Rattle.arrange.specs.Claims.{InOrder}
-use Rattle.merge.specs.Merged.{merged}
-use Rattle.stored.specs.Track.{Track, Transition, refused, done}
-use Rattle.stored.specs.Memory.{well_formed, decode, encode, fresh, on_memory}
+use Rattle.fixes.specs.Fix.{Fix}
+use Rattle.fixes.specs.Ages.{older}
+use Rattle.track_transmission.specs.Held.{HeldTransmission}
+use Rattle.track_arrange.specs.Claims.{InOrder}
+use Rattle.track_merge.specs.Merged.{merged}
+use Rattle.track_memory.specs.Track.{Track, Transition, refused, done}
+use Rattle.track_memory.specs.Memory.{well_formed, decode, encode, fresh, on_memory}
 use Rattle.track.specs.Track.{reported_fix}
 use Rattle.track.specs.Served.{kept_of, served}
 use Rattle.track.specs.Calls.{Call, report, summary, conviction, act, left_by, runs}

@@ -1,10 +1,10 @@
 -- The fix that a track serves (docs/REFERENCE.md, 'Track and listing'; the Rust's `current`): the first fix of the last transmission.
 use Rattle.std.specs.Prelude.{List, take}
 use mathlib.Core.List.{flat_map}
-use Rattle.ranges.specs.Lists.{last_of}
-use Rattle.shown.specs.Fix.{Fix}
-use Rattle.tracked.specs.Held.{HeldTransmission}
-use Rattle.stored.specs.Track.{Track}
+use Rattle.lists.specs.Lists.{last_of}
+use Rattle.fixes.specs.Fix.{Fix}
+use Rattle.track_transmission.specs.Held.{HeldTransmission}
+use Rattle.track_memory.specs.Track.{Track}
 
 -- the fix kept of a transmission, if it has one
 abbrev pub kept_of : HeldTransmission → List Fix

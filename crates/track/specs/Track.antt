@@ -2,7 +2,7 @@
 -- `convict`, `recheck` and what stands above `merge`).
 use Rattle.std.specs.Prelude.{ℕ, ◌+◌, ◌%◌, ◌^◌, Bool, true, false, cond, not, ◌&&◌, ◌||◌, List, length, take, drop, ◌==◌, nat_le, nat_lt}
 use Rattle.octets.specs.Masks.{bit, with_bit}
-use Rattle.places.specs.Places.{holds, put_place}
+use Rattle.tables.specs.Places.{holds, put_place}
 use Rattle.record.specs.Layout.{max_model}
 use Rattle.record.specs.Formed.{well_formed}
 use Rattle.models.specs.Summary.{inputs_size, summary_of}
@@ -11,11 +11,11 @@ use Rattle.models.specs.Missing.{cites_missing}
 use Rattle.models.specs.Identity.{cited_inputs, identity_of}
 use Rattle.engines.specs.Limits.{max_engine}
 use Rattle.models.specs.Limits.{max_summaries}
-use Rattle.shown.specs.Fix.{Fix}
-use Rattle.merge.specs.Merged.{Step, merged_number, merged}
-use Rattle.stored.specs.Layout.{pair_size}
-use Rattle.stored.specs.Track.{Track, Transition, refused, done, with_summaries}
-use Rattle.recheck.specs.Recheck.{recheck, strike_engine}
+use Rattle.fixes.specs.Fix.{Fix}
+use Rattle.track_merge.specs.Merged.{Step, merged_number, merged}
+use Rattle.track_memory.specs.Layout.{pair_size}
+use Rattle.track_memory.specs.Track.{Track, Transition, refused, done, with_summaries}
+use Rattle.track_recheck.specs.Recheck.{recheck, strike_engine}
 
 -- ---- report
 

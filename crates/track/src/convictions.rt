@@ -3,16 +3,16 @@
 ghost use Rattle.std.specs.Prelude.{◌≡◌};
 ghost use Rattle.errors.specs.After.{after};
 ghost use Rattle.errors.specs.Errors.{answer_number};
-ghost use Rattle.stored.specs.Memory.{on_memory};
+ghost use Rattle.track_memory.specs.Memory.{on_memory};
 ghost use Rattle.track.specs.Track.{track_conviction};
 
 use engines::Engine;
 use errors::Error;
-use recheck::strikes;
-use stored::view::View;
+use track_memory::view::View;
+use track_recheck::strikes;
 
 /// Convicts an engine. A repeated conviction checks the fixes again too.
-#[tactic(auto, unfolding(stored::specs::Memory::on_memory))]
+#[tactic(auto, unfolding(track_memory::specs::Memory::on_memory))]
 pub fn conviction(memory: &mut [u8], engine: u32) -> Result<(), Error>
     ensures { after (answer_number result) memory.new ≡ on_memory (track_conviction engine) memory.old }
 {

@@ -7,23 +7,23 @@ ghost use Rattle.models.specs.Answers.{summary_places};
 ghost use Rattle.models.specs.Models.{counts};
 ghost use Rattle.models.specs.Identity.{cited_inputs};
 ghost use Rattle.errors.specs.After.{after};
-ghost use Rattle.merge.specs.Merged.{merged_number};
-ghost use Rattle.stored.specs.Layout as L;
-ghost use Rattle.stored.specs.Memory.{well_formed, decode, commit, on_memory};
+ghost use Rattle.track_merge.specs.Merged.{merged_number};
+ghost use Rattle.track_memory.specs.Layout as L;
+ghost use Rattle.track_memory.specs.Memory.{well_formed, decode, commit, on_memory};
 ghost use Rattle.track.specs.Answers.{reported_number};
 ghost use Rattle.track.specs.Eligible.{refusal, inputs_or_error};
 ghost use Rattle.track.specs.Track.{take_cited, track_report};
 
 use engines::{Engine, Signers};
 use errors::Error;
-use merge::Merged;
 use models::citations::{Uncited, cited_inputs, why_uncited};
 use models::hashes::Inputs;
 use models::summaries::Summaries;
 use record::Record;
-use stored::layout;
-use stored::view::View;
-use tracked::fix::Fix;
+use track_memory::layout;
+use track_memory::view::View;
+use track_merge::Merged;
+use track_transmission::fix::Fix;
 
 // The number of an answer.
 fn number_of(answer: Merged) -> u32
@@ -95,7 +95,7 @@ fn merge_record(memory: &mut [u8], engine: Engine, r: Record, inputs: Inputs) ->
         known: None,
     };
     let count = memory[layout::TRANSMISSION_COUNT_AT] as usize;
-    let x = merge::merge(&mut memory[layout::TRANSMISSIONS_AT..], count, fix);
+    let x = track_merge::merge(&mut memory[layout::TRANSMISSIONS_AT..], count, fix);
     let left = x.count;
     let answer = x.answer;
     put_step(memory, left as u8, x.entered);
@@ -103,7 +103,7 @@ fn merge_record(memory: &mut [u8], engine: Engine, r: Record, inputs: Inputs) ->
 }
 
 /// Reports a record for an engine.
-#[tactic(auto, unfolding(stored::specs::Memory::on_memory))]
+#[tactic(auto, unfolding(track_memory::specs::Memory::on_memory))]
 pub fn report(memory: &mut [u8], engine: u32, r: &[u8]) -> Result<Merged, Error>
     ensures { after (reported_number result) memory.new ≡ on_memory (track_report engine r.now) memory.old }
 {

@@ -6,7 +6,7 @@ ghost use Rattle.models.specs.Models.{state_of};
 ghost use Rattle.errors.specs.After.{after};
 ghost use Rattle.errors.specs.Errors.{answer_number};
 ghost use Rattle.models.specs.Summaries.{summary_formed};
-ghost use Rattle.stored.specs.Memory.{well_formed, decode, commit, on_memory};
+ghost use Rattle.track_memory.specs.Memory.{well_formed, decode, commit, on_memory};
 ghost use Rattle.track.specs.Track.{is_disputed, hold_pair, track_summary};
 
 use engines::Engine;
@@ -14,8 +14,8 @@ use errors::Error;
 use models::layout::{INPUTS_SIZE, SUMMARY_SIZE};
 use models::states::{ModelState, state};
 use models::summaries::Summaries;
-use recheck::rechecks;
-use stored::view::View;
+use track_memory::view::View;
+use track_recheck::rechecks;
 
 // Whether a model's summaries are disputed.
 fn is_disputed(all: Summaries, model: u8) -> bool
@@ -31,7 +31,7 @@ fn hold(memory: &mut [u8], model: u8, p: &[u8; SUMMARY_SIZE]) -> Result<(), Erro
     ensures { after (answer_number result) memory.new ≡ commit memory.old (hold_pair model p.now (decode memory.old)) }
 {
     let was = is_disputed(View::of(memory).summaries(), model);
-    stored::summaries::put_pair(memory, p)?;
+    track_memory::summaries::put_pair(memory, p)?;
     if !was && is_disputed(View::of(memory).summaries(), model) {
         rechecks::recheck(memory);
     }
@@ -39,7 +39,7 @@ fn hold(memory: &mut [u8], model: u8, p: &[u8; SUMMARY_SIZE]) -> Result<(), Erro
 }
 
 /// Takes a summary of a model from an engine.
-#[tactic(auto, unfolding(stored::specs::Memory::on_memory))]
+#[tactic(auto, unfolding(track_memory::specs::Memory::on_memory))]
 pub fn summary(
     memory: &mut [u8],
     engine: u32,

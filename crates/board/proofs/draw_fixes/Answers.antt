@@ -1,8 +1,8 @@
 -- `draw_fixes` meets its contract: what is written is the board of the fixes.
 use Rattle.std.proofs.Common.{ap}
 use Rattle.octets.proofs.Puts.{put_as}
-use Rattle.links.specs.Links.{Parted}
-use Rattle.transmissions.specs.Parts.{Shows}
+use Rattle.board_transmissions.specs.Links.{Parted}
+use Rattle.board_picture.specs.Parts.{Shows}
 use Rattle.board.proofs.Drawing.{latest-drawn}
 use Rattle.board.proofs.draw_fixes.Goals as goal
 

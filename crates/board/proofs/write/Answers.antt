@@ -1,6 +1,6 @@
 use Rattle.std.proofs.Common.{◌≡◌, ◌≤◌, le_trans, length, sym, ◌∙◌, arith, eqb-true}
 use Rattle.octets.proofs.Puts.{put_as, put-none}
-use Rattle.fixes.specs.Slots.{max_fixes}
+use Rattle.board_fixes.specs.Slots.{max_fixes}
 use Rattle.board.proofs.Lent.{board-is, none-written, lies, board-lies}
 use Rattle.board.proofs.write.Goals as goal
 

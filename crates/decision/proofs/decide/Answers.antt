@@ -1,6 +1,6 @@
 use Rattle.std.proofs.Common.{rules, ◌≡◌, ◌/◌, refl, subst, ap, ◌∙◌, arith, length}
 use Rattle.std.specs.Prelude.{Some}
-use Rattle.items.specs.Layout.{item_size, max_items}
+use Rattle.decision_items.specs.Layout.{item_size, max_items}
 use Rattle.decision.specs.Answer.{decided_arrays}
 use Rattle.decision.specs.Answered.{answered}
 use Rattle.decision.proofs.Answering.{answers, none-bad, says-alone}

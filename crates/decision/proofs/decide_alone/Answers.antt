@@ -1,7 +1,7 @@
 use Rattle.std.proofs.Common.{◌≡◌, sym, ap, ◌∙◌, length, arith, ◌∷◌, ◌++◌, []}
-use Rattle.ranges.specs.Lists.{up_to, count_from}
-use Rattle.ranges.proofs.Lists.{count-length}
-use Rattle.ranges.proofs.Searches.{up_more}
+use Rattle.lists.specs.Lists.{up_to, count_from}
+use Rattle.lists.proofs.Lists.{count-length}
+use Rattle.lists.proofs.Searches.{up_more}
 use Rattle.decision.proofs.decide_alone.Goals as goal
 
 pub loop-i-init : goal.loop-i-init

@@ -1,13 +1,13 @@
 use Rattle.std.proofs.Common.{sym, ap, ◌∙◌, get_or, flat_map, take_all}
 use Rattle.text.specs.Texts.{append}
 use Rattle.text.proofs.Appending.{append-nil, append_more, append-then}
-use Rattle.shown.specs.Fix.{Fix}
-use Rattle.drawing.specs.declared.Standing.TheVariants.{Ranked}
-use Rattle.drawing.specs.Lines.{header}
-use Rattle.drawing.specs.Standings.{standing_line}
-use Rattle.transmissions.specs.declared.line.Line.{Line}
-use Rattle.transmissions.specs.declared.part.Counts.{Counts}
-use Rattle.transmissions.specs.Lines.{line_in}
+use Rattle.fixes.specs.Fix.{Fix}
+use Rattle.fix_lines.specs.declared.Standing.TheVariants.{Ranked}
+use Rattle.fix_lines.specs.Lines.{header}
+use Rattle.fix_lines.specs.Standings.{standing_line}
+use Rattle.board_picture.specs.declared.line.Line.{Line}
+use Rattle.board_picture.specs.declared.part.Counts.{Counts}
+use Rattle.board_picture.specs.Lines.{line_in}
 use Rattle.board.specs.Drawn.{line_text}
 use Rattle.board.proofs.Drawing.{flat-map}
 use Rattle.board.proofs.texts.push_transmission.Goals as goal

@@ -1,6 +1,6 @@
 use Rattle.std.proofs.Common.{◌≡◌, take, flat_map}
 use Rattle.text.specs.Texts.{append}
-use Rattle.transmissions.specs.Lines.{line_in}
+use Rattle.board_picture.specs.Lines.{line_in}
 use Rattle.board.specs.Drawn.{line_text}
 use Rattle.board.proofs.texts.push_transmission.Given as goal
 

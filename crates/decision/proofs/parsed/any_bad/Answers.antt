@@ -1,4 +1,4 @@
-use Rattle.ranges.proofs.Searches.{searches}
+use Rattle.lists.proofs.Searches.{searches}
 use Rattle.decision.proofs.parsed.any_bad.Goals as goal
 
 pub returns-then-bad_at : goal.returns-then-bad_at

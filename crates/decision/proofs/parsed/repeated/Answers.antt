@@ -1,4 +1,4 @@
-use Rattle.ranges.proofs.Searches.{searches}
+use Rattle.lists.proofs.Searches.{searches}
 use Rattle.decision.proofs.parsed.repeated.Goals as goal
 
 pub returns-then-same_identity : goal.returns-then-same_identity

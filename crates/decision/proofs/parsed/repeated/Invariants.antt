@@ -1,8 +1,8 @@
 use Prim.Native.Nat.{◌-◌}
 use mathlib.Core.Path.{◌≡◌}
 use Rattle.std.specs.List.{list_any}
-use Rattle.ranges.specs.Lists.{count_from, up_to}
-use Rattle.items.specs.Items.{same_identity}
+use Rattle.lists.specs.Lists.{count_from, up_to}
+use Rattle.decision_items.specs.Items.{same_identity}
 use Rattle.decision.proofs.parsed.repeated.Given as goal
 
 abbrev pub invariant-loop-j : goal.invariant-loop-j

@@ -1,7 +1,7 @@
 use Prim.Native.Nat.{◌*◌}
 use mathlib.Core.Path.{◌∙◌}
 use Rattle.models.specs.Summary.{summary_size}
-use Rattle.places.proofs.Striking.{left-none, left-gone, left-stays, left-cleared}
+use Rattle.tables.proofs.Striking.{left-none, left-gone, left-stays, left-cleared}
 use Rattle.models.proofs.Summarized.{of-engine, of-another, whole-moved}
 use Rattle.models.proofs.strikes.strike_summaries.Goals as goal
 

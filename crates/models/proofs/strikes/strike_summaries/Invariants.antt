@@ -1,4 +1,4 @@
-use Rattle.places.proofs.Striking.{Left}
+use Rattle.tables.proofs.Striking.{Left}
 use Rattle.models.proofs.Summarized.{summaries_without}
 use Rattle.models.proofs.strikes.strike_summaries.Given as goal
 

@@ -2,13 +2,13 @@ use Rattle.std.proofs.Common.{arith, ap, ◌∙◌, ℕ}
 use Rattle.octets.specs.Masks.{with_bit}
 use Rattle.octets.specs.Writes.{put_word}
 use Rattle.octets.proofs.Numbers.{all-bytes}
-use Rattle.places.specs.Places.{places}
-use Rattle.places.proofs.Tables.{length-places}
-use Rattle.places.proofs.Keeping.{kept-length}
-use Rattle.places.proofs.Puts.{used}
+use Rattle.tables.specs.Places.{places}
+use Rattle.tables.proofs.Tables.{length-places}
+use Rattle.tables.proofs.Keeping.{kept-length}
+use Rattle.tables.proofs.Puts.{used}
 use Rattle.models.specs.Summary.{summary_size}
 use Rattle.record.specs.Layout.{record_size}
-use Rattle.signed.specs.Signed.{place_size, has_another_signer, drop_signer}
+use Rattle.signed_records.specs.Signed.{place_size, has_another_signer, drop_signer}
 use Rattle.models.specs.Summaries.{is_of_another, no_value}
 use Rattle.register.specs.Layout.{convicted_at, summary_count_at, record_count_at}
 use Rattle.register.proofs.Opened.{opened}

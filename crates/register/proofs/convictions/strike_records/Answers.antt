@@ -1,7 +1,7 @@
 -- Each turn takes the engine's signature off one record, and keeps the record below if another is left.
 use Rattle.std.proofs.Common.{◌*◌, sym, ◌∙◌}
-use Rattle.signed.specs.Signed.{place_size}
-use Rattle.places.proofs.Striking.{left-none, left-inside, left-gone, left-stays, left-cleared}
+use Rattle.signed_records.specs.Signed.{place_size}
+use Rattle.tables.proofs.Striking.{left-none, left-inside, left-gone, left-stays, left-cleared}
 use Rattle.register.proofs.Striking.{unsigned, still-signed, changed-there}
 use Rattle.register.proofs.convictions.strike_records.Goals as goal
 

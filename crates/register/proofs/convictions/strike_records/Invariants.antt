@@ -1,4 +1,4 @@
-use Rattle.places.proofs.Striking.{Left}
+use Rattle.tables.proofs.Striking.{Left}
 use Rattle.register.proofs.Striking.{records_without}
 use Rattle.register.proofs.convictions.strike_records.Given as goal
 

@@ -1,7 +1,7 @@
 -- The table, then its places.
 use mathlib.Core.Path.{◌∙◌}
-use Rattle.signed.specs.Signed.{place_size, place_formed}
-use Rattle.places.proofs.Testing.{whole-places}
+use Rattle.signed_records.specs.Signed.{place_size, place_formed}
+use Rattle.tables.proofs.Testing.{whole-places}
 use Rattle.register.proofs.formed.place_table_formed.Goals as goal
 
 pub returns-then-is_table : goal.returns-then-is_table

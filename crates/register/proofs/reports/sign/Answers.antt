@@ -2,10 +2,10 @@ use Rattle.std.proofs.Common.{rules, arith, ◌≡◌, sym, ap, ◌∙◌, List,
 use Rattle.octets.specs.Masks.{with_bit}
 use Rattle.octets.specs.Words.{word_bytes}
 use Rattle.octets.proofs.Numbers.{all-bytes}
-use Rattle.places.specs.Places.{places}
-use Rattle.places.specs.Tables.{sought}
-use Rattle.places.proofs.Puts.{found-in-range, in-order}
-use Rattle.signed.specs.Signed.{place_size}
+use Rattle.tables.specs.Places.{places}
+use Rattle.tables.specs.Tables.{sought}
+use Rattle.tables.proofs.Puts.{found-in-range, in-order}
+use Rattle.signed_records.specs.Signed.{place_size}
 use Rattle.record.specs.Layout.{record_size}
 use Rattle.register.specs.Signers.{signers_found}
 use Rattle.register.proofs.Opened.{opened}

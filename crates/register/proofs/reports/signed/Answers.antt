@@ -3,7 +3,7 @@ use lib.ListN.{length-replicate}
 use Rattle.octets.specs.Words.{word_bytes}
 use Rattle.octets.specs.Writes.{put_word}
 use Rattle.record.specs.Layout.{record_size}
-use Rattle.signed.specs.Signed.{place_size}
+use Rattle.signed_records.specs.Signed.{place_size}
 use Rattle.register.proofs.reports.signed.Goals as goal
 
 made : (r : List ℕ) (x : ℕ) → length r ≡ record_size → put_word 4 record_size x (r ++ drop (length r) (replicate place_size 0)) ≡ r ++ word_bytes 4 x

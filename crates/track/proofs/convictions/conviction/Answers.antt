@@ -8,8 +8,8 @@ use borrow.Author.Tests.{le-ltb, ltb-true}
 use Rattle.errors.specs.After.{after}
 use Rattle.engines.specs.Limits.{max_engine}
 use Rattle.errors.proofs.Parsed.{parsed}
-use Rattle.stored.specs.Memory.{well_formed, decode, encode, on_memory}
-use Rattle.recheck.specs.Recheck.{recheck, strike_engine}
+use Rattle.track_memory.specs.Memory.{well_formed, decode, encode, on_memory}
+use Rattle.track_recheck.specs.Recheck.{recheck, strike_engine}
 use Rattle.track.specs.Track.{track_conviction}
 use Rattle.track.proofs.convictions.conviction.Goals as goal
 

@@ -3,12 +3,12 @@ use borrow.Rule.Slice.PartMut.{same_len_mid}
 use Rattle.octets.specs.Masks.{with_bit}
 use Rattle.octets.proofs.Numbers.{all-bytes}
 use Rattle.models.specs.Models.{counts}
-use Rattle.merge.specs.Merged.{merged_number}
-use Rattle.stored.specs.Layout.{transmissions_at}
-use Rattle.stored.proofs.Opened.{opened}
+use Rattle.track_merge.specs.Merged.{merged_number}
+use Rattle.track_memory.specs.Layout.{transmissions_at}
+use Rattle.track_memory.proofs.Opened.{opened}
 use Rattle.track.proofs.Reported.{lent-filled, step-few, stepped-is, decoded-summaries}
-use Rattle.tracked.specs.Values.{fix_from}
-use Rattle.stored.specs.Memory.{decode}
+use Rattle.track_transmission.specs.Values.{fix_from}
+use Rattle.track_memory.specs.Memory.{decode}
 use Rattle.track.specs.Track.{reported_fix}
 use Rattle.track.proofs.reports.merge_record.Goals as goal
 

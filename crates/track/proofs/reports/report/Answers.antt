@@ -5,9 +5,9 @@ use Rattle.record.specs.Formed as R
 use Rattle.errors.specs.Errors.{error_number}
 use Rattle.errors.specs.declared.Error.{Error}
 use Rattle.errors.proofs.Parsed.{parsed}
-use Rattle.stored.specs.Track.{Track}
-use Rattle.stored.specs.Memory.{well_formed, decode, on_memory}
-use Rattle.merge.specs.Merged.{merged_number}
+use Rattle.track_memory.specs.Track.{Track}
+use Rattle.track_memory.specs.Memory.{well_formed, decode, on_memory}
+use Rattle.track_merge.specs.Merged.{merged_number}
 use Rattle.track.specs.Answers.{reported_number}
 use Rattle.track.specs.Eligible.{inputs_or_error}
 use Rattle.track.specs.Track.{track_report}

@@ -7,13 +7,13 @@ use Rattle.errors.specs.After.{after}
 use Rattle.errors.specs.Errors.{error_number, answer_number}
 use Rattle.errors.proofs.Numbered.{never-zero}
 use Rattle.models.specs.Summaries.{summary_formed}
-use Rattle.stored.specs.Track.{Track}
-use Rattle.stored.specs.Memory.{well_formed, decode, encode, commit}
-use Rattle.stored.specs.Steps.{with_pair, put_pair}
-use Rattle.stored.proofs.Opened.{opened}
-use Rattle.stored.proofs.Valid.{Valid, decode-valid, formed-encode, decode-encode}
-use Rattle.stored.proofs.Pairs.{pair-valid}
-use Rattle.recheck.specs.Recheck.{recheck}
+use Rattle.track_memory.specs.Track.{Track}
+use Rattle.track_memory.specs.Memory.{well_formed, decode, encode, commit}
+use Rattle.track_memory.specs.Steps.{with_pair, put_pair}
+use Rattle.track_memory.proofs.Opened.{opened}
+use Rattle.track_memory.proofs.Valid.{Valid, decode-valid, formed-encode, decode-encode}
+use Rattle.track_memory.proofs.Pairs.{pair-valid}
+use Rattle.track_recheck.specs.Recheck.{recheck}
 use Rattle.track.specs.Track.{is_disputed}
 use Rattle.track.proofs.Holding.{pair-room, pair-refused, pair_left, pair-plain, pair-rechecked}
 use Rattle.track.proofs.summaries.hold.Goals as goal

@@ -1,0 +1,4 @@
+pub mod Entering
+pub mod Representing
+pub mod Kept
+mod Uniting

@@ -1,0 +1,7 @@
+use Rattle.board_picture.proofs.Adding.{sent-there}
+use Rattle.board_picture.proofs.picture.Picture.time.Goals as goal
+
+pub returns : goal.returns
+returns c =
+    rw (← c.self.view_is)
+    (sent-there c.self.inside.fixes.now c.self.inside.lines.items c.self.inside.parts.items c.self.invariant _ c.deref.ensures.0 c.args.k _ (rw (← c.self.view_is) at c.requires))

@@ -1,7 +1,0 @@
-use Rattle.std.proofs.Common.{◌≡◌, map, string_bytes, drop}
-use Rattle.calling.specs.Calling as C
-use Rattle.calling.proofs.asked.Given as goal
-
--- what is left of the words decides
-abbrev pub invariant-loop-index : goal.invariant-loop-index
-invariant-loop-index l = C.asked_of (map string_bytes l.words) ≡ C.taken l.wish l.index (drop l.index (map string_bytes l.words))

@@ -1,5 +1,0 @@
-use Rattle.columns.proofs.Rearranged.{undo-each-other}
-use Rattle.columns.proofs.claims.each_undoes_the_other.Goals as goal
-
-pub returns : goal.returns
-returns c = undo-each-other

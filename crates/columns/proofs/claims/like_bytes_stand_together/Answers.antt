@@ -1,5 +1,0 @@
-use Rattle.columns.proofs.Rearranged.{stands-together, head_stays}
-use Rattle.columns.proofs.claims.like_bytes_stand_together.Goals as goal
-
-pub returns : goal.returns
-returns c = record { places = stands-together; head = head_stays }

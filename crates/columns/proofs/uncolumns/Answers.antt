@@ -1,4 +1,0 @@
-use Rattle.columns.proofs.uncolumns.Goals as goal
-
-pub returns : goal.returns
-returns c = c.turn.ensures

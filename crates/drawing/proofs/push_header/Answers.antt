@@ -1,8 +1,0 @@
-use Rattle.text.proofs.Appending.{append-then}
-use Rattle.octets.specs.Ascii.{ascii}
-use Rattle.drawing.specs.Lines.{header}
-use Rattle.drawing.proofs.push_header.Goals as goal
-
-pub returns : goal.returns
-unfolding header ascii
-returns c = search append-then depth 10

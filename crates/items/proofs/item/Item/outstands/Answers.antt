@@ -1,5 +1,0 @@
-use mathlib.Core.Path.{refl}
-use Rattle.items.proofs.item.Item.outstands.Goals as goal
-
-pub returns : goal.returns
-returns c = refl

@@ -1,5 +1,0 @@
-use Rattle.listing.proofs.Stored.{listed-none-exactly-when}
-use Rattle.listing.proofs.claims.listed_none_exactly_when.Goals as goal
-
-pub returns : goal.returns
-returns c = listed-none-exactly-when

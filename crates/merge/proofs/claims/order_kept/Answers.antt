@@ -1,5 +1,0 @@
-use Rattle.merge.proofs.Claimed.{order-kept}
-use Rattle.merge.proofs.claims.order_kept.Goals as goal
-
-pub returns : goal.returns
-returns c = order-kept

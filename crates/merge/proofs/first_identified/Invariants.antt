@@ -1,7 +1,0 @@
-use Rattle.std.proofs.Common.{◌≡◌, ℕ, ◌<◌, false}
-use Rattle.shown.specs.Items.{fix_at}
-use Rattle.tracked.specs.Held.{held_in, is_of}
-use Rattle.merge.proofs.first_identified.Given as goal
-
-abbrev pub invariant-loop-i : goal.invariant-loop-i
-invariant-loop-i l = (k : ℕ) → k < l.i → is_of l.fn.fix (fix_at (held_in l.block) k) ≡ false

@@ -1,8 +1,0 @@
-use mathlib.Core.Path.{sym, ◌∙◌}
-use Rattle.merge.proofs.Written.{one-keeps}
-use Rattle.merge.proofs.keeps_set.Goals as goal
-
-pub returns-then-has_set : goal.returns-then-has_set
-returns-then-has_set c e =
-    one-keeps c.args.fix.now c.in-Some.kept c.args.blocks.now c.block-item.result c.loop-block.block-index c.loop-block-test.true c.block-item.is
-    (sym c.kept.ensures ∙ c.in-Some.is) (c.has_set.ensures c.if-has_set.true)

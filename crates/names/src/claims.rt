@@ -1,9 +1,0 @@
-//! What is claimed of names: each function's contract is the theorem.
-
-ghost use Rattle.names.specs.Claims.{NamesFit, NoNameIsEmpty};
-
-/// Every number has a name, and each fits 48 bytes.
-pub fn every_name_fits()
-    ensures fit { NamesFit }
-    ensures some { NoNameIsEmpty }
-{}

@@ -1,5 +1,0 @@
-use Rattle.normalize.proofs.Claimed.{alone-stands}
-use Rattle.normalize.proofs.claims.alone_stands.Goals as goal
-
-pub returns : goal.returns
-returns c = alone-stands

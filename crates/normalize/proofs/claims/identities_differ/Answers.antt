@@ -1,5 +1,0 @@
-use Rattle.normalize.proofs.Claimed.{identities-differ}
-use Rattle.normalize.proofs.claims.identities_differ.Goals as goal
-
-pub returns : goal.returns
-returns c = identities-differ

@@ -1,5 +1,0 @@
-use Rattle.normalize.proofs.Claimed.{signers-united}
-use Rattle.normalize.proofs.claims.signers_united.Goals as goal
-
-pub returns : goal.returns
-returns c = signers-united

@@ -1,8 +1,0 @@
-use Rattle.std.proofs.Common.{◌≡◌, not, true, rules}
-use Rattle.normalize.specs.Joining as J
-use Rattle.normalize.proofs.joining.is_moved.Goals as goal
-
-pub returns : goal.returns
-returns c =
-    let moved : not c.is_of.result ≡ J.moved c.args.before.now c.args.after.now = search rules in
-    moved

@@ -1,8 +1,0 @@
-use Rattle.std.proofs.Common.{rules, arith}
-use Rattle.shown.proofs.Showing.{shows-each}
-use Rattle.normalize.proofs.outcome.decide.Goals as goal
-
-pub returns : goal.returns
-returns c =
-    let d = c.decide_few.ensures in
-    shows-each c.args.fixes.now d.items d.long (λ i x h e. let q = d.held i x (omega (arith, d.long, h)) e in search rules) d.says

@@ -1,5 +1,0 @@
-use Rattle.notices.proofs.Counted.{lines-counted}
-use Rattle.notices.proofs.claims.operations_have_their_lines.Goals as goal
-
-pub returns : goal.returns
-returns c = lines-counted

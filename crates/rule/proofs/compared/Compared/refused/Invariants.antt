@@ -1,7 +1,0 @@
-use Rattle.std.proofs.Common.{◌≡◌}
-use Rattle.rule.specs.Places.{set_of}
-use Rattle.rule.specs.Rows as R
-use Rattle.rule.proofs.compared.Compared.refused.Given as goal
-
-abbrev pub invariant-loop-i : goal.invariant-loop-i
-invariant-loop-i l = l.some.word ≡ set_of (R.is_refused l.self.listed.items.now) l.i

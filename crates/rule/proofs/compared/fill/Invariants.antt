@@ -1,5 +1,0 @@
-use Rattle.rule.specs.Rows.{Rows}
-use Rattle.rule.proofs.compared.fill.Given as goal
-
-abbrev pub invariant-loop-i : goal.invariant-loop-i
-invariant-loop-i l = Rows l.listed.items.now l.i l.rows

@@ -1,6 +1,0 @@
-use Rattle.std.proofs.Common.{◌≡◌}
-use Rattle.rule.specs.Rows as R
-use Rattle.rule.proofs.listed.Listed.row.Given as goal
-
-abbrev pub invariant-loop-j : goal.invariant-loop-j
-invariant-loop-j l = l.row ≡ R.row l.self.items.now l.i l.j

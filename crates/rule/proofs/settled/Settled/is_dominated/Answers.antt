@@ -1,8 +1,0 @@
-use Rattle.std.proofs.Common.{sym, ◌∙◌, refl}
-use Rattle.rule.proofs.settled.Settled.is_dominated.Goals as goal
-
-pub returns-then-is_refused : goal.returns-then-is_refused
-returns-then-is_refused c = rw (sym c.is_refused.ensures ∙ c.if-is_refused.true) refl
-
-pub returns : goal.returns
-returns c = rw (sym c.is_refused.ensures ∙ c.if-is_refused.false) c.is_covered.ensures

@@ -1,5 +1,0 @@
-use Rattle.sessions.proofs.Refused.{reason-where-refused, names-the-bad-line}
-use Rattle.sessions.proofs.claims.a_reason_names_the_line_that_is_bad.Goals as goal
-
-pub returns : goal.returns
-returns c = record { where_refused = reason-where-refused; names_it = names-the-bad-line }

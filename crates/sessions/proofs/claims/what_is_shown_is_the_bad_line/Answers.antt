@@ -1,5 +1,0 @@
-use Rattle.sessions.proofs.There.{shown-is-bad}
-use Rattle.sessions.proofs.claims.what_is_shown_is_the_bad_line.Goals as goal
-
-pub returns : goal.returns
-returns c = shown-is-bad

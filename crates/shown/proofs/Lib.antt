@@ -1,4 +1,0 @@
-pub mod Indexed
-pub mod Plainly
-pub mod Ages
-pub mod Showing

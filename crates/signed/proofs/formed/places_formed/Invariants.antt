@@ -1,7 +1,0 @@
-use Prim.Native.Nat.{◌*◌}
-use Rattle.signed.specs.Signed.{begin_formed}
-use Rattle.places.proofs.Testing.{Passed}
-use Rattle.signed.proofs.formed.places_formed.Given as goal
-
-abbrev pub invariant-loop-i : goal.invariant-loop-i
-invariant-loop-i l = Passed (begin_formed l.convicted) l.w l.n l.t l.i (l.i * l.w)

@@ -1,5 +1,0 @@
-use Rattle.situations.proofs.Items.{none-bad}
-use Rattle.situations.proofs.push_line.Goals as goal
-
-pub decided-requires-clause-good : goal.decided-requires-clause-good
-decided-requires-clause-good c = rw c.write_items.ensures (none-bad c.args.case c.requires)

@@ -1,0 +1,128 @@
+#!/usr/bin/env python3
+"""Writes the files stdin and stdout beside this one: lists of calls on a track, and what the Rust answers and holds after each.
+
+    oracle/build && crates/test_tracks/make_stdout.py [FILE]
+
+FILE has lists in the form that src/main.rt reads. Without one the lists are few: three nested fixes S, M and L in two orders,
+and the same with a call more. The answers and the tracks come from target/oracle/oracle-program, which is the Rust (oracle/README.md); they are hashed by
+hashlib, and a listing is written here from the Rust's track. Nothing of what the program itself prints goes into them."""
+import fractions
+import hashlib
+import pathlib
+import struct
+import subprocess
+import sys
+
+HERE = pathlib.Path(__file__).resolve().parent
+sys.path.insert(0, str(HERE.parent.parent / "oracle"))
+import layouts  # noqa: E402
+
+ORACLE = HERE.parent.parent / "target" / "oracle" / "oracle-program"
+NUMBERS = {"Changed": 20, "Contested": 21, "Duplicate": 22, "Dropped": 23}
+SIZES = {0: 223, 1: 36, 2: 1, 3: 0}
+TRANSMISSIONS_AT, TRANSMISSION, FIX, REFUSED_AT, REFUSED = 9232, 2484, 258, 1292, 298
+INFINITY = 0x7FF0_0000_0000_0000
+
+
+def own_lists():
+    small, middle, large = (b"\0\1" + layouts.record([1, 2, 3][:n], lat=lat) for n, lat in ((1, 0), (2, 2700), (3, 5400)))
+    convict, listing = b"\2\7", b"\3"
+    orders = [[small, middle, large], [large, small, middle]]
+    more = [orders[0] + [small], orders[0] + [small, middle], orders[1] + [convict]]
+    return b"".join(struct.pack("<H", len(calls) + 1) + b"".join(calls) + listing for calls in orders + more)
+
+
+def lists_in(data):
+    """The lists of a file: of each call its kind and its fields."""
+    at = 0
+    while at < len(data):
+        (count,) = struct.unpack_from("<H", data, at)
+        at += 2
+        calls = []
+        for _ in range(count):
+            kind = data[at]
+            calls.append((kind, data[at + 1 : at + 1 + SIZES[kind]]))
+            at += 1 + SIZES[kind]
+        yield calls
+    assert at == len(data)
+
+
+def request(kind, fields):
+    if kind == 0:
+        return f"report {fields[0]} {fields[1:].hex()}"
+    if kind == 1:
+        engine, model, spec = struct.unpack_from("<BBH", fields)
+        return f"summary {engine} {model} {spec} {fields[4:].hex()}"
+    return f"convict {fields[0]}"
+
+
+class Rust:
+    """The Rust's track, one call after another."""
+
+    def __init__(self):
+        self.process = subprocess.Popen([ORACLE], stdin=subprocess.PIPE, stdout=subprocess.PIPE, text=True)
+
+    def ask(self, line):
+        self.process.stdin.write(line + "\n")
+        self.process.stdin.flush()
+        answer, state = self.process.stdout.readline().split()
+        answer, state = answer.removeprefix("answer="), bytes.fromhex(state.removeprefix("state="))
+        assert len(state) == TRANSMISSIONS_AT + 8 * TRANSMISSION
+        return int(NUMBERS.get(answer, answer)), state
+
+
+def metres(height):
+    """The nearest whole metre, and the even one of two equally near, which is how Python rounds a fraction."""
+    return round(fractions.Fraction(height, 1000))
+
+
+def measured(bits):
+    """No number where the stored chi-square is infinite, which says that none was measured."""
+    return "none" if bits == INFINITY else f"{bits:016x}"
+
+
+def line(role, fix, chi2=None):
+    time, lat, lon, has_height, height = struct.unpack_from("<QiiBi", fix)
+    (used,) = struct.unpack_from("<H", fix, 37)
+    (signers,) = struct.unpack_from("<I", fix, 222)
+    shown = metres(height) if has_height else "none"
+    text = f"role={role} time={time} lat={lat} lon={lon} height={shown} weight={used.bit_count()} signers={signers:08x}"
+    return text + ("\n" if chi2 is None else f" chi2={measured(chi2)}\n")
+
+
+def listing(state):
+    """A line `contested=N`, then board lines in the track's order with `dominated=0`."""
+    text = f"contested={struct.unpack_from('<Q', state, 8)[0]}\n"
+    for k in range(state[6]):
+        block = state[TRANSMISSIONS_AT + k * TRANSMISSION :][:TRANSMISSION]
+        fixes = [block[2 + i * FIX :][:FIX] for i in range(block[0])]
+        refused = [block[REFUSED_AT + i * REFUSED :][:REFUSED] for i in range(block[1])]
+        text += f"transmission={k + 1} ranked={len(fixes)} dominated=0 refused={len(refused)}\n"
+        text += "".join(line("ranked", f) for f in fixes)
+        text += "".join(line("refused", r, struct.unpack_from("<Q", r, 290)[0]) for r in refused)
+    return text
+
+
+def expected(data):
+    rust = Rust()
+    for calls in lists_in(data):
+        _, state = rust.ask("fresh")
+        for kind, fields in calls:
+            if kind == 3:
+                yield listing(state)
+                continue
+            answer, state = rust.ask(request(kind, fields))
+            yield f"answer={answer} hash={hashlib.blake2s(state).hexdigest()}\n"
+        yield "\n"
+
+
+def main():
+    if not ORACLE.is_file():
+        sys.exit("make_stdout.py: run oracle/build first")
+    data = pathlib.Path(sys.argv[1]).read_bytes() if len(sys.argv) > 1 else own_lists()
+    (HERE / "stdin").write_bytes(data)
+    (HERE / "stdout").write_text("".join(expected(data)))
+    print(f"make_stdout.py: {sum(1 for _ in lists_in(data))} lists")
+
+
+main()

@@ -1,0 +1,121 @@
+//! The order of transmissions, by the fixes that are kept of them.
+
+ghost use Rattle.std.specs.Prelude.{◌≡◌, [], ◌≤◌, ◌<◌, length, map, position};
+ghost use Rattle.arrayvec.specs.ArrayVec.{array_vec_len};
+ghost use Rattle.fixes.specs.Ages.{time_of, older};
+ghost use Rattle.lists.specs.Lists.{last_of};
+ghost use Rattle.track_arrange.specs.Arranged.{max_transmissions};
+ghost use Rattle.track_arrange.specs.Leads.{before, put_behind, put_all_behind, leads_from, order_of, place_of};
+
+use crate::{Blocks, MAX_LEADS, MAX_TRANSMISSIONS};
+use arrayvec::ArrayVec;
+use track_transmission::fix::Fix;
+
+/// A transmission by its place, and the fix that is kept of it.
+#[derive(Default, Drop)]
+pub struct Lead<'a> {
+    pub place: usize,
+    pub kept: Fix<'a>,
+}
+
+// When a fix was transmitted.
+fn time(fix: &Fix<'_>) -> u64
+    ensures { result ≡ time_of fix.now }
+{
+    fix.report.time()
+}
+
+impl Lead<'_> {
+    // Whether its transmission is older than that of another: by time, and only where the times are equal by identity.
+    fn is_older(&self, other: &Lead<'_>) -> bool
+        ensures { result ≡ older self.now.kept other.now.kept }
+    {
+        if time(&self.kept) < time(&other.kept) {
+            return true;
+        }
+        if time(&other.kept) < time(&self.kept) {
+            return false;
+        }
+        self.kept.precedes(&other.kept)
+    }
+}
+
+type Leads<'a> = ArrayVec<Lead<'a>, MAX_LEADS>;
+
+/// The places of at most eight transmissions.
+pub type Order = ArrayVec<usize, MAX_TRANSMISSIONS>;
+
+// Works out the identities that a further lead will be compared by: its own, and those of the leads of the same time.
+fn learn_ties(leads: &mut Leads<'_>, lead: &mut Lead<'_>)
+    ensures leads { leads.new.items ≡ leads.old.items }
+    ensures lead { lead.new ≡ lead.old }
+{
+    for held in leads.iter_mut() {
+        if time(&held.kept) == time(&lead.kept) {
+            held.kept.learn();
+            lead.kept.learn();
+        }
+    }
+}
+
+// Where the first stands that a lead is older than, if there is one.
+fn place_among(leads: &[Lead<'_>], lead: &Lead<'_>) -> Option<usize>
+    ensures { result ≡ position (before lead.now) leads.now }
+{
+    leads.iter().position(|held| lead.is_older(held))
+}
+
+// Puts a further one in behind those that it is not older than.
+fn enter<'a>(leads: &mut Leads<'a>, lead: Lead<'a>)
+    requires { array_vec_len leads.old < MAX_LEADS }
+    ensures { leads.new.items ≡ put_behind before lead.entry leads.old.items }
+{
+    let mut lead = lead;
+    learn_ties(leads, &mut lead);
+    let place = place_among(leads, &lead).unwrap_or(leads.len());
+    leads.insert(place, lead);
+}
+
+// Enters transmissions, but for those without a fix.
+fn enter_all<'a>(leads: &mut Leads<'a>, blocks: &Blocks<'a>)
+    requires { leads.old.items ≡ [] }
+    ensures { leads.new.items ≡ put_all_behind before [] (leads_from 0 blocks.now.items) }
+{
+    let blocks = blocks.as_slice();
+    for (place, block) in blocks.iter().enumerate() {
+        if let Some(kept) = block.kept() {
+            enter(leads, Lead { place, kept });
+        }
+    }
+}
+
+// Forgets the first beyond eight.
+fn forget_oldest(leads: &mut Leads<'_>)
+    ensures { leads.new.items ≡ last_of max_transmissions leads.old.items }
+{
+    if MAX_TRANSMISSIONS < leads.len() {
+        leads.remove(0);
+    }
+}
+
+// The places of leads.
+fn places_of(leads: &[Lead<'_>]) -> Order
+    requires { length leads.now ≤ MAX_TRANSMISSIONS }
+    ensures { result.items ≡ map place_of leads.now }
+{
+    let mut places = Order::new();
+    for lead in leads {
+        places.push(lead.place);
+    }
+    places
+}
+
+/// The order of transmissions, by their places: that of the latest eight that have a fix.
+pub fn order(blocks: &Blocks<'_>) -> Order
+    ensures { result.items ≡ order_of blocks.now.items }
+{
+    let mut leads = Leads::new();
+    enter_all(&mut leads, blocks);
+    forget_oldest(&mut leads);
+    places_of(&leads)
+}

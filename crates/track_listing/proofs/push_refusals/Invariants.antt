@@ -1,0 +1,8 @@
+use Rattle.std.proofs.Common.{◌≡◌, take}
+use Rattle.std.specs.Prelude.{flat_map}
+use Rattle.text.specs.Texts.{append}
+use Rattle.track_listing.specs.Listing.{refused_text}
+use Rattle.track_listing.proofs.push_refusals.Given as goal
+
+abbrev pub invariant-loop-k : goal.invariant-loop-k
+invariant-loop-k l = l.out ≡ append l.initial.out (flat_map refused_text (take l.k l.block.refused))

@@ -1,0 +1,20 @@
+use Rattle.std.proofs.Common.{sym, ap, ◌∙◌}
+use mathlib.Core.Path.{subst}
+use Rattle.models.specs.Answers.{summary_places}
+use Rattle.track_transmission.specs.Bytes.{transmission_in}
+use Rattle.track_transmission.specs.Parts.{Steady}
+use Rattle.track_recheck.specs.Recheck.{has_stale, standing}
+use Rattle.track_recheck.proofs.Settled.{left-alone}
+use Rattle.track_recheck.proofs.rechecks.renew.Goals as goal
+
+pub returns-then-not-has_stale : goal.returns-then-not-has_stale
+returns-then-not-has_stale c =
+    let ss = summary_places c.args.summaries in
+    let same = (rw c.unwrap-b.ensures at c.as_mut_array.ensures.cases).same in
+    let none = sym (c.has_stale.ensures ∙ ap (has_stale ss) (c.of.ensures ∙ ap transmission_in same)) ∙ c.if-not-has_stale.true in
+    record { steady = subst Steady (sym same) c.requires.steady; held = ap transmission_in same ∙ left-alone ss (transmission_in c.args.b.now) (c.requires.settled c.if-settled.true) none }
+
+pub returns-clause-held : goal.returns-clause-held
+returns-clause-held c =
+    let same = (rw c.unwrap-b.ensures at c.as_mut_array.ensures.cases).same in
+    c.decide_standing.ensures.held ∙ ap (λ b. standing (summary_places c.args.summaries) (transmission_in b)) same

@@ -1,0 +1,112 @@
+//! An engine struck from a track: its signatures and its summaries.
+
+ghost use Rattle.std.specs.Prelude.{◌≡◌, true, IsTrue, map, ◌≤◌, ◌<◌, length, set};
+ghost use Rattle.octets.specs.Writes.{put_word};
+ghost use Rattle.track_transmission.specs.Bytes.{transmission_in};
+ghost use Rattle.track_transmission.specs.Parts.{Sound, Steady};
+ghost use Rattle.track_normalize.specs.Taking.{Settled};
+ghost use Rattle.track_arrange.specs.Blocks.{Filled};
+ghost use Rattle.track_arrange.specs.Blocks as B;
+ghost use Rattle.track_memory.specs.Layout as L;
+ghost use Rattle.track_memory.specs.Memory.{well_formed, decode, encode};
+ghost use Rattle.track_recheck.specs.Recheck.{recheck, unsigned, without_engine, strike_engine};
+ghost use Rattle.track_recheck.specs.Steps as S;
+
+use crate::rechecks::recheck_settled;
+use engines::{Engine, Signers};
+use models::strikes::strike_summaries;
+use octets::words::{put_u16, put_u32, u16_at, u32_at};
+use track_memory::layout;
+use track_normalize::blocks::renew;
+use track_transmission::block::Block;
+use track_transmission::fix::Fix;
+use track_transmission::layout::TRANSMISSION_SIZE;
+use track_transmission::transmission::Transmission;
+
+// Takes an engine's signature off a fix.
+fn unsign(fix: &mut Fix<'_>, engine: Engine)
+    ensures { fix.new ≡ unsigned engine fix.old }
+{
+    fix.signers = fix.signers.without(engine);
+}
+
+// Takes an engine's signature off every fix that a transmission holds.
+fn unsign_all(held: &mut Transmission<'_>, engine: Engine)
+    ensures { held.new ≡ S.changing (unsigned engine) held.old }
+{
+    for fix in held.fixes.iter_mut() {
+        unsign(fix, engine);
+    }
+    for refusal in held.refused.iter_mut() {
+        unsign(&mut refusal.fix, engine);
+    }
+}
+
+// Decides a transmission again, in its bytes, without an engine, and tells whether it is settled then.
+fn strike_fixes(b: &mut [u8], engine: Engine) -> bool
+    requires { Sound b.old }
+    ensures steady { Steady b.new }
+    ensures held { transmission_in b.new ≡ without_engine engine (transmission_in b.old) }
+    ensures settled { IsTrue result → Settled (transmission_in b.new) }
+{
+    let b = b.as_mut_array().unwrap();
+    let was = *b;
+    let mut held = Transmission::read(&Block::of(&was));
+    unsign_all(&mut held, engine);
+    let settled = renew(&mut held);
+    held.write(b);
+    settled
+}
+
+// Decides the first n transmissions of a table again, without an engine, and tells whether all are settled then.
+fn strike_all(t: &mut [u8], n: usize, engine: Engine) -> bool
+    requires { Filled t.old n }
+    ensures filled { Filled t.new n }
+    ensures held { B.held n t.new ≡ map (without_engine engine) (B.held n t.old) }
+    ensures settled { IsTrue result → S.AllSettled (B.held n t.new) }
+{
+    let mut settled = true;
+    for i in 0..n {
+        let at = i * TRANSMISSION_SIZE;
+        let one = strike_fixes(&mut t[at..at + TRANSMISSION_SIZE], engine);
+        settled = settled & one;
+    }
+    settled
+}
+
+// Writes the convicted engines and both counts.
+fn put_header(head: &mut [u8], convicted: Signers, summaries: u16, transmissions: u8)
+    requires { L.summaries_at ≤ length head.old }
+    ensures { head.new ≡ set (put_word 2 L.summary_count_at summaries (put_word 4 L.convicted_at convicted head.old)) L.transmission_count_at transmissions }
+{
+    put_u32(head, layout::CONVICTED_AT, convicted.mask());
+    put_u16(head, layout::SUMMARY_COUNT_AT, summaries);
+    head[layout::TRANSMISSION_COUNT_AT] = transmissions;
+}
+
+// Strikes an engine from a track, and tells whether all transmissions are settled then.
+fn strike(memory: &mut [u8], engine: Engine) -> bool
+    requires { well_formed memory.old ≡ true }
+    ensures left { memory.new ≡ encode (strike_engine engine (decode memory.old)) }
+    ensures settled { IsTrue result → S.AllSettled (strike_engine engine (decode memory.old)).transmissions }
+    ensures small { engine < 32 }
+{
+    let (head, transmissions) = memory.split_at_mut(layout::TRANSMISSIONS_AT);
+    let convicted = Signers::from_mask(u32_at(head, layout::CONVICTED_AT));
+    let n = u16_at(head, layout::SUMMARY_COUNT_AT) as usize;
+    let count = head[layout::TRANSMISSION_COUNT_AT] as usize;
+    let settled = strike_all(transmissions, count, engine);
+    let left = track_arrange::arrange(transmissions, count);
+    let summaries = strike_summaries(&mut head[layout::SUMMARIES_AT..], n, engine);
+    put_header(head, convicted.with(engine), summaries as u16, left as u8);
+    settled
+}
+
+/// Strikes an engine from a track, and checks the fixes again.
+pub fn convict(memory: &mut [u8], engine: Engine)
+    requires { well_formed memory.old ≡ true }
+    ensures { memory.new ≡ encode (recheck (strike_engine engine (decode memory.old))) }
+{
+    let settled = strike(memory, engine);
+    recheck_settled(memory, settled);
+}

@@ -1,8 +1,0 @@
-use Rattle.std.proofs.Common.{refl, []}
-use Rattle.fixes.specs.Order.{identities_ascend}
-use Rattle.transmissions.proofs.Adding.{none-yet}
-use Rattle.transmissions.proofs.picture.Picture.new.Goals as goal
-
-pub invariant_of-result : goal.invariant_of-result
-unfolding identities_ascend
-invariant_of-result c = none-yet [] refl _ c.new.ensures _ c.new-2.ensures
