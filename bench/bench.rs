@@ -13,6 +13,7 @@ mod random;
 mod tracks;
 
 use oracle::decide::{SIZE, candidates};
+use oracle::layout::{CONSISTENT_AT, IDENTITY_AT, MAX_TAGS, Mask, RECORD, STANDING_AT};
 use oracle::{Claim, Record};
 use random::Random;
 use std::hint::black_box;
@@ -153,15 +154,15 @@ fn nested(random: &mut Random, n: usize) -> Vec<u8> {
             height: Some(1_500_000 + random.below(5_000) as i32),
             message: vec![0x8d, 1, 2, 3, 4, 5, 6, 7, 8, 9, 10, 11, 12, 13],
             tags: (1..=count as u64).collect(),
-            used: ((1u32 << count) - 1) as u16,
+            used: ((1u32 << count) - 1) as Mask,
             models: vec![5],
             spec: 3,
             covariance: [100.0, 10.0, 5.0, 90.0, -7.0, 400.0],
         };
         let mut item = [0u8; SIZE];
-        item[..222].copy_from_slice(&record.write());
-        item[254..286].copy_from_slice(&random.bytes(32));
-        item[294] = 1;
+        item[..RECORD].copy_from_slice(&record.write());
+        item[IDENTITY_AT..STANDING_AT].copy_from_slice(&random.bytes(32));
+        item[CONSISTENT_AT] = 1;
         bytes.extend_from_slice(&item);
     }
     bytes
@@ -214,8 +215,8 @@ fn full_register(alike: bool) -> (Vec<u8>, Vec<u8>, [u8; 32]) {
             lon: 110_000_000,
             height: Some(1_500_000),
             message: vec![0x8d, 1, 2, 3, 4, 5, 6, 7, 8, 9, 10, 11, 12, 13],
-            tags: (1..=16).collect(),
-            used: u16::MAX,
+            tags: (1..=MAX_TAGS as u64).collect(),
+            used: ((1u64 << MAX_TAGS) - 1) as Mask,
             models: vec![5],
             spec: 3,
             covariance: [100.0, 10.0, 5.0, 90.0, -7.0, if alike { 400.0 + f64::from(i) } else { 400.0 }],
@@ -291,7 +292,7 @@ fn reported(chosen: impl Fn(u64) -> (u64, Vec<u64>), engine: impl Fn(u64) -> u32
             lon: 110_000_000,
             height: Some(1_500_000),
             message: vec![0x8d, 1, 2, 3, 4, 5, 6, 7, 8, 9, 10, 11, 12, 13],
-            used: (1u32 << tags.len()).wrapping_sub(1) as u16,
+            used: ((1u64 << tags.len()) - 1) as Mask,
             tags,
             models: vec![],
             spec: 3,

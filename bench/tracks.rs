@@ -7,6 +7,7 @@ use crate::calls::{self, Call};
 use crate::random::Random;
 use crate::{ROUNDS, binding, least, median};
 use oracle::Record;
+use oracle::layout::Mask;
 use oracle::track::{SIZE, Sent, Track};
 use std::hint::black_box;
 use std::time::Instant;
@@ -64,7 +65,7 @@ fn record(tags: &[u64], step: i32, time: u64) -> Record {
         height: Some(1_500_000),
         message: vec![0x8d, 1, 2, 3, 4, 5, 6, 7, 8, 9, 10, 11, 12, 13],
         tags: tags.to_vec(),
-        used: ((1u32 << tags.len()) - 1) as u16,
+        used: ((1u32 << tags.len()) - 1) as Mask,
         models: vec![5],
         spec: 3,
         covariance: [100.0, 0.0, 0.0, 100.0, 0.0, 100.0],

@@ -3,6 +3,7 @@
 use crate::heights::EDGES;
 use crate::random::Random;
 use crate::{binding, claims};
+use oracle::layout::{MAX_TAGS, MESSAGE_LENGTH_AT, MODEL_COUNT_AT, MODELS_AT, Mask, SPEC_AT, TAG_COUNT_AT, TAGS_AT, USED_AT};
 use oracle::track::{Answer, Track};
 use oracle::{Record, hex};
 use std::collections::BTreeMap;
@@ -110,7 +111,7 @@ struct Style {
 fn style(random: &mut Random) -> Style {
     let shape = match random.below(10) {
         0..=2 => Shape::Any(random.pick(&[3, 4, 5, 8])),
-        3..=4 => Shape::Nested(random.pick(&[3, 5, 16])),
+        3..=4 => Shape::Nested(random.pick(&[3, 5, MAX_TAGS as u64])),
         5..=6 => Shape::Star(random.pick(&[3, 7, 9])),
         _ => Shape::Apart(random.pick(&[2, 4, 10, 14])),
     };
@@ -247,7 +248,7 @@ impl Growing {
     pub fn record(&self, random: &mut Random) -> Record {
         let style = &self.style;
         let tags: Vec<u64> = tags(random, style.shape).iter().map(|tag| style.base + tag).collect();
-        let all = ((1u32 << tags.len()) - 1) as u16;
+        let all = ((1u32 << tags.len()) - 1) as Mask;
         let (models, spec) = self.cited(random);
         let mut message = vec![0x8d, 1, 2, 3, 4, 5, random.below(style.messages) as u8];
         match style.length {
@@ -265,7 +266,7 @@ impl Growing {
                 _ => Some(1_500),
             },
             message,
-            used: if random.one_in(2) { all } else { random.next() as u16 & all },
+            used: if random.one_in(2) { all } else { random.next() as Mask & all },
             tags,
             models,
             spec,
@@ -292,7 +293,17 @@ impl Growing {
         let again = if random.one_in(self.style.repeats) { self.repeated(random) } else { None };
         let mut record = again.unwrap_or_else(|| self.record(random).write().to_vec());
         if random.one_in(600) {
-            record[random.pick(&[16, 21, 36, 37, 38, 39, 167, 168, 171])] = random.next() as u8;
+            record[random.pick(&[
+                16,
+                MESSAGE_LENGTH_AT,
+                TAG_COUNT_AT,
+                USED_AT,
+                USED_AT + 1,
+                TAGS_AT,
+                MODEL_COUNT_AT,
+                MODELS_AT,
+                SPEC_AT - 1,
+            ])] = random.next() as u8;
         }
         if random.one_in(4_000) {
             record.pop();

@@ -3,6 +3,10 @@
 use crate::calls::Call;
 use crate::heights;
 use oracle::decide::{self, Decision};
+use oracle::layout::{
+    CONSISTENT_AT, COVARIANCE_AT, IDENTITY_AT, INPUTS_AT, MESSAGE_LENGTH_AT, MODEL_COUNT_AT, MODELS_AT, PLACE, RECORD,
+    TAG_COUNT_AT, TAGS_AT, USED_AT,
+};
 use oracle::track::{
     Answer, FIX, FIXES, FIXES_AT, REFUSALS, REFUSED, REFUSED_AT, SUMMARIES_AT, SUMMARY, TRANSMISSION, TRANSMISSIONS,
     TRANSMISSIONS_AT,
@@ -60,7 +64,7 @@ fn contested(b: &[u8]) -> u64 {
 }
 
 fn tags(record: &[u8]) -> impl Iterator<Item = &[u8]> {
-    record[39..][..8 * usize::from(record[36])].chunks_exact(8)
+    record[TAGS_AT..][..8 * usize::from(record[TAG_COUNT_AT])].chunks_exact(8)
 }
 
 /// The same message and a common tag.
@@ -70,7 +74,7 @@ fn tied(a: &[u8], b: &[u8]) -> bool {
 
 /// What an identity is the hash of: message, tags, inputs.
 fn set(fix: &[u8]) -> (&[u8], &[u8], &[u8]) {
-    (&fix[21..37], &fix[39..167], &fix[226..258])
+    (&fix[MESSAGE_LENGTH_AT..USED_AT], &fix[TAGS_AT..MODEL_COUNT_AT], &fix[PLACE..FIX])
 }
 
 /// Whether the summaries of a model disagree.
@@ -81,7 +85,7 @@ fn disputed(b: &[u8], model: u8) -> bool {
 }
 
 fn cites(fix: &[u8], model: u8) -> bool {
-    fix[168..][..usize::from(fix[167])].contains(&model)
+    fix[MODELS_AT..][..usize::from(fix[MODEL_COUNT_AT])].contains(&model)
 }
 
 /// What is decided of these fixes. Who is named in a refusal depends on the identities, how many are refused does not.
@@ -89,10 +93,10 @@ fn decided<'a>(fixes: impl Iterator<Item = &'a [u8]>) -> Decision {
     let mut items = Vec::new();
     for (i, fix) in fixes.enumerate() {
         let mut item = [0u8; decide::SIZE];
-        item[..222].copy_from_slice(&fix[..222]);
-        item[222..254].copy_from_slice(&fix[226..258]);
-        item[254] = i as u8;
-        item[294] = 1;
+        item[..RECORD].copy_from_slice(&fix[..RECORD]);
+        item[INPUTS_AT..IDENTITY_AT].copy_from_slice(&fix[PLACE..FIX]);
+        item[IDENTITY_AT] = i as u8;
+        item[CONSISTENT_AT] = 1;
         items.extend_from_slice(&item);
     }
     decide::decide(&items).expect("items that can be decided")
@@ -101,7 +105,7 @@ fn decided<'a>(fixes: impl Iterator<Item = &'a [u8]>) -> Decision {
 /// A fix of a report that is not held yet: only what is decided by counts, whatever its inputs.
 fn newcomer(record: &[u8]) -> [u8; FIX] {
     let mut fix = [0u8; FIX];
-    fix[..222].copy_from_slice(record);
+    fix[..RECORD].copy_from_slice(record);
     fix
 }
 
@@ -134,7 +138,7 @@ impl Seen<'_> {
     fn report(&mut self, record: &[u8], told: Answer) {
         let ties: Vec<Block> = blocks(self.before).filter(|one| one.held().any(|fix| tied(fix, record))).collect();
         let same = self.before[..] == self.after[..];
-        let finite = record[174..222].chunks_exact(8).all(|x| f64::from_le_bytes(x.try_into().unwrap()).is_finite());
+        let finite = record[COVARIANCE_AT..RECORD].chunks_exact(8).all(|x| f64::from_le_bytes(x.try_into().unwrap()).is_finite());
         self.add("report: its message has 14 bytes", record[21] == 14);
         self.add("report: its covariance has an infinity or a NaN", !finite);
         self.add("report: tied to two transmissions or more", ties.len() > 1);
@@ -155,12 +159,15 @@ impl Seen<'_> {
         let grew = contested(self.after).wrapping_sub(contested(self.before));
         self.add("report: two or more fixes refused by it", grew > 1);
         if told == Answer::Duplicate {
-            let among = |fix: &[u8]| fix[21..37] == record[21..37] && fix[39..167] == record[39..167];
+            let among = |fix: &[u8]| {
+                fix[MESSAGE_LENGTH_AT..USED_AT] == record[MESSAGE_LENGTH_AT..USED_AT]
+                    && fix[TAGS_AT..MODEL_COUNT_AT] == record[TAGS_AT..MODEL_COUNT_AT]
+            };
             self.add("report: Duplicate of a refused fix", !one.fixes().any(among));
-            let other = one.held().any(|fix| among(fix) && fix[..222] != *record);
+            let other = one.held().any(|fix| among(fix) && fix[..RECORD] != *record);
             self.add(
                 "report: Duplicate of a fix at another place or time",
-                other && !one.held().any(|fix| fix[..222] == *record),
+                other && !one.held().any(|fix| fix[..RECORD] == *record),
             );
             return;
         }
@@ -169,8 +176,12 @@ impl Seen<'_> {
         if items > REFUSALS {
             // The newcomer's own inputs are not at hand; those of the first cited alike are as good for a count.
             let mut new = newcomer(record);
-            if let Some(alike) = one.held().chain(held(self.after)).find(|fix| fix[167..174] == record[167..174]) {
-                new[226..258].copy_from_slice(&alike[226..258]);
+            if let Some(alike) = one
+                .held()
+                .chain(held(self.after))
+                .find(|fix| fix[MODEL_COUNT_AT..COVARIANCE_AT] == record[MODEL_COUNT_AT..COVARIANCE_AT])
+            {
+                new[PLACE..FIX].copy_from_slice(&alike[PLACE..FIX]);
             }
             let found = decided(one.held().chain([&new[..]]));
             self.add("report: more than four refused in one decision", found.refusals.len() > REFUSALS);
@@ -207,12 +218,13 @@ impl Seen<'_> {
 
     fn conviction(&mut self, engine: u8) {
         let (b, a) = (self.before, self.after);
-        let bit = |fix: &[u8]| u32::from_le_bytes(fix[222..226].try_into().unwrap()) >> engine & 1 == 1;
+        let bit = |fix: &[u8]| u32::from_le_bytes(fix[RECORD..PLACE].try_into().unwrap()) >> engine & 1 == 1;
         let mask = u32::from_le_bytes(b[..4].try_into().unwrap());
         let bystander = mask >> engine & 1 == 0 && !held(b).any(bit) && !summaries(b).any(|s| s[0] == engine);
         let moved = b[4..] != a[4..];
-        let again = |one: Block| one.refused().any(|fix| blocks(a).any(|other| other.fixes().any(|f| f[..222] == fix[..222])));
-        let lost = held(b).filter(|fix| !bit(fix) && !held(a).any(|other| other[..222] == fix[..222])).count();
+        let again =
+            |one: Block| one.refused().any(|fix| blocks(a).any(|other| other.fixes().any(|f| f[..RECORD] == fix[..RECORD])));
+        let lost = held(b).filter(|fix| !bit(fix) && !held(a).any(|other| other[..RECORD] == fix[..RECORD])).count();
         let settles = summaries(b).any(|s| s[0] == engine && disputed(b, s[1]) && !disputed(a, s[1]));
         self.add("conviction: of an engine convicted already", mask >> engine & 1 == 1);
         self.add("conviction: repeated, and fixes change", mask >> engine & 1 == 1 && moved);

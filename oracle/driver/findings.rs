@@ -10,8 +10,9 @@
 mod binding;
 
 use oracle::decide::{Decision, SIZE, decide};
+use oracle::layout::{CONSISTENT_AT, IDENTITY_AT, Mask, RECORD, STANDING_AT, VERIFIED_AT};
 use oracle::measured::{Outcome, outcome};
-use oracle::track::{SIZE as TRACK_SIZE, Track};
+use oracle::track::{FIX, FIXES_AT, REFUSED, REFUSED_AT, SIZE as TRACK_SIZE, TRANSMISSION, TRANSMISSIONS_AT, Track};
 use oracle::{Claim, Record};
 
 fn fix(tags: &[u64], step: i32) -> Record {
@@ -22,7 +23,7 @@ fn fix(tags: &[u64], step: i32) -> Record {
         height: Some(1500),
         message: vec![0x8d, 0, 0, 0, 0, 0, 0],
         tags: tags.to_vec(),
-        used: ((1u32 << tags.len()) - 1) as u16,
+        used: ((1u32 << tags.len()) - 1) as Mask,
         models: Vec::new(),
         spec: 0,
         covariance: [100.0, 0.0, 0.0, 100.0, 0.0, 100.0],
@@ -43,7 +44,7 @@ fn l() -> Record {
 
 /// Tags and step of a record in bytes.
 fn short(b: &[u8]) -> String {
-    let r = Record::read(&b[..222]).expect("a record");
+    let r = Record::read(&b[..RECORD]).expect("a record");
     let tags: Vec<String> = r.tags.iter().map(u64::to_string).collect();
     format!("{{{}}}@{}", tags.join(","), r.lat)
 }
@@ -52,9 +53,9 @@ fn short(b: &[u8]) -> String {
 fn view(b: &[u8]) -> String {
     let mut parts = Vec::new();
     for t in 0..usize::from(b[6]) {
-        let at = 9_232 + 2_484 * t;
-        let fixes: Vec<String> = (0..usize::from(b[at])).map(|k| short(&b[at + 2 + 258 * k..])).collect();
-        let refused: Vec<String> = (0..usize::from(b[at + 1])).map(|k| short(&b[at + 1_292 + 298 * k..])).collect();
+        let at = TRANSMISSIONS_AT + TRANSMISSION * t;
+        let fixes: Vec<String> = (0..usize::from(b[at])).map(|k| short(&b[at + FIXES_AT + FIX * k..])).collect();
+        let refused: Vec<String> = (0..usize::from(b[at + 1])).map(|k| short(&b[at + REFUSED_AT + REFUSED * k..])).collect();
         parts.push(match refused.as_slice() {
             [] => fixes.join(" "),
             some => format!("{} refused {}", fixes.join(" "), some.join(" ")),
@@ -209,7 +210,7 @@ fn order(f: &mut Findings) {
     let mut first = f.session();
     first.report(1, &fix(&[1], 0)).report(2, &fix(&[1], 2700));
     f.see("R-03 {1}@0 by engine 1, {1}@2700 by engine 2", first.told(), "Changed,Duplicate contested=0 [{1}@0]");
-    let signers = first.track.bytes()[9_232 + 2 + 222];
+    let signers = first.track.bytes()[TRANSMISSIONS_AT + FIXES_AT + RECORD];
     f.see("R-03 signers of {1}@0", format!("{signers:b}"), "110");
     let mut other = f.session();
     other.report(2, &fix(&[1], 2700)).report(1, &fix(&[1], 0));
@@ -397,7 +398,11 @@ fn outcomes(f: &mut Findings) {
     ] {
         f.see(&format!("unmeasurable: {what}"), bare(outcome(&smaller, &larger)).to_string(), expected);
         if let Some(ours) = binding::outcome(&smaller, &larger) {
-            f.see(&format!("unmeasurable: {what}, the library"), ours.map_or_else(|words| words, |o| bare(o).to_string()), expected);
+            f.see(
+                &format!("unmeasurable: {what}, the library"),
+                ours.map_or_else(|words| words, |o| bare(o).to_string()),
+                expected,
+            );
         }
     }
 }
@@ -407,9 +412,9 @@ fn items(records: &[Record], with: impl Fn(usize, &mut [u8])) -> Vec<u8> {
     let mut bytes = Vec::new();
     for (i, record) in records.iter().enumerate() {
         let mut item = [0u8; SIZE];
-        item[..222].copy_from_slice(&record.write());
-        item[254] = i as u8 + 1;
-        item[294] = 1;
+        item[..RECORD].copy_from_slice(&record.write());
+        item[IDENTITY_AT] = i as u8 + 1;
+        item[CONSISTENT_AT] = 1;
         with(i, &mut item);
         bytes.extend_from_slice(&item);
     }
@@ -419,23 +424,23 @@ fn items(records: &[Record], with: impl Fn(usize, &mut [u8])) -> Vec<u8> {
 fn decisions(f: &mut Findings) {
     let line = |d: Option<Decision>| d.expect("a decision").line();
     let apart = [fix(&[1], 0), fix(&[1, 2], 5400)];
-    let told = decide(&items(&apart, |i, item| item[294] = u8::from(i != 0)));
+    let told = decide(&items(&apart, |i, item| item[CONSISTENT_AT] = u8::from(i != 0)));
     f.see("R-15 an inconsistent {1}@0 with {1,2}@5400, equal inputs", line(told), "ranked=1 dominated=0 refused=none");
     let zero = [1, 2, 3].map(|n| Record { covariance: [0.0; 6], ..fix(&(1..=n).collect::<Vec<_>>(), 0) });
-    let told = decide(&items(&zero, |i, item| item[254] = [2, 1, 3][i]));
+    let told = decide(&items(&zero, |i, item| item[IDENTITY_AT] = [2, 1, 3][i]));
     f.see(
         "R-16 {1} {1,2} {1,2,3} with zero covariance, identities 2 1 3",
         line(told),
         "ranked=0 dominated=none refused=1:0:none:0,2:1:none:0",
     );
-    let told = decide(&items(&zero, |i, item| (item[286], item[296]) = (i as u8, u8::from(i > 0))));
+    let told = decide(&items(&zero, |i, item| (item[STANDING_AT], item[VERIFIED_AT]) = (i as u8, u8::from(i > 0))));
     f.see(
         "R-16 the same, standing 0 1 2, the larger two verified",
         line(told),
         "ranked=2 dominated=none refused=0:1:none:1,1:2:none:1",
     );
     let heavy = [fix(&[1, 3], 0), Record { used: 1, models: vec![5, 6, 7], ..fix(&[1, 2], 0) }];
-    let told = decide(&items(&heavy, |i, item| item[254] = 9 - i as u8));
+    let told = decide(&items(&heavy, |i, item| item[IDENTITY_AT] = 9 - i as u8));
     f.see(
         "R-17 two used tags against one used tag and three models, the latter with the lower identity",
         line(told),
@@ -444,7 +449,7 @@ fn decisions(f: &mut Findings) {
     let mut orders = std::collections::BTreeSet::new();
     let set = [fix(&[1], 0), fix(&[2], 0), fix(&[1, 2, 3], 5400)];
     for p in [[0, 1, 2], [0, 2, 1], [1, 0, 2], [1, 2, 0], [2, 0, 1], [2, 1, 0]] {
-        let told = decide(&items(&p.map(|k| set[k].clone()), |i, item| item[254] = p[i] as u8 + 1)).unwrap();
+        let told = decide(&items(&p.map(|k| set[k].clone()), |i, item| item[IDENTITY_AT] = p[i] as u8 + 1)).unwrap();
         let kept: Vec<usize> = told.refusals.iter().map(|r| p[usize::from(r.kept)]).collect();
         orders.insert(kept);
     }

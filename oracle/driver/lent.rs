@@ -7,6 +7,7 @@ use crate::random::Random;
 use crate::tracks::{Both, ROOM};
 use crate::{binding, claims, measured, tried};
 use oracle::formed::formed;
+use oracle::layout::{CHI2_AT, MAX_TAGS, MESSAGE_LENGTH_AT, MODEL_COUNT_AT, MODELS_AT, Mask, PLACE, RECORD, TAGS_AT, USED_AT};
 use oracle::track::{FIX, FIXES_AT, REFUSED, REFUSED_AT, SIZE, SUMMARIES_AT, SUMMARY, TRANSMISSION, TRANSMISSIONS_AT, Track};
 use oracle::{Record, hex};
 
@@ -110,7 +111,7 @@ fn fix(random: &mut Random, growing: &mut Growing, apart: u64) -> Vec<u8> {
     let again = if random.one_in(4) { growing.repeated(random) } else { None };
     let record = again.unwrap_or_else(|| record(random, growing, apart));
     growing.calls.push(Call::Report { engine: 0, record: record.clone() });
-    let models = record[168..][..usize::from(record[167])].to_vec();
+    let models = record[MODELS_AT..][..usize::from(record[MODEL_COUNT_AT])].to_vec();
     let mut fix = record;
     fix.extend_from_slice(&signers(random, growing.convicted).to_le_bytes());
     fix.extend(under(random, growing, &models));
@@ -173,10 +174,10 @@ fn near(random: &mut Random, growing: &Growing) -> Option<Call> {
     let mut record = Record::read(&growing.repeated(random)?)?;
     if record.tags.len() > 1 && random.one_in(2) {
         record.tags.remove(random.below(record.tags.len() as u64) as usize);
-    } else if record.tags.len() < 16 {
+    } else if record.tags.len() < MAX_TAGS {
         record.tags.push(record.tags[record.tags.len() - 1] + 1 + random.below(3));
     }
-    record.used = ((1u32 << record.tags.len()) - 1) as u16;
+    record.used = ((1u32 << record.tags.len()) - 1) as Mask;
     Some(Call::Report { engine: growing.engine(random), record: record.write().to_vec() })
 }
 
@@ -192,7 +193,9 @@ fn call(random: &mut Random, growing: &mut Growing) -> Call {
 /// What no list of calls would lead to, or only seldom.
 fn features(lent: &Lent, counts: &mut Counts) {
     let mut add = |what: &'static str, so: bool| *counts.entry(what).or_default() += u64::from(so);
-    let set = |fix: &Vec<u8>| (fix[21..37].to_vec(), fix[39..167].to_vec(), fix[226..258].to_vec());
+    let set = |fix: &Vec<u8>| {
+        (fix[MESSAGE_LENGTH_AT..USED_AT].to_vec(), fix[TAGS_AT..MODEL_COUNT_AT].to_vec(), fix[PLACE..FIX].to_vec())
+    };
     let twice = |one: &Parts| {
         let mut sets: Vec<_> = one.0.iter().chain(&one.1).map(set).collect();
         sets.sort();
@@ -205,7 +208,7 @@ fn features(lent: &Lent, counts: &mut Counts) {
     add("lent: contested of 2^64 - 1", lent.contested == u64::MAX);
     add("lent: 256 summaries", lent.summaries.len() == 256);
     add("lent: 8 transmissions", all.len() == 8);
-    let bits = |place: &Vec<u8>| u64::from_le_bytes(place[290..298].try_into().unwrap());
+    let bits = |place: &Vec<u8>| u64::from_le_bytes(place[CHI2_AT..REFUSED].try_into().unwrap());
     let chi2s: Vec<u64> = all.iter().flat_map(|one| one.1.iter().map(bits)).collect();
     measured::stored(&chi2s).for_each(|kind| add(kind, true));
 }
@@ -261,9 +264,9 @@ fn place(random: &mut Random, b: &[u8]) -> usize {
             let at = TRANSMISSIONS_AT + TRANSMISSION * random.below(count) as usize;
             match random.below(6) {
                 0 => at + random.below(2) as usize,
-                1 => at + FIXES_AT + 222 + random.below(4) as usize,
+                1 => at + FIXES_AT + RECORD + random.below(4) as usize,
                 2 => at + REFUSED_AT + random.below(REFUSED as u64) as usize,
-                _ => at + FIXES_AT + random.below(222) as usize,
+                _ => at + FIXES_AT + random.below(RECORD as u64) as usize,
             }
         }
         _ => random.below(b.len() as u64) as usize,
@@ -327,7 +330,7 @@ fn other_arguments(bytes: &[u8], counts: &mut Counts) -> Result<(), String> {
         return Ok(());
     }
     *counts.entry("tracks called with engines over 31, models over 63 and outputs too small").or_default() += 1;
-    let (mut memory, record, text) = (bytes.to_vec(), [0u8; 222], [0u8; 32]);
+    let (mut memory, record, text) = (bytes.to_vec(), [0u8; RECORD], [0u8; 32]);
     let mut told = Vec::new();
     for number in [256, 287, u32::MAX] {
         told.push((binding::track::report(&mut memory, number, &record), 2));

@@ -3,6 +3,10 @@
 use crate::claims;
 use crate::random::Random;
 use oracle::decide::SIZE;
+use oracle::layout::{
+    CONSISTENT_AT, IDENTITY_AT, INPUTS_AT, MAX_TAGS, MESSAGE_LENGTH_AT, MODEL_COUNT_AT, MODELS_AT, Mask, PREFERRED_AT, RECORD,
+    SPEC_AT, STANDING_AT, TAG_COUNT_AT, TAGS_AT, USED_AT, VERIFIED_AT,
+};
 use oracle::{Claim, Record};
 use std::sync::LazyLock;
 
@@ -43,7 +47,7 @@ fn tags(random: &mut Random, style: &Style) -> Vec<u64> {
 
 fn record(random: &mut Random, style: &Style) -> Record {
     let tags = tags(random, style);
-    let all = ((1u32 << tags.len()) - 1) as u16;
+    let all = ((1u32 << tags.len()) - 1) as Mask;
     let message = match random.below(style.messages) {
         0 => vec![0x8d, 0, 0, 0, 0, 0, 0],
         1 => [vec![0x8d], vec![0; 13]].concat(),
@@ -63,7 +67,7 @@ fn record(random: &mut Random, style: &Style) -> Record {
         lat: BASES[style.base] + 2_700 * random.below(style.steps) as i32,
         lon: 0,
         height: if random.one_in(8) { None } else { Some(1_500) },
-        used: if random.one_in(2) { all } else { random.next() as u16 & all },
+        used: if random.one_in(2) { all } else { random.next() as Mask & all },
         message,
         tags,
         models: Vec::new(),
@@ -74,18 +78,18 @@ fn record(random: &mut Random, style: &Style) -> Record {
 
 fn item(random: &mut Random, style: &Style, identity: [u8; 32]) -> [u8; SIZE] {
     let mut b = [0u8; SIZE];
-    b[..222].copy_from_slice(&record(random, style).write());
-    b[222] = random.below(style.inputs) as u8;
-    b[254..286].copy_from_slice(&identity);
+    b[..RECORD].copy_from_slice(&record(random, style).write());
+    b[INPUTS_AT] = random.below(style.inputs) as u8;
+    b[IDENTITY_AT..STANDING_AT].copy_from_slice(&identity);
     let standing = match random.below(16) {
         0 => u64::MAX - random.below(2),
         1 => 1 << (random.below(8) * 8),
         _ => random.below(style.standings),
     };
-    b[286..294].copy_from_slice(&standing.to_le_bytes());
-    b[294] = u8::from(!random.one_in(8)) * random.pick(&[1, 1, 1, 255]);
-    b[295] = u8::from(random.one_in(12));
-    b[296] = random.pick(&[0, 1, 1, 2, 3]);
+    b[STANDING_AT..CONSISTENT_AT].copy_from_slice(&standing.to_le_bytes());
+    b[CONSISTENT_AT] = u8::from(!random.one_in(8)) * random.pick(&[1, 1, 1, 255]);
+    b[PREFERRED_AT] = u8::from(random.one_in(12));
+    b[VERIFIED_AT] = random.pick(&[0, 1, 1, 2, 3]);
     b
 }
 
@@ -113,7 +117,7 @@ fn count(random: &mut Random) -> usize {
 pub fn list(random: &mut Random) -> Vec<u8> {
     let style = Style {
         base: random.below(2) as usize,
-        tags: random.pick(&[2, 3, 3, 4, 6, 16]),
+        tags: random.pick(&[2, 3, 3, 4, 6, MAX_TAGS as u64]),
         messages: random.pick(&[1, 1, 1, 3]),
         steps: random.pick(&[1, 2, 3, 3, 4]),
         inputs: random.pick(&[1, 1, 2, 3]),
@@ -135,6 +139,23 @@ pub fn list(random: &mut Random) -> Vec<u8> {
     bytes
 }
 
+/// Where the fields of a record begin, and some places within them.
+const EDGES: [usize; 13] = [
+    16,
+    17,
+    MESSAGE_LENGTH_AT,
+    30,
+    TAG_COUNT_AT,
+    USED_AT,
+    USED_AT + 1,
+    TAGS_AT,
+    60,
+    MODEL_COUNT_AT - 7,
+    MODEL_COUNT_AT,
+    MODELS_AT,
+    SPEC_AT - 1,
+];
+
 /// Makes one of the faults that refusal 8 is for, or something near it that is none.
 fn spoil(random: &mut Random, bytes: &mut Vec<u8>) {
     let n = bytes.len() / SIZE;
@@ -148,11 +169,10 @@ fn spoil(random: &mut Random, bytes: &mut Vec<u8>) {
         }
         1 if n > 1 => {
             let (from, to) = (random.below(n as u64) as usize * SIZE, random.below(n as u64) as usize * SIZE);
-            bytes.copy_within(from + 254..from + 286, to + 254);
+            bytes.copy_within(from + IDENTITY_AT..from + STANDING_AT, to + IDENTITY_AT);
         }
         2 if n > 0 => {
-            let at =
-                random.below(n as u64) as usize * SIZE + random.pick(&[16, 17, 21, 30, 36, 37, 38, 39, 60, 160, 167, 168, 171]);
+            let at = random.below(n as u64) as usize * SIZE + random.pick(&EDGES);
             bytes[at] = random.pick(&[0, 1, 2, 7, 14, 16, 17, 64, 255]);
         }
         3 => bytes.extend(random.bytes(1 + random.0 as usize % (SIZE - 1))),

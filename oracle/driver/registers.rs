@@ -5,6 +5,7 @@ use crate::binding::{self, register as ours};
 use crate::heights::{self, EDGES};
 use crate::random::Random;
 use crate::{measured, previews, spans, tried};
+use oracle::layout::{Mask, RECORD};
 use oracle::{Record, hex};
 use peer::register::{self as theirs, SIZE};
 use std::collections::BTreeMap;
@@ -76,7 +77,7 @@ fn record(random: &mut Random, style: &Style) -> Vec<u8> {
             _ => Some(random.next() as i32 % 10_000),
         },
         message: random.pick(&[&[0x8d, 0, 0, 0, 0, 0, 0][..], &[0x8d; 14][..]]).to_vec(),
-        used: random.next() as u16 & ((1u16 << tags.len()) - 1),
+        used: random.next() as Mask & ((1 << tags.len()) - 1),
         tags,
         models: (0..random.below(3)).map(|_| random.below(3) as u8).collect(),
         spec: random.below(2) as u16,
@@ -84,7 +85,7 @@ fn record(random: &mut Random, style: &Style) -> Vec<u8> {
     };
     let mut bytes = one.write().to_vec();
     if random.one_in(40) {
-        bytes[random.below(222) as usize] = random.next() as u8;
+        bytes[random.below(RECORD as u64) as usize] = random.next() as u8;
     }
     if random.one_in(200) {
         bytes.pop();

@@ -4,6 +4,7 @@
 use crate::calls::{self, Call};
 use crate::cases::{self, Counts, Seen};
 use crate::random::Random;
+use oracle::layout::RECORD;
 use oracle::track::{SIZE, Track};
 use oracle::{Record, blake2s256, hex};
 use std::collections::{BTreeMap, BTreeSet};
@@ -34,7 +35,7 @@ fn put_call(out: &mut Vec<u8>, call: &Call) {
 /// Whether the sample's layout has room for these calls: records and inputs of another length are not in it.
 fn fits(calls: &[Call]) -> bool {
     calls.iter().all(|call| match call {
-        Call::Report { record, .. } => record.len() == 222,
+        Call::Report { record, .. } => record.len() == RECORD,
         Call::Summary { inputs, .. } => inputs.len() == 32,
         Call::Convict { .. } => true,
     })
@@ -88,7 +89,7 @@ fn nested() -> [Vec<Call>; 2] {
         height: Some(1500),
         message: vec![0x8d, 0, 0, 0, 0, 0, 0],
         tags: (1..=tags).collect(),
-        used: (1u16 << tags) - 1,
+        used: (1 << tags) - 1,
         models: Vec::new(),
         spec: 0,
         covariance: [100.0, 0.0, 0.0, 100.0, 0.0, 100.0],

@@ -1,14 +1,15 @@
 //! `standing::decide` over the specification's items.
 //!
-//! An item has 297 bytes: a record (222), model inputs (32), identity (32), standing u64, consistent, preferred (zero or not) and
+//! An item is a record, model inputs (32 bytes), identity (32), standing u64, consistent, preferred (zero or not) and
 //! verified (1 passed, 2 failed, else unjudged).
 
 use crate::Record;
+use crate::layout::{CONSISTENT_AT, IDENTITY_AT, INPUTS_AT, ITEM, PREFERRED_AT, RECORD, STANDING_AT, VERIFIED_AT};
 use crate::measured::{digits, measured};
 use tally_wire::TaggedSet;
 use tally_wire::batch::Hash;
 
-pub const SIZE: usize = 297;
+pub const SIZE: usize = ITEM;
 pub const MOST: usize = 96;
 
 #[derive(Clone, Debug)]
@@ -25,16 +26,16 @@ pub struct Item {
 
 impl Item {
     pub fn read(b: &[u8]) -> Option<Self> {
-        let record = Record::read(&b[..222])?;
+        let record = Record::read(&b[..RECORD])?;
         let set = TaggedSet::new(record.message.clone(), record.tags.clone());
         Some(Self {
             record,
-            inputs: b[222..254].try_into().unwrap(),
-            identity: b[254..286].try_into().unwrap(),
-            standing: u64::from_le_bytes(b[286..294].try_into().unwrap()),
-            consistent: b[294] != 0,
-            preferred: b[295] != 0,
-            verified: match b[296] {
+            inputs: b[INPUTS_AT..IDENTITY_AT].try_into().unwrap(),
+            identity: b[IDENTITY_AT..STANDING_AT].try_into().unwrap(),
+            standing: u64::from_le_bytes(b[STANDING_AT..CONSISTENT_AT].try_into().unwrap()),
+            consistent: b[CONSISTENT_AT] != 0,
+            preferred: b[PREFERRED_AT] != 0,
+            verified: match b[VERIFIED_AT] {
                 1 => Some(true),
                 2 => Some(false),
                 _ => None,

@@ -1,6 +1,7 @@
 //! The specification's rules for a track's bytes (docs/REFERENCE.md, 'Layouts').
 
 use crate::Record;
+use crate::layout::{PLACE, RECORD};
 use crate::track::{
     FIX, FIXES, FIXES_AT, REFUSALS, REFUSED, REFUSED_AT, SIZE, SUMMARIES, SUMMARIES_AT, SUMMARY, TRANSMISSION, TRANSMISSIONS,
     TRANSMISSIONS_AT,
@@ -12,8 +13,8 @@ fn zero(b: &[u8]) -> bool {
 
 /// A well-formed record, and signers of whom none is convicted.
 fn fix(b: &[u8], convicted: u32) -> bool {
-    let signers = u32::from_le_bytes(b[222..226].try_into().unwrap());
-    signers != 0 && signers & convicted == 0 && Record::read(&b[..222]).is_some()
+    let signers = u32::from_le_bytes(b[RECORD..PLACE].try_into().unwrap());
+    signers != 0 && signers & convicted == 0 && Record::read(&b[..RECORD]).is_some()
 }
 
 fn transmission(b: &[u8], convicted: u32) -> bool {

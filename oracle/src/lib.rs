@@ -3,6 +3,7 @@
 pub mod decide;
 pub mod formed;
 pub mod hex;
+pub mod layout;
 pub mod lines;
 pub mod measured;
 pub mod record;

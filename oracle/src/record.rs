@@ -1,8 +1,8 @@
-//! The 222-byte record of the specification.
+//! The record of the specification.
 
 use crate::Claim;
-
-pub const SIZE: usize = 222;
+pub use crate::layout::RECORD as SIZE;
+use crate::layout::{COVARIANCE_AT, MAX_TAGS, MODEL_COUNT_AT, MODELS_AT, Mask, SPEC_AT, TAGS_AT, USED_AT};
 
 #[derive(Clone, Debug, PartialEq)]
 pub struct Record {
@@ -12,7 +12,7 @@ pub struct Record {
     pub height: Option<i32>,
     pub message: Vec<u8>,
     pub tags: Vec<u64>,
-    pub used: u16,
+    pub used: Mask,
     pub models: Vec<u8>,
     pub spec: u16,
     pub covariance: [f64; 6],
@@ -46,21 +46,24 @@ impl Record {
             return None;
         }
         let count = usize::from(b[36]);
-        let used = u16_at(b, 37);
-        if !(1..=16).contains(&count) || u32::from(used) >> count != 0 {
+        let used = Mask::from_le_bytes(b[USED_AT..TAGS_AT].try_into().unwrap());
+        if !(1..=MAX_TAGS).contains(&count) || u64::from(used) >> count != 0 {
             return None;
         }
-        let tags: Vec<u64> = (0..count).map(|i| u64_at(b, 39 + 8 * i)).collect();
-        if tags.windows(2).any(|pair| pair[0] >= pair[1]) || b[39 + 8 * count..167].iter().any(|&x| x != 0) {
+        let tags: Vec<u64> = (0..count).map(|i| u64_at(b, TAGS_AT + 8 * i)).collect();
+        if tags.windows(2).any(|pair| pair[0] >= pair[1]) || b[TAGS_AT + 8 * count..MODEL_COUNT_AT].iter().any(|&x| x != 0) {
             return None;
         }
-        let cited = usize::from(b[167]);
-        if cited > 4 || b[168..168 + cited].iter().any(|&m| m > 63) || b[168 + cited..172].iter().any(|&x| x != 0) {
+        let cited = usize::from(b[MODEL_COUNT_AT]);
+        if cited > 4
+            || b[MODELS_AT..MODELS_AT + cited].iter().any(|&m| m > 63)
+            || b[MODELS_AT + cited..SPEC_AT].iter().any(|&x| x != 0)
+        {
             return None;
         }
         let mut covariance = [0.0; 6];
         for (i, value) in covariance.iter_mut().enumerate() {
-            *value = f64::from_bits(u64_at(b, 174 + 8 * i));
+            *value = f64::from_bits(u64_at(b, COVARIANCE_AT + 8 * i));
         }
         Some(Self {
             time: u64_at(b, 0),
@@ -70,8 +73,8 @@ impl Record {
             message: b[22..22 + length].to_vec(),
             tags,
             used,
-            models: b[168..168 + cited].to_vec(),
-            spec: u16_at(b, 172),
+            models: b[MODELS_AT..MODELS_AT + cited].to_vec(),
+            spec: u16_at(b, SPEC_AT),
             covariance,
         })
     }
@@ -89,15 +92,15 @@ impl Record {
         b[21] = self.message.len() as u8;
         b[22..22 + self.message.len()].copy_from_slice(&self.message);
         b[36] = self.tags.len() as u8;
-        b[37..39].copy_from_slice(&self.used.to_le_bytes());
+        b[USED_AT..TAGS_AT].copy_from_slice(&self.used.to_le_bytes());
         for (i, tag) in self.tags.iter().enumerate() {
-            b[39 + 8 * i..47 + 8 * i].copy_from_slice(&tag.to_le_bytes());
+            b[TAGS_AT + 8 * i..][..8].copy_from_slice(&tag.to_le_bytes());
         }
-        b[167] = self.models.len() as u8;
-        b[168..168 + self.models.len()].copy_from_slice(&self.models);
-        b[172..174].copy_from_slice(&self.spec.to_le_bytes());
+        b[MODEL_COUNT_AT] = self.models.len() as u8;
+        b[MODELS_AT..][..self.models.len()].copy_from_slice(&self.models);
+        b[SPEC_AT..COVARIANCE_AT].copy_from_slice(&self.spec.to_le_bytes());
         for (i, value) in self.covariance.iter().enumerate() {
-            b[174 + 8 * i..182 + 8 * i].copy_from_slice(&value.to_bits().to_le_bytes());
+            b[COVARIANCE_AT + 8 * i..][..8].copy_from_slice(&value.to_bits().to_le_bytes());
         }
         b
     }

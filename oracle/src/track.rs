@@ -1,24 +1,24 @@
-//! The Rust's merge of one aircraft behind the specification's track: its calls, its refusals, its 29,104 bytes.
+//! The Rust's merge of one aircraft behind the specification's track: its calls, its refusals, its bytes.
 
+use crate::layout::{CHI2_AT, KEPT_AT, Mask, PLACE, RECORD};
+pub use crate::layout::{FIX, REFUSED};
 use crate::lines::{self, Said};
 use crate::measured::measured;
 use crate::{Record, formed};
 use tally_merge::{Contest, Fix, Merge, Settings, Transmission, link::Told};
 use tally_wire::{ClientClockModel, ClientClockModelContent, TaggedFix, TaggedSet};
 
-pub const SIZE: usize = 29_104;
+pub const SIZE: usize = TRANSMISSIONS_AT + TRANSMISSIONS * TRANSMISSION;
 pub const SUMMARIES: usize = 256;
 pub const SUMMARIES_AT: usize = 16;
 pub const SUMMARY: usize = 36;
 pub const TRANSMISSIONS: usize = 8;
-pub const TRANSMISSIONS_AT: usize = 9_232;
-pub const TRANSMISSION: usize = 2_484;
+pub const TRANSMISSIONS_AT: usize = SUMMARIES_AT + SUMMARIES * SUMMARY;
+pub const TRANSMISSION: usize = REFUSED_AT + REFUSALS * REFUSED;
 pub const FIXES: usize = 5;
 pub const FIXES_AT: usize = 2;
-pub const FIX: usize = 258;
 pub const REFUSALS: usize = 4;
-pub const REFUSED_AT: usize = 1_292;
-pub const REFUSED: usize = 298;
+pub const REFUSED_AT: usize = FIXES_AT + FIXES * FIX;
 
 /// What a track call is answered: the number of a refusal, 0, or what became of a report.
 #[derive(Clone, Copy, Debug, PartialEq, Eq)]
@@ -257,9 +257,9 @@ fn put_transmission(out: &mut [u8], one: &Transmission) {
         let contest = &one.contests[k];
         assert_eq!(contest.refused, fix.input_set, "contests stand beside the refused");
         put_fix(&mut place[..FIX], fix);
-        place[258..290].copy_from_slice(&contest.kept);
+        place[KEPT_AT..CHI2_AT].copy_from_slice(&contest.kept);
         // An agreement has no NaN, so that only one that was lent with the track can stand here: with its payload.
-        place[290..298].copy_from_slice(&contest.chi2.to_bits().to_le_bytes());
+        place[CHI2_AT..REFUSED].copy_from_slice(&contest.chi2.to_bits().to_le_bytes());
     }
 }
 
@@ -267,7 +267,7 @@ fn put_transmission(out: &mut [u8], one: &Transmission) {
 fn record_of(fix: &Fix) -> Record {
     let tags = fix.considered.tags().to_vec();
     let used = fix.used.tags();
-    let mask = |i: usize| u16::from(used.contains(&tags[i])) << i;
+    let mask = |i: usize| Mask::from(used.contains(&tags[i])) << i;
     let c = &fix.covariance;
     Record {
         time: fix.transmitted,
@@ -284,16 +284,16 @@ fn record_of(fix: &Fix) -> Record {
 }
 
 fn put_fix(place: &mut [u8], fix: &Fix) {
-    place[..222].copy_from_slice(&record_of(fix).write());
-    place[222..226].copy_from_slice(&signers(fix).to_le_bytes());
-    place[226..258].copy_from_slice(&fix.model_inputs);
+    place[..RECORD].copy_from_slice(&record_of(fix).write());
+    place[RECORD..PLACE].copy_from_slice(&signers(fix).to_le_bytes());
+    place[PLACE..FIX].copy_from_slice(&fix.model_inputs);
 }
 
 /// The fix in a place of a well-formed track: the inputs are those that stand there, whatever the summaries say.
 fn read_fix(b: &[u8]) -> Fix {
-    let record = Record::read(&b[..222]).expect("a well-formed record");
-    let signers = u32::from_le_bytes(b[222..226].try_into().unwrap());
-    let model_inputs: [u8; 32] = b[226..258].try_into().unwrap();
+    let record = Record::read(&b[..RECORD]).expect("a well-formed record");
+    let signers = u32::from_le_bytes(b[RECORD..PLACE].try_into().unwrap());
+    let model_inputs: [u8; 32] = b[PLACE..FIX].try_into().unwrap();
     let Sent { spec, fix } = Sent::of(&record);
     Fix {
         address: 0,
@@ -320,9 +320,9 @@ fn read_transmission(b: &[u8]) -> Transmission {
     let places: Vec<&[u8]> = (0..usize::from(b[1])).map(|k| &b[REFUSED_AT + REFUSED * k..][..REFUSED]).collect();
     let refused: Vec<Fix> = places.iter().map(|place| read_fix(place)).collect();
     let contest = |(place, fix): (&&[u8], &Fix)| Contest {
-        kept: place[258..290].try_into().unwrap(),
+        kept: place[KEPT_AT..CHI2_AT].try_into().unwrap(),
         refused: fix.input_set,
-        chi2: f64::from_bits(u64::from_le_bytes(place[290..298].try_into().unwrap())),
+        chi2: f64::from_bits(u64::from_le_bytes(place[CHI2_AT..REFUSED].try_into().unwrap())),
         added: Vec::new(),
     };
     let contests = places.iter().zip(&refused).map(contest).collect();

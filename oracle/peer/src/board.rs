@@ -2,6 +2,7 @@
 
 use crate::register::{Register, struck};
 use oracle::decide::Decision;
+use oracle::layout::RECORD;
 use oracle::lines::{self, Said};
 use oracle::{Record, blake2s256};
 
@@ -12,7 +13,7 @@ pub const LINK_SPAN: u64 = 2_000_000_000;
 
 /// A representative: the first record, by bytes, of its identity.
 struct Fix {
-    bytes: [u8; 222],
+    bytes: [u8; RECORD],
     record: Record,
     inputs: [u8; 32],
     identity: [u8; 32],
@@ -134,8 +135,8 @@ fn latest(fixes: &[Fix]) -> Vec<(Vec<usize>, Decision)> {
 }
 
 /// The records of a well-formed register that count.
-pub fn counting(register: &Register) -> Vec<[u8; 222]> {
-    let counts = |bytes: &[u8; 222]| cited(register, &Record::read(bytes).expect("a well-formed record")).is_some();
+pub fn counting(register: &Register) -> Vec<[u8; RECORD]> {
+    let counts = |bytes: &[u8; RECORD]| cited(register, &Record::read(bytes).expect("a well-formed record")).is_some();
     register.records.iter().map(|(bytes, _)| *bytes).filter(counts).collect()
 }
 

@@ -1,21 +1,21 @@
-//! The register: 30,920 bytes, and the calls that change them.
+//! The register, and the calls that change them.
 
 use oracle::Record;
+use oracle::layout::{PLACE, RECORD};
 
-pub const SIZE: usize = 30_920;
+pub const SIZE: usize = RECORDS_AT + RECORDS * PLACE;
 pub const SUMMARIES: usize = 256;
 pub const RECORDS: usize = 96;
 const SUMMARIES_AT: usize = 8;
 const SUMMARY: usize = 36;
-const RECORDS_AT: usize = 9_224;
-const PLACE: usize = 226;
+const RECORDS_AT: usize = SUMMARIES_AT + SUMMARIES * SUMMARY;
 
 /// What a well-formed register says. Summaries and records ascend by their bytes.
 #[derive(Clone, Debug, Default, PartialEq, Eq)]
 pub struct Register {
     pub convicted: u32,
     pub summaries: Vec<[u8; 36]>,
-    pub records: Vec<([u8; 222], u32)>,
+    pub records: Vec<([u8; RECORD], u32)>,
 }
 
 fn u16_at(b: &[u8], at: usize) -> usize {
@@ -48,7 +48,10 @@ impl Register {
         let register = Self {
             convicted: u32_at(b, 0),
             summaries: b[SUMMARIES_AT..end].chunks_exact(SUMMARY).map(|p| p.try_into().unwrap()).collect(),
-            records: b[RECORDS_AT..last].chunks_exact(PLACE).map(|p| (p[..222].try_into().unwrap(), u32_at(p, 222))).collect(),
+            records: b[RECORDS_AT..last]
+                .chunks_exact(PLACE)
+                .map(|p| (p[..RECORD].try_into().unwrap(), u32_at(p, RECORD)))
+                .collect(),
         };
         register.keeps_its_rules().then_some(register)
     }
@@ -56,7 +59,7 @@ impl Register {
     fn keeps_its_rules(&self) -> bool {
         let summary = |s: &[u8; 36]| s[0] <= 31 && s[1] <= 63 && !has(self.convicted, s[0]);
         let record =
-            |(r, signers): &([u8; 222], u32)| *signers != 0 && signers & self.convicted == 0 && Record::read(r).is_some();
+            |(r, signers): &([u8; RECORD], u32)| *signers != 0 && signers & self.convicted == 0 && Record::read(r).is_some();
         self.summaries.iter().all(summary)
             && self.records.iter().all(record)
             && self.summaries.windows(2).all(|w| w[0] < w[1])
@@ -83,8 +86,8 @@ impl Register {
         }
         for (i, (record, signers)) in self.records.iter().enumerate() {
             let place = &mut b[RECORDS_AT + PLACE * i..][..PLACE];
-            place[..222].copy_from_slice(record);
-            place[222..].copy_from_slice(&signers.to_le_bytes());
+            place[..RECORD].copy_from_slice(record);
+            place[RECORD..].copy_from_slice(&signers.to_le_bytes());
         }
     }
 }
@@ -100,7 +103,7 @@ pub fn report(memory: &mut [u8], engine: u32, record: &[u8]) -> u32 {
     if Record::read(record).is_none() {
         return 3;
     }
-    let record: [u8; 222] = record.try_into().unwrap();
+    let record: [u8; RECORD] = record.try_into().unwrap();
     if has(register.convicted, engine as u8) {
         return 4;
     }

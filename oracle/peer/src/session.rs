@@ -2,6 +2,7 @@
 
 use crate::board;
 use crate::register::{self, Register};
+use oracle::layout::{COVARIANCE_AT, MAX_TAGS, MODEL_COUNT_AT, MODELS_AT, Mask, RECORD, SPEC_AT, TAG_COUNT_AT, TAGS_AT, USED_AT};
 
 const MOST: usize = 65_536;
 
@@ -12,7 +13,7 @@ const QUIET: &str = "transmissions=0\n";
 enum Operation {
     Summary { engine: u8, model: u8, spec: u16, inputs: Vec<u8> },
     Convict { engine: u8 },
-    Report { engine: u8, record: [u8; 222] },
+    Report { engine: u8, record: [u8; RECORD] },
 }
 
 /// The number of a bad line.
@@ -68,7 +69,7 @@ fn list<T: TryFrom<i128>>(text: &[u8], most: usize) -> Option<Vec<T>> {
 }
 
 fn report(lines: &mut Lines) -> Result<Operation, Bad> {
-    let mut b = [0u8; 222];
+    let mut b = [0u8; RECORD];
     let engine = lines.read("engine", number::<u8>)?;
     b[..8].copy_from_slice(&lines.read("time", number::<u64>)?.to_le_bytes());
     b[8..12].copy_from_slice(&lines.read("lat", number::<i32>)?.to_le_bytes());
@@ -81,20 +82,20 @@ fn report(lines: &mut Lines) -> Result<Operation, Bad> {
     let message = lines.read("message", |v| hex(v, &[14, 28]))?;
     b[21] = message.len() as u8;
     b[22..22 + message.len()].copy_from_slice(&message);
-    let tags = lines.read("tags", |v| list::<u64>(v, 16))?;
-    b[36] = tags.len() as u8;
+    let tags = lines.read("tags", |v| list::<u64>(v, MAX_TAGS))?;
+    b[TAG_COUNT_AT] = tags.len() as u8;
     for (i, tag) in tags.iter().enumerate() {
-        b[39 + 8 * i..47 + 8 * i].copy_from_slice(&tag.to_le_bytes());
+        b[TAGS_AT + 8 * i..][..8].copy_from_slice(&tag.to_le_bytes());
     }
-    b[37..39].copy_from_slice(&lines.read("used", number::<u16>)?.to_le_bytes());
+    b[USED_AT..TAGS_AT].copy_from_slice(&lines.read("used", number::<Mask>)?.to_le_bytes());
     let models = lines.read("models", |v| if v == b"none" { Some(Vec::new()) } else { list::<u8>(v, 4) })?;
-    b[167] = models.len() as u8;
-    b[168..168 + models.len()].copy_from_slice(&models);
-    b[172..174].copy_from_slice(&lines.read("spec", number::<u16>)?.to_le_bytes());
+    b[MODEL_COUNT_AT] = models.len() as u8;
+    b[MODELS_AT..][..models.len()].copy_from_slice(&models);
+    b[SPEC_AT..COVARIANCE_AT].copy_from_slice(&lines.read("spec", number::<u16>)?.to_le_bytes());
     let covariance = lines.read("cov", |v| hex(v, &[96]))?;
     for (i, value) in covariance.chunks_exact(8).enumerate() {
         let bits = u64::from_be_bytes(value.try_into().unwrap());
-        b[174 + 8 * i..182 + 8 * i].copy_from_slice(&bits.to_le_bytes());
+        b[COVARIANCE_AT + 8 * i..][..8].copy_from_slice(&bits.to_le_bytes());
     }
     Ok(Operation::Report { engine, record: b })
 }

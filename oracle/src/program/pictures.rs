@@ -2,6 +2,7 @@
 
 use oracle::Record;
 use oracle::decide::{SIZE, decide};
+use oracle::layout::{CONSISTENT_AT, RECORD, STANDING_AT};
 use std::fmt::Write;
 
 /// The fix of this number, whose tags are those of the mask.
@@ -21,9 +22,9 @@ fn item(number: u8, mask: u64, unit: u64) -> [u8; SIZE] {
         covariance: [variance, 0.0, 0.0, variance, 0.0, variance],
     };
     let mut item = [0; SIZE];
-    item[..222].copy_from_slice(&record.write());
-    item[285] = number;
-    item[294] = 1;
+    item[..RECORD].copy_from_slice(&record.write());
+    item[STANDING_AT - 1] = number;
+    item[CONSISTENT_AT] = 1;
     item
 }
 
@@ -42,7 +43,8 @@ pub fn all() -> String {
         let told = decide(&items).expect("items that can be decided");
         let refused = told.refusals.iter().map(|one| one.refused);
         let (ranked, dominated) = (numbers(told.ranked.into_iter()), numbers(told.dominated.into_iter()));
-        writeln!(out, "case={} ranked={ranked} dominated={dominated} refused={}", case + 1, numbers(refused)).expect("room for a line");
+        writeln!(out, "case={} ranked={ranked} dominated={dominated} refused={}", case + 1, numbers(refused))
+            .expect("room for a line");
     }
     out
 }
