@@ -12,7 +12,7 @@ ghost use Rattle.fix_lines.specs.Standings.{standing_name, refusal_text, standin
 use arithmetic::standing::ChiSquare;
 use engines::Signers;
 use record::Record;
-use text::{Append, Hex, Metres, Text};
+use text::{Hex, Metres, Text};
 
 pub mod claims;
 
@@ -25,17 +25,15 @@ pub enum Standing {
     Refused(ChiSquare),
 }
 
-// In a word.
-impl Append for Standing {
-    ghost text = { standing_name };
-
-    #[tactic(auto, unfolding(crate::specs::Standings::standing_name, octets::specs::Ascii::ascii))]
-    fn append_to(&self, out: &mut Text) {
-        match self {
-            Standing::Ranked => out.push_str("ranked"),
-            Standing::Dominated => out.push_str("dominated"),
-            Standing::Refused(_) => out.push_str("refused"),
-        }
+// What became of a fix, in a word.
+#[tactic(auto, unfolding(crate::specs::Standings::standing_name, octets::specs::Ascii::ascii))]
+fn push_role(out: &mut Text, standing: Standing)
+    ensures { out.new ≡ append out.old (ascii "role=" ++ standing_name standing) }
+{
+    match standing {
+        Standing::Ranked => out.push_str("role=ranked"),
+        Standing::Dominated => out.push_str("role=dominated"),
+        Standing::Refused(_) => out.push_str("role=refused"),
     }
 }
 
@@ -90,7 +88,7 @@ fn push_weight(out: &mut Text, report: Record)
 fn push_fix(out: &mut Text, standing: Standing, report: Record, signers: Signers)
     ensures { out.new ≡ append out.old (L.fix_text (standing_name standing) report.entry.bytes.now signers) }
 {
-    out.push_field("role=", &standing);
+    push_role(out, standing);
     push_where_when(out, report);
     push_height(out, report);
     push_weight(out, report);

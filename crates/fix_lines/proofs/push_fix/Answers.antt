@@ -10,5 +10,5 @@ pub returns : goal.returns
 unfolding fix_text ascii
 returns c =
     let line = λ (signers : ℕ). append c.args.out.now (fix_text (standing_name c.args.standing) c.args.report.bytes.now signers) in
-    let written : c.push_field-2.new.self ≡ line c.mask.result = search append-then depth 10 in
+    let written : c.push_field.new.self ≡ line c.mask.result = search append-then depth 10 in
     written ∙ ap line c.mask.ensures
