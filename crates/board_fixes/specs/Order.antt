@@ -1,14 +1,13 @@
 -- How fixes stand in the order of identities.
 -- Source: docs/REFERENCE.md, 'Register and board', step 3.
-use Rattle.std.specs.Prelude.{Bool, true, cond, ◌&&◌, List, [], ◌∷◌, ℕ}
+use Rattle.std.specs.Prelude.{Bool, true, ◌&&◌, List, [], ◌∷◌, ℕ}
 use Rattle.std.specs.declared.cmp.Ordering.{Ordering}
-use Rattle.std.specs.declared.cmp.Ordering.TheVariants.{Less, Equal, Greater}
 use Rattle.octets.specs.Order.{is_before}
+use Rattle.models.specs.Compared.{byte_order}
 use Rattle.fixes.specs.Fix.{Fix}
-use Rattle.fixes.specs.Shown.{lower}
 
 abbrev pub order : Fix → Fix → Ordering
-order f g = cond (lower f g) Less (cond (lower g f) Greater Equal)
+order f g = byte_order f.identity g.identity
 
 -- the identities ascend strictly, from one that comes before them all
 unfoldable pub identities_ascend_from : List ℕ → List Fix → Bool

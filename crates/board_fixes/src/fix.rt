@@ -6,7 +6,7 @@ ghost use Rattle.board_fixes.specs.Order.{order};
 ghost use Rattle.board_fixes.specs.Slots.{fix_of};
 
 use engines::Signers;
-use models::hashes::{Identity, Inputs, precedes};
+use models::hashes::{Identity, Inputs};
 use models::identities;
 use record::Record;
 use record::relations::lesser;
@@ -51,13 +51,7 @@ impl<'a> Fix<'a> {
     pub fn compare(&self, other: &Fix<'_>) -> Ordering
         ensures { result ≡ order self.now other.now }
     {
-        if precedes(&self.identity, &other.identity) {
-            return Ordering::Less;
-        }
-        if precedes(&other.identity, &self.identity) {
-            return Ordering::Greater;
-        }
-        Ordering::Equal
+        self.identity.cmp(&other.identity)
     }
 
     /// Takes a further fix of this identity in: the lesser of the two records represents both.

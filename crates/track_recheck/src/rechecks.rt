@@ -28,7 +28,7 @@ fn stands(summaries: Summaries, fix: &Fix<'_>) -> bool
     ensures { result ≡ T.stands (summary_places summaries.entry) fix.now }
 {
     match cited_inputs(summaries, fix.report) {
-        Some(inputs) => octets::order::equal(inputs.bytes(), fix.inputs.bytes()),
+        Some(inputs) => inputs == fix.inputs,
         None => false,
     }
 }

@@ -15,7 +15,7 @@ ghost use Rattle.track_transmission.specs.Values.{same_set};
 use crate::layout::{FIX_SIZE, INPUTS_AT, SIGNERS_AT};
 use engines::Signers;
 use models::hashes::{HASH_SIZE, Identity, Inputs};
-use models::{hashes, identities};
+use models::identities;
 use record::Record;
 use record::layout::RECORD_SIZE;
 use std::marker::Model;
@@ -123,14 +123,14 @@ impl<'a> Fix<'a> {
     {
         self.report.has_message_of(other.report)
             && octets::order::equal(self.report.tag_bytes(), other.report.tag_bytes())
-            && octets::order::equal(self.inputs.bytes(), other.inputs.bytes())
+            && self.inputs == other.inputs
     }
 
     /// Whether its identity comes before that of another fix.
     pub fn precedes(&self, other: &Fix<'_>) -> bool
         ensures { result ≡ lower self.now other.now }
     {
-        hashes::precedes(&self.identity(), &other.identity())
+        self.identity() < other.identity()
     }
 
     /// Whether it has the identity of another fix.
@@ -138,11 +138,11 @@ impl<'a> Fix<'a> {
         ensures { result ≡ is_of other.now self.now }
     {
         if let (Some(a), Some(b)) = (&self.known, &other.known) {
-            return octets::order::equal(a.bytes(), b.bytes());
+            return a == b;
         }
         if self.has_set_of(other) {
             return true;
         }
-        octets::order::equal(self.identity().bytes(), other.identity().bytes())
+        self.identity() == other.identity()
     }
 }

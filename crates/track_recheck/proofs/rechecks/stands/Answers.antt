@@ -1,4 +1,4 @@
-use Rattle.std.proofs.Common.{◌≡◌, Bool, true, false, ◌&&◌, refl, ap, ◌∙◌}
+use Rattle.std.proofs.Common.{◌≡◌, ℕ, List, Bool, true, false, ◌&&◌, refl, ap, ◌∙◌}
 use Rattle.octets.specs.Order.{same}
 use Rattle.models.specs.Models.{counts}
 use Rattle.models.specs.Identity.{cited_inputs}
@@ -18,8 +18,8 @@ returns-in-Some c =
     let ss = summary_places c.args.summaries in
     let r = c.fix.inside.report.bytes.now in
     let k = cites ss r _ c.cited_inputs.ensures c.in-Some.inputs c.in-Some.is in
-    let alike : c.equal.result ≡ same (cited_inputs ss r) c.fix.inside.inputs = rw (c.bytes.ensures ∙ k.1, c.bytes-in-Some.ensures) at c.equal.ensures in
-    counted (counts ss r) c.equal.result (same (cited_inputs ss r) c.fix.inside.inputs) k.0 alike ∙ ap (stands ss) c.fix.view_is
+    let alike : c.eq.result ≡ same (cited_inputs ss r) c.fix.inside.inputs = c.eq.ensures ∙ ap (λ (l : List ℕ). same l c.fix.inside.inputs) k.1 in
+    counted (counts ss r) c.eq.result (same (cited_inputs ss r) c.fix.inside.inputs) k.0 alike ∙ ap (stands ss) c.fix.view_is
 
 pub returns-in-None : goal.returns-in-None
 returns-in-None c =
