@@ -7,12 +7,11 @@ ghost use Rattle.fixes.specs.Items.{AllFormed};
 ghost use Rattle.board_fixes.specs.Fixes as F;
 ghost use Rattle.board_fixes.specs.Order.{identities_ascend};
 
-mod fix;
-
 use arrayvec::ArrayVec;
 use decision_items::layout::MAX_ITEMS;
-pub use fix::Fix;
+pub use fixes::Fix;
 use models::citations::cited_inputs;
+use record::relations::lesser;
 use register::view::View;
 
 /// The most fixes on a board: as many as are decided at once.
@@ -21,6 +20,18 @@ pub const MAX_FIXES: usize = MAX_ITEMS;
 /// The fixes of a board, in ascending identity.
 pub type Fixes<'a> = ArrayVec<Fix<'a>, MAX_FIXES>;
 
+// Takes a further fix of the same identity into a fix: the lesser of the two records represents both.
+fn unite<'a>(fix: &mut Fix<'a>, other: Fix<'a>)
+    ensures { fix.new ≡ F.unite fix.old other.entry }
+{
+    let signers = fix.signers.union(other.signers);
+    let represents = lesser(fix.report, other.report);
+    if !octets::order::equal(represents.bytes, fix.report.bytes) {
+        *fix = other;
+    }
+    fix.signers = signers;
+}
+
 // Puts a further fix among fixes in ascending identity.
 fn enter<'a>(fixes: &mut Fixes<'a>, fix: Fix<'a>)
     requires room { array_vec_len fixes.old < MAX_FIXES }
@@ -28,7 +39,7 @@ fn enter<'a>(fixes: &mut Fixes<'a>, fix: Fix<'a>)
     ensures { fixes.new.items ≡ F.enter fix.entry fixes.old.items }
 {
     match fixes.binary_search_by(|held| held.compare(&fix)) {
-        Ok(i) => fixes[i].unite(fix),
+        Ok(i) => unite(&mut fixes[i], fix),
         Err(i) => fixes.insert(i, fix),
     }
 }

@@ -20,8 +20,7 @@ fn item_at<'s>(transmission: &Transmission<'s, '_>, i: usize) -> Item<'s>
     requires { i < length transmission.now.indices }
     ensures { IsFix (fix_at (members_of transmission.now) i) result }
 {
-    let fix = transmission.fix(i);
-    fixes::item_of(fix.report, fix.inputs.bytes(), fix.identity.bytes())
+    transmission.fix(i).item()
 }
 
 // Appends the lines of some of its fixes, which are named by their indices.

@@ -1,4 +1,4 @@
-//! Fixes as the items of a decision.
+//! Fixes, and fixes as the items of a decision.
 #![tactic(auto)]
 
 ghost use Rattle.std.specs.Prelude.{◌≡◌};
@@ -6,9 +6,11 @@ ghost use Rattle.fixes.specs.Decided.{candidate_for};
 
 use decision_items::layout::HASH_SIZE;
 use decision_items::{Candidate, Item, Verified};
+pub use fix::Fix;
 use record::Record;
 
 pub mod claims;
+mod fix;
 
 /// A record with its model inputs and its identity as an item: standing 0, consistent, unjudged, not preferred.
 pub fn item_of<'a>(

@@ -23,7 +23,7 @@ use record::Record;
 use track_memory::layout;
 use track_memory::view::View;
 use track_merge::Merged;
-use track_transmission::fix::Fix;
+use track_transmission::fix::HeldFix;
 
 // The number of an answer.
 fn number_of(answer: Merged) -> u32
@@ -88,14 +88,13 @@ fn merge_record(memory: &mut [u8], engine: Engine, r: Record, inputs: Inputs) ->
     requires inputs { inputs ≡ cited_inputs (decode memory.old).summaries r.bytes.now }
     ensures { after (merged_number result) memory.new ≡ commit memory.old (take_cited engine r.entry.bytes.now (decode memory.old)) }
 {
-    let fix = Fix {
+    let fix = HeldFix {
         report: r,
         inputs,
         signers: Signers::from_mask(0).with(engine),
-        known: None,
     };
     let count = memory[layout::TRANSMISSION_COUNT_AT] as usize;
-    let x = track_merge::merge(&mut memory[layout::TRANSMISSIONS_AT..], count, fix);
+    let x = track_merge::merge(&mut memory[layout::TRANSMISSIONS_AT..], count, &fix);
     let left = x.count;
     let answer = x.answer;
     put_step(memory, left as u8, x.entered);

@@ -6,7 +6,11 @@ use Rattle.fixes.specs.Fix.{Fix}
 use Rattle.fixes.specs.Ages.{older}
 use Rattle.track_transmission.specs.Held.{HeldTransmission}
 use Rattle.track_arrange.specs.Arranged.{max_transmissions}
-use Rattle.track_arrange.specs.declared.leads.Lead.{Lead}
+
+-- a transmission by its place, and the fix that is kept of it
+pub record Lead : Type 0 where
+  pub place : ℕ
+  pub kept : Fix
 
 module _ {A : Type 0} (before : A → A → Bool) where
   -- x put in behind those that it does not come before

@@ -9,34 +9,77 @@ ghost use Rattle.track_arrange.specs.Leads.{before, put_behind, put_all_behind, 
 
 use crate::{Blocks, MAX_LEADS, MAX_TRANSMISSIONS};
 use arrayvec::ArrayVec;
-use track_transmission::fix::Fix;
+use models::hashes::Identity;
+use std::marker::Model;
+use track_transmission::fix::HeldFix;
 
 /// A transmission by its place, and the fix that is kept of it.
 #[derive(Default, Drop)]
 pub struct Lead<'a> {
-    pub place: usize,
-    pub kept: Fix<'a>,
+    place: usize,
+    kept: HeldFix<'a>,
+    // The identity of that fix, once it is worked out: that takes two hashes.
+    known: Option<Identity>,
 }
 
-// When a fix was transmitted.
-fn time(fix: &Fix<'_>) -> u64
-    ensures { result ≡ time_of fix.now }
-{
-    fix.report.time()
+impl<'a> Model for Lead<'a> {
+    ghost use Rattle.std.specs.Prelude.{◌≡◌, IfSome};
+    ghost use Rattle.track_arrange.specs.Leads as S;
+
+    ghost Value = { S.Lead };
+
+    ghost view = { λ l. record { place = l.place; kept = l.kept } };
+
+    ghost invariant = { λ l. IfSome l.known (λ id. id ≡ l.kept.identity) };
 }
 
-impl Lead<'_> {
+impl<'a> Lead<'a> {
+    fn of(place: usize, kept: HeldFix<'a>) -> Lead<'a>
+        ensures { result ≡ record { place = place; kept = kept.entry } }
+    {
+        Lead {
+            place,
+            kept,
+            known: None,
+        }
+    }
+
+    // When its fix was transmitted.
+    fn time(&self) -> u64
+        ensures { result ≡ time_of self.now.kept }
+    {
+        let kept = &self.kept;
+        kept.report.time()
+    }
+
+    // The identity of its fix.
+    fn identity(&self) -> Identity
+        ensures { result ≡ self.now.kept.identity }
+    {
+        match self.known {
+            Some(identity) => identity,
+            None => self.kept.identity(),
+        }
+    }
+
+    // Works that out, unless it is known.
+    fn learn(&mut self)
+        ensures { self.new ≡ self.old }
+    {
+        self.known = Some(self.identity());
+    }
+
     // Whether its transmission is older than that of another: by time, and only where the times are equal by identity.
     fn is_older(&self, other: &Lead<'_>) -> bool
         ensures { result ≡ older self.now.kept other.now.kept }
     {
-        if time(&self.kept) < time(&other.kept) {
+        if self.time() < other.time() {
             return true;
         }
-        if time(&other.kept) < time(&self.kept) {
+        if other.time() < self.time() {
             return false;
         }
-        self.kept.precedes(&other.kept)
+        self.identity() < other.identity()
     }
 }
 
@@ -51,9 +94,9 @@ fn learn_ties(leads: &mut Leads<'_>, lead: &mut Lead<'_>)
     ensures lead { lead.new ≡ lead.old }
 {
     for held in leads.iter_mut() {
-        if time(&held.kept) == time(&lead.kept) {
-            held.kept.learn();
-            lead.kept.learn();
+        if held.time() == lead.time() {
+            held.learn();
+            lead.learn();
         }
     }
 }
@@ -84,7 +127,7 @@ fn enter_all<'a>(leads: &mut Leads<'a>, blocks: &Blocks<'a>)
     let blocks = blocks.as_slice();
     for (place, block) in blocks.iter().enumerate() {
         if let Some(kept) = block.kept() {
-            enter(leads, Lead { place, kept });
+            enter(leads, Lead::of(place, kept));
         }
     }
 }

@@ -14,7 +14,7 @@ use fix_lines::Standing;
 use text::Text;
 use track_memory::view::View;
 use track_transmission::block::Block;
-use track_transmission::refused::RefusedFix;
+use track_transmission::refused::HeldRefusal;
 
 pub mod claims;
 
@@ -33,7 +33,7 @@ fn push_standing(out: &mut Text, block: &Block<'_>)
 }
 
 // The line of a refused fix.
-fn push_refusal(out: &mut Text, refusal: &RefusedFix<'_>)
+fn push_refusal(out: &mut Text, refusal: &HeldRefusal<'_>)
     ensures { out.new ≡ append out.old (T.refused_text refusal.now) }
 {
     let fix = &refusal.fix;

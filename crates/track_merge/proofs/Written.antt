@@ -16,7 +16,7 @@ use Rattle.record.specs.Formed.{well_formed}
 use Rattle.decision_items.specs.Layout.{hash_size}
 use Rattle.fixes.specs.Fix.{Fix}
 use Rattle.track_transmission.specs.Held.{HeldTransmission, is_of}
-use Rattle.track_transmission.specs.Values.{fix_from}
+use Rattle.fixes.specs.Made.{fix_from}
 use Rattle.track_normalize.proofs.Validity.{Holdable}
 
 -- a fix that is a value

@@ -13,11 +13,12 @@ ghost use Rattle.track_arrange.specs.Blocks as B;
 ghost use Rattle.track_merge.specs.Merged as M;
 ghost use Rattle.track_merge.specs.Searching as S;
 
+use fixes::Fix;
 use record::Record;
 use track_normalize::Joined;
 use track_normalize::blocks::take_in;
 use track_transmission::block::Block;
-use track_transmission::fix::Fix;
+use track_transmission::fix::{HeldFix, put_parts};
 use track_transmission::layout::{FIX_COUNT_AT, FIXES_AT, TRANSMISSION_SIZE};
 
 pub mod claims;
@@ -62,35 +63,23 @@ fn only_tied(blocks: &[Block<'_>], r: Record) -> Option<usize>
 }
 
 // A transmission of one fix, in its bytes.
-fn alone(fix: Fix<'_>) -> [u8; TRANSMISSION_SIZE]
-    ensures held { transmission_in result ≡ S.single fix.entry }
+fn alone(fix: &HeldFix<'_>) -> [u8; TRANSMISSION_SIZE]
+    ensures held { transmission_in result ≡ S.single fix.now }
     ensures steady { Steady result }
 {
-    // A proof learns what holds of a fix where a field of it is read.
-    let _known = fix.known;
     let mut b = [0u8; TRANSMISSION_SIZE];
     b[FIX_COUNT_AT] = 1;
-    fix.put(&mut b, FIXES_AT);
+    put_parts(&mut b, FIXES_AT, fix.report, fix.signers, &fix.inputs);
     b
 }
 
-// Whether a fix has the message, tags and inputs of another: then it has its identity.
-fn has_set(held: &Fix<'_>, fix: &Fix<'_>) -> bool
-    ensures { result ≡ true → is_of fix.now held.now ≡ true }
-{
-    // A proof learns what holds of the two where a field of each is read.
-    let _held = held.known;
-    let _known = fix.known;
-    held.has_set_of(fix)
-}
-
 // Whether the fix kept of some transmission has the message, tags and inputs of a fix.
-fn keeps_set(blocks: &[Block<'_>], fix: &Fix<'_>) -> bool
+fn keeps_set(blocks: &[Block<'_>], fix: &HeldFix<'_>) -> bool
     ensures { result ≡ true → list_any (M.keeps fix.now) blocks.now ≡ true }
 {
     for block in blocks {
         if let Some(kept) = block.kept() {
-            if has_set(&kept, fix) {
+            if kept.has_set_of(fix) {
                 return true;
             }
         }
@@ -116,22 +105,21 @@ fn keeps_identity(blocks: &[Block<'_>], fix: &Fix<'_>) -> bool
 }
 
 // The same. Mostly that is the fix itself, and nothing is hashed.
-fn keeps(blocks: &[Block<'_>], mut fix: Fix<'_>) -> bool
-    ensures { result ≡ list_any (M.keeps fix.entry) blocks.now }
+fn keeps(blocks: &[Block<'_>], fix: &HeldFix<'_>) -> bool
+    ensures { result ≡ list_any (M.keeps fix.now) blocks.now }
 {
-    if keeps_set(blocks, &fix) {
+    if keeps_set(blocks, fix) {
         return true;
     }
-    fix.learn();
-    keeps_identity(blocks, &fix)
+    keeps_identity(blocks, &fix.identified())
 }
 
 // A fix that is tied to none or to several transmissions opens one of its own.
-fn open(t: &mut [u8], n: usize, fix: Fix<'_>) -> Outcome
+fn open(t: &mut [u8], n: usize, fix: &HeldFix<'_>) -> Outcome
     requires { Filled t.old n }
-    ensures { S.Leaves (M.opened fix.entry (B.held n t.old)) result t.new }
+    ensures { S.Leaves (M.opened fix.now (B.held n t.old)) result t.new }
 {
-    let count = track_arrange::admit(t, n, &alone(fix.copied()));
+    let count = track_arrange::admit(t, n, &alone(fix));
     let answer = if keeps(&track_arrange::blocks(t, count), fix) {
         Merged::Changed
     } else {
@@ -145,15 +133,14 @@ fn open(t: &mut [u8], n: usize, fix: Fix<'_>) -> Outcome
 }
 
 // The first of so many held fixes that has the identity of another, if one has. Where there are none, nothing is hashed.
-fn first_identified(block: &Block<'_>, n: u8, fix: &Fix<'_>) -> Option<u8>
+fn first_identified(block: &Block<'_>, n: u8, fix: &HeldFix<'_>) -> Option<u8>
     requires { n ≤ length (held_in block.now) }
     ensures { result ≡ position (is_of fix.now) (take n (held_in block.now)) }
 {
     if n == 0 {
         return None;
     }
-    let mut fix = fix.copied();
-    fix.learn();
+    let fix = fix.identified();
     for i in 0..n {
         if block.held_fix(i).is_of(&fix) {
             return Some(i);
@@ -163,11 +150,11 @@ fn first_identified(block: &Block<'_>, n: u8, fix: &Fix<'_>) -> Option<u8>
 }
 
 // The first held fix that has the identity of another, where some held fix has its message, tags and inputs.
-fn duplicate_of(block: &Block<'_>, fix: &Fix<'_>) -> Option<u8>
+fn duplicate_of(block: &Block<'_>, fix: &HeldFix<'_>) -> Option<u8>
     ensures { IfSome result (λ k. position (is_of fix.now) (held_in block.now) ≡ Some k) }
 {
     for k in 0..block.held_count() {
-        if has_set(&block.held_fix(k), fix) {
+        if block.held_fix(k).has_set_of(fix) {
             return Some(first_identified(block, k, fix).unwrap_or(k));
         }
     }
@@ -175,18 +162,18 @@ fn duplicate_of(block: &Block<'_>, fix: &Fix<'_>) -> Option<u8>
 }
 
 // A fix in the transmission that it is tied to. Where a held fix has its message, tags and inputs, four bytes are written.
-fn join(b: &mut [u8], fix: Fix<'_>) -> Option<Joined>
+fn join(b: &mut [u8], fix: &HeldFix<'_>) -> Option<Joined>
     requires { Steady b.old }
-    ensures left { b.new ≡ transmission_bytes (taken_in fix.entry (transmission_in b.old)) }
-    ensures told { result ≡ told_of fix.entry (transmission_in b.old) }
-    ensures decided { IfSome result (λ _. Steady b.new × (transmission_in b.new ≡ with_fix fix.entry (transmission_in b.old))) }
+    ensures left { b.new ≡ transmission_bytes (taken_in fix.now (transmission_in b.old)) }
+    ensures told { result ≡ told_of fix.now (transmission_in b.old) }
+    ensures decided { IfSome result (λ _. Steady b.new × (transmission_in b.new ≡ with_fix fix.now (transmission_in b.old))) }
 {
     let b = b.as_mut_array().unwrap();
-    if let Some(k) = duplicate_of(&Block::of(b), &fix) {
+    if let Some(k) = duplicate_of(&Block::of(b), fix) {
         track_transmission::sign(b, k, fix.signers);
         return None;
     }
-    take_in(b, fix)
+    take_in(b, &fix.identified())
 }
 
 // What is answered of a fix that all were decided again with. Contested goes before Changed.
@@ -203,10 +190,10 @@ fn answer_of(j: Joined) -> Merged
 }
 
 // A fix that is tied to transmission i alone.
-fn join_at(t: &mut [u8], n: usize, i: usize, fix: Fix<'_>) -> Outcome
+fn join_at(t: &mut [u8], n: usize, i: usize, fix: &HeldFix<'_>) -> Outcome
     requires filled { Filled t.old n }
-    requires only { S.only (tied_to fix) (B.held n t.old) ≡ Some i }
-    ensures { S.Leaves (M.merged fix.entry (B.held n t.old)) result t.new }
+    requires only { S.only (tied_to fix.now) (B.held n t.old) ≡ Some i }
+    ensures { S.Leaves (M.merged fix.now (B.held n t.old)) result t.new }
 {
     let a = i * TRANSMISSION_SIZE;
     let e = a + TRANSMISSION_SIZE;
@@ -226,9 +213,9 @@ fn join_at(t: &mut [u8], n: usize, i: usize, fix: Fix<'_>) -> Outcome
 }
 
 /// Takes a further fix in among n transmissions.
-pub fn merge(t: &mut [u8], n: usize, fix: Fix<'_>) -> Outcome
+pub fn merge(t: &mut [u8], n: usize, fix: &HeldFix<'_>) -> Outcome
     requires { Filled t.old n }
-    ensures { S.Leaves (M.merged fix.entry (B.held n t.old)) result t.new }
+    ensures { S.Leaves (M.merged fix.now (B.held n t.old)) result t.new }
 {
     match only_tied(&track_arrange::blocks(t, n), fix.report) {
         Some(i) => join_at(t, n, i, fix),

@@ -1,17 +1,12 @@
--- No claim rests on these definitions: they say what becomes of a transmission that loses fixes, or that a further fix is tied to, and what is told of that fix.
+-- No claim rests on these definitions: they say what becomes of a transmission that a further fix is tied to, what is told of that fix, and which transmission stays as it is.
 use Rattle.std.specs.Prelude.{◌≡◌, cond, Option, Some, None}
-use Rattle.std.specs.List.{filter, list_any}
+use Rattle.std.specs.List.{list_any}
 use Rattle.fixes.specs.Fix.{Fix}
-use Rattle.track_transmission.specs.Held.{HeldTransmission, fix_of, held_in, is_of}
+use Rattle.track_transmission.specs.Held.{HeldTransmission, held_in, is_of}
 use Rattle.track_normalize.specs.Normal.{normalized}
-use Rattle.track_normalize.specs.Signed.{is_signed}
 use Rattle.track_normalize.specs.Joining.{with_fix, sign_in}
 use Rattle.track_normalize.specs.Did.{joined_as}
 use Rattle.track_normalize.specs.declared.Joined.{Joined}
-
--- the fixes that some engine signed
-abbrev pub signed_only : HeldTransmission → HeldTransmission
-signed_only t = record { fixes = filter is_signed t.fixes; refused = filter (λ x. is_signed (fix_of x)) t.refused }
 
 -- its identity is held and gains signers, or all is decided again
 abbrev pub taken_in : Fix → HeldTransmission → HeldTransmission

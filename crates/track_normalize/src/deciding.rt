@@ -1,13 +1,10 @@
 //! What is kept of the fixes of one transmission, once they are decided: the best five of those that stand, and of the refused the four of
 //! lowest identity.
 
-ghost use Rattle.std.specs.Prelude.{◌≡◌, not, map, position, All, IsTrue, ◌<◌, length, take};
+ghost use Rattle.std.specs.Prelude.{◌≡◌, not, map, position, All, ◌<◌, length, take};
 ghost use Rattle.lists.specs.Lists.{insert, sort};
 ghost use Rattle.fixes.specs.Items.{fix_at};
 ghost use Rattle.track_transmission.specs.Layout.{max_standing, max_refused};
-ghost use Rattle.track_transmission.specs.Held.{held_in};
-ghost use Rattle.track_normalize.specs.Normal.{normalized};
-ghost use Rattle.track_normalize.specs.Taking.{Settled};
 ghost use Rattle.track_normalize.specs.Joining.{with_fix};
 ghost use Rattle.track_normalize.specs.Deciding.{normalized_distinct, named_refused, lower_held};
 
@@ -15,7 +12,7 @@ use crate::gathering::{Gathered, gather, gather_all, gather_refused};
 use crate::outcome::outcome;
 use arrayvec::ArrayVec;
 use decision::Refusal;
-use track_transmission::fix::Fix;
+use fixes::Fix;
 use track_transmission::layout::{MAX_REFUSED, MAX_STANDING};
 use track_transmission::refused::RefusedFix;
 use track_transmission::transmission::Transmission;
@@ -68,37 +65,26 @@ fn list_refused<'a>(
     refused.clear();
     for k in (0..refusals.len()).rev() {
         let x = refusals[k];
+        let against = &fixes[x.kept as usize];
         enter(
             refused,
             RefusedFix {
                 fix: fixes[x.refused as usize].copied(),
-                against: fixes[x.kept as usize].identity(),
+                against: against.identity,
                 chi2: arithmetic::stored_bits(x.chi2),
             },
         );
     }
 }
 
-// Puts what is kept of fixes in the place of what a transmission holds.
-fn decide<'a>(fixes: &Gathered<'a>, into: &mut Transmission<'a>)
+/// Puts what is kept of fixes of different identities in the place of what a transmission holds.
+pub fn decide<'a>(fixes: &Gathered<'a>, into: &mut Transmission<'a>)
     ensures { into.new ≡ normalized_distinct fixes.now.items }
 {
     let fixes = fixes.as_slice();
     let decided = outcome(fixes);
     list_standing(fixes, &decided.ranked, &mut into.fixes);
     list_refused(fixes, &decided.refusals, &mut into.refused);
-}
-
-/// Decides the fixes that a transmission holds again, and tells whether none was forgotten: then it is settled.
-pub fn decide_again(held: &mut Transmission<'_>) -> bool
-    ensures again { held.new ≡ normalized (held_in held.old) }
-    ensures settled { IsTrue result → Settled held.new }
-{
-    let mut gathered = Gathered::new();
-    gather_all(&mut gathered, &held.fixes);
-    gather_refused(&mut gathered, &held.refused);
-    decide(&gathered, held);
-    held.fixes.len() + held.refused.len() == gathered.len()
 }
 
 /// Puts what is kept of the fixes that a transmission holds and of a further one in the place of what another holds.

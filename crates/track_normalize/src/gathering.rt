@@ -6,7 +6,7 @@ ghost use Rattle.track_transmission.specs.Held.{is_of, fix_of};
 ghost use Rattle.track_normalize.specs.Normal as N;
 
 use arrayvec::ArrayVec;
-use track_transmission::fix::Fix;
+use fixes::Fix;
 use track_transmission::layout::{MAX_REFUSED, MAX_STANDING};
 use track_transmission::refused::RefusedFix;
 

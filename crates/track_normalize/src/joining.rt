@@ -9,7 +9,7 @@ ghost use Rattle.track_normalize.specs.Did.{joined_as};
 use crate::Joined;
 use crate::deciding::decide_with;
 use crate::gathering::seat_of;
-use track_transmission::fix::Fix;
+use fixes::Fix;
 use track_transmission::refused::RefusedFix;
 use track_transmission::transmission::Transmission;
 

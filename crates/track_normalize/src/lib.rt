@@ -4,8 +4,8 @@
 
 pub mod blocks;
 pub mod claims;
-pub mod deciding;
-mod gathering;
+mod deciding;
+pub mod gathering;
 mod joining;
 mod outcome;
 

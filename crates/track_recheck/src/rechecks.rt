@@ -1,10 +1,12 @@
 //! Which fixes a track's summaries still bear out, and those that they do not taken out.
 
 ghost use Rattle.std.specs.Prelude.{◌≡◌, true, IsTrue, map};
-ghost use Rattle.std.specs.List.{list_any};
+ghost use Rattle.std.specs.List.{filter, list_any};
 ghost use Rattle.models.specs.Answers.{summary_places};
+ghost use Rattle.track_transmission.specs.Held.{held_in};
 ghost use Rattle.track_transmission.specs.Bytes.{transmission_in};
 ghost use Rattle.track_transmission.specs.Parts.{Sound, Steady};
+ghost use Rattle.track_normalize.specs.Normal.{distinct};
 ghost use Rattle.track_normalize.specs.Taking.{Settled};
 ghost use Rattle.track_arrange.specs.Blocks.{Filled};
 ghost use Rattle.track_arrange.specs.Blocks as B;
@@ -17,14 +19,14 @@ use models::summaries::Summaries;
 use octets::words::u16_at;
 use track_memory::layout;
 use track_memory::view::View;
-use track_normalize::deciding::decide_again;
+use track_normalize::blocks::write_left;
+use track_normalize::gathering::{Gathered, gather};
 use track_transmission::block::Block;
-use track_transmission::fix::Fix;
+use track_transmission::fix::HeldFix;
 use track_transmission::layout::TRANSMISSION_SIZE;
-use track_transmission::transmission::Transmission;
 
 // Whether the models of a fix still say what it was checked under.
-fn stands(summaries: Summaries, fix: &Fix<'_>) -> bool
+fn stands(summaries: Summaries, fix: &HeldFix<'_>) -> bool
     ensures { result ≡ T.stands (summary_places summaries.entry) fix.now }
 {
     match cited_inputs(summaries, fix.report) {
@@ -54,13 +56,17 @@ fn any_stale(track: &View<'_>) -> bool
     blocks.iter().any(|block| has_stale(summaries, block))
 }
 
-// Drops the fixes of a transmission that do not stand.
-fn drop_stale(held: &mut Transmission<'_>, summaries: Summaries)
-    ensures { held.new ≡ S.passing (T.stands (summary_places summaries.entry)) held.old }
+// Gathers the fixes of a transmission that stand.
+fn gather_standing<'a>(left: &mut Gathered<'a>, block: &Block<'a>, summaries: Summaries)
+    ensures { left.new.items ≡ distinct (filter (T.stands (summary_places summaries.entry)) (held_in block.now)) }
 {
-    held.fixes.retain(|fix| stands(summaries, fix));
-    held.refused
-        .retain(|refusal| stands(summaries, &refusal.fix));
+    left.clear();
+    for k in 0..block.held_count() {
+        let fix = block.held_fix(k);
+        if stands(summaries, &fix) {
+            gather(left, &fix.identified());
+        }
+    }
 }
 
 // Decides a transmission again, in its bytes, without the fixes that do not stand.
@@ -70,11 +76,9 @@ fn decide_standing(b: &mut [u8; TRANSMISSION_SIZE], summaries: Summaries)
     ensures held { transmission_in b.new ≡ T.standing (summary_places summaries.entry) (transmission_in b.old) }
 {
     let was = *b;
-    let mut held = Transmission::read(&Block::of(&was));
-    drop_stale(&mut held, summaries);
-    held.learn();
-    decide_again(&mut held);
-    held.write(b);
+    let mut left = Gathered::new();
+    gather_standing(&mut left, &Block::of(&was), summaries);
+    write_left(&left, b);
 }
 
 // The same. Where the transmission is settled and all its fixes stand, it is only read.

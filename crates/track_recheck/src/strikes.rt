@@ -1,9 +1,13 @@
 //! An engine struck from a track: its signatures and its summaries.
 
 ghost use Rattle.std.specs.Prelude.{◌≡◌, true, IsTrue, map, ◌≤◌, ◌<◌, length, set};
+ghost use Rattle.std.specs.List.{filter};
 ghost use Rattle.octets.specs.Writes.{put_word};
+ghost use Rattle.track_transmission.specs.Held.{held_in};
 ghost use Rattle.track_transmission.specs.Bytes.{transmission_in};
 ghost use Rattle.track_transmission.specs.Parts.{Sound, Steady};
+ghost use Rattle.track_normalize.specs.Normal.{distinct};
+ghost use Rattle.track_normalize.specs.Signed.{is_signed};
 ghost use Rattle.track_normalize.specs.Taking.{Settled};
 ghost use Rattle.track_arrange.specs.Blocks.{Filled};
 ghost use Rattle.track_arrange.specs.Blocks as B;
@@ -17,28 +21,37 @@ use engines::{Engine, Signers};
 use models::strikes::strike_summaries;
 use octets::words::{put_u16, put_u32, u16_at, u32_at};
 use track_memory::layout;
-use track_normalize::blocks::renew;
+use track_normalize::blocks::write_left;
+use track_normalize::gathering::{Gathered, gather};
 use track_transmission::block::Block;
-use track_transmission::fix::Fix;
+use track_transmission::fix::HeldFix;
 use track_transmission::layout::TRANSMISSION_SIZE;
-use track_transmission::transmission::Transmission;
 
 // Takes an engine's signature off a fix.
-fn unsign(fix: &mut Fix<'_>, engine: Engine)
+fn unsign(fix: &mut HeldFix<'_>, engine: Engine)
     ensures { fix.new ≡ unsigned engine fix.old }
 {
     fix.signers = fix.signers.without(engine);
 }
 
-// Takes an engine's signature off every fix that a transmission holds.
-fn unsign_all(held: &mut Transmission<'_>, engine: Engine)
-    ensures { held.new ≡ S.changing (unsigned engine) held.old }
+// Whether some engine signed a fix.
+fn is_signed(fix: &HeldFix<'_>) -> bool
+    ensures { result ≡ is_signed fix.now }
 {
-    for fix in held.fixes.iter_mut() {
-        unsign(fix, engine);
-    }
-    for refusal in held.refused.iter_mut() {
-        unsign(&mut refusal.fix, engine);
+    !fix.signers.is_empty()
+}
+
+// Gathers the fixes of a transmission that others than an engine signed.
+fn gather_without<'a>(left: &mut Gathered<'a>, block: &Block<'a>, engine: Engine)
+    ensures { left.new.items ≡ distinct (filter is_signed (map (unsigned engine) (held_in block.now))) }
+{
+    left.clear();
+    for k in 0..block.held_count() {
+        let mut fix = block.held_fix(k);
+        unsign(&mut fix, engine);
+        if is_signed(&fix) {
+            gather(left, &fix.identified());
+        }
     }
 }
 
@@ -51,11 +64,9 @@ fn strike_fixes(b: &mut [u8], engine: Engine) -> bool
 {
     let b = b.as_mut_array().unwrap();
     let was = *b;
-    let mut held = Transmission::read(&Block::of(&was));
-    unsign_all(&mut held, engine);
-    let settled = renew(&mut held);
-    held.write(b);
-    settled
+    let mut left = Gathered::new();
+    gather_without(&mut left, &Block::of(&was), engine);
+    write_left(&left, b)
 }
 
 // Decides the first n transmissions of a table again, without an engine, and tells whether all are settled then.

@@ -18,7 +18,8 @@ use Rattle.record.proofs.Parts.{formed, message-has}
 use Rattle.models.specs.Identity.{tag_bytes, set_hash, identity_from}
 use Rattle.fixes.specs.Fix.{Fix}
 use Rattle.track_transmission.specs.Held.{is_of}
-use Rattle.track_transmission.specs.Values.{fix_from, same_set}
+use Rattle.fixes.specs.Made.{fix_from}
+use Rattle.track_transmission.specs.Values.{same_set}
 
 tags-length : (r : List ℕ) → well_formed r ≡ true → length (tag_bytes r) ≡ 8 * tag_count r
 tags-length r w = let f = formed r w in taken (8 * tag_count r) tags_at r (omega (arith, f.size, f.few))

@@ -1,15 +1,11 @@
--- No claim rests on these definitions: they say which fix a value stands for, and which two fixes have one identity at sight, and what a value holds at first.
-use Rattle.std.specs.Prelude.{ℕ, Bool, ◌&&◌, List, []}
+-- No claim rests on these definitions: they say which two fixes have one identity at sight, and what a value holds at first.
+use Rattle.std.specs.Prelude.{ℕ, Bool, ◌&&◌, []}
 use Rattle.std.specs.Int.Bits.{bit_or}
 use Rattle.octets.specs.Order.{same}
 use Rattle.record.specs.Relations.{same_message}
-use Rattle.models.specs.Identity.{set_hash, identity_from, tag_bytes}
+use Rattle.models.specs.Identity.{tag_bytes}
 use Rattle.fixes.specs.Fix.{Fix, with_signers}
 use Rattle.track_transmission.specs.Held.{RefusedFix, HeldTransmission}
-
--- the fix of a record with its model inputs and its signers: its identity follows from the first two
-abbrev pub fix_from : List ℕ → List ℕ → ℕ → Fix
-fix_from r inputs signers = record { identity = identity_from (set_hash r) inputs; record_bytes = r; inputs = inputs; signers = signers }
 
 -- the same message, tags and model inputs: then the two have one identity
 abbrev pub same_set : Fix → Fix → Bool

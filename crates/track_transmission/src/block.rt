@@ -1,6 +1,6 @@
 //! A transmission of a track where it lies: bytes that are known to hold one.
 
-ghost use Rattle.std.specs.Prelude.{◌≡◌, true, Some, map, ◌<◌, ◌≤◌, length, slice_get};
+ghost use Rattle.std.specs.Prelude.{◌≡◌, true, Some, map, ◌<◌, ◌≤◌, ◌+◌, length, slice_get};
 ghost use Rattle.std.specs.List.{list_all, list_any};
 ghost use Rattle.record.specs.Relations.{tied};
 ghost use Rattle.fixes.specs.Items.{fix_at};
@@ -9,9 +9,9 @@ ghost use Rattle.track_transmission.specs.Held.{held_in};
 ghost use Rattle.track_transmission.specs.Bytes as B;
 ghost use Rattle.track_transmission.specs.Parts.{Sound, record_formed};
 
-use crate::fix::Fix;
+use crate::fix::HeldFix;
 use crate::layout::{FIX_SIZE, FIXES_AT, REFUSED_AT, REFUSED_SIZE, TRANSMISSION_SIZE};
-use crate::refused::RefusedFix;
+use crate::refused::HeldRefusal;
 use record::Record;
 use std::marker::Model;
 
@@ -89,47 +89,48 @@ impl<'a> Block<'a> {
     }
 
     /// The fix k of those that stand.
-    pub fn fix(&self, k: u8) -> Fix<'a>
+    pub fn fix(&self, k: u8) -> HeldFix<'a>
         requires { k < length self.now.fixes }
         ensures { slice_get self.now.fixes k ≡ Some result }
     {
-        Fix::read(&self.fix_places()[k as usize])
+        HeldFix::read(&self.fix_places()[k as usize])
     }
 
     /// The refused fix k.
-    pub fn refusal(&self, k: u8) -> RefusedFix<'a>
+    pub fn refusal(&self, k: u8) -> HeldRefusal<'a>
         requires { k < length self.now.refused }
         ensures { slice_get self.now.refused k ≡ Some result }
     {
-        RefusedFix::read(&self.refused_places()[k as usize])
+        HeldRefusal::read(&self.refused_places()[k as usize])
     }
 
     /// How many fixes are held: those that stand, and the refused.
     pub fn held_count(&self) -> u8
-        ensures { result ≡ length (held_in self.now) }
+        ensures count { result ≡ length (held_in self.now) }
+        ensures few { result ≤ L.max_standing + L.max_refused }
     {
         crate::fix_count(self.bytes) + crate::refused_count(self.bytes)
     }
 
     /// The held fix k: those that stand come first, then the refused.
-    pub fn held_fix(&self, k: u8) -> Fix<'a>
+    pub fn held_fix(&self, k: u8) -> HeldFix<'a>
         requires { k < length (held_in self.now) }
         ensures { result ≡ fix_at (held_in self.now) k }
     {
         let standing = self.fix_places();
         let k = k as usize;
         if k < standing.len() {
-            return Fix::read(&standing[k]);
+            return HeldFix::read(&standing[k]);
         }
-        Fix::read(&self.refused_places()[k - standing.len()])
+        HeldFix::read(&self.refused_places()[k - standing.len()])
     }
 
     /// The fix that is kept, where one stands.
-    pub fn kept(&self) -> Option<Fix<'a>>
+    pub fn kept(&self) -> Option<HeldFix<'a>>
         ensures { result ≡ slice_get self.now.fixes 0 }
     {
         match self.fix_places() {
-            [first, ..] => Some(Fix::read(first)),
+            [first, ..] => Some(HeldFix::read(first)),
             [] => None,
         }
     }

@@ -7,10 +7,11 @@ ghost use Rattle.track_transmission.specs.Bytes as B;
 ghost use Rattle.track_transmission.specs.Values.{nothing_held};
 
 use crate::block::Block;
-use crate::fix::Fix;
+use crate::fix::{HeldFix, put_fix};
 use crate::layout::{FIXES_AT, MAX_REFUSED, MAX_STANDING, REFUSED_AT, TRANSMISSION_SIZE};
-use crate::refused::RefusedFix;
+use crate::refused::{HeldRefusal, RefusedFix};
 use arrayvec::ArrayVec;
+use fixes::Fix;
 use std::marker::Model;
 
 /// The fixes that a track holds of one transmission.
@@ -39,7 +40,7 @@ fn write_fixes(out: &mut [u8], fixes: &ArrayVec<Fix<'_>, MAX_STANDING>)
     let mut at = 0;
     let all = fixes.as_slice();
     for fix in all {
-        at = fix.put(out, at);
+        at = put_fix(out, at, fix);
     }
 }
 
@@ -75,32 +76,20 @@ impl<'a> Transmission<'a> {
         self.refused.clear();
     }
 
-    /// The transmission that bytes hold.
+    /// The transmission that bytes hold, each fix with its identity.
     pub fn read(block: &Block<'a>) -> Transmission<'a>
         ensures { result ≡ block.now }
     {
         let mut held = Transmission::new();
         let standing = block.fix_places();
         for fix in standing {
-            held.fixes.push(Fix::read(fix));
+            held.fixes.push(HeldFix::read(fix).identified());
         }
         let refused = block.refused_places();
         for refusal in refused {
-            held.refused.push(RefusedFix::read(refusal));
+            held.refused.push(HeldRefusal::read(refusal).identified());
         }
         held
-    }
-
-    /// Works out the identities of all fixes that are held, as far as they are not known.
-    pub fn learn(&mut self)
-        ensures { self.new ≡ self.old }
-    {
-        for fix in self.fixes.iter_mut() {
-            fix.learn();
-        }
-        for refusal in self.refused.iter_mut() {
-            refusal.fix.learn();
-        }
     }
 
     /// Writes its bytes.

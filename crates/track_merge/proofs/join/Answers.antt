@@ -53,29 +53,29 @@ module _ (f : Fix) (b : List ℕ) where
 pub sign-requires-clause-k_bound : goal.sign-requires-clause-k_bound
 sign-requires-clause-k_bound c =
     let same = (rw c.unwrap-b.ensures at c.as_mut_array.ensures.cases).same in
-    let first = ap (λ (t : HeldTransmission). position (is_of c.args.fix) (held_in t)) (sym (c.of.ensures ∙ ap transmission_in same)) ∙ c.in-Some.ensures in
-    subst (λ (l : List ℕ). c.in-Some.k < held_count l) (sym same) (within c.args.fix c.args.b.now c.in-Some.k first)
+    let first = ap (λ (t : HeldTransmission). position (is_of c.args.fix.now) (held_in t)) (sym (c.of.ensures ∙ ap transmission_in same)) ∙ c.in-Some.ensures in
+    subst (λ (l : List ℕ). c.in-Some.k < held_count l) (sym same) (within c.args.fix.now c.args.b.now c.in-Some.k first)
 
 pub returns-in-Some-clause-left : goal.returns-in-Some-clause-left
 returns-in-Some-clause-left c =
     let same = (rw c.unwrap-b.ensures at c.as_mut_array.ensures.cases).same in
-    let first = ap (λ (t : HeldTransmission). position (is_of c.args.fix) (held_in t)) (sym (c.of.ensures ∙ ap transmission_in same)) ∙ c.in-Some.ensures in
+    let first = ap (λ (t : HeldTransmission). position (is_of c.args.fix.now) (held_in t)) (sym (c.of.ensures ∙ ap transmission_in same)) ∙ c.in-Some.ensures in
     let y : Bytes c.args.b.now = all-bytes c.args.b.now (λ i. (c.slice_known-1.given i).fits) in
-    signed c.args.fix c.args.b.now c.in-Some.k first y c.requires _ _ _ same (ap (λ (x : Fix). x.signers) c.fix.view_is) c.sign.ensures
+    signed c.args.fix.now c.args.b.now c.in-Some.k first y c.requires _ _ _ same (ap (λ (x : Fix). x.signers) c.fix.view_is) c.sign.ensures
 
 pub returns-in-Some-clause-told : goal.returns-in-Some-clause-told
 returns-in-Some-clause-told c =
     let same = (rw c.unwrap-b.ensures at c.as_mut_array.ensures.cases).same in
-    let first = ap (λ (t : HeldTransmission). position (is_of c.args.fix) (held_in t)) (sym (c.of.ensures ∙ ap transmission_in same)) ∙ c.in-Some.ensures in
-    told c.args.fix c.args.b.now c.in-Some.k first (all-bytes c.args.b.now (λ i. (c.slice_known-1.given i).fits)) c.requires
+    let first = ap (λ (t : HeldTransmission). position (is_of c.args.fix.now) (held_in t)) (sym (c.of.ensures ∙ ap transmission_in same)) ∙ c.in-Some.ensures in
+    told c.args.fix.now c.args.b.now c.in-Some.k first (all-bytes c.args.b.now (λ i. (c.slice_known-1.given i).fits)) c.requires
 
 pub returns-clause-decided : goal.returns-clause-decided
 returns-clause-decided c =
-    let f : Fix = c.args.fix in
+    let f : Fix = c.args.fix.now in
     let same = (rw c.unwrap-b.ensures at c.as_mut_array.ensures.cases).same in
     let y : Bytes c.args.b.now = all-bytes c.args.b.now (λ i. (c.slice_known-1.given i).fits) in
-    let h : Holdable f = holdable-of _ _ _ f c.fix.inside.report.formed c.fix.inside.report.size (omega arith) (omega arith) c.fix.view_is in
+    let h : Holdable f = holdable-of _ _ _ f c.fix.inside.report.formed c.fix.inside.report.size c.fix.invariant.0 c.fix.invariant.1 c.fix.view_is in
     decided f c.args.b.now y c.requires c.take_in.new.b h
-    (c.take_in.ensures.left ∙ ap (λ (l : List ℕ). transmission_bytes (taken_in f (transmission_in l))) same)
+    (c.take_in.ensures.left ∙ ap₂ (λ (g : Fix) (l : List ℕ). transmission_bytes (taken_in g (transmission_in l))) c.identified.ensures same)
     c.take_in.result
-    (c.take_in.ensures.told ∙ ap (λ (l : List ℕ). told_of f (transmission_in l)) same)
+    (c.take_in.ensures.told ∙ ap₂ (λ (g : Fix) (l : List ℕ). told_of g (transmission_in l)) c.identified.ensures same)

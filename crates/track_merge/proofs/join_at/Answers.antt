@@ -71,32 +71,32 @@ module _ (t : List ℕ) (n i : ℕ) (f : Fix) (filled : Filled t n) (one : only 
 
 pub overflow_mul-a : goal.overflow_mul-a
 overflow_mul-a c =
-    let l = below c.args.t.now c.args.n c.args.i c.args.fix c.requires.filled c.requires.only in
+    let l = below c.args.t.now c.args.n c.args.i c.args.fix.now c.requires.filled c.requires.only in
     let z = c.requires.filled.few in
     omega (arith, l, z)
 
 pub overflow_add-e : goal.overflow_add-e
 overflow_add-e c =
-    let l = below c.args.t.now c.args.n c.args.i c.args.fix c.requires.filled c.requires.only in
+    let l = below c.args.t.now c.args.n c.args.i c.args.fix.now c.requires.filled c.requires.only in
     let z = c.requires.filled.few in
     omega (arith, l, z)
 
 pub slice_bounds-join-end : goal.slice_bounds-join-end
-slice_bounds-join-end c = within c.args.t.now c.args.n c.requires.filled c.args.i (below c.args.t.now c.args.n c.args.i c.args.fix c.requires.filled c.requires.only)
+slice_bounds-join-end c = within c.args.t.now c.args.n c.requires.filled c.args.i (below c.args.t.now c.args.n c.args.i c.args.fix.now c.requires.filled c.requires.only)
 
 pub join-requires : goal.join-requires
-join-requires c = steady c.args.t.now c.args.n c.args.i c.args.fix c.requires.filled c.requires.only
+join-requires c = steady c.args.t.now c.args.n c.args.i c.args.fix.now c.requires.filled c.requires.only
 
 pub returns-in_default : goal.returns-in_default
 returns-in_default c =
-    signed c.args.t.now c.args.n c.args.i c.args.fix c.requires.filled c.requires.only c.join.new.b c.join.auto.b c.join.ensures.left (sym c.in_default.is ∙ c.join.ensures.told)
+    signed c.args.t.now c.args.n c.args.i c.args.fix.now c.requires.filled c.requires.only c.join.new.b c.join.auto.b c.join.ensures.left (sym c.in_default.is ∙ c.join.ensures.told)
 
 pub arrange-count-requires : goal.arrange-count-requires
 arrange-count-requires c =
     let t = c.args.t.now in
-    put-filled t c.args.n c.args.i c.requires.filled (below t c.args.n c.args.i c.args.fix c.requires.filled c.requires.only) c.join.new.b c.in-Some.ensures.decided.0
+    put-filled t c.args.n c.args.i c.requires.filled (below t c.args.n c.args.i c.args.fix.now c.requires.filled c.requires.only) c.join.new.b c.in-Some.ensures.decided.0
 
 pub returns : goal.returns
 returns c =
-    again c.args.t.now c.args.n c.args.i c.args.fix c.requires.filled c.requires.only c.join.new.b c.join.auto.b c.in-Some.joined (sym c.in-Some.is ∙ c.join.ensures.told) c.in-Some.ensures.decided _ _ _
+    again c.args.t.now c.args.n c.args.i c.args.fix.now c.requires.filled c.requires.only c.join.new.b c.join.auto.b c.in-Some.joined (sym c.in-Some.is ∙ c.join.ensures.told) c.in-Some.ensures.decided _ _ _
     c.arrange-count.ensures.filled c.arrange-count.ensures.held c.answer_of.ensures

@@ -5,4 +5,4 @@ use Rattle.track_merge.specs.Merged.{keeps}
 use Rattle.track_merge.proofs.keeps.Goals as goal
 
 pub returns : goal.returns
-returns c = c.keeps_identity.ensures ∙ ap (λ (f : Fix). list_any (keeps f) c.args.blocks.now) c.learn.ensures
+returns c = c.keeps_identity.ensures ∙ ap (λ (f : Fix). list_any (keeps f) c.args.blocks.now) c.identified.ensures

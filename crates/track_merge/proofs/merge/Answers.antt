@@ -14,4 +14,4 @@ join_at-requires-clause-only c =
 pub returns-in-None : goal.returns-in-None
 returns-in-None c =
     let ts = held c.args.n c.args.t.now in
-    rw (merged-none c.args.fix ts (ap (λ (f : Fix). only (tied_to f) ts) (sym c.fix.view_is) ∙ ap (only _) (sym (c.deref.ensures.0 ∙ c.blocks-2.ensures)) ∙ sym c.only_tied.ensures ∙ c.in-None.is)) c.open.ensures
+    rw (merged-none c.args.fix.now ts (ap (λ (f : Fix). only (tied_to f) ts) (sym c.fix.view_is) ∙ ap (only _) (sym (c.deref.ensures.0 ∙ c.blocks-2.ensures)) ∙ sym c.only_tied.ensures ∙ c.in-None.is)) c.open.ensures

@@ -4,7 +4,4 @@ use Rattle.board_picture.proofs.Listing.{member-at}
 use Rattle.board_picture.proofs.deciding.item_at.Goals as goal
 
 pub returns : goal.returns
-returns c =
-    let w = c.item_of.ensures in
-    subst (λ f. IsFix f c.item_of.result) (c.fix.view_is ∙ c.fix-fix.ensures ∙ member-at c.args.transmission.now c.args.i _ c.requires refl)
-    (record { report = w.report; inputs = w.inputs ∙ c.bytes.ensures; identity = w.identity ∙ c.bytes-2.ensures; candidate = w.candidate })
+returns c = subst (λ f. IsFix f c.item.result) (c.fix.ensures ∙ member-at c.args.transmission.now c.args.i _ c.requires refl) c.item.ensures

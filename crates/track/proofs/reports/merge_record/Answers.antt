@@ -7,7 +7,7 @@ use Rattle.track_merge.specs.Merged.{merged_number}
 use Rattle.track_memory.specs.Layout.{transmissions_at}
 use Rattle.track_memory.proofs.Opened.{opened}
 use Rattle.track.proofs.Reported.{lent-filled, step-few, stepped-is, decoded-summaries}
-use Rattle.track_transmission.specs.Values.{fix_from}
+use Rattle.fixes.specs.Made.{fix_from}
 use Rattle.track_memory.specs.Memory.{decode}
 use Rattle.track.specs.Track.{reported_fix}
 use Rattle.track.proofs.reports.merge_record.Goals as goal

@@ -3,7 +3,7 @@ use mathlib.Core.List.{[]}
 use native.Mathlib.Omega.{arith}
 use lib.ListN.{take}
 use lib.Seq.{length-take-le, take_all}
-use Rattle.track_arrange.specs.Leads.{before, put_all_behind, leads_from, kept_of}
+use Rattle.track_arrange.specs.Leads.{before, put_all_behind, leads_from, kept_of, put_behind}
 use Rattle.track_arrange.proofs.Entering.{none-yet, one-entered, none-entered, entered-few}
 use Rattle.track_arrange.proofs.leads.enter_all.Goals as goal
 use Rattle.track_arrange.proofs.leads.enter_all.Goals.{in-Some, in_default}
@@ -25,7 +25,7 @@ loop-place-preserved c =
     let e = c.kept.ensures ∙ ap kept_of c.index-blocks-place.is in
     elim c.match-kept.branch [
       | in-Some w ↦
-          one-entered _ _ c.as_slice-blocks.result.now c.loop-place.place d c.loop-place-test.true c.loop-place.invariant w.in-Some.kept (sym w.in-Some.is ∙ e) (ap (λ x. x.items) w.leads-is ∙ w.enter.ensures)
+          one-entered _ _ c.as_slice-blocks.result.now c.loop-place.place d c.loop-place-test.true c.loop-place.invariant w.in-Some.kept (sym w.in-Some.is ∙ e) (ap (λ x. x.items) w.leads-is ∙ w.enter.ensures ∙ ap (λ x. put_behind before x c.loop-place.leads.items) w.of.ensures)
       | in_default w ↦
           none-entered _ _ c.as_slice-blocks.result.now c.loop-place.place d c.loop-place-test.true c.loop-place.invariant (sym w.in_default.is ∙ e) (ap (λ x. x.items) w.leads-is)
     ]

@@ -28,8 +28,8 @@ loop-k-preserved c =
     let k = c.loop-k.k in
     let x = get_or xs (k - 1) unread in
     let named = c.requires (k - 1) unread (omega arith) in
-    let f = c.copied.ensures ∙ c.index-fixes-x.is ∙ get_or_default fs x.refused c.index-fixes-x.result no_fix named.0 in
-    let a = c.identity.ensures ∙ ap (λ (g : Fix). g.identity) (c.index-fixes-x-in-loop-k.is ∙ get_or_default fs x.kept c.index-fixes-x-in-loop-k.result no_fix named.1) in
+    let f = c.copied.ensures ∙ c.index-fixes-x-in-loop-k.is ∙ get_or_default fs x.refused c.index-fixes-x-in-loop-k.result no_fix named.0 in
+    let a = ap (λ (g : Fix). g.identity) (c.against.view_is ∙ c.index-fixes-x.is ∙ get_or_default fs x.kept c.index-fixes-x.result no_fix named.1) in
     let s = c.stored_bits.ensures in
     c.enter.ensures
     ∙ lowest-turn lower_held max_refused (named_refused fs) xs k _ unread c.loop-k.refused.items (omega arith) (omega arith)

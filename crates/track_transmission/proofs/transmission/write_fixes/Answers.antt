@@ -11,7 +11,7 @@ pub loop-fix-init : goal.loop-fix-init
 loop-fix-init c = written-none fix_size fix_bytes c.as_slice-all.result.now _
 
 pub loop-fix-preserved : goal.loop-fix-preserved
-loop-fix-preserved c = written-next fix_size fix_bytes _ _ _ _ _ _ _ _ c.loop-fix.invariant c.loop-fix-test.true c.fix-item.is c.put-at.ensures
+loop-fix-preserved c = written-next fix_size fix_bytes _ _ _ _ _ _ _ _ c.loop-fix.invariant c.loop-fix-test.true c.fix-item.is c.put_fix-at.ensures
 
 pub returns : goal.returns
 returns c =
