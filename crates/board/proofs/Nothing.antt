@@ -14,7 +14,7 @@ use Rattle.fixes.specs.Fix.{Fix}
 use Rattle.fixes.specs.Shown.{Transmission, shown}
 use Rattle.board_fixes.specs.Fixes.{record_in, fix_of_place, unite, enter, enter_all, fixes_of}
 use Rattle.board_transmissions.specs.Transmissions.{transmissions_of}
-use Rattle.board_transmissions.proofs.Partition.{partition, map_of}
+use Rattle.board_transmissions.proofs.Partition.{partition}
 use Rattle.board_transmissions.proofs.Fitness.{self-linked}
 use Rattle.board_picture.specs.Picture.{older_than, picture, max_shown, latest_of}
 use Rattle.fix_lines.specs.Lines.{header}
@@ -88,7 +88,7 @@ module _ (s : Register) (v : Valid s) where
       let x = standing s v in
       let w = partition fs (λ f m. self-linked f.record_bytes (x.formed f m).form) in
       let c = w.each k.0 k.1 in
-      (shown c.0, perm-mem (sort-perm older_than (map shown (transmissions_of fs))) (map_of shown (transmissions_of fs) c.0 c.1))
+      (shown c.0, perm-mem (sort-perm older_than (map shown (transmissions_of fs))) (Memᴰ.map shown c.1))
 
   some_bytes : any_counts s ≡ true → 0 < length (board_in s)
   unfolding board_of

@@ -27,7 +27,7 @@ use Rattle.board_transmissions.specs.Transmissions.{transmission_of, leads, is_f
 use Rattle.board_transmissions.specs.Claims.{Partition}
 use Rattle.board_transmissions.proofs.Indexed.{map-map}
 use Rattle.board_transmissions.proofs.Reaching.{chain-in}
-use Rattle.board_transmissions.proofs.Partition.{partition, map_of}
+use Rattle.board_transmissions.proofs.Partition.{partition}
 use Rattle.board_transmissions.proofs.Fitness.{self-linked}
 use Rattle.fixes.specs.Shown.{Transmission, subset_of, agreement, shown}
 use Rattle.fixes.specs.Ages.{older, older_first}
@@ -165,7 +165,7 @@ module _ (fs : List Fix) (d : Apart fs) (w : Partition fs) where
 
   head_of : (a : Fix) → Memᴰ a (filter (is_first fs) fs) → Head a
   unfolding transmissions_of
-  head_of a m = let r = filter-in (is_first fs) fs a m in record { heads = r.1; listed = map_of (transmission_of fs) (filter (is_first fs) fs) a m; member = r.0 }
+  head_of a m = let r = filter-in (is_first fs) fs a m in record { heads = r.1; listed = Memᴰ.map (transmission_of fs) m; member = r.0 }
 
   pub ascends : Ascending older_than (sort older_than (map shown (transmissions_of fs)))
   unfolding transmissions_of

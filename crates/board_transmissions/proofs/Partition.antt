@@ -1,20 +1,14 @@
 -- The transmissions part the fixes: each fix is in exactly one, which is everything that a chain leads to from it.
-use Rattle.std.proofs.Common.{◌≡◌, true, refl, sym, ap, ◌∙◌, subst, List, [], ◌∷◌, map}
+use Rattle.std.proofs.Common.{◌≡◌, true, refl, sym, ap, ◌∙◌, subst, List, [], ◌∷◌}
 use mathlib.Core.List.Memᴰ
 use mathlib.Core.List.{Memᴰ}
 use Rattle.octets.proofs.Comparison.{same_refl}
-use Rattle.lists.proofs.Bools.{or}
 use Rattle.std.specs.List.{filter}
 use Rattle.lists.proofs.Lists.{filter-in, filter-of, map-from}
 use Rattle.fixes.specs.Fix.{Fix}
 use Rattle.board_transmissions.specs.Transmissions.{Chain, here, transmission_of, leads, is_first, transmissions_of}
 use Rattle.board_transmissions.specs.Claims.{Partition}
 use Rattle.board_transmissions.proofs.Reaching.{SelfLinked, chain-in, chain-joined, chain-turned, transmission-is, same-transmission}
-
-module _ {A B : Type 0} (f : A → B) where
-  pub map_of : (l : List A) (x : A) → Memᴰ x l → Memᴰ (f x) (map f l)
-  map_of [] x m = absurd (Memᴰ.not-nil m)
-  map_of (y ∷ l) x m = or (Memᴰ.cases_cons m) (λ e. Memᴰ.head (ap f e)) (λ k. Memᴰ.tail (map_of l x k))
 
 cons-of : {A : Type 0} (l : List A) (x : A) → Memᴰ x l → (y : A) × (rest : List A) × (l ≡ y ∷ rest)
 cons-of [] x m = absurd (Memᴰ.not-nil m)
@@ -37,7 +31,7 @@ module _ (fs : List Fix) (self : SelfLinked fs) where
       let c = chain-of (transmission_of fs f) f m refl r.0 (subst (λ (l : List Fix). Memᴰ r.0 l) (sym r.2) (Memᴰ.head refl)) in
       let e = same-transmission fs self c in
       let one : is_first fs r.0 ≡ true = ap (leads r.0) (sym e ∙ r.2) ∙ same_refl r.0.identity in
-      rw e (map_of (transmission_of fs) (filter (is_first fs) fs) r.0 (filter-of (is_first fs) fs r.0 (chain-in c) one))
+      rw e (Memᴰ.map (transmission_of fs) (filter-of (is_first fs) fs r.0 (chain-in c) one))
 
   pub partition : Partition fs
   partition = record {

@@ -25,24 +25,12 @@ use track_memory::view::View;
 use track_merge::Merged;
 use track_transmission::fix::HeldFix;
 
-// The number of an answer.
-fn number_of(answer: Merged) -> u32
-    ensures { result ≡ merged_number answer }
-{
-    match answer {
-        Merged::Changed => 20,
-        Merged::Contested => 21,
-        Merged::Duplicate => 22,
-        Merged::Dropped => 23,
-    }
-}
-
 /// The number of what a report is answered.
 pub fn reported_number(answer: Result<Merged, Error>) -> u32
     ensures { result ≡ reported_number answer }
 {
     match answer {
-        Ok(merged) => number_of(merged),
+        Ok(merged) => merged.number(),
         Err(error) => error.number(),
     }
 }

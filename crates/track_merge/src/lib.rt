@@ -36,6 +36,20 @@ pub enum Merged {
     Dropped,
 }
 
+impl Merged {
+    /// Its number.
+    pub fn number(self) -> u32
+        ensures { result ≡ M.merged_number self }
+    {
+        match self {
+            Merged::Changed => 20,
+            Merged::Contested => 21,
+            Merged::Duplicate => 22,
+            Merged::Dropped => 23,
+        }
+    }
+}
+
 /// What was answered, how many fixes entered a list of refused, and how many transmissions there are then.
 #[derive(Clone, Copy)]
 pub struct Outcome {
