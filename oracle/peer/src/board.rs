@@ -123,6 +123,28 @@ fn said(fix: &Fix) -> Said {
     Said { time: r.time, lat: r.lat, lon: r.lon, height: r.height, weight: r.weight(), signers: fix.signers }
 }
 
+/// What is decided of a fix.
+#[derive(Clone, Copy, Debug, PartialEq, Eq)]
+pub enum Standing {
+    Ranked,
+    Dominated,
+    Refused,
+}
+
+/// The record of each representative of a well-formed register, of all transmissions, and what is decided of it.
+pub fn standings(register: &Register) -> Vec<([u8; RECORD], Standing)> {
+    let fixes = representatives(register);
+    let mut all = Vec::new();
+    for one in transmissions(&fixes) {
+        let d = decided(&fixes, &one);
+        let bytes = |at: u8| fixes[one[usize::from(at)]].bytes;
+        all.extend(d.ranked.iter().map(|&at| (bytes(at), Standing::Ranked)));
+        all.extend(d.dominated.iter().map(|&at| (bytes(at), Standing::Dominated)));
+        all.extend(d.refusals.iter().map(|refusal| (bytes(refusal.refused), Standing::Refused)));
+    }
+    all
+}
+
 /// The latest transmissions, oldest first, each with what is decided of its fixes.
 fn latest(fixes: &[Fix]) -> Vec<(Vec<usize>, Decision)> {
     let mut decisions: Vec<(Vec<usize>, Decision)> =

@@ -441,3 +441,43 @@ fn exact_halves_on_a_board() {
     let written: Vec<&str> = out.split(' ').filter_map(|word| word.strip_prefix("height=")).collect();
     assert_eq!(written, ["0", "2", "2", "0", "-2", "-2", "2147484", "-2147484"]);
 }
+
+/// What is printed for the engines of a session that have something.
+fn monthly_of(input: &str) -> Vec<String> {
+    let memory = register_after(input.as_bytes()).unwrap();
+    let text = crate::monthly::monthly(&memory);
+    assert_eq!(text.lines().count(), 32);
+    text.lines().filter(|line| !line.contains(" held=0 ")).map(str::to_string).collect()
+}
+
+#[test]
+fn each_record_has_one_ending() {
+    let [s, m, l] = nested();
+    let of = |engine: u32, report: &Report| Report { engine, ..report.clone() }.text();
+    // The same a little further on: it has the identity of the middle one, which comes first.
+    let again = Report { lat: 2701, ..m.clone() };
+    let uncounted = Report { models: "9".to_string(), ..s.clone() };
+    let input = of(1, &s) + &of(2, &m) + &of(3, &l) + &of(3, &again) + &of(4, &again) + &of(4, &uncounted);
+    assert_eq!(
+        monthly_of(&input),
+        [
+            "engine=1 held=1 ranked=0 dominated=1 refused=0 other=0 uncounted=0",
+            "engine=2 held=1 ranked=1 dominated=0 refused=0 other=0 uncounted=0",
+            "engine=3 held=2 ranked=0 dominated=0 refused=1 other=1 uncounted=0",
+            "engine=4 held=2 ranked=0 dominated=0 refused=0 other=1 uncounted=1",
+        ]
+    );
+}
+
+#[test]
+fn all_transmissions_are_counted() {
+    assert_eq!(monthly_of(&nine()), ["engine=1 held=9 ranked=9 dominated=0 refused=0 other=0 uncounted=0"]);
+}
+
+#[test]
+fn what_is_no_register_has_no_numbers() {
+    for size in [0, SIZE - 1, SIZE + 1] {
+        assert_eq!(crate::monthly::monthly(&vec![0; size]), "refused=1\n");
+    }
+    assert!(crate::monthly::monthly(&[0; SIZE]).starts_with("engine=0 held=0 "));
+}

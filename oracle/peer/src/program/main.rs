@@ -1,5 +1,6 @@
 //! The peer as a program: a session on standard input, what it prints on standard output; or `cases FOLDER`, which writes each
-//! case's session and what it prints to FOLDER/NAME/stdin and FOLDER/NAME/stdout.
+//! case's session and what it prints to FOLDER/NAME/stdin and FOLDER/NAME/stdout; or `monthly`, which reads buffers one after another, each
+//! as its length in four bytes, lowest first, and its bytes, and prints of each its monthly numbers, and an empty line.
 
 use std::io::{Read, Write};
 
@@ -13,6 +14,17 @@ fn write_cases(folder: &str) -> std::io::Result<()> {
     Ok(())
 }
 
+fn monthly(mut input: &[u8]) -> String {
+    let mut text = String::new();
+    while let Some((head, rest)) = input.split_first_chunk() {
+        let (buffer, rest) = rest.split_at(u32::from_le_bytes(*head) as usize);
+        text += &peer::monthly::monthly(buffer);
+        text.push('\n');
+        input = rest;
+    }
+    text
+}
+
 fn main() -> std::io::Result<()> {
     let words: Vec<String> = std::env::args().skip(1).collect();
     match words.iter().map(String::as_str).collect::<Vec<_>>().as_slice() {
@@ -22,8 +34,13 @@ fn main() -> std::io::Result<()> {
             std::io::stdout().write_all(peer::session::session(&input).as_bytes())
         }
         ["cases", folder] => write_cases(folder),
+        ["monthly"] => {
+            let mut input = Vec::new();
+            std::io::stdin().read_to_end(&mut input)?;
+            std::io::stdout().write_all(monthly(&input).as_bytes())
+        }
         _ => {
-            eprintln!("peer: a session on standard input, or: peer cases FOLDER");
+            eprintln!("peer: a session on standard input, or: peer cases FOLDER, or: peer monthly");
             std::process::exit(2)
         }
     }
