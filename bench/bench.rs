@@ -318,6 +318,34 @@ fn board(what: &str, chosen: impl Fn(u64) -> (u64, Vec<u64>)) {
     line(&format!("board, 96 records {what}"), "the peer", 1.0, has, &mut ours, &mut theirs);
 }
 
+/// A map of 96 records, beside the library's own board of the same register, and beside the peer's map.
+fn map(what: &str, memory: &[u8]) {
+    if !binding::MAP {
+        return println!("| map, {what} | a board of the same register | not in the library | - | - | - |");
+    }
+    let (mut a, mut b, mut board) = (vec![7u8; 4_096], vec![7u8; 4_096], vec![7u8; 16_384]);
+    assert!(binding::map(memory, &mut a) == peer::map::map(memory, &mut b) && a == b);
+    let mut ours = || {
+        black_box(binding::map(black_box(memory), &mut a));
+    };
+    let mut drawn = || {
+        black_box(binding::board(black_box(memory), &mut board));
+    };
+    let mut theirs = || {
+        black_box(peer::map::map(black_box(memory), &mut b));
+    };
+    line(&format!("map, {what}"), "a board of the same register", 1.0, true, &mut ours, &mut drawn);
+    line(&format!("map, {what}"), "the peer", 1.0, true, &mut ours, &mut theirs);
+}
+
+/// Maps of registers whose records are one transmission, eight, or one each, and of none.
+fn maps() {
+    map("empty register", &vec![0u8; peer::register::SIZE]);
+    for transmissions in [1, 8, 96] {
+        map(&format!("96 records in {transmissions} transmissions"), &reported(|i| grouped(transmissions, i), |_| 3));
+    }
+}
+
 /// A preview of a conviction, beside the library's own conviction and board on a copy that is made each time.
 fn preview(what: &str, memory: &[u8], engine: u32) {
     let (name, against) = (format!("preview, {what}"), "conviction and board on a copy by memcpy");
@@ -371,6 +399,7 @@ fn others(random: &mut Random) {
         board(&format!("in {transmissions} transmissions"), |i| grouped(transmissions, i));
     }
     board("with a common tag, an hour apart", restarted);
+    maps();
     previews();
 }
 

@@ -76,6 +76,8 @@ static void decide_any(void) { tl_decide_any(items, (size_t)count * TL_ITEM_SIZE
 
 static void board(void) { tl_board(memory, sizeof memory, out, sizeof out); }
 
+static void map(void) { tl_register_map(memory, sizeof memory, out, sizeof out); }
+
 /* Without engine 4 all records are still on the board, and without engine 3 every other one; the deeper call counts. */
 static void preview(void) {
     tl_register_preview(memory, sizeof memory, 4, out, sizeof out);
@@ -186,6 +188,7 @@ int main(void) {
         count = counts[i];
         write_register();
         line("board", "records", board);
+        line("map", "records", map);
         line("preview", "records", preview);
     }
     row("columns of a register", columns);

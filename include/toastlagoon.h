@@ -23,10 +23,10 @@
  * - The floating-point environment that a thread begins with: rounding to nearest, no flush to zero and no denormals as zero
  *   (MXCSR 1f80 but for its flags), no exception unmasked. Another changes chi-squares, and so which fixes are refused, and the
  *   result of tl_horizontal_sigma.
- * - Stack: 48 KB for tl_decide and tl_decide_any, 112 KB for tl_board and each function of a track, 144 KB for
+ * - Stack: 48 KB for tl_decide and tl_decide_any, 112 KB for tl_board, tl_register_map and each function of a track, 144 KB for
  *   tl_register_preview, 4 KB for each other function (a KB is 1,024 bytes). bench/stack measures it; seen were up to 14 KB for
- *   a decision of up to 32 items and 43 KB for one of more, 72 KB for a board, 102 KB for a preview, which has a copy of the
- *   register there, 25 to 29 KB for a call on a track and 1 to 3 KB for the others. What a dynamic linker takes at a first call
+ *   a decision of up to 32 items and 43 KB for one of more, 72 KB for a board or a map, 102 KB for a preview, which has a copy of
+ *   the register there, 25 to 29 KB for a call on a track and 1 to 3 KB for the others. What a dynamic linker takes at a first call
  *   is not in these: bind names at the start (-Wl,-z,now).
  * - Threads: any number of them may call at once, as long as no two calls have memory in common that one of them may write. A
  *   register or a track that several threads use needs the caller's lock.
@@ -51,9 +51,9 @@ extern "C" {
 
 #define TL_VERSION_MAJOR 0
 #define TL_VERSION_MINOR 9
-#define TL_VERSION_PATCH 2
+#define TL_VERSION_PATCH 3
 #define TL_VERSION (TL_VERSION_MAJOR * 1000000 + TL_VERSION_MINOR * 1000 + TL_VERSION_PATCH)
-#define TL_VERSION_TEXT TL_VERSION_JOINED(TL_VERSION_MAJOR, TL_VERSION_MINOR, TL_VERSION_PATCH) /* "0.9.2" */
+#define TL_VERSION_TEXT TL_VERSION_JOINED(TL_VERSION_MAJOR, TL_VERSION_MINOR, TL_VERSION_PATCH) /* "0.9.3" */
 #define TL_VERSION_JOINED(major, minor, patch) TL_VERSION_QUOTED(major, minor, patch)
 #define TL_VERSION_QUOTED(major, minor, patch) #major "." #minor "." #patch
 
@@ -75,6 +75,7 @@ uint32_t tl_version(void);
 #define TL_BAD_ITEMS 8          /* over 96 items, no whole number of items, a malformed item, or two of one identity */
 #define TL_BAD_SUMMARY 9        /* a model over 63, or inputs that are not of 32 bytes */
 #define TL_OUTPUT_TOO_SMALL 10  /* under TL_BOARD_SIZE bytes for a board or a preview, under TL_LISTING_SIZE for a listing */
+#define TL_MAP_TOO_SMALL 14     /* under TL_MAP_SIZE bytes for a map */
 #define TL_BAD_LENGTH 17        /* what is turned, or the output, is not of TL_REGISTER_SIZE bytes */
 
 /* What a report did to a track. */
@@ -89,9 +90,9 @@ uint32_t tl_version(void);
 #define TL_OUTSIDE 1      /* the chi-square is above the limit: they disagree */
 #define TL_UNMEASURABLE 2 /* there is no chi-square: they count as disagreeing */
 
-/* What an answer says, in words. Not for the outcomes of tl_agreement, and not for the lengths that tl_board, tl_register_preview
- * and tl_track_listing return: a length can be any number but those of their refusals. The text is part of the program that
- * includes this header, not of the library; tl_answer_text has the same words for languages that read no header. */
+/* What an answer says, in words. Not for the outcomes of tl_agreement, and not for the lengths that tl_board, tl_register_preview,
+ * tl_register_map and tl_track_listing return: a length can be any number but those of their refusals. The text is part of the
+ * program that includes this header, not of the library; tl_answer_text has the same words for languages that read no header. */
 static inline const char *tl_answer_name(uint32_t answer) {
     switch (answer) {
     case TL_OK: return "done";
@@ -105,6 +106,7 @@ static inline const char *tl_answer_name(uint32_t answer) {
     case TL_BAD_ITEMS: return "bad items";
     case TL_BAD_SUMMARY: return "bad summary";
     case TL_OUTPUT_TOO_SMALL: return "output too small";
+    case TL_MAP_TOO_SMALL: return "output too small for a map";
     case TL_BAD_LENGTH: return "not the length of a register";
     case TL_CHANGED: return "changed";
     case TL_CONTESTED: return "contested";
@@ -251,6 +253,11 @@ uint32_t tl_answer_text(uint32_t answer, uint8_t *out, size_t out_len);
 #define TL_MIN_LENGTH 112 /* the least length of a board or a preview that is not empty */
 #define TL_LISTING_SIZE TL_BOARD_SIZE
 
+/* The size of the output of a map: every one fits. */
+#define TL_MAP_SIZE 4096
+#define TL_MIN_MAP_LENGTH 42   /* the least length of a map: of no points */
+#define TL_MAX_MAP_LENGTH 1473 /* the greatest: of 8 points, with everything at its widest */
+
 /* ---- functions */
 
 /* The BLAKE2s-256 hash (RFC 7693, no key) of any bytes. Returns TL_OK. */
@@ -308,6 +315,16 @@ uint32_t tl_board(const uint8_t *memory, size_t memory_len, uint8_t *out, size_t
  * board. If the engine is convicted next, tl_board writes what was previewed. Bytes past the length, and all bytes of a refused
  * call, stay as found. */
 uint32_t tl_register_preview(const uint8_t *memory, size_t memory_len, uint32_t engine, uint8_t *out, size_t out_len);
+
+/* Writes the map of a register to the start of out, and returns its length, which is greater than every refusal's number; or the
+ * first that holds of TL_MALFORMED_REGISTER, TL_MAP_TOO_SMALL. A map is a FeatureCollection of GeoJSON (RFC 7946) in one line of
+ * ASCII, with no line feed and no zero byte at its end: a Point for the first ranked fix of each transmission that the board
+ * shows, the oldest first, at longitude, latitude and, where the fix has one, height. Degrees have seven decimals and metres
+ * three, so that no digit of the record is lost. A fix beyond 180 degrees of longitude or 90 of latitude has no point, and no other
+ * fix of its transmission takes its place; where none is left, there are no features. Bytes past the length, and all bytes of a
+ * refused call, stay as found. Every map fits TL_MAP_SIZE bytes. The register is only read. Registers that hold the same records,
+ * signers and summaries have the same map. */
+uint32_t tl_register_map(const uint8_t *memory, size_t memory_len, uint8_t *out, size_t out_len);
 
 /* Writes the bytes of a register, or any other TL_REGISTER_SIZE bytes, so that like bytes of its places are together, for an archive
  * that packs them: after the first TL_REGISTER_RECORDS_AT bytes, which are copied, comes the first byte of each of the 96 places (a

@@ -1,5 +1,5 @@
 /* The sizes of the layouts, a hash, the three outcomes of an agreement, decisions over three fixes of one transmission, also in another order,
- * reports into a register, a conviction that is shown first, a register turned for an archive, and the same three fixes in two orders into tracks, called from C. */
+ * reports into a register, a conviction that is shown first, a map, a register turned for an archive, and the same three fixes in two orders into tracks, called from C. */
 #include <inttypes.h>
 #include <stdio.h>
 #include <string.h>
@@ -195,6 +195,21 @@ static void reports(void) {
     show("board into too little", tl_board(memory, sizeof memory, out, TOO_LITTLE));
 }
 
+/* A fix as a map shows it, five units of a 1e-7 degree west of Greenwich. */
+static void map(void) {
+    static uint8_t memory[TL_REGISTER_SIZE], out[TL_MAP_SIZE];
+    uint8_t r[TL_RECORD_SIZE];
+    show_text("map of nothing", tl_register_map(memory, sizeof memory, out, sizeof out), out);
+    puts("");
+    write_record(r, 2, STEP);
+    put(r + TL_RECORD_LON_AT, 4, (uint32_t)-5);
+    show("report to be shown", tl_register_report(memory, sizeof memory, 1, r, sizeof r));
+    show_text("map", tl_register_map(memory, sizeof memory, out, sizeof out), out);
+    puts("");
+    show("map into too little", tl_register_map(memory, sizeof memory, out, TL_MAP_SIZE - 1));
+    show("map of too little", tl_register_map(memory, sizeof memory - 1, out, TOO_LITTLE));
+}
+
 /* A register is turned for an archive and turned back, and its board computed from what came back. */
 static void archive(void) {
     static uint8_t memory[TL_REGISTER_SIZE], columns[TL_REGISTER_SIZE], back[TL_REGISTER_SIZE], out[TL_BOARD_SIZE];
@@ -261,6 +276,7 @@ int main(void) {
     decide();
     orders();
     reports();
+    map();
     archive();
     track(smallest_first);
     track(largest_first);

@@ -78,6 +78,11 @@ unsafe extern "C" {
     fn tl_board(memory: *const u8, len: usize, out: *mut u8, out_len: usize) -> u32;
 }
 
+#[cfg(has_map)]
+unsafe extern "C" {
+    fn tl_register_map(memory: *const u8, len: usize, out: *mut u8, out_len: usize) -> u32;
+}
+
 #[cfg(has_preview)]
 unsafe extern "C" {
     fn tl_register_preview(memory: *const u8, len: usize, engine: u32, out: *mut u8, out_len: usize) -> u32;
@@ -100,6 +105,11 @@ pub mod register {
     #[cfg(has_board)]
     pub fn board(m: &[u8], out: &mut [u8]) -> usize {
         unsafe { super::tl_board(m.as_ptr(), m.len(), out.as_mut_ptr(), out.len()) as usize }
+    }
+
+    #[cfg(has_map)]
+    pub fn map(m: &[u8], out: &mut [u8]) -> usize {
+        unsafe { super::tl_register_map(m.as_ptr(), m.len(), out.as_mut_ptr(), out.len()) as usize }
     }
 
     #[cfg(has_preview)]
@@ -203,6 +213,17 @@ pub fn board(m: &[u8], out: &mut [u8]) -> usize {
     #[cfg(has_board)]
     return register::board(m, out);
     #[cfg(not(has_board))]
+    unreachable!("{} {}", m.len(), out.len())
+}
+
+/// A library that has it also has the register and the board.
+pub const MAP: bool = cfg!(has_map);
+
+#[inline(always)]
+pub fn map(m: &[u8], out: &mut [u8]) -> usize {
+    #[cfg(has_map)]
+    return register::map(m, out);
+    #[cfg(not(has_map))]
     unreachable!("{} {}", m.len(), out.len())
 }
 

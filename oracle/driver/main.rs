@@ -9,6 +9,8 @@ mod heights;
 mod kinds;
 mod lent;
 mod lists;
+#[cfg(has_register)]
+mod maps;
 mod measured;
 #[cfg(has_register)]
 mod previews;

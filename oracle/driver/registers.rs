@@ -4,7 +4,7 @@
 use crate::binding::{self, register as ours};
 use crate::heights::{self, EDGES};
 use crate::random::Random;
-use crate::{measured, previews, spans, tried};
+use crate::{maps, measured, previews, spans, tried};
 use oracle::layout::{Mask, RECORD};
 use oracle::{Record, hex};
 use peer::register::{self as theirs, SIZE};
@@ -69,8 +69,8 @@ fn record(random: &mut Random, style: &Style) -> Vec<u8> {
     let tags: Vec<u64> = (0..1 + random.below(3)).map(|i| 4 * i + random.below(4)).collect();
     let one = Record {
         time: if style.spread { spans::time(random) } else { random.below(style.wide) },
-        lat: 2_700 * random.below(3) as i32,
-        lon: 0,
+        lat: { let north = 2_700 * random.below(3) as i32; maps::place(random, north) },
+        lon: maps::place(random, 0),
         height: match random.below(4) {
             0 => None,
             1 => Some(random.pick(&EDGES)),
@@ -143,6 +143,15 @@ fn compare_boards(a: &[u8], b: &[u8], n: usize, last: bool, counts: &mut Counts)
     None
 }
 
+/// Both maps, where the library has one; the difference in words.
+fn compare_maps(a: &[u8], b: &[u8], n: usize, counts: &mut Counts) -> Option<String> {
+    match maps::compare(a, b) {
+        Ok(kinds) => count(kinds, counts),
+        Err(words) => return Some(format!("after call {n}: {words}")),
+    }
+    None
+}
+
 /// A preview on both memories: what both answer, or the difference in words.
 fn preview(engine: u32, room: usize, a: &[u8], b: &[u8], counts: &mut Counts) -> Result<usize, String> {
     let (answer, kinds) = previews::compare(a, b, engine, room)?;
@@ -197,6 +206,12 @@ fn run(size: usize, calls: &[Call], counts: &mut Counts) -> Option<String> {
         {
             return Some(words);
         }
+        if binding::MAP
+            && (n + 1 == calls.len() || back.is_some())
+            && let Some(words) = compare_maps(&a, &b, n, counts)
+        {
+            return Some(words);
+        }
         if !matches!(call, Call::Spoil { .. })
             && let (Some((at, byte)), 1) = (back.take(), answer)
         {
@@ -226,10 +241,11 @@ fn list(random: &mut Random) -> (Vec<Call>, bool) {
 }
 
 fn compared() -> &'static str {
-    match (cfg!(has_board), binding::PREVIEW) {
-        (false, _) => "register, no board in the library",
-        (true, false) => "register and board, no preview in the library",
-        (true, true) => "register, board and preview",
+    match (cfg!(has_board), binding::PREVIEW, binding::MAP) {
+        (false, ..) => "register, no board in the library",
+        (true, false, _) => "register and board, no preview in the library",
+        (true, true, false) => "register, board and preview, no map in the library",
+        (true, true, true) => "register, board, preview and map",
     }
 }
 
@@ -260,6 +276,9 @@ pub fn compare(random: &mut Random, lists: u64) {
         tried::all(heights::KINDS, came, lists);
         tried::all(spans::KINDS, came, lists);
         tried::all(measured::boards(), came, lists);
+    }
+    if binding::MAP {
+        tried::all(maps::KINDS, came, lists);
     }
     if binding::PREVIEW {
         tried::all(previews::kinds(), came, lists);

@@ -25,6 +25,8 @@ pub enum Error {
     NoSummary,
     /// The output is smaller than the text may need.
     SmallOutput,
+    /// The output is smaller than a map may need.
+    SmallMap,
     /// The bytes that are passed, or the output, have another length than a register.
     OtherLength,
 }
@@ -44,6 +46,7 @@ impl Error {
             Error::ModelDisputed => 7,
             Error::NoSummary => 9,
             Error::SmallOutput => 10,
+            Error::SmallMap => 14,
             Error::OtherLength => 17,
         }
     }

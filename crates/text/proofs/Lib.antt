@@ -3,3 +3,4 @@ pub mod Readback
 pub mod Rounding
 pub mod Appending
 pub mod Numerals
+pub mod Exact

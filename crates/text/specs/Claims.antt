@@ -1,11 +1,13 @@
 -- What is claimed of the texts of numbers (docs/REFERENCE.md, 'Text' and 'Session'). The contracts of src/claims.rt name it; the proofs are in
 -- proofs/Readback and proofs/Rounding.
-use Rattle.std.specs.Prelude.{ℕ, suc, ◌+◌, ◌-◌, ◌*◌, ◌/◌, ◌%◌, ◌^◌, ◌≤◌, ◌<◌, ◌≡◌, cond, List, [], ◌∷◌, ltb, ℤ, pos, negsuc, neg_ℤ, nat_abs, length, get_or}
+use Rattle.std.specs.Prelude.{ℕ, suc, Bool, true, false, eqb, Some, ◌++◌, ◌+◌, ◌-◌, ◌*◌, ◌/◌, ◌%◌, ◌^◌, ◌≤◌, ◌<◌, ◌≡◌, cond, List, [], ◌∷◌, ltb, ℤ, pos, negsuc, neg_ℤ, nat_abs, length, get_or}
 use Prim.Native.String.{String}
 use Rattle.std.specs.Int.Signed.{mag}
 use Rattle.octets.specs.Ascii.{ascii}
 use Rattle.text.specs.Numbers.{decimal, signed_decimal, hex, decimal_value}
 use Rattle.text.specs.Heights.{NearestMetre, metres}
+use Rattle.text.specs.Decimals.{lowest_digits, with_decimals, signed_with_decimals}
+use Rattle.text.specs.Reading.{stops, signed_at}
 
 -- the number that hex digits stand for, after those that stand for a
 abbrev pub hex_digit_value : ℕ → ℕ
@@ -74,3 +76,41 @@ pub record HeightTexts : Type 0 where
   pub greatest_half : Written (pos 2_147_483_500) "2147484"
   pub greatest : Written (pos 2_147_483_647) "2147484"
   pub least : Written (neg_ℤ (pos 2_147_483_648)) "-2147484"
+
+-- ---- numbers with decimals
+
+-- a number with k decimals is read back, and what stands behind it is left, where that does not begin with a digit
+abbrev pub DecimalsReadBack : Type 0
+DecimalsReadBack = (k : ℕ) (v : ℤ) (t : List ℕ) → nat_abs v < 2 ^ 64 → stops t ≡ true → signed_at k (signed_with_decimals k v ++ t) ≡ Some (v, t)
+
+-- it begins with a minus exactly where it is below zero, so zero has none
+abbrev pub is_below_zero : ℤ → Bool
+is_below_zero (pos n) = false
+is_below_zero (negsuc n) = true
+
+abbrev pub MinusOnlyBelowZero : Type 0
+MinusOnlyBelowZero = (k : ℕ) (v : ℤ) → eqb (get_or (signed_with_decimals k v) 0 0) 45 ≡ is_below_zero v
+
+-- a leading '0' is the whole of the whole part
+abbrev pub LeadingZeroAlone : Type 0
+LeadingZeroAlone = (k n : ℕ) → n < 2 ^ 64 → get_or (with_decimals k n) 0 0 ≡ 48 → n / 10 ^ k ≡ 0
+
+-- just k decimals
+abbrev pub JustSoMany : Type 0
+JustSoMany = (k n : ℕ) → length (lowest_digits k n) ≡ k
+
+-- v with k decimals is written so
+abbrev pub WrittenWith : ℕ → ℤ → String → Type 0
+WrittenWith k v text = signed_with_decimals k v ≡ ascii text
+
+pub record DecimalTexts : Type 0 where
+  pub zero : WrittenWith 7 (pos 0) "0.0000000"
+  -- the sign is not that of the whole part
+  pub five_below : WrittenWith 7 (neg_ℤ (pos 5)) "-0.0000005"
+  pub ten_degrees : WrittenWith 7 (pos 100_000_000) "10.0000000"
+  pub least_degrees : WrittenWith 7 (neg_ℤ (pos 2_147_483_648)) "-214.7483648"
+  pub no_height : WrittenWith 3 (pos 0) "0.000"
+  pub one_below : WrittenWith 3 (neg_ℤ (pos 1)) "-0.001"
+  pub least_height : WrittenWith 3 (neg_ℤ (pos 2_147_483_648)) "-2147483.648"
+  -- without decimals there is no point
+  pub whole : WrittenWith 0 (neg_ℤ (pos 12)) "-12"

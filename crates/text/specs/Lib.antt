@@ -1,4 +1,6 @@
 pub mod Numbers
 pub mod Heights
+pub mod Decimals
+pub mod Reading
 pub mod Claims
 pub mod Texts

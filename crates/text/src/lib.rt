@@ -1,9 +1,10 @@
-//! A text that grows in a lent buffer: words, decimal and hexadecimal numbers, and heights in whole metres. What there is no room for
+//! A text that grows in a lent buffer: words, decimal and hexadecimal numbers, numbers with decimals, and heights in whole metres. What there is no room for
 //! is left out, so a caller who must have it all shows at the end that the whole text fits.
 #![tactic(auto)]
 
 ghost use Rattle.std.specs.Prelude.{◌≡◌, ◌+◌, ◌≤◌, ◌<◌, ◌++◌, [], ◌∷◌, length, take, drop};
 ghost use Rattle.text.specs.Numbers.{decimal, signed_decimal, hex_digit, hex};
+ghost use Rattle.text.specs.Decimals.{with_decimals, signed_with_decimals};
 ghost use Rattle.text.specs.Heights.{rounded_metres, metres};
 
 use itoa::Buffer;
@@ -11,7 +12,7 @@ use itoa::Buffer;
 pub mod claims;
 mod values;
 
-pub use values::{Append, Hex, Metres, write};
+pub use values::{Append, Decimals, Hex, Metres, write};
 
 /// A text in a lent buffer, from its first byte on.
 #[derive(Drop)]
@@ -90,6 +91,39 @@ impl<'a> Text<'a> {
         ensures { self.new ≡ append self.old (signed_decimal (metres height)) }
     {
         self.push_i32(whole_metres(height));
+    }
+
+    // n in decimal. A function of its own, so that the next, which calls itself, has a small frame.
+    #[inline(never)]
+    fn push_whole(&mut self, n: u64)
+        ensures { self.new ≡ append self.old (decimal n) }
+    {
+        self.push_u64(n);
+    }
+
+    // n in units of the last of k decimals.
+    fn push_unsigned(&mut self, k: usize, n: u64)
+        ensures { self.new ≡ append self.old (with_decimals k n) }
+    {
+        if k == 0 {
+            self.push_whole(n);
+            return;
+        }
+        self.push_unsigned(k - 1, n / 10);
+        if k == 1 {
+            self.push_byte(b'.');
+        }
+        self.push_byte(48 + (n % 10) as u8);
+    }
+
+    /// v in units of the last of k decimals, with a minus where it is negative.
+    pub fn push_decimals(&mut self, k: usize, v: i32)
+        ensures { self.new ≡ append self.old (signed_with_decimals k v) }
+    {
+        if v < 0 {
+            self.push_byte(b'-');
+        }
+        self.push_unsigned(k, v.unsigned_abs() as u64);
     }
 
     /// The k lowest hex digits of n, highest first.

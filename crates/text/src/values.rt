@@ -3,6 +3,7 @@
 ghost use Rattle.std.specs.Prelude.{◌≡◌, ◌≤◌, ◌++◌, ℕ, List, flat_map, length};
 ghost use Rattle.octets.specs.Put.{Put};
 ghost use Rattle.text.specs.Numbers.{decimal, signed_decimal, hex};
+ghost use Rattle.text.specs.Decimals.{signed_with_decimals};
 ghost use Rattle.text.specs.Heights.{metres};
 ghost use Rattle.text.specs.declared.Text.{Text as Written};
 ghost use Rattle.text.specs.Texts.{append};
@@ -45,6 +46,18 @@ impl Append for Metres {
 
     fn append_to(&self, out: &mut Text) {
         out.push_metres(self.0);
+    }
+}
+
+/// A number in units of the last of so many decimals.
+#[derive(Clone, Copy)]
+pub struct Decimals<const PLACES: usize>(pub i32);
+
+impl<const PLACES: usize> Append for Decimals<PLACES> {
+    ghost text = { λ d. signed_with_decimals PLACES d.0 };
+
+    fn append_to(&self, out: &mut Text) {
+        out.push_decimals(PLACES, self.0);
     }
 }
 

@@ -15,6 +15,7 @@ ghost use Rattle.register.specs.Memory.{on_memory};
 ghost use Rattle.register_columns.specs.Columns.{columns, uncolumns, rearrange};
 ghost use Rattle.board.specs.Board.{draw_board};
 ghost use Rattle.board.specs.Preview.{draw_preview};
+ghost use Rattle.board_map.specs.Map.{draw_map};
 ghost use Rattle.track_memory.specs.Memory as T;
 ghost use Rattle.track.specs.Track.{track_report, track_summary, track_conviction};
 ghost use Rattle.track_listing.specs.Listing.{list_track};
@@ -237,6 +238,14 @@ pub extern "C" fn tl_board(memory: &[u8], out: &mut [u8]) -> u32
     ensures { after result out.new ≡ draw_board memory.now out.old }
 {
     value_or_number(board::board(memory, out))
+}
+
+/// The map of a register into `out`: 1 or 14, or its length, which is greater than every refusal's number. The register is only read.
+#[unsafe(no_mangle)]
+pub extern "C" fn tl_register_map(memory: &[u8], out: &mut [u8]) -> u32
+    ensures { after result out.new ≡ draw_map memory.now out.old }
+{
+    value_or_number(board_map::map(memory, out))
 }
 
 /// Writes a register's bytes for an archive: those of its places with the first byte of each together, then the second, and so on. Answers 0,

@@ -12,7 +12,7 @@ abbrev pub minor : ℕ
 minor = 9
 
 abbrev pub patch : ℕ
-patch = 2
+patch = 3
 
 -- as one number, which grows with the version
 abbrev pub version_number : ℕ
@@ -38,6 +38,7 @@ name_of n =
     else if n == 8 then codes "bad items"
     else if n == 9 then codes "bad summary"
     else if n == 10 then codes "output too small"
+    else if n == 14 then codes "output too small for a map"
     else if n == 17 then codes "not the length of a register"
     else if n == 20 then codes "changed"
     else if n == 21 then codes "contested"

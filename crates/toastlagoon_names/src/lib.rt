@@ -8,7 +8,7 @@ ghost use Rattle.toastlagoon_names.specs.Names as N;
 pub mod claims;
 
 // The version as one number: a million for each major number, a thousand for each minor one.
-const VERSION: u32 = 9_002;
+const VERSION: u32 = 9_003;
 
 /// The version of the library.
 pub fn version() -> u32
@@ -21,7 +21,7 @@ pub fn version() -> u32
 pub fn version_text() -> &'static [u8]
     ensures { result.now ≡ N.version_text }
 {
-    b"0.9.2"
+    b"0.9.3"
 }
 
 /// What an answer says, in words.
@@ -40,6 +40,7 @@ pub fn name(answer: u32) -> &'static [u8]
         8 => b"bad items",
         9 => b"bad summary",
         10 => b"output too small",
+        14 => b"output too small for a map",
         17 => b"not the length of a register",
         20 => b"changed",
         21 => b"contested",

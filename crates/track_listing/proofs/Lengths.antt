@@ -17,6 +17,7 @@ use Rattle.text.specs.Numbers.{digits, decimal, signed_decimal}
 use Rattle.text.specs.Heights.{metres, rounded_metres}
 use Rattle.text.proofs.Shapes.{digits-one}
 use Rattle.text.proofs.Readback.{digits-width, hex-width}
+use Rattle.text.proofs.Exact.{digits-short}
 use Rattle.tables.proofs.Tables.{length-places}
 use Rattle.record.specs.Layout.{height_flag_at, height_at, max_tags}
 use Rattle.record.specs.Fields.{time, latitude, longitude, byte_at, used, weight}
@@ -37,15 +38,6 @@ use Rattle.track_listing.specs.Listing.{refused_text, held_text, held_from, cont
 use Rattle.track_listing.specs.Claims.{widest_first, widest_header, widest_ranked, widest_refused, shortest, longest_held, longest, LengthNumbers, ListingLength}
 
 -- ---- numbers
-
-digits-short : (k j n : ℕ) → n < 10 ^ suc j → length (digits k n) ≤ suc j
-unfolding digits
-digits-short zero j n h = omega arith
-digits-short (suc k) zero n h = let l : n < 10 = h in by (ltb n 10) (λ p. rw p (omega arith)) (λ p. let g = ltb-false n 10 p in absurd (omega arith))
-digits-short (suc k) (suc j) n h =
-    by (ltb n 10)
-    (λ p. rw p (omega arith))
-    (λ p. let r = digits-short k j (n / 10) ((div-lt_iff_lt-mul (omega arith)).1 (rw (pow-suc 10 (suc j)) at h)) in rw (p, length-append) (omega arith))
 
 signed-width : (v : ℤ) → length (signed_decimal v) ≤ 11
 unfolding signed_decimal

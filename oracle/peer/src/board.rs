@@ -156,6 +156,12 @@ fn latest(fixes: &[Fix]) -> Vec<(Vec<usize>, Decision)> {
     decisions.split_off(decisions.len().saturating_sub(SHOWN))
 }
 
+/// The first ranked fix of each of the latest transmissions, oldest first.
+pub fn firsts(register: &Register) -> Vec<Said> {
+    let fixes = representatives(register);
+    latest(&fixes).iter().map(|(one, d)| said(&fixes[one[usize::from(d.ranked[0])]])).collect()
+}
+
 /// The records of a well-formed register that count.
 pub fn counting(register: &Register) -> Vec<[u8; RECORD]> {
     let counts = |bytes: &[u8; RECORD]| cited(register, &Record::read(bytes).expect("a well-formed record")).is_some();

@@ -1,7 +1,9 @@
 //! The peer as a program: a session on standard input, what it prints on standard output; or `cases FOLDER`, which writes each
-//! case's session and what it prints to FOLDER/NAME/stdin and FOLDER/NAME/stdout; or `monthly`, which reads buffers one after another, each
-//! as its length in four bytes, lowest first, and its bytes, and prints of each its monthly numbers, and an empty line.
+//! case's session and what it prints to FOLDER/NAME/stdin and FOLDER/NAME/stdout; or `map`, a register's bytes on standard input and its
+//! map on standard output, or `refused=1`; or `monthly`, which reads buffers one after another, each as its length in four bytes, lowest
+//! first, and its bytes, and prints of each its monthly numbers, and an empty line.
 
+use peer::register::Register;
 use std::io::{Read, Write};
 
 fn write_cases(folder: &str) -> std::io::Result<()> {
@@ -34,13 +36,19 @@ fn main() -> std::io::Result<()> {
             std::io::stdout().write_all(peer::session::session(&input).as_bytes())
         }
         ["cases", folder] => write_cases(folder),
+        ["map"] => {
+            let mut memory = Vec::new();
+            std::io::stdin().read_to_end(&mut memory)?;
+            let text = Register::read(&memory).map_or("refused=1".to_string(), |register| peer::map::text(&register));
+            std::io::stdout().write_all(text.as_bytes())
+        }
         ["monthly"] => {
             let mut input = Vec::new();
             std::io::stdin().read_to_end(&mut input)?;
             std::io::stdout().write_all(monthly(&input).as_bytes())
         }
         _ => {
-            eprintln!("peer: a session on standard input, or: peer cases FOLDER, or: peer monthly");
+            eprintln!("peer: a session on standard input, or: peer cases FOLDER, or: peer map, or: peer monthly");
             std::process::exit(2)
         }
     }

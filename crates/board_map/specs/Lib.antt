@@ -1,0 +1,8 @@
+-- The points of a map (Points), its text (Text) and the operation (Map); how a map is read (Reading); what is claimed of maps (Claims); and what the code writes of a
+-- picture (Written).
+pub mod Points
+pub mod Text
+pub mod Map
+pub mod Reading
+pub mod Claims
+pub mod Written
