@@ -15,6 +15,7 @@ mod tracks;
 use oracle::decide::{SIZE, candidates};
 use oracle::layout::{CONSISTENT_AT, IDENTITY_AT, MAX_TAGS, Mask, RECORD, STANDING_AT};
 use oracle::{Claim, Record};
+use peer::register::{CREW, MANAGER};
 use random::Random;
 use std::hint::black_box;
 use std::time::Instant;
@@ -308,14 +309,27 @@ fn board(what: &str, chosen: impl Fn(u64) -> (u64, Vec<u64>)) {
     let memory = reported(chosen, |_| 3);
     let (mut a, mut b) = (vec![0u8; 16_384], vec![0u8; 16_384]);
     let has = binding::BOARD;
-    assert!(!has || binding::board(&memory, &mut a) == peer::board::board(&memory, &mut b) && a == b);
+    assert!(!has || binding::board(MANAGER, &memory, &mut a) == peer::board::board(MANAGER, &memory, &mut b) && a == b);
     let mut ours = || {
-        black_box(binding::board(black_box(&memory), &mut a));
+        black_box(binding::board(MANAGER, black_box(&memory), &mut a));
     };
     let mut theirs = || {
-        black_box(peer::board::board(black_box(&memory), &mut b));
+        black_box(peer::board::board(MANAGER, black_box(&memory), &mut b));
     };
     line(&format!("board, 96 records {what}"), "the peer", 1.0, has, &mut ours, &mut theirs);
+    crew(what, &memory);
+}
+
+/// A crew's board beside the full one.
+fn crew(what: &str, memory: &[u8]) {
+    let (mut a, mut b) = (vec![0u8; 16_384], vec![0u8; 16_384]);
+    let mut ours = || {
+        black_box(binding::board(CREW, black_box(memory), &mut a));
+    };
+    let mut full = || {
+        black_box(binding::board(MANAGER, black_box(memory), &mut b));
+    };
+    line(&format!("a crew's board, 96 records {what}"), "the full board", 1.0, binding::BOARD, &mut ours, &mut full);
 }
 
 /// A map of 96 records, beside the library's own board of the same register, and beside the peer's map.
@@ -354,13 +368,13 @@ fn preview(what: &str, memory: &[u8], engine: u32) {
     }
     let on_copy = |copy: &mut [u8], out: &mut [u8]| {
         copy.copy_from_slice(black_box(memory));
-        assert_eq!(binding::convict(copy, engine), 0);
-        binding::board(copy, out)
+        assert_eq!(binding::convict(MANAGER, copy, engine), 0);
+        binding::board(MANAGER, copy, out)
     };
     let (mut copy, mut a, mut b) = (memory.to_vec(), vec![7u8; 16_384], vec![7u8; 16_384]);
-    assert!(binding::preview(memory, engine, &mut a) == on_copy(&mut copy, &mut b) && a == b);
+    assert!(binding::preview(MANAGER, memory, engine, &mut a) == on_copy(&mut copy, &mut b) && a == b);
     let mut ours = || {
-        black_box(binding::preview(black_box(memory), engine, &mut a));
+        black_box(binding::preview(MANAGER, black_box(memory), engine, &mut a));
     };
     let mut theirs = || {
         black_box(on_copy(&mut copy, &mut b));

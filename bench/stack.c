@@ -74,14 +74,14 @@ static void decide(void) { tl_decide(items, (size_t)count * TL_ITEM_SIZE, answer
 
 static void decide_any(void) { tl_decide_any(items, (size_t)count * TL_ITEM_SIZE, answer); }
 
-static void board(void) { tl_board(memory, sizeof memory, out, sizeof out); }
+static void board(void) { tl_board(TL_MANAGER, memory, sizeof memory, out, sizeof out); }
 
 static void map(void) { tl_register_map(memory, sizeof memory, out, sizeof out); }
 
 /* Without engine 4 all records are still on the board, and without engine 3 every other one; the deeper call counts. */
 static void preview(void) {
-    tl_register_preview(memory, sizeof memory, 4, out, sizeof out);
-    tl_register_preview(memory, sizeof memory, 3, out, sizeof out);
+    tl_register_preview(TL_MANAGER, memory, sizeof memory, 4, out, sizeof out);
+    tl_register_preview(TL_MANAGER, memory, sizeof memory, 3, out, sizeof out);
 }
 
 static uint8_t turned[TL_REGISTER_SIZE];

@@ -3,7 +3,7 @@
  *     uint8_t window[TL_REGISTER_SIZE] = {0}, board[TL_BOARD_SIZE];              // an empty register: all zeros
  *     uint32_t answer = tl_register_report(window, sizeof window, engine, record, sizeof record);
  *     if (answer != TL_OK) fprintf(stderr, "%s\n", tl_answer_name(answer));      // refused: no byte has changed
- *     uint32_t length = tl_board(window, sizeof window, board, sizeof board);    // 0 for an empty board
+ *     uint32_t length = tl_board(TL_MANAGER, window, sizeof window, board, sizeof board); // 0 for an empty board
  *     if (length == TL_MALFORMED_REGISTER || length == TL_OUTPUT_TOO_SMALL) return 1;
  *     fwrite(board, 1, length, stdout);
  *
@@ -50,10 +50,10 @@ extern "C" {
  * have the same minor number. A change of the patch number adds names and changes nothing that was there. */
 
 #define TL_VERSION_MAJOR 0
-#define TL_VERSION_MINOR 9
-#define TL_VERSION_PATCH 3
+#define TL_VERSION_MINOR 10
+#define TL_VERSION_PATCH 0
 #define TL_VERSION (TL_VERSION_MAJOR * 1000000 + TL_VERSION_MINOR * 1000 + TL_VERSION_PATCH)
-#define TL_VERSION_TEXT TL_VERSION_JOINED(TL_VERSION_MAJOR, TL_VERSION_MINOR, TL_VERSION_PATCH) /* "0.9.3" */
+#define TL_VERSION_TEXT TL_VERSION_JOINED(TL_VERSION_MAJOR, TL_VERSION_MINOR, TL_VERSION_PATCH) /* "0.10.0" */
 #define TL_VERSION_JOINED(major, minor, patch) TL_VERSION_QUOTED(major, minor, patch)
 #define TL_VERSION_QUOTED(major, minor, patch) #major "." #minor "." #patch
 
@@ -76,6 +76,8 @@ uint32_t tl_version(void);
 #define TL_BAD_SUMMARY 9        /* a model over 63, or inputs that are not of 32 bytes */
 #define TL_OUTPUT_TOO_SMALL 10  /* under TL_BOARD_SIZE bytes for a board or a preview, under TL_LISTING_SIZE for a listing */
 #define TL_MAP_TOO_SMALL 14     /* under TL_MAP_SIZE bytes for a map */
+#define TL_UNKNOWN_DESK 15      /* the desk is none of TL_CREW, TL_ANALYST and TL_MANAGER; all 32 bits count */
+#define TL_NO_RIGHT 16          /* the desk may not do this */
 #define TL_BAD_LENGTH 17        /* what is turned, or the output, is not of TL_REGISTER_SIZE bytes */
 
 /* What a report did to a track. */
@@ -107,6 +109,8 @@ static inline const char *tl_answer_name(uint32_t answer) {
     case TL_BAD_SUMMARY: return "bad summary";
     case TL_OUTPUT_TOO_SMALL: return "output too small";
     case TL_MAP_TOO_SMALL: return "output too small for a map";
+    case TL_UNKNOWN_DESK: return "unknown desk";
+    case TL_NO_RIGHT: return "desk lacks the right";
     case TL_BAD_LENGTH: return "not the length of a register";
     case TL_CHANGED: return "changed";
     case TL_CONTESTED: return "contested";
@@ -121,6 +125,15 @@ static inline const char *tl_answer_name(uint32_t answer) {
  * as found. */
 #define TL_ANSWER_TEXT_SIZE 48
 uint32_t tl_answer_text(uint32_t answer, uint8_t *out, size_t out_len);
+
+/* ---- desks
+ *
+ * Who calls for a register's conviction, preview or board, as far as he says so: the library believes the number and does not ask who
+ * the caller is. It is asked before all else. */
+
+#define TL_CREW 0    /* its board has the ranked lines alone, under headers that give only the transmission's number */
+#define TL_ANALYST 1 /* the full board, and the preview of a conviction */
+#define TL_MANAGER 2 /* everything: a manager alone convicts */
 
 /* ---- limits */
 
@@ -250,7 +263,8 @@ uint32_t tl_answer_text(uint32_t answer, uint8_t *out, size_t out_len);
 
 /* The size of the output of a board, and of a listing: every one fits. */
 #define TL_BOARD_SIZE 16384
-#define TL_MIN_LENGTH 112 /* the least length of a board or a preview that is not empty */
+#define TL_MIN_LENGTH 112     /* the least length of a full board or a preview that is not empty */
+#define TL_MIN_CREW_LENGTH 81 /* and of a crew's board */
 #define TL_LISTING_SIZE TL_BOARD_SIZE
 
 /* The size of the output of a map: every one fits. */
@@ -299,22 +313,25 @@ uint32_t tl_register_summary(uint8_t *memory, size_t memory_len, uint32_t engine
                              const uint8_t *inputs, size_t inputs_len);
 
 /* Convicts an engine: its summaries are removed, its signature is removed from every record, and so is a record that has no signer
- * left. Returns TL_OK, also for an engine that is convicted already, or the first that holds of TL_MALFORMED_REGISTER,
- * TL_ENGINE_OVER_31. */
-uint32_t tl_register_conviction(uint8_t *memory, size_t memory_len, uint32_t engine);
+ * left. A manager alone may. Returns TL_OK, also for an engine that is convicted already, or the first that holds of TL_UNKNOWN_DESK,
+ * TL_NO_RIGHT, TL_MALFORMED_REGISTER, TL_ENGINE_OVER_31. */
+uint32_t tl_register_conviction(uint32_t desk, uint8_t *memory, size_t memory_len, uint32_t engine);
 
-/* Computes the board of a register, writes it to the start of out, and returns the length: 0 for an empty board, else greater than
- * every refusal's number; or the first that holds of TL_MALFORMED_REGISTER, TL_OUTPUT_TOO_SMALL. The text has no zero byte at its
- * end. Bytes past the length, and all bytes of a refused call, stay as found. Every board fits TL_BOARD_SIZE bytes. Registers that
- * hold the same records, signers and summaries have the same board. */
-uint32_t tl_board(const uint8_t *memory, size_t memory_len, uint8_t *out, size_t out_len);
+/* Computes the board of a register in the form of a desk, writes it to the start of out, and returns the length: 0 for an empty board,
+ * else greater than every refusal's number; or the first that holds of TL_UNKNOWN_DESK, TL_MALFORMED_REGISTER, TL_OUTPUT_TOO_SMALL. An
+ * analyst and a manager get the full board, a crew its ranked lines alone, under headers `transmission=N`. The text has no zero byte at
+ * its end. Bytes past the length, and all bytes of a refused call, stay as found. Every board fits TL_BOARD_SIZE bytes. Registers that
+ * hold the same records, signers and summaries have the same board, and registers whose full boards have the same ranked lines under
+ * the same numbers give a crew the same bytes. */
+uint32_t tl_board(uint32_t desk, const uint8_t *memory, size_t memory_len, uint8_t *out, size_t out_len);
 
 /* Computes the board of a register as it would be if an engine were convicted, and only reads the register: it writes what
- * tl_board writes after tl_register_conviction on a copy. Returns the length, as tl_board does; or the first that holds of
- * TL_MALFORMED_REGISTER, TL_ENGINE_OVER_31, TL_OUTPUT_TOO_SMALL. The preview of an engine that is convicted already is the present
- * board. If the engine is convicted next, tl_board writes what was previewed. Bytes past the length, and all bytes of a refused
- * call, stay as found. */
-uint32_t tl_register_preview(const uint8_t *memory, size_t memory_len, uint32_t engine, uint8_t *out, size_t out_len);
+ * tl_board writes to a manager after a manager's tl_register_conviction on a copy. An analyst and a manager may. Returns the length, as
+ * tl_board does; or the first that holds of TL_UNKNOWN_DESK, TL_NO_RIGHT, TL_MALFORMED_REGISTER, TL_ENGINE_OVER_31,
+ * TL_OUTPUT_TOO_SMALL. The preview of an engine that is convicted already is the present board. If the engine is convicted next,
+ * tl_board writes what was previewed. Bytes past the length, and all bytes of a refused call, stay as found. */
+uint32_t tl_register_preview(uint32_t desk, const uint8_t *memory, size_t memory_len, uint32_t engine, uint8_t *out,
+                             size_t out_len);
 
 /* Writes the map of a register to the start of out, and returns its length, which is greater than every refusal's number; or the
  * first that holds of TL_MALFORMED_REGISTER, TL_MAP_TOO_SMALL. A map is a FeatureCollection of GeoJSON (RFC 7946) in one line of

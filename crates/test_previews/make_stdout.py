@@ -1,10 +1,11 @@
 #!/usr/bin/env python3
-"""Makes stdin (registers, one after another) and stdout (what each preview must be answered, and its text) of this program.
+"""Makes stdin (registers, one after another) and stdout (what each desk must be answered, with the texts) of this program.
 
     oracle/peer/build && crates/test_previews/make_stdout.py
 
 A register is written here, from its layout in docs/REFERENCE.md; what it holds is given to the peer too, a second writing of register and
-board in plain Rust (target/oracle/peer), as a session that ends with the conviction: what that prints after its answers is what the preview must have.
+board in plain Rust (target/oracle/peer), as a session that ends with the conviction: what that prints after its answers is what the preview must have, and
+without the conviction, or with the word crew, what the boards must have.
 Nothing of ours is asked."""
 import os
 import struct
@@ -20,6 +21,7 @@ HUNDRED = struct.pack("<d", 100.0)
 ZERO = bytes(8)
 QUIET = b"transmissions=0\n"
 ENGINES = range(33)
+DESKS = (0, 1, 2, 3, 258)
 
 
 class Report:
@@ -69,30 +71,43 @@ def register(calls, convicted=()):
     return layouts.register({call.place() for call in held(calls, Summary)}, signers, convicted)
 
 
-def text(calls, engines):
-    """The board after the calls and these convictions: the peer's, without the answers."""
+def text(calls, engines, words=()):
+    """The board after the calls and these convictions: the peer's, without the answers; with the word crew, as a crew sees it."""
     session = "".join(call.lines() for call in calls) + "".join(f"op=convict\nengine={engine}\n" for engine in engines)
-    out = subprocess.run([PEER], input=session.encode(), capture_output=True, check=True).stdout
+    out = subprocess.run([PEER, *words], input=session.encode(), capture_output=True, check=True).stdout
     left = out.split(b"\n", len(calls) + len(engines))
     assert left[:-1] == [b"answer=0"] * (len(calls) + len(engines)), out
     return b"" if left[-1] == QUIET else left[-1]
 
 
-def line(engine, answer):
-    return b"engine=%d answer=%d\n" % (engine, answer)
+def line(what, answer):
+    return f"{what} answer={answer}\n".encode()
 
 
-def expected(calls, convicted):
-    """Every preview, and the refusals of an output that is too small."""
-    out = b""
+def refusal(desk, right, formed, engine):
+    """With what a call is refused before its output is looked at; 0 where it is not. A desk has a right from this kind on."""
+    return 15 if desk > 2 else 16 if desk < right else 1 if not formed else 2 if engine > 31 else 0
+
+
+def at_desk(desk, calls, convicted, formed):
+    """The board, two convictions, every preview, and the refusals of an output that is too small."""
+    refused = refusal(desk, 0, formed, 0)
+    board = b"" if refused else text(calls, convicted, ("crew",) if desk == 0 else ())
+    out = line(f"desk={desk} board", refused or len(board)) + board + line(f"desk={desk} too small", refused or 10)
+    for engine in (1, 33):
+        refused = refusal(desk, 2, formed, engine)
+        out += line(f"desk={desk} convict={engine}", refused) + (b"same=true\n" if refused or engine in convicted else b"same=false\n")
     for engine in ENGINES:
-        board = b"" if engine == 32 else text(calls, (*convicted, engine))
-        out += line(engine, 2 if engine == 32 else len(board)) + board
-    return out + line(0, 10) + line(33, 2) + b"\n"
+        refused = refusal(desk, 1, formed, engine)
+        board = b"" if refused else text(calls, (*convicted, engine))
+        out += line(f"desk={desk} engine={engine}", refused or len(board)) + board
+    for engine in (0, 33):
+        out += line(f"desk={desk} engine={engine} too small", refusal(desk, 1, formed, engine) or 10)
+    return out
 
 
-def malformed():
-    return b"".join(line(engine, 1) for engine in ENGINES) + line(0, 1) + line(33, 1) + b"\n"
+def expected(calls, convicted, formed=True):
+    return b"".join(at_desk(desk, calls, convicted, formed) for desk in DESKS) + b"\n"
 
 
 S, M, L = Report(1, [1], 0), Report(2, [1, 2], 2700), Report(3, [1, 2, 3], 5400)
@@ -112,7 +127,7 @@ def main():
     for calls, convicted in (([], ()), (NESTED, ()), (NESTED, (7, 0)), (DISPUTE, ()), (MANY, (30,))):
         given.append((register(calls, convicted), expected(calls, convicted)))
     # Engine 3 signed a record and is convicted: no register.
-    given.append((register(NESTED, (3,)), malformed()))
+    given.append((register(NESTED, (3,)), expected(NESTED, (3,), formed=False)))
     open(os.path.join(HERE, "stdin"), "wb").write(b"".join(bytes_ for bytes_, _ in given))
     open(os.path.join(HERE, "stdout"), "wb").write(b"".join(out for _, out in given))
     print(f"make_stdout.py: {len(given)} registers")

@@ -183,16 +183,21 @@ static void reports(void) {
     show("report by engine 7", tl_register_report(memory, sizeof memory, 7, r, sizeof r));
     show("report by engine 32", tl_register_report(memory, sizeof memory, TL_MAX_ENGINE + 1, r, sizeof r));
     /* The board as it would be, and then the conviction: the board at the end is the one that was previewed. */
-    show_text("preview without engine 4", tl_register_preview(memory, sizeof memory, 4, out, sizeof out), out);
-    show("preview without engine 32", tl_register_preview(memory, sizeof memory, TL_MAX_ENGINE + 1, out, TOO_LITTLE));
-    show("preview into too little", tl_register_preview(memory, sizeof memory, 4, out, TOO_LITTLE));
-    show("conviction of engine 4", tl_register_conviction(memory, sizeof memory, 4));
+    show_text("preview without engine 4", tl_register_preview(TL_MANAGER, memory, sizeof memory, 4, out, sizeof out), out);
+    show("preview without engine 32", tl_register_preview(TL_MANAGER, memory, sizeof memory, TL_MAX_ENGINE + 1, out, TOO_LITTLE));
+    show("preview into too little", tl_register_preview(TL_MANAGER, memory, sizeof memory, 4, out, TOO_LITTLE));
+    /* A desk that may not is refused before anything else is looked at. */
+    show("preview for a crew", tl_register_preview(TL_CREW, memory, 0, 4, out, 0));
+    show("conviction of engine 4 by an analyst", tl_register_conviction(TL_ANALYST, memory, sizeof memory, 4));
+    show("conviction of engine 4 at desk 258", tl_register_conviction(258, memory, 0, 4));
+    show("conviction of engine 4", tl_register_conviction(TL_MANAGER, memory, sizeof memory, 4));
     show("report by engine 4", tl_register_report(memory, sizeof memory, 4, r, sizeof r));
     const uint8_t *first = memory + TL_REGISTER_RECORDS_AT;
     printf("convicted %08" PRIx64 ", %" PRIu64 " record, signers %08" PRIx64 "\n", get(memory + TL_REGISTER_CONVICTED_AT, 4),
            get(memory + TL_REGISTER_RECORD_COUNT_AT, 2), get(first + TL_HELD_SIGNERS_AT, TL_SIGNERS_SIZE));
-    show_text("board", tl_board(memory, sizeof memory, out, sizeof out), out);
-    show("board into too little", tl_board(memory, sizeof memory, out, TOO_LITTLE));
+    show_text("board", tl_board(TL_MANAGER, memory, sizeof memory, out, sizeof out), out);
+    show_text("board of a crew", tl_board(TL_CREW, memory, sizeof memory, out, sizeof out), out);
+    show("board into too little", tl_board(TL_MANAGER, memory, sizeof memory, out, TOO_LITTLE));
 }
 
 /* A fix as a map shows it, five units of a 1e-7 degree west of Greenwich. */
@@ -222,7 +227,7 @@ static void archive(void) {
            columns[TL_REGISTER_RECORDS_AT + TL_RECORD_LAT_AT * TL_MAX_RECORDS]);
     show("turned back", tl_register_uncolumns(columns, sizeof columns, back, sizeof back));
     printf("the same bytes: %s\n", memcmp(memory, back, sizeof memory) == 0 ? "yes" : "no");
-    show_text("board of what came back", tl_board(back, sizeof back, out, sizeof out), out);
+    show_text("board of what came back", tl_board(TL_MANAGER, back, sizeof back, out, sizeof out), out);
     show("columns of too little", tl_register_columns(memory, sizeof memory - 1, columns, sizeof columns));
 }
 
@@ -255,14 +260,14 @@ static void disputes(void) {
 /* One fix of one receiver, with one digit for each number: the shortest board that is not empty. */
 static void shortest(void) {
     uint8_t memory[TL_REGISTER_SIZE] = {0}, out[TL_BOARD_SIZE], r[TL_RECORD_SIZE] = {0};
-    uint32_t length = tl_board(memory, sizeof memory, out, sizeof out);
+    uint32_t length = tl_board(TL_MANAGER, memory, sizeof memory, out, sizeof out);
     r[TL_RECORD_HAS_HEIGHT_AT] = 1;
     r[TL_RECORD_MESSAGE_LENGTH_AT] = TL_SHORT_MESSAGE;
     r[TL_RECORD_TAG_COUNT_AT] = 1;
     r[TL_RECORD_USED_AT] = 1;
     printf("an empty board: %" PRIu32 " bytes; at least %d otherwise\n", length, TL_MIN_LENGTH);
     show("one fix", tl_register_report(memory, sizeof memory, 0, r, sizeof r));
-    show_text("the shortest board", tl_board(memory, sizeof memory, out, sizeof out), out);
+    show_text("the shortest board", tl_board(TL_MANAGER, memory, sizeof memory, out, sizeof out), out);
 }
 
 int main(void) {

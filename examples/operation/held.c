@@ -64,7 +64,7 @@ int main(void) {
         print_state(memory, r);
         printf("; a track answers %" PRIu32 " (%s)\n", answer, tl_answer_name(answer));
     }
-    uint32_t length = tl_board(memory, sizeof memory, board, sizeof board);
+    uint32_t length = tl_board(TL_MANAGER, memory, sizeof memory, board, sizeof board);
     printf("%.*s", (int)length, (const char *)board);
     return 0;
 }

@@ -15,10 +15,10 @@ static struct text now, previewed;
 
 static bool same(const struct text *a, const struct text *b) { return a->length == b->length && memcmp(a->bytes, b->bytes, a->length) == 0; }
 
-static void draw(struct text *t) { t->length = tl_board(memory, sizeof memory, t->bytes, sizeof t->bytes); }
+static void draw(struct text *t) { t->length = tl_board(TL_MANAGER, memory, sizeof memory, t->bytes, sizeof t->bytes); }
 
 static void preview(uint32_t engine, struct text *t) {
-    t->length = tl_register_preview(memory, sizeof memory, engine, t->bytes, sizeof t->bytes);
+    t->length = tl_register_preview(TL_MANAGER, memory, sizeof memory, engine, t->bytes, sizeof t->bytes);
 }
 
 static void show(const char *what, const struct text *t) { printf("%s\n%.*s", what, (int)t->length, (const char *)t->bytes); }
@@ -46,10 +46,10 @@ int main(void) {
     printf("without engine 9: %s\n", same(&previewed, &now) ? "as it is now" : "another");
     preview(2, &previewed);
     show("without engine 2", &previewed);
-    refused("engine 32, into 100 bytes", tl_register_preview(memory, sizeof memory, TL_MAX_ENGINE + 1, now.bytes, 100));
-    refused("engine 2, into 100 bytes", tl_register_preview(memory, sizeof memory, 2, now.bytes, 100));
+    refused("engine 32, into 100 bytes", tl_register_preview(TL_MANAGER, memory, sizeof memory, TL_MAX_ENGINE + 1, now.bytes, 100));
+    refused("engine 2, into 100 bytes", tl_register_preview(TL_MANAGER, memory, sizeof memory, 2, now.bytes, 100));
     printf("the register is %s\n", memcmp(before, memory, sizeof memory) == 0 ? "as it was" : "another");
-    must(tl_register_conviction(memory, sizeof memory, 2));
+    must(tl_register_conviction(TL_MANAGER, memory, sizeof memory, 2));
     draw(&now);
     printf("engine 2 is convicted: the board is %s\n", same(&previewed, &now) ? "the one that was previewed" : "another");
     preview(2, &previewed);

@@ -43,7 +43,7 @@ static uint32_t within_share(uint8_t *memory, const struct report *r) {
         if (memcmp(place + TL_HELD_RECORD_AT, r->record, sizeof r->record) == 0) return plain(memory, r);
         own++;
     }
-    return own < SHARE ? plain(memory, r) : tl_register_conviction(memory, TL_REGISTER_SIZE, r->engine);
+    return own < SHARE ? plain(memory, r) : tl_register_conviction(TL_MANAGER, memory, TL_REGISTER_SIZE, r->engine);
 }
 
 static uint8_t rooms[2][TL_REGISTER_SIZE], boards[2][TL_BOARD_SIZE];
@@ -59,7 +59,7 @@ static void run(const char *name, uint32_t (*give)(uint8_t *, const struct repor
             full += answer == TL_FULL;
             convicted += answer == TL_ENGINE_CONVICTED;
         }
-        lengths[room] = tl_board(rooms[room], sizeof rooms[room], boards[room], sizeof boards[room]);
+        lengths[room] = tl_board(TL_MANAGER, rooms[room], sizeof rooms[room], boards[room], sizeof boards[room]);
         printf("%s: %d reports, %d answered %d (%s), %d answered %d (%s), %" PRIu64 " records held\n", room == 0 ? "north" : "south", REPORTS, full,
                TL_FULL, tl_answer_name(TL_FULL), convicted, TL_ENGINE_CONVICTED, tl_answer_name(TL_ENGINE_CONVICTED), held_count(rooms[room]));
     }

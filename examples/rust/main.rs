@@ -1,5 +1,5 @@
-//! The C example's hash, agreements and reports, called from Rust: a slice goes over as a pointer and a length, and what an agreement
-//! answers comes back as an enum, in which there is no number where none was measured.
+//! The C example's hash, agreements, reports and boards, called from Rust: a slice goes over as a pointer and a length, a desk as its
+//! number, and what an agreement answers comes back as an enum, in which there is no number where none was measured.
 
 #[rustfmt::skip]
 unsafe extern "C" {
@@ -10,9 +10,11 @@ unsafe extern "C" {
         chi2: *mut f64, limit: *mut f64,
     ) -> u32;
     fn tl_register_report(memory: *mut u8, memory_len: usize, engine: u32, record: *const u8, record_len: usize) -> u32;
+    fn tl_board(desk: u32, memory: *const u8, memory_len: usize, out: *mut u8, out_len: usize) -> u32;
 }
 
 const REGISTER_SIZE: usize = 30_920;
+const BOARD_SIZE: usize = 16_384;
 const INSIDE: u32 = 0;
 const OUTSIDE: u32 = 1;
 const UNMEASURABLE: u32 = 2;
@@ -75,6 +77,26 @@ fn report(memory: &mut [u8], engine: u32, record: &[u8]) -> u32 {
     unsafe { tl_register_report(memory.as_mut_ptr(), memory.len(), engine, record.as_ptr(), record.len()) }
 }
 
+/// Who asks for a board.
+#[derive(Clone, Copy, Debug)]
+enum Desk {
+    Crew = 0,
+    Analyst = 1,
+    Manager = 2,
+}
+
+fn board(desk: Desk, memory: &[u8], out: &mut [u8]) -> u32 {
+    // The memory is read, and the output written, within their lengths; they don't overlap.
+    unsafe { tl_board(desk as u32, memory.as_ptr(), memory.len(), out.as_mut_ptr(), out.len()) }
+}
+
+/// Of an empty register, which has no lines at any desk, and into an output that is too small for each.
+fn show_board(desk: Desk, memory: &[u8]) {
+    let mut out = vec![0; BOARD_SIZE];
+    let (length, refused) = (board(desk, memory, &mut out), board(desk, memory, &mut out[1..]));
+    println!("board at the desk of the {desk:?}: {length} bytes; into too little: answer {refused}");
+}
+
 fn main() {
     let hex: String = blake2s256(b"abc").iter().map(|b| format!("{b:02x}")).collect();
     println!("hash of abc: {hex}");
@@ -85,4 +107,7 @@ fn main() {
     let mut memory = vec![0; REGISTER_SIZE];
     println!("report of no bytes: answer {}", report(&mut memory, 4, &[]));
     println!("report into no register: answer {}", report(&mut memory[1..], 4, &[]));
+    for desk in [Desk::Crew, Desk::Analyst, Desk::Manager] {
+        show_board(desk, &memory);
+    }
 }

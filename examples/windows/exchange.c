@@ -50,7 +50,7 @@ static void summary(uint32_t engine) {
 
 static void convict(int room, uint32_t engine) {
     for (int i = 0; i < 2; i++)
-        if ((room == i || room == BOTH) && tl_register_conviction(rooms[i], TL_REGISTER_SIZE, engine) != TL_OK) exit(1);
+        if ((room == i || room == BOTH) && tl_register_conviction(TL_MANAGER, rooms[i], TL_REGISTER_SIZE, engine) != TL_OK) exit(1);
 }
 
 /* What a room sends: the hash of its register from byte 4 on, and its convicted set. */
@@ -76,7 +76,7 @@ static void print_state(const char *name, const struct state *s) {
 static void compare(const char *when) {
     struct state s[2] = {state_of(rooms[0]), state_of(rooms[1])};
     uint32_t n[2];
-    for (int i = 0; i < 2; i++) n[i] = tl_board(rooms[i], TL_REGISTER_SIZE, boards[i], TL_BOARD_SIZE);
+    for (int i = 0; i < 2; i++) n[i] = tl_board(TL_MANAGER, rooms[i], TL_REGISTER_SIZE, boards[i], TL_BOARD_SIZE);
     int board = n[0] == n[1] && memcmp(boards[0], boards[1], n[0]) == 0;
     int hash = memcmp(s[0].hash, s[1].hash, TL_HASH_SIZE) == 0, convicted = s[0].convicted == s[1].convicted;
     printf("%s\n", when);

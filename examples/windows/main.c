@@ -145,7 +145,7 @@ static void tell_summaries(uint8_t *memory) {
 }
 
 static void tell_conviction(uint8_t *memory) {
-    if (tl_register_conviction(memory, TL_REGISTER_SIZE, engines[LIAR].number) != TL_OK) exit(1);
+    if (tl_register_conviction(TL_MANAGER, memory, TL_REGISTER_SIZE, engines[LIAR].number) != TL_OK) exit(1);
 }
 
 /* To every window that is open; `opened` tells the others. */
@@ -170,7 +170,7 @@ static uint8_t *opened(struct room *room, uint64_t window) {
 static uint8_t text[ROOMS][TL_BOARD_SIZE + 1];
 
 static uint32_t draw(const struct room *room, int window, uint8_t out[TL_BOARD_SIZE + 1]) {
-    uint32_t length = room->open[window] ? tl_board(room->registers[window], TL_REGISTER_SIZE, out, TL_BOARD_SIZE) : 0;
+    uint32_t length = room->open[window] ? tl_board(TL_MANAGER, room->registers[window], TL_REGISTER_SIZE, out, TL_BOARD_SIZE) : 0;
     if (length == TL_MALFORMED_REGISTER || length == TL_OUTPUT_TOO_SMALL) exit(1);
     out[length] = 0;
     return length;

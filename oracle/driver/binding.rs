@@ -70,12 +70,12 @@ unsafe extern "C" {
         inputs: *const u8,
         inputs_len: usize,
     ) -> u32;
-    fn tl_register_conviction(memory: *mut u8, len: usize, engine: u32) -> u32;
+    fn tl_register_conviction(desk: u32, memory: *mut u8, len: usize, engine: u32) -> u32;
 }
 
 #[cfg(has_board)]
 unsafe extern "C" {
-    fn tl_board(memory: *const u8, len: usize, out: *mut u8, out_len: usize) -> u32;
+    fn tl_board(desk: u32, memory: *const u8, len: usize, out: *mut u8, out_len: usize) -> u32;
 }
 
 #[cfg(has_map)]
@@ -85,7 +85,7 @@ unsafe extern "C" {
 
 #[cfg(has_preview)]
 unsafe extern "C" {
-    fn tl_register_preview(memory: *const u8, len: usize, engine: u32, out: *mut u8, out_len: usize) -> u32;
+    fn tl_register_preview(desk: u32, memory: *const u8, len: usize, engine: u32, out: *mut u8, out_len: usize) -> u32;
 }
 
 #[cfg(has_register)]
@@ -98,13 +98,13 @@ pub mod register {
         unsafe { super::tl_register_summary(m.as_mut_ptr(), m.len(), engine, model, spec, inputs.as_ptr(), inputs.len()) }
     }
 
-    pub fn convict(m: &mut [u8], engine: u32) -> u32 {
-        unsafe { super::tl_register_conviction(m.as_mut_ptr(), m.len(), engine) }
+    pub fn convict(desk: u32, m: &mut [u8], engine: u32) -> u32 {
+        unsafe { super::tl_register_conviction(desk, m.as_mut_ptr(), m.len(), engine) }
     }
 
     #[cfg(has_board)]
-    pub fn board(m: &[u8], out: &mut [u8]) -> usize {
-        unsafe { super::tl_board(m.as_ptr(), m.len(), out.as_mut_ptr(), out.len()) as usize }
+    pub fn board(desk: u32, m: &[u8], out: &mut [u8]) -> usize {
+        unsafe { super::tl_board(desk, m.as_ptr(), m.len(), out.as_mut_ptr(), out.len()) as usize }
     }
 
     #[cfg(has_map)]
@@ -113,8 +113,8 @@ pub mod register {
     }
 
     #[cfg(has_preview)]
-    pub fn preview(m: &[u8], engine: u32, out: &mut [u8]) -> usize {
-        unsafe { super::tl_register_preview(m.as_ptr(), m.len(), engine, out.as_mut_ptr(), out.len()) as usize }
+    pub fn preview(desk: u32, m: &[u8], engine: u32, out: &mut [u8]) -> usize {
+        unsafe { super::tl_register_preview(desk, m.as_ptr(), m.len(), engine, out.as_mut_ptr(), out.len()) as usize }
     }
 }
 
@@ -199,21 +199,21 @@ pub fn summary(m: &mut [u8], engine: u32, model: u32, spec: u16, inputs: &[u8]) 
 }
 
 #[inline(always)]
-pub fn convict(m: &mut [u8], engine: u32) -> u32 {
+pub fn convict(desk: u32, m: &mut [u8], engine: u32) -> u32 {
     #[cfg(has_register)]
-    return register::convict(m, engine);
+    return register::convict(desk, m, engine);
     #[cfg(not(has_register))]
-    unreachable!("{} {engine}", m.len())
+    unreachable!("{desk} {} {engine}", m.len())
 }
 
 pub const BOARD: bool = cfg!(has_board);
 
 #[inline(always)]
-pub fn board(m: &[u8], out: &mut [u8]) -> usize {
+pub fn board(desk: u32, m: &[u8], out: &mut [u8]) -> usize {
     #[cfg(has_board)]
-    return register::board(m, out);
+    return register::board(desk, m, out);
     #[cfg(not(has_board))]
-    unreachable!("{} {}", m.len(), out.len())
+    unreachable!("{desk} {} {}", m.len(), out.len())
 }
 
 /// A library that has it also has the register and the board.
@@ -231,11 +231,11 @@ pub fn map(m: &[u8], out: &mut [u8]) -> usize {
 pub const PREVIEW: bool = cfg!(has_preview);
 
 #[inline(always)]
-pub fn preview(m: &[u8], engine: u32, out: &mut [u8]) -> usize {
+pub fn preview(desk: u32, m: &[u8], engine: u32, out: &mut [u8]) -> usize {
     #[cfg(has_preview)]
-    return register::preview(m, engine, out);
+    return register::preview(desk, m, engine, out);
     #[cfg(not(has_preview))]
-    unreachable!("{} {engine} {}", m.len(), out.len())
+    unreachable!("{desk} {} {engine} {}", m.len(), out.len())
 }
 
 pub const HASH: bool = cfg!(has_tl_blake2s256);

@@ -4,7 +4,7 @@
 use crate::random::Random;
 use crate::{binding, measured};
 use peer::board::{self, ROOM};
-use peer::register::{Register, struck};
+use peer::register::{ANALYST, CREW, MANAGER, Register, struck};
 use std::hint::black_box;
 
 /// An engine that calls often name, one that they hardly name, or one that there is not.
@@ -13,6 +13,16 @@ pub fn engine(random: &mut Random) -> u32 {
         0 => random.pick(&[32, 255, 256, u32::MAX]),
         1 => random.pick(&[6, 30, 31]),
         _ => random.below(6) as u32,
+    }
+}
+
+/// A desk: mostly a manager, else an analyst, a crew, or none that there is.
+pub fn desk(random: &mut Random) -> u32 {
+    match random.below(12) {
+        0 => random.pick(&[3, 255, 256, 257, 258, u32::MAX]),
+        1 => CREW,
+        2..=4 => ANALYST,
+        _ => MANAGER,
     }
 }
 
@@ -34,11 +44,11 @@ fn told(room: usize, call: impl FnOnce(&mut [u8]) -> usize) -> Told {
     (call(&mut out), out)
 }
 
-/// What the library's conviction and then its board say on a copy.
+/// What the library's conviction and then its board say on a copy, both as a manager.
 fn on_a_copy(memory: &[u8], engine: u32, room: usize) -> Told {
     let mut copy = memory.to_vec();
-    told(room, |out| match binding::convict(&mut copy, engine) {
-        0 => binding::board(&copy, out),
+    told(room, |out| match binding::convict(MANAGER, &mut copy, engine) {
+        0 => binding::board(MANAGER, &copy, out),
         refused => refused as usize,
     })
 }
@@ -52,19 +62,22 @@ fn same(ours: &Told, other: &Told, whose: &str) -> Result<(), String> {
 }
 
 /// A preview on two memories that are alike: its answer and what is counted of it, or the difference in words.
-pub fn compare(a: &[u8], b: &[u8], engine: u32, room: usize) -> Result<(usize, Vec<&'static str>), String> {
-    let ours = told(room, |out| binding::preview(a, engine, out));
-    same(&ours, &told(room, |out| board::preview(b, engine, out)), "the peer's")?;
+pub fn compare(a: &[u8], b: &[u8], desk: u32, engine: u32, room: usize) -> Result<(usize, Vec<&'static str>), String> {
+    let ours = told(room, |out| binding::preview(desk, a, engine, out));
+    same(&ours, &told(room, |out| board::preview(desk, b, engine, out)), "the peer's")?;
     // The compiler must not take it as given that the library only reads what it is lent to read.
     if black_box(a) != b {
         return Err("the library's preview changes the memory".to_string());
     }
+    let asked = Asked { desk, engine, room, answer: ours.0 };
+    if matches!(ours.0, 15 | 16) {
+        return Ok((ours.0, of(&REFUSED, &asked)));
+    }
     same(&ours, &on_a_copy(a, engine, room), "the library's board after its conviction on a copy")?;
-    let asked = Asked { engine, room, answer: ours.0 };
     if matches!(ours.0, 1 | 2 | 10) {
         return Ok((ours.0, of(&REFUSED, &asked)));
     }
-    let present = told(room, |out| binding::board(a, out));
+    let present = told(room, |out| binding::board(desk, a, out));
     let drawn = Drawn::new(asked, b, &ours, &present);
     if drawn.convicted() {
         same(&ours, &present, "its present board, though the engine is convicted,")?;
@@ -73,6 +86,7 @@ pub fn compare(a: &[u8], b: &[u8], engine: u32, room: usize) -> Result<(usize, V
 }
 
 struct Asked {
+    desk: u32,
     engine: u32,
     room: usize,
     answer: usize,
@@ -128,7 +142,12 @@ fn lines(text: &[u8]) -> usize {
 /// Kinds of previews, each a name and whether one is of it.
 type Kinds<T, const N: usize> = [(&'static str, fn(&T) -> bool); N];
 
-const REFUSED: Kinds<Asked, 7> = [
+const REFUSED: Kinds<Asked, 12> = [
+    ("previews refused with 15", |a| a.answer == 15),
+    ("previews refused with 15, of a desk whose last byte is one", |a| a.answer == 15 && a.desk % 256 < 3),
+    ("previews refused with 15, of an engine over 31", |a| a.answer == 15 && a.engine > 31),
+    ("previews refused with 16", |a| a.answer == 16),
+    ("previews refused with 16, of an engine over 31", |a| a.answer == 16 && a.engine > 31),
     ("previews refused with 1", |a| a.answer == 1),
     ("previews refused with 1, of an engine over 31", |a| a.answer == 1 && a.engine > 31),
     ("previews refused with 1, with too little room", |a| a.answer == 1 && a.room < ROOM),
@@ -138,7 +157,8 @@ const REFUSED: Kinds<Asked, 7> = [
     ("previews refused with 10", |a| a.answer == 10),
 ];
 
-const DRAWN: Kinds<Drawn, 11> = [
+const DRAWN: Kinds<Drawn, 12> = [
+    ("previews of an analyst", |d| d.asked.desk == ANALYST),
     ("previews of a convicted engine", Drawn::convicted),
     ("previews of an idle engine", |d| !d.convicted() && !d.holds()),
     ("previews of an engine with something held", Drawn::holds),

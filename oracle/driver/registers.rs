@@ -7,10 +7,13 @@ use crate::random::Random;
 use crate::{maps, measured, previews, spans, tried};
 use oracle::layout::{Mask, RECORD};
 use oracle::{Record, hex};
-use peer::register::{self as theirs, SIZE};
+use peer::register::{self as theirs, MANAGER, SIZE};
 use std::collections::BTreeMap;
 
 type Counts = BTreeMap<String, u64>;
+
+/// The desks whose boards are compared; the last two are none.
+const DESKS: [u32; 5] = [MANAGER, theirs::CREW, theirs::ANALYST, 3, 258];
 
 fn count(kinds: impl IntoIterator<Item = &'static str>, counts: &mut Counts) {
     kinds.into_iter().for_each(|kind| *counts.entry(kind.to_string()).or_default() += 1);
@@ -30,10 +33,12 @@ enum Call {
         inputs: Vec<u8>,
     },
     Convict {
+        desk: u32,
         engine: u32,
     },
     /// Of a conviction, into an output of so many bytes.
     Preview {
+        desk: u32,
         engine: u32,
         room: usize,
     },
@@ -95,10 +100,10 @@ fn record(random: &mut Random, style: &Style) -> Vec<u8> {
 
 fn call(random: &mut Random, style: &Style) -> Call {
     if binding::PREVIEW && random.one_in(24) {
-        return Call::Preview { engine: previews::engine(random), room: previews::room(random) };
+        return Call::Preview { desk: previews::desk(random), engine: previews::engine(random), room: previews::room(random) };
     }
     match random.below(60) {
-        0 if random.one_in(4) => Call::Convict { engine: engine(random) },
+        0 if random.one_in(3) => Call::Convict { desk: previews::desk(random), engine: engine(random) },
         1 => Call::Spoil { at: random.below(SIZE as u64) as usize, byte: random.next() as u8 },
         2 => Call::Spoil { at: random.below(12) as usize, byte: random.below(4) as u8 },
         n if n < 3 + style.summaries => {
@@ -123,11 +128,49 @@ fn count_kinds(memory: &[u8], counts: &mut Counts) {
 /// Both boards, where the library has one; the difference in words. Of the last board of a list heights and times are counted.
 #[cfg(has_board)]
 fn compare_boards(a: &[u8], b: &[u8], n: usize, last: bool, counts: &mut Counts) -> Option<String> {
-    let (mut c, mut d) = (vec![7u8; 16_384], vec![7u8; 16_384]);
-    let (x, y) = (ours::board(a, &mut c), peer::board::board(b, &mut d));
-    if x != y || c != d {
-        return Some(format!("board after call {n}: library {x}, peer {y}"));
+    for desk in DESKS {
+        let (mut c, mut d) = (vec![7u8; 16_384], vec![7u8; 16_384]);
+        let (x, y) = (ours::board(desk, a, &mut c), peer::board::board(desk, b, &mut d));
+        if x != y || c != d {
+            return Some(format!("board of desk {desk} after call {n}: library {x}, peer {y}"));
+        }
+        if desk == MANAGER {
+            count_board(x, &c, counts);
+        } else {
+            count([desk_kind(desk, x)], counts);
+        }
     }
+    if last {
+        count_kinds(b, counts);
+    }
+    None
+}
+
+/// The kinds of boards of other desks that a run must have.
+const DESK_KINDS: [&str; 6] = [
+    "boards refused with 15",
+    "boards of a crew or an analyst refused with 1",
+    "boards of a crew without bytes",
+    "boards of a crew",
+    "boards of an analyst without bytes",
+    "boards of an analyst",
+];
+
+/// What came up of the boards of other desks than a manager's.
+#[cfg(has_board)]
+fn desk_kind(desk: u32, answer: usize) -> &'static str {
+    match (desk, answer) {
+        (_, 15) => "boards refused with 15",
+        (_, 1) => "boards of a crew or an analyst refused with 1",
+        (theirs::CREW, 0) => "boards of a crew without bytes",
+        (theirs::CREW, _) => "boards of a crew",
+        (_, 0) => "boards of an analyst without bytes",
+        _ => "boards of an analyst",
+    }
+}
+
+#[cfg(has_board)]
+fn count_board(x: usize, c: &[u8], counts: &mut Counts) {
     let text = str::from_utf8(&c[..if x == 1 { 0 } else { x }]).expect("the peer's text");
     let kind = match (x, text.lines().count()) {
         (1, _) => "boards refused with 1",
@@ -137,10 +180,6 @@ fn compare_boards(a: &[u8], b: &[u8], n: usize, last: bool, counts: &mut Counts)
     };
     count([kind], counts);
     count(measured::board(text), counts);
-    if last {
-        count_kinds(b, counts);
-    }
-    None
 }
 
 /// Both maps, where the library has one; the difference in words.
@@ -153,8 +192,8 @@ fn compare_maps(a: &[u8], b: &[u8], n: usize, counts: &mut Counts) -> Option<Str
 }
 
 /// A preview on both memories: what both answer, or the difference in words.
-fn preview(engine: u32, room: usize, a: &[u8], b: &[u8], counts: &mut Counts) -> Result<usize, String> {
-    let (answer, kinds) = previews::compare(a, b, engine, room)?;
+fn preview(desk: u32, engine: u32, room: usize, a: &[u8], b: &[u8], counts: &mut Counts) -> Result<usize, String> {
+    let (answer, kinds) = previews::compare(a, b, desk, engine, room)?;
     count(kinds, counts);
     Ok(answer)
 }
@@ -167,8 +206,8 @@ fn answer(call: &Call, a: &mut [u8], b: &mut [u8], counts: &mut Counts) -> Resul
             let x = ours::summary(a, *engine, *model, *spec, inputs);
             (x, theirs::summary(b, *engine, *model, *spec, inputs), "summary")
         }
-        Call::Convict { engine } => (ours::convict(a, *engine), theirs::convict(b, *engine), "conviction"),
-        Call::Preview { engine, room } => return preview(*engine, *room, a, b, counts),
+        Call::Convict { desk, engine } => (ours::convict(*desk, a, *engine), theirs::convict(*desk, b, *engine), "conviction"),
+        Call::Preview { desk, engine, room } => return preview(*desk, *engine, *room, a, b, counts),
         Call::Spoil { at, byte } => {
             if let (Some(x), Some(y)) = (a.get_mut(*at), b.get_mut(*at)) {
                 (*x, *y) = (*byte, *byte);
@@ -276,6 +315,7 @@ pub fn compare(random: &mut Random, lists: u64) {
         tried::all(heights::KINDS, came, lists);
         tried::all(spans::KINDS, came, lists);
         tried::all(measured::boards(), came, lists);
+        tried::all(("a kind of board by its desk", DESK_KINDS.into_iter()), came, lists);
     }
     if binding::MAP {
         tried::all(maps::KINDS, came, lists);

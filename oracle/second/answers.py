@@ -25,6 +25,8 @@ class Answer(IntEnum):
     OUTPUT_TOO_SMALL = 10
     BAD_LINE = 11
     SESSION_TOO_LONG = 12
+    UNKNOWN_DESK = 15
+    NO_RIGHT = 16
     CHANGED = 20
     CONTESTED = 21
     DUPLICATE = 22

@@ -9,7 +9,7 @@ from .answers import Answer, operation, require, write_text
 from .decision import Decision, Item, decide
 from .identity import Models, identity
 from .record import MAX_ENGINE, Record
-from .register import Register, taken_in
+from .register import CREW, DESKS, Register, taken_in
 
 LINK_SPAN = 2_000_000_000
 SHOWN_TRANSMISSIONS = 8
@@ -92,6 +92,12 @@ def chains_of(fixes: Sequence[Fix]) -> list[list[Fix]]:
     return chains
 
 
+def crew_lines(text: str) -> str:
+    """What a crew sees of a full board: of a header what stands before the first blank, and the ranked lines."""
+    headers = (line.split(" ")[0] + "\n" if line.startswith("transmission=") else line for line in text.splitlines(keepends=True))
+    return "".join(line for line in headers if line.startswith(("transmission=", "role=ranked")))
+
+
 def board_text(register: Register) -> str:
     """Steps 3 and 4: the text of the eight latest transmissions, the oldest of them first."""
     decided = [Transmission(chain, decide([fix.item for fix in chain])) for chain in chains_of(fixes_of(register))]
@@ -129,14 +135,18 @@ def bits_of(x: float) -> int:
 
 
 @operation
-def board(memory: bytes, out: bytearray) -> int:
-    """Board of a register: checks 1, 10."""
-    return write_text(board_text(taken_in(memory)), out)
+def board(desk: int, memory: bytes, out: bytearray) -> int:
+    """Board of a register: checks 15, 1, 10."""
+    require(desk in DESKS, Answer.UNKNOWN_DESK)
+    text = board_text(taken_in(memory))
+    return write_text(crew_lines(text) if desk == CREW else text, out)
 
 
 @operation
-def preview(memory: bytes, engine: int, out: bytearray) -> int:
-    """Preview of a conviction: checks 1, 2, 10."""
+def preview(desk: int, memory: bytes, engine: int, out: bytearray) -> int:
+    """Preview of a conviction: checks 15, 16, 1, 2, 10."""
+    require(desk in DESKS, Answer.UNKNOWN_DESK)
+    require(desk != CREW, Answer.NO_RIGHT)
     register = taken_in(memory)
     require(engine <= MAX_ENGINE, Answer.ENGINE_OVER_31)
     return write_text(board_text(register.with_conviction(engine)), out)

@@ -29,11 +29,12 @@ REFUSED_ENGINES = (32, 255, 256, 2**32 - 1)
 
 @dataclass(frozen=True)
 class Call:
-    """A call on memory, by its C name; with `room` it has an output of so many bytes."""
+    """A call on memory, by its C name; with `room` it has an output of so many bytes, with `desk` a desk before all else."""
 
     name: str
     arguments: tuple[Any, ...] = ()
     room: int | None = None
+    desk: int | None = None
 
 
 @dataclass(frozen=True)
@@ -221,6 +222,11 @@ class World:
         inputs = self.inputs[0] if rng.random() < 0.8 else self.inputs[1]
         return Summary(rng.choice(self.engines), rng.choice(self.models), rng.choice(self.specs), inputs)
 
+    def desk(self, kind: str) -> int | None:
+        """Mostly a manager's, else another or none that there is; a track has no desk."""
+        desks = (register.MANAGER,) * 6 + (register.CREW, register.ANALYST, register.ANALYST, 3, 258, 2**32 - 1)
+        return self.rng.choice(desks) if kind == "register" else None
+
     def stated(self) -> tuple[Any, ...]:
         """The arguments of a summary call, now and then such as are refused."""
         summary = self.summary()
@@ -317,17 +323,17 @@ def calls(world: World, kind: str, text: str, second_part: int, count: int, conv
             case "summary":
                 made.append(Call(f"tl_{kind}_summary", world.stated()))
             case "conviction":
-                made.append(Call(f"tl_{kind}_conviction", (world.engine(),)))
+                made.append(Call(f"tl_{kind}_conviction", (world.engine(),), desk=world.desk(kind)))
             case "text":
-                made.append(Call(text, room=world.room()))
+                made.append(Call(text, room=world.room(), desk=world.desk(kind)))
             case "preview":
                 engine = world.engine() if rng.random() < 0.7 else rng.randrange(32)
-                made.append(Call("tl_register_preview", (engine,), world.room()))
+                made.append(Call("tl_register_preview", (engine,), world.room(), world.desk(kind)))
             case "flip":
                 flip = Flip(rng.choice((0, 8, second_part)) + rng.randrange(rng.choice((16, 1_000))), rng.randrange(1, 256))
                 made += [flip, Call(f"tl_{kind}_report", (world.engine(), world.record()))]
                 made += [flip] if rng.random() < 0.8 else []
-    return [*made, Call(text, room=TEXT_ROOM)]
+    return [*made, Call(text, room=TEXT_ROOM, desk=world.desk(kind))]
 
 
 def list_length(rng: random.Random) -> int:

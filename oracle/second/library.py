@@ -18,14 +18,15 @@ _REPORT = (_SLICE, _NUMBER, _SLICE)
 _SUMMARY = (_SLICE, _NUMBER, _NUMBER, _SPEC, _SLICE)
 _CONVICTION = (_SLICE, _NUMBER)
 _TEXT = (_SLICE, _SLICE)
+_DESK = (_NUMBER,)
 _CLAIM = (ctypes.c_int32, ctypes.c_int32, ctypes.c_bool, ctypes.c_int32, *[ctypes.c_double] * 6)
 
 _ON_MEMORY: Mapping[str, tuple[Any, ...]] = {
     "tl_register_report": _REPORT,
     "tl_register_summary": _SUMMARY,
-    "tl_register_conviction": _CONVICTION,
-    "tl_register_preview": (_SLICE, _NUMBER, _SLICE),
-    "tl_board": _TEXT,
+    "tl_register_conviction": (*_DESK, *_CONVICTION),
+    "tl_register_preview": (*_DESK, _SLICE, _NUMBER, _SLICE),
+    "tl_board": (*_DESK, *_TEXT),
     "tl_track_report": _REPORT,
     "tl_track_summary": _SUMMARY,
     "tl_track_conviction": _CONVICTION,

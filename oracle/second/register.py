@@ -9,6 +9,9 @@ from .answers import Answer, operation, require
 from .identity import HASH_SIZE, SUMMARY_SIZE, Summary, read_summary
 from .record import MAX_ENGINE, RECORD_SIZE, Record, read_record
 
+CREW, ANALYST, MANAGER = DESKS = range(3)
+"""Who calls, by number."""
+
 MAX_SUMMARIES = 256
 MAX_RECORDS = 96
 HELD_SIZE = RECORD_SIZE + 4
@@ -132,8 +135,10 @@ def summary(memory: bytearray, engine: int, model: int, spec: int, inputs: bytes
 
 
 @operation
-def conviction(memory: bytearray, engine: int) -> int:
-    """Conviction in a register: checks 1, 2."""
+def conviction(desk: int, memory: bytearray, engine: int) -> int:
+    """Conviction in a register: checks 15, 16, 1, 2."""
+    require(desk in DESKS, Answer.UNKNOWN_DESK)
+    require(desk == MANAGER, Answer.NO_RIGHT)
     register = taken_in(memory)
     require(engine <= MAX_ENGINE, Answer.ENGINE_OVER_31)
     memory[:] = register.with_conviction(engine).raw

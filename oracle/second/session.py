@@ -154,7 +154,7 @@ def call(memory: bytearray, operation: Operation) -> int:
         case "summary":
             return register.summary(memory, engine, values["model"], values["spec"], values["inputs"])
         case "convict":
-            return register.conviction(memory, engine)
+            return register.conviction(register.MANAGER, memory, engine)
         case _:
             values["covariance"] = values.pop("cov")
             return register.report(memory, engine, record_bytes(**values))
@@ -239,7 +239,7 @@ def run(data: bytes) -> Run:
             notices += f"operation {number}, line {line}: answer={answer}, {REASONS[answer]}\n"
         line += len(operation)
     out = bytearray(TEXT_ROOM)
-    text = out[:board.board(memory, out)].decode("ascii")
+    text = out[:board.board(register.MANAGER, memory, out)].decode("ascii")
     return Run(answers + (text or NO_TRANSMISSIONS), notices, False, bool(notices))
 
 

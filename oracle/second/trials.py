@@ -257,7 +257,8 @@ def differing_call(library: Library, start: bytes, parts: Parts, seen: Counter[s
 def _outcome(functions: Functions, memory: bytearray, call: generate.Call) -> tuple[int, bytes]:
     """What a call returns, and its output."""
     out = [] if call.room is None else [bytearray(UNTOUCHED * call.room)]
-    answer = functions[call.name](memory, *call.arguments, *out)
+    desk = [] if call.desk is None else [call.desk]
+    answer = functions[call.name](*desk, memory, *call.arguments, *out)
     return answer, bytes().join(out)
 
 

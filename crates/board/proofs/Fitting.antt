@@ -1,5 +1,5 @@
 -- Every board fits what a caller lends, and its length is 0 or greater than every refusal's number.
-use Rattle.std.proofs.Common.{ℕ, ◌+◌, ◌-◌, ◌≤◌, ◌<◌, ◌≡◌, refl, ap, true, ◌⊎◌, inl, inr, ⊎_elim, List, [], ◌∷◌, map, arith, length, length-drop}
+use Rattle.std.proofs.Common.{ℕ, ◌+◌, ◌-◌, ◌≤◌, ◌<◌, ◌≡◌, refl, ap, true, ◌⊎◌, inl, inr, ⊎_elim, List, [], ◌∷◌, map, arith, le_trans, length, length-drop}
 use Rattle.lists.specs.Lists.{sort}
 use Rattle.lists.proofs.Lists.{sort-perm}
 use Rattle.board_fixes.specs.Slots.{max_fixes}
@@ -20,10 +20,14 @@ use Rattle.register.specs.Memory.{well_formed, decode}
 use Rattle.register.proofs.Opened.{opened}
 use Rattle.register.proofs.Valid.{Valid}
 use Rattle.register.proofs.Kept.{decode-valid}
-use Rattle.board.specs.Board.{board_of, board_in}
+use Rattle.desks.specs.declared.Desk.{Desk}
+use Rattle.desks.specs.declared.Desk.TheVariants.{Crew, Analyst, Manager}
+use Rattle.fix_lines.proofs.Crew.{crew-shorter}
+use Rattle.board.specs.Board.{board_of, crew_board_of, board_in, board_seen}
 use Rattle.board.specs.Claims.{greatest_refusal}
 use Rattle.board.specs.Latest.{latest_over}
 use Rattle.board.proofs.Standing.{standing}
+use Rattle.board.proofs.Shortest.{shortest}
 
 -- ---- lines
 
@@ -55,10 +59,19 @@ module _ (s : Register) (v : Valid s) where
   unfolding board_of
   long = board-long (latest_of (picture s.summaries s.records))
 
+  -- and so does what each desk sees
+  pub fits-for : (desk : Desk) → length (board_seen desk s) ≤ board_size
+  unfolding board_of crew_board_of
+  fits-for Crew = le_trans (crew-shorter 1 (latest_of (picture s.summaries s.records))) fits
+  fits-for Analyst = fits
+  fits-for Manager = fits
+
   -- the length can be no refusal's number
-  pub no_refusal : (length (board_in s) ≡ 0) ⊎ (greatest_refusal < length (board_in s))
-  no_refusal = ⊎_elim (λ z. inl z) (λ z. inr (omega (arith, z))) long
+  pub no_refusal : (desk : Desk) → (length (board_seen desk s) ≡ 0) ⊎ (greatest_refusal < length (board_seen desk s))
+  no_refusal Crew = ⊎_elim (λ z. inl z) (λ z. inr (omega (arith, z))) (shortest Crew s)
+  no_refusal Analyst = ⊎_elim (λ z. inl z) (λ z. inr (omega (arith, z))) long
+  no_refusal Manager = ⊎_elim (λ z. inl z) (λ z. inr (omega (arith, z))) long
 
 -- in memory
-pub fits-board : (m : List ℕ) → Bytes m → well_formed m ≡ true → length (board_in (decode m)) ≤ board_size
-fits-board m b w = fits (decode m) (decode-valid m (opened m w) b)
+pub fits-board : (desk : Desk) (m : List ℕ) → Bytes m → well_formed m ≡ true → length (board_seen desk (decode m)) ≤ board_size
+fits-board desk m b w = fits-for (decode m) (decode-valid m (opened m w) b) desk

@@ -1,3 +1,4 @@
+pub mod Desks
 pub mod Lent
 pub mod Standing
 pub mod Fitting
@@ -5,6 +6,7 @@ pub mod Drawing
 pub mod Shows
 pub mod WholeLists
 pub mod Previewed
+pub mod Crew
 pub mod Nothing
 pub mod Shortest
 pub mod Bursts

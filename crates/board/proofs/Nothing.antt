@@ -24,7 +24,11 @@ use Rattle.register.specs.Memory.{decode}
 use Rattle.register.proofs.Opened.{opened}
 use Rattle.register.proofs.Valid.{Valid}
 use Rattle.register.proofs.Kept.{decode-valid}
-use Rattle.board.specs.Board.{board_of, board_in}
+use Rattle.desks.specs.declared.Desk.{Desk}
+use Rattle.desks.specs.declared.Desk.TheVariants.{Crew, Analyst, Manager}
+use Rattle.fix_lines.specs.Crew.{crew_header, crew_text_of, crew_text_from}
+use Rattle.board.specs.Board.{board_of, crew_board_of, board_for, board_seen}
+use Rattle.board.specs.Latest.{text_for}
 use Rattle.board.specs.Nothing.{any_counts, NoBytesExactlyWhen}
 use Rattle.board.proofs.Standing.{standing}
 
@@ -38,9 +42,11 @@ module _ (ss ps : List (List ℕ)) where
   unfolding fixes_of enter_all
   no-fixes h = rw (filter_none counted ps h) refl
 
-  pub no_bytes : list_any counted ps ≡ false → board_of ss ps ≡ []
-  unfolding board_of picture transmissions_of sort text_from
-  no_bytes h = rw (no-fixes h) refl
+  pub no_bytes : (desk : Desk) → list_any counted ps ≡ false → board_for desk ss ps ≡ []
+  unfolding board_of crew_board_of picture transmissions_of sort text_from crew_text_from
+  no_bytes Crew h = rw (no-fixes h) refl
+  no_bytes Analyst h = rw (no-fixes h) refl
+  no_bytes Manager h = rw (no-fixes h) refl
 
 -- ---- something counts
 
@@ -70,10 +76,12 @@ fixes-some ss ps h =
     let r = filter-some (counted ss ps) ps h in
     rw r.2 (enter-all-some (enter (fix_of_place ss r.0) []) (map (fix_of_place ss) r.1) (enter-some (fix_of_place ss r.0) []))
 
-text-some : (n : ℕ) (ts : List Transmission) → 0 < length ts → 0 < length (text_from n ts)
-unfolding text_from text_of header ascii
-text-some n [] h = absurd (omega arith)
-text-some n (t ∷ ts) h = omega arith
+text-some : (desk : Desk) (n : ℕ) (ts : List Transmission) → 0 < length ts → 0 < length (text_for desk n ts)
+unfolding text_from text_of header crew_text_from crew_text_of crew_header ascii
+text-some desk n [] h = absurd (omega arith)
+text-some Crew n (t ∷ ts) h = omega arith
+text-some Analyst n (t ∷ ts) h = omega arith
+text-some Manager n (t ∷ ts) h = omega arith
 
 latest-some : (ts : List Transmission) → 0 < length ts → 0 < length (latest_of ts)
 latest-some ts h = omega (arith, h, length-drop (length ts - max_shown) ts)
@@ -90,17 +98,22 @@ module _ (s : Register) (v : Valid s) where
       let c = w.each k.0 k.1 in
       (shown c.0, perm-mem (sort-perm older_than (map shown (transmissions_of fs))) (Memᴰ.map shown c.1))
 
-  some_bytes : any_counts s ≡ true → 0 < length (board_in s)
-  unfolding board_of
-  some_bytes h =
+  some_text : (desk : Desk) → any_counts s ≡ true → 0 < length (text_for desk 1 (latest_of (picture s.summaries s.records)))
+  some_text desk h =
       let p = picture s.summaries s.records in
-      text-some 1 (latest_of p) (latest-some p (some-long p (picture-some (fixes-some s.summaries s.records h))))
+      text-some desk 1 (latest_of p) (latest-some p (some-long p (picture-some (fixes-some s.summaries s.records h))))
 
-  exactly : eqb (length (board_in s)) 0 ≡ not (any_counts s)
-  exactly =
+  some_bytes : (desk : Desk) → any_counts s ≡ true → 0 < length (board_seen desk s)
+  unfolding board_of crew_board_of
+  some_bytes Crew h = some_text Crew h
+  some_bytes Analyst h = some_text Analyst h
+  some_bytes Manager h = some_text Manager h
+
+  exactly : (desk : Desk) → eqb (length (board_seen desk s)) 0 ≡ not (any_counts s)
+  exactly desk =
       by (any_counts s)
-      (λ h. rw h (ne_eqb (length (board_in s)) 0 (λ z. omega (arith, z, some_bytes h))))
-      (λ h. rw (no_bytes s.summaries s.records h, h) refl)
+      (λ h. rw h (ne_eqb (length (board_seen desk s)) 0 (λ z. omega (arith, z, some_bytes desk h))))
+      (λ h. rw (no_bytes s.summaries s.records desk h, h) refl)
 
 pub no-bytes-exactly-when : NoBytesExactlyWhen
-no-bytes-exactly-when m b w = exactly (decode m) (decode-valid m (opened m w) b)
+no-bytes-exactly-when desk m b w = exactly (decode m) (decode-valid m (opened m w) b) desk

@@ -18,12 +18,15 @@ use Rattle.fixes.proofs.Showing.{ranked-some}
 use Rattle.board_transmissions.specs.Transmissions.{transmission_of, leads, is_first, transmissions_of}
 use Rattle.board_picture.specs.Picture.{older_than, picture, latest_of, max_shown}
 use Rattle.fix_lines.specs.Lines.{where_when, metres_text, height_text, fix_text, fix_line}
-use Rattle.fix_lines.specs.Text.{ranked_text, text_of, text_from, board_text}
+use Rattle.fix_lines.specs.Text.{ranked_text, text_of, text_from}
 use Rattle.fix_lines.proofs.Widths.{header-width}
 use Rattle.register.specs.Register.{Register}
 use Rattle.register.specs.Memory.{decode}
-use Rattle.board.specs.Board.{board_of, board_in}
-use Rattle.board.specs.Shortest.{least_length, NoneShorter}
+use Rattle.desks.specs.declared.Desk.{Desk}
+use Rattle.desks.specs.declared.Desk.TheVariants.{Crew, Analyst, Manager}
+use Rattle.fix_lines.specs.Crew.{crew_header, crew_text_of, crew_text_from}
+use Rattle.board.specs.Board.{board_of, crew_board_of, board_seen}
+use Rattle.board.specs.Shortest.{least_full, least_of_a_crew, least_length, NoneShorter}
 
 -- ---- a line
 
@@ -65,10 +68,17 @@ unfolding flat_map
 ranked-lines [] h = absurd (omega arith)
 ranked-lines (f ∷ fs) h = let p = ranked-long f in rw (length-append (ranked_text f) (flat_map ranked_text fs)) (omega arith)
 
-text-long : (n : ℕ) (t : Transmission) → 0 < length t.ranked → least_length ≤ length (text_of n t)
+text-long : (n : ℕ) (t : Transmission) → 0 < length t.ranked → least_full ≤ length (text_of n t)
 unfolding text_of
 text-long n t h =
     let a = header-width n (length t.ranked) (length t.dominated) (length t.refused) in
+    let b = ranked-lines t.ranked h in
+    simp length-append (omega (arith, a.0, b))
+
+crew-text-long : (n : ℕ) (t : Transmission) → 0 < length t.ranked → least_of_a_crew ≤ length (crew_text_of n t)
+unfolding crew_text_of crew_header ascii
+crew-text-long n t h =
+    let a = digits-width 19 n in
     let b = ranked-lines t.ranked h in
     simp length-append (omega (arith, a.0, b))
 
@@ -99,16 +109,28 @@ all-ranked fs t m =
     let r = map-from shown (transmissions_of fs) t k in
     subst (λ (z : Transmission). 0 < length z.ranked) (sym r.2) (ranked-some r.0 (some-fix fs r.0 r.1))
 
-some-text : (ts : List Transmission) → ((t : Transmission) → Memᴰ t ts → 0 < length t.ranked) → (length (board_text ts) ≡ 0) ⊎ (least_length ≤ length (board_text ts))
-unfolding text_from
-some-text [] h = inl refl
-some-text (t ∷ ts) h =
-    let a = text-long 1 t (h t (Memᴰ.head refl)) in
-    inr (rw (length-append (text_of 1 t) (text_from 2 ts)) (omega (arith, a)))
+module _ (ts : List Transmission) (ranked : (t : Transmission) → Memᴰ t ts → 0 < length t.ranked) where
+  some-text : (length (text_from 1 ts) ≡ 0) ⊎ (least_full ≤ length (text_from 1 ts))
+  unfolding text_from
+  some-text = go ts ranked
+    where
+      go : (us : List Transmission) → ((t : Transmission) → Memᴰ t us → 0 < length t.ranked) → (length (text_from 1 us) ≡ 0) ⊎ (least_full ≤ length (text_from 1 us))
+      go [] h = inl refl
+      go (t ∷ us) h = let a = text-long 1 t (h t (Memᴰ.head refl)) in inr (rw (length-append (text_of 1 t) (text_from 2 us)) (omega (arith, a)))
 
-shortest : (s : Register) → (length (board_in s) ≡ 0) ⊎ (least_length ≤ length (board_in s))
-unfolding board_of picture
-shortest s = some-text _ (all-ranked _)
+  some-crew-text : (length (crew_text_from 1 ts) ≡ 0) ⊎ (least_of_a_crew ≤ length (crew_text_from 1 ts))
+  unfolding crew_text_from
+  some-crew-text = go ts ranked
+    where
+      go : (us : List Transmission) → ((t : Transmission) → Memᴰ t us → 0 < length t.ranked) → (length (crew_text_from 1 us) ≡ 0) ⊎ (least_of_a_crew ≤ length (crew_text_from 1 us))
+      go [] h = inl refl
+      go (t ∷ us) h = let a = crew-text-long 1 t (h t (Memᴰ.head refl)) in inr (rw (length-append (crew_text_of 1 t) (crew_text_from 2 us)) (omega (arith, a)))
+
+pub shortest : (desk : Desk) (s : Register) → (length (board_seen desk s) ≡ 0) ⊎ (least_length desk ≤ length (board_seen desk s))
+unfolding board_of crew_board_of picture
+shortest Crew s = some-crew-text _ (all-ranked _)
+shortest Analyst s = some-text _ (all-ranked _)
+shortest Manager s = some-text _ (all-ranked _)
 
 pub none-shorter : NoneShorter
-none-shorter m b w = shortest (decode m)
+none-shorter desk m b w = shortest desk (decode m)

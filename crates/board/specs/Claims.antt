@@ -3,7 +3,7 @@
 -- `whole-lists` in proofs/WholeLists.
 --
 -- register specs/Claims has the first two parts (`HoldsWhatRemains`, `FullExactlyWhen`), specs/Calls what is malformed, struck, remaining and refused as full,
--- and `runs`, which folds the very definitions that the contracts of report, summary and conviction cite; specs/Board has `draw_board`, which the contract of
+-- and `runs`, which folds the very definition that the contracts of report, summary and conviction cite; specs/Board has `draw_board`, which the contract of
 -- board cites.
 -- Source: docs/REFERENCE.md, 'Any order of calls'.
 use Rattle.std.specs.Prelude.{ℕ, ◌≤◌, ◌<◌, ◌≡◌, ◌⊎◌, true, List, length, drop}
@@ -14,11 +14,13 @@ use Rattle.register.specs.Calls.{Call, runs, none_full, remaining}
 use Rattle.register.specs.Remains.{summaries_held, records_held}
 use Rattle.register.specs.Claims.{SameRemains, HoldsWhatRemains, FullExactlyWhen}
 use Rattle.errors.specs.After.{write_text}
-use Rattle.board.specs.Board.{board_of, draw_board}
+use Rattle.desks.specs.declared.Desk.{Desk}
+use Rattle.desks.specs.Desks.{number_of}
+use Rattle.board.specs.Board.{board_for, draw_board}
 
--- the board over what remains: of the summaries and records that remain, each record with the engines of its remaining reports as its signers
-abbrev pub board_over : List Call → List ℕ
-board_over cs = board_of (summaries_held (remaining cs)) (records_held (remaining cs))
+-- the board over what remains, in the form of a desk: of the summaries and records that remain, each record with the engines of its remaining reports as its signers
+abbrev pub board_over : Desk → List Call → List ℕ
+board_over desk cs = board_for desk (summaries_held (remaining cs)) (records_held (remaining cs))
 
 -- the greatest number that a refusal has
 abbrev pub greatest_refusal : ℕ
@@ -28,11 +30,12 @@ greatest_refusal = 17
 pub record SameInBothRooms (north south : List Call) : Type 0 where
   -- the registers are equal in every byte but the convicted set, which comes first
   pub registers : drop summary_count_at (runs fresh north) ≡ drop summary_count_at (runs fresh south)
-  -- whatever each room lends, if it is enough, it gets the board over what remains: neither call is refused, and both give this length and these bytes
-  pub drawn_north : (out : List ℕ) → board_size ≤ length out → draw_board (runs fresh north) out ≡ write_text (board_over north) out
-  pub drawn_south : (out : List ℕ) → board_size ≤ length out → draw_board (runs fresh south) out ≡ write_text (board_over north) out
+  -- both are drawn for one desk, any of the three. Whatever each room lends, if it is enough, it gets the board over what remains: neither call is refused, and both
+  -- give this length and these bytes
+  pub drawn_north : (desk : Desk) (out : List ℕ) → board_size ≤ length out → draw_board (number_of desk) (runs fresh north) out ≡ write_text (board_over desk north) out
+  pub drawn_south : (desk : Desk) (out : List ℕ) → board_size ≤ length out → draw_board (number_of desk) (runs fresh south) out ≡ write_text (board_over desk north) out
   -- and the length can be no refusal's number
-  pub no_refusal : (length (board_over north) ≡ 0) ⊎ (greatest_refusal < length (board_over north))
+  pub no_refusal : (desk : Desk) → (length (board_over desk north) ≡ 0) ⊎ (greatest_refusal < length (board_over desk north))
 
 -- the claim
 pub record WholeLists : Type 0 where

@@ -1,4 +1,4 @@
--- A whole board and a whole preview, worked out. The session program prints these lines for the same reports, for the preview with a conviction after them, and
+-- A whole board, what a crew sees of it, and a whole preview, worked out. The session program prints these lines for the same reports, for the preview with a conviction after them, and
 -- so does the second writing of the board in plain Rust (oracle/peer). The contract of `boards_worked` names them; the proofs are in proofs/Worked.
 -- Source: docs/REFERENCE.md, 'Text' and 'Preview'.
 use Rattle.std.specs.Prelude.{◌≡◌, ℕ, List, [], ◌∷◌, ◌++◌}
@@ -7,7 +7,7 @@ use Rattle.octets.specs.Words.{word_bytes}
 use Rattle.record.specs.Worked.{record_with}
 use Rattle.decision.specs.Positions.{S, M, L}
 use Rattle.register.specs.Register.{Register, strike_engine}
-use Rattle.board.specs.Board.{board_of, board_in}
+use Rattle.board.specs.Board.{board_of, crew_board_of, board_in}
 
 -- a record in its slot, with its signers
 abbrev pub slot : List ℕ → ℕ → List ℕ
@@ -26,6 +26,14 @@ lines =
     ++ ascii "role=dominated time=1000 lat=0 lon=0 height=2 weight=1 signers=00000012\n"
     ++ ascii "role=refused time=1000 lat=5400 lon=0 height=2 weight=3 signers=00000008 chi2=4041d3951c37e7a3\n"
 
+-- what a crew sees of it
+abbrev pub crew_lines : List ℕ
+crew_lines =
+    ascii "transmission=1\n"
+    ++ ascii "role=ranked time=1000 lat=7 lon=0 height=2 weight=1 signers=00000020\n"
+    ++ ascii "transmission=2\n"
+    ++ ascii "role=ranked time=1000 lat=2700 lon=0 height=2 weight=2 signers=00000004\n"
+
 -- A preview without engine 2, which alone signed M, and the other fix beside engine 5: M goes, and so does its signature. So the second writing of conviction and
 -- board has it.
 abbrev pub held : Register
@@ -40,4 +48,5 @@ lines_without =
 
 pub record BoardsWorked : Type 0 where
   pub board : board_of [] slots ≡ lines
+  pub crew : crew_board_of [] slots ≡ crew_lines
   pub preview : board_in (strike_engine 2 held) ≡ lines_without

@@ -4,9 +4,11 @@ ghost use Rattle.std.specs.Prelude.{ℕ, ◌≡◌, ◌≤◌, ◌⊎◌, ◌<�
 ghost use Rattle.octets.specs.Bytes.{Bytes};
 ghost use Rattle.fix_lines.specs.Text.{board_size};
 ghost use Rattle.register.specs.Memory.{well_formed, decode};
-ghost use Rattle.board.specs.Board.{board_in};
+ghost use Rattle.desks.specs.declared.Desk.{Desk};
+ghost use Rattle.board.specs.Board.{board_seen};
 ghost use Rattle.board.specs.Claims.{WholeLists, greatest_refusal};
-ghost use Rattle.board.specs.Previews.{RefusedInOrder, ThenConvicted, ConvictedIsPresent, IdleIsPresent, ConvictionAtTheEnd, PreviewsInBothRooms};
+ghost use Rattle.board.specs.Previews.{RefusedInOrder, AnalystAsManager, ThenConvicted, ConvictedIsPresent, IdleIsPresent, ConvictionAtTheEnd, PreviewsInBothRooms};
+ghost use Rattle.board.specs.Crew.{CrewFollows, SameToCrews, BoardInOrder};
 ghost use Rattle.board.specs.Shows.{WhatIsShown};
 ghost use Rattle.board.specs.Bursts.{BurstsOnBoards};
 ghost use Rattle.board.specs.Nothing.{NoBytesExactlyWhen};
@@ -34,15 +36,16 @@ pub fn no_bytes_exactly_when()
     ensures { NoBytesExactlyWhen }
 {}
 
-/// Every board fits, and its length is 0 or greater than every refusal's number.
+/// Every desk's board fits, and its length is 0 or greater than every refusal's number.
 pub fn every_board_fits()
-    ensures fits { (m : List ℕ) → Bytes m → well_formed m ≡ true → length (board_in (decode m)) ≤ board_size }
-    ensures no_refusal { (m : List ℕ) → Bytes m → well_formed m ≡ true → (length (board_in (decode m)) ≡ 0) ⊎ (greatest_refusal < length (board_in (decode m))) }
+    ensures fits { (desk : Desk) (m : List ℕ) → Bytes m → well_formed m ≡ true → length (board_seen desk (decode m)) ≤ board_size }
+    ensures no_refusal { (desk : Desk) (m : List ℕ) → Bytes m → well_formed m ≡ true → (length (board_seen desk (decode m)) ≡ 0) ⊎ (greatest_refusal < length (board_seen desk (decode m))) }
 {}
 
-/// The preview of a conviction on every memory: how it is refused, what is drawn once the engine is convicted, and when it is the present board.
+/// The preview of a conviction on every memory: how it is refused, that an analyst's is a manager's, what is drawn once the engine is convicted, and when it is the present board.
 pub fn previews()
     ensures refused_in_order { RefusedInOrder }
+    ensures analyst_as_manager { AnalystAsManager }
     ensures then_convicted { ThenConvicted }
     ensures convicted_is_present { ConvictedIsPresent }
     ensures idle_is_present { IdleIsPresent }
@@ -54,17 +57,24 @@ pub fn previews_of_lists()
     ensures in_both_rooms { PreviewsInBothRooms }
 {}
 
+/// What a crew sees follows from the full board alone, and is the same where the ranked lines are; and how a board is refused.
+pub fn crews()
+    ensures follows { CrewFollows }
+    ensures same { SameToCrews }
+    ensures refused_in_order { BoardInOrder }
+{}
+
 /// Eight worked cases.
 pub fn positions()
     ensures { Positions }
 {}
 
-/// A whole board and a whole preview, line by line.
+/// A whole board, what a crew sees of it, and a whole preview, line by line.
 pub fn boards_worked()
     ensures { BoardsWorked }
 {}
 
-/// A board is empty, or has at least 112 bytes.
+/// A board is empty, or has at least 112 bytes, and a crew's at least 81.
 pub fn no_board_is_shorter()
     ensures { NoneShorter }
 {}

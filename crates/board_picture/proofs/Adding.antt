@@ -1,6 +1,6 @@
 -- A further transmission is put in: its lines behind all others, and its part where it belongs.
-use Rattle.std.proofs.Common.{◌⊎◌, inl, inr, get_or, ℕ, zero, suc, ◌+◌, ◌-◌, ◌≤◌, ◌<◌, ◌≡◌, refl, sym, ap, ap₂, subst, ◌∙◌, Bool, true, ltb, ltb-true, ltb-false, List, [], ◌∷◌, ◌++◌, map, arith, length, take, drop, take_all, length-append}
-use Rattle.std.proofs.lemmas.List.{take-append-le, take-map, drop-map}
+use Rattle.std.proofs.Common.{◌⊎◌, inl, inr, get_or, ℕ, zero, suc, ◌+◌, ◌≤◌, ◌<◌, ◌≡◌, refl, sym, ap, ap₂, subst, ◌∙◌, Bool, true, ltb, ltb-true, ltb-false, List, [], ◌∷◌, ◌++◌, map, arith, length, take, drop, take_all, length-append}
+use Rattle.std.proofs.lemmas.List.{take-append-le, take-map, take-take, drop-map}
 use Rattle.std.proofs.Math.Seq.{drop-append_seam}
 use lib.ListN.{length-map}
 use mathlib.Core.List.Memᴰ
@@ -192,6 +192,21 @@ module _ (fs : List Fix) (ls : List Line) (qs : List Part) (w : Within fs ls qs)
       ∙ ap (take n) (sym (drop-map (line_in fs) q.start xs))
       ∙ ap₂ (λ (i : ℕ) (z : List Line). take i (drop q.start (with_fixes fs z))) is f
       ∙ ap (λ (p : ShownPart). p.lines) part-there
+
+  pub ranked-ends : (xs : List Line) → xs ≡ ls → (n : ℕ) → n ≡ (get_or m k d).counts.ranked → (get_or m k d).start + n ≤ length xs
+  ranked-ends xs f n is = let e = ends-there xs f (all_counted (get_or m k d).counts) refl in omega (arith, e, is)
+
+  pub ranked-there : (xs : List Line) → xs ≡ ls → (n : ℕ) → n ≡ (get_or m k d).counts.ranked
+      → with_fixes fs (take n (drop (get_or m k d).start xs)) ≡ take (part_at (map (part_in (with_fixes fs ls)) qs) k).counts.ranked (part_at (map (part_in (with_fixes fs ls)) qs) k).lines
+  ranked-there xs f n is =
+      let q = get_or m k d in
+      let part : ShownPart = part_at (map (part_in (with_fixes fs ls)) qs) k in
+      let rest : List Line = drop q.start xs in
+      let few : n ≤ all_counted q.counts = omega arith in
+      sym (ap (with_fixes fs) (take-take n (all_counted q.counts) rest few))
+      ∙ sym (take-map (line_in fs) n (take (all_counted q.counts) rest))
+      ∙ ap (take n) (lines-there xs f (all_counted q.counts) refl)
+      ∙ ap (λ (i : ℕ). take i part.lines) (is ∙ ap (λ (p : ShownPart). p.counts.ranked) part-there)
 
   pub known-in : (get_or m k d).first < length fs
   known-in = lies.there

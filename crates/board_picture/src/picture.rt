@@ -1,6 +1,6 @@
 //! A board's transmissions in order, each with its lines.
 
-ghost use Rattle.std.specs.Prelude.{◌≡◌, ◌≤◌, ◌<◌, ◌+◌, [], length, map, position, not, All};
+ghost use Rattle.std.specs.Prelude.{◌≡◌, ◌≤◌, ◌<◌, ◌+◌, [], length, map, take, position, not, All};
 ghost use Rattle.lists.specs.Lists.{insert, sort};
 ghost use Rattle.arrayvec.specs.ArrayVec.{array_vec_len};
 ghost use Rattle.fixes.specs.Items.{fix_at};
@@ -142,6 +142,17 @@ impl<'s, 'a> Picture<'s, 'a> {
         let part = &self.parts[k];
         let start = part.start as usize;
         &self.lines[start..start + part.counts.all()]
+    }
+
+    /// The lines of one that are ranked, in rank.
+    pub fn ranked(&self, k: usize) -> &[Line]
+        requires { k < length self.now.parts }
+        ensures lines { with_fixes self.now.fixes result.now ≡ take (part_at self.now.parts k).counts.ranked (part_at self.now.parts k).lines }
+        ensures known { All (λ l. l.fix < length self.now.fixes) result.now }
+    {
+        let part = &self.parts[k];
+        let first = part.start as usize;
+        &self.lines[first..first + part.counts.ranked as usize]
     }
 
     /// The fix of a line.

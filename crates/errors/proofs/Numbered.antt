@@ -2,7 +2,7 @@
 use Rattle.std.proofs.Common.{ℕ, ◌≡◌, arith}
 use Rattle.errors.specs.Errors.{error_number}
 use Rattle.errors.specs.declared.Error.{Error}
-use Rattle.errors.specs.declared.Error.TheVariants.{Malformed, NoEngine, NoRecord, Convicted, Full, ModelMissing, ModelDisputed, NoSummary, SmallOutput, SmallMap, OtherLength}
+use Rattle.errors.specs.declared.Error.TheVariants.{Malformed, NoEngine, NoRecord, Convicted, Full, ModelMissing, ModelDisputed, NoSummary, SmallOutput, SmallMap, UnknownDesk, NoRight, OtherLength}
 
 pub never-zero : (e : Error) → error_number e ≡ 0 → ⊥
 never-zero Malformed h = omega arith
@@ -15,4 +15,6 @@ never-zero ModelDisputed h = omega arith
 never-zero NoSummary h = omega arith
 never-zero SmallOutput h = omega arith
 never-zero SmallMap h = omega arith
+never-zero UnknownDesk h = omega arith
+never-zero NoRight h = omega arith
 never-zero OtherLength h = omega arith

@@ -27,6 +27,10 @@ pub enum Error {
     SmallOutput,
     /// The output is smaller than a map may need.
     SmallMap,
+    /// No desk has this number.
+    UnknownDesk,
+    /// The desk has no right to it.
+    NoRight,
     /// The bytes that are passed, or the output, have another length than a register.
     OtherLength,
 }
@@ -47,6 +51,8 @@ impl Error {
             Error::NoSummary => 9,
             Error::SmallOutput => 10,
             Error::SmallMap => 14,
+            Error::UnknownDesk => 15,
+            Error::NoRight => 16,
             Error::OtherLength => 17,
         }
     }

@@ -6,8 +6,9 @@ use Rattle.octets.specs.Masks.{bit_count}
 use Rattle.text.specs.Numbers.{digits, signed_decimal, hex}
 use Rattle.octets.specs.Ascii.{ascii}
 use Rattle.fix_lines.specs.Lines.{header, metres_text, height_text, where_when, fix_text, fix_line, chi_square_text, refused_line}
+use Rattle.fix_lines.specs.Crew.{crew_header}
 use Rattle.fix_lines.specs.Worked.{LinesAsWritten}
 
 pub lines-as-written : LinesAsWritten
-unfolding header fix_line refused_line chi_square_text fix_text where_when height_text metres_text ascii word_bytes word bit_count digits signed_decimal hex of_bits to_bits
-lines-as-written = record { header = refl; ranked = refl; unmeasured = refl; measured = refl; widest = refl }
+unfolding header crew_header fix_line refused_line chi_square_text fix_text where_when height_text metres_text ascii word_bytes word bit_count digits signed_decimal hex of_bits to_bits
+lines-as-written = record { header = refl; crew = refl; ranked = refl; unmeasured = refl; measured = refl; widest = refl }

@@ -7,6 +7,7 @@ use Rattle.octets.specs.Words.{word_bytes}
 use Rattle.octets.specs.Ascii.{ascii}
 use Rattle.arithmetic.specs.declared.standing.ChiSquare.TheVariants.{Measured, Unmeasured}
 use Rattle.fix_lines.specs.Lines.{header, ranked_line, refused_line}
+use Rattle.fix_lines.specs.Crew.{crew_header}
 
 -- the record of the worked session as far as a line reads it: time 1000, latitude 500000000, longitude 100000000, a height, and the used tags
 abbrev pub record_with : List ℕ → ℕ → List ℕ
@@ -20,6 +21,7 @@ widest_record =
 
 pub record LinesAsWritten : Type 0 where
   pub header : header 1 1 0 1 ≡ ascii "transmission=1 ranked=1 dominated=0 refused=1\n"
+  pub crew : crew_header 1 ≡ ascii "transmission=1\n"
   pub ranked :
       ranked_line (record_with (1 ∷ word_bytes 4 1500) 3) 2
       ≡ ascii "role=ranked time=1000 lat=500000000 lon=100000000 height=2 weight=2 signers=00000002\n"

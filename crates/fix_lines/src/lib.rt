@@ -7,6 +7,7 @@ ghost use Rattle.record.specs.Fields as F;
 ghost use Rattle.text.specs.Numbers.{decimal, signed_decimal};
 ghost use Rattle.text.specs.Texts.{append};
 ghost use Rattle.fix_lines.specs.Lines as L;
+ghost use Rattle.fix_lines.specs.Crew.{crew_header};
 ghost use Rattle.fix_lines.specs.Standings.{standing_name, refusal_text, standing_line};
 
 use arithmetic::standing::ChiSquare;
@@ -134,5 +135,13 @@ pub fn push_header(out: &mut Text, number: u64, ranked: usize, dominated: usize,
     out.push_field(" ranked=", &(ranked as u64));
     out.push_field(" dominated=", &(dominated as u64));
     out.push_field(" refused=", &(refused as u64));
+    out.push_str("\n");
+}
+
+/// The header of a transmission for a crew: its number alone.
+pub fn push_crew_header(out: &mut Text, number: u64)
+    ensures { out.new ≡ append out.old (crew_header number) }
+{
+    out.push_field("transmission=", &number); // and no counts
     out.push_str("\n");
 }

@@ -26,7 +26,7 @@ use Rattle.track.specs.Track.{reported_fix, track_report}
 use Rattle.track.specs.Calls.{runs}
 use Rattle.track.proofs.Merging.{stepped-valid}
 use Rattle.track.proofs.Ordered.{fresh-is, start-valid}
-use Rattle.orders.specs.Claims.{track_bytes, track_answers, track_after, serves, growing, largest_first, Position9}
+use Rattle.orders.specs.Claims.{track_calls, track_bytes, track_answers, track_after, serves, growing, largest_first, Position9}
 use Rattle.orders.proofs.Taken.{id_s, id_m, id_l, no_inputs, is-id_s, is-id_m, is-id_l, none-cited, fix_with, fix_s, fix_m, fix_l, alone, refusing, first-s, then-m, then-l, first-l, then-s, last-m}
 
 -- a track without summaries and convictions
@@ -146,7 +146,7 @@ after-largest-first = left known-m 1 (one (refusing fix_s)) last-m after-l-s
 
 -- ---- what is answered, and what is left
 
-growing_answers : track_answers fresh growing ≡ merged_number Changed ∷ merged_number Changed ∷ merged_number Changed ∷ []
+growing_answers : track_answers fresh (track_calls growing) ≡ merged_number Changed ∷ merged_number Changed ∷ merged_number Changed ∷ []
 unfolding track_answers
 growing_answers = λ i.
     answered known-s 0 [] first-s after_none i
@@ -154,7 +154,7 @@ growing_answers = λ i.
     ∷ answered known-l 0 (one (alone fix_m)) then-l after-s-m i
     ∷ []
 
-largest_first_answers : track_answers fresh largest_first ≡ merged_number Changed ∷ merged_number Changed ∷ merged_number Changed ∷ []
+largest_first_answers : track_answers fresh (track_calls largest_first) ≡ merged_number Changed ∷ merged_number Changed ∷ merged_number Changed ∷ []
 unfolding track_answers
 largest_first_answers = λ i.
     answered known-l 0 [] first-l after_none i

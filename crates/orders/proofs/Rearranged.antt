@@ -1,91 +1,56 @@
 -- Two orders of a list of calls: the same remains of both. A short list is never refused as full.
 use Prim.Native.Nat.{ℕ, ◌+◌, ◌≤◌}
 use mathlib.Core.Path.{◌≡◌, refl, sym, ap, ◌∙◌}
-use mathlib.Core.Bool.{Bool, true, false, cond, not, ◌&&◌, ◌||◌}
+use mathlib.Core.Bool.{Bool, true, false, not, ◌&&◌, ◌||◌}
 use mathlib.Core.List.{List, [], ◌∷◌, reverse, reverse_aux, Permᴰ}
 use native.Mathlib.Omega.{arith}
 use lib.ListN.{length}
 use borrow.Author.Tests.{le-leb}
-use lib.Dec.{leb, eqb}
+use lib.Dec.{leb}
 use Rattle.octets.specs.Order.{same}
-use Rattle.std.specs.List.{filter, list_any}
+use Rattle.std.specs.List.{list_any}
 use Rattle.lists.proofs.Bools.{by, and_both}
 use Rattle.lists.proofs.Lists.{any-perm, filter-perm, filter-few}
 use Rattle.models.specs.Summary.{summary_of}
-use Rattle.engines.specs.Limits.{max_engine}
 use Rattle.models.specs.Limits.{max_summaries}
 use Rattle.register.specs.Layout.{max_records}
-use Rattle.register.specs.Calls.{Call, report, summary, conviction, call_engine, is_sound, convicts, keep, remaining, reports, records_of, summaries_of, elem, nub, fits, always_fits}
+use Rattle.register.specs.Calls.{Call, report, summary, conviction, call_engine, is_sound, is_conviction_of, is_report_of, convicts, keep, remaining, reports, records_of, summaries_of, elem, nub, fits, always_fits}
 use Rattle.register.specs.Claims.{SameRemains}
 use Rattle.register.proofs.Room.{none-full}
 use Rattle.orders.specs.Claims.{FewAlwaysFit}
 
--- ---- what is asked of a list is asked of its calls one by one
+-- ---- two orders
 
-abbrev convicts_one : ℕ → Call → Bool
-convicts_one e (report k r) = false
-convicts_one e (summary k model spec inputs) = false
-convicts_one e (conviction k) = leb k max_engine && eqb k e
-
-abbrev reports_one : ℕ → List ℕ → Call → Bool
-reports_one e r (report k q) = eqb k e && same q r
-reports_one e r (summary k model spec inputs) = false
-reports_one e r (conviction k) = false
-
+-- what the reports, and the summaries, of a list are asked is asked of its calls one by one
 abbrev summary_one : List ℕ → Call → Bool
 summary_one p (report k r) = false
 summary_one p (summary k model spec inputs) = same (summary_of k model spec inputs) p
-summary_one p (conviction k) = false
-
-abbrev keeps_one : (ℕ → Bool) → Call → Bool
-keeps_one struck c = is_sound c && not (struck (call_engine c))
-
-convicts-any : (cs : List Call) (e : ℕ) → convicts cs e ≡ list_any (convicts_one e) cs
-unfolding convicts
-convicts-any [] e = refl
-convicts-any (report k r ∷ cs) e = convicts-any cs e
-convicts-any (summary k model spec inputs ∷ cs) e = convicts-any cs e
-convicts-any (conviction k ∷ cs) e = ap (λ (b : Bool). leb k max_engine && eqb k e || b) (convicts-any cs e)
-
-reports-any : (cs : List Call) (e : ℕ) (r : List ℕ) → reports cs e r ≡ list_any (reports_one e r) cs
-unfolding reports
-reports-any [] e r = refl
-reports-any (report k q ∷ cs) e r = ap (λ (b : Bool). eqb k e && same q r || b) (reports-any cs e r)
-reports-any (summary k model spec inputs ∷ cs) e r = reports-any cs e r
-reports-any (conviction k ∷ cs) e r = reports-any cs e r
+summary_one p (conviction d k) = false
 
 summaries-any : (cs : List Call) (p : List ℕ) → elem p (summaries_of cs) ≡ list_any (summary_one p) cs
 unfolding elem summaries_of
 summaries-any [] p = refl
 summaries-any (report k r ∷ cs) p = summaries-any cs p
 summaries-any (summary k model spec inputs ∷ cs) p = ap (λ (b : Bool). same (summary_of k model spec inputs) p || b) (summaries-any cs p)
-summaries-any (conviction k ∷ cs) p = summaries-any cs p
-
-keep-filter : (struck : ℕ → Bool) (cs : List Call) → keep struck cs ≡ filter (keeps_one struck) cs
-unfolding keep
-keep-filter struck [] = refl
-keep-filter struck (c ∷ cs) = ap (λ (l : List Call). cond (keeps_one struck c) (c ∷ l) l) (keep-filter struck cs)
-
--- ---- two orders
+summaries-any (conviction d k ∷ cs) p = summaries-any cs p
 
 module _ {cs ds : List Call} (p : Permᴰ cs ds) where
   convicts-same : convicts cs ≡ convicts ds
-  convicts-same = λ i e. (convicts-any cs e ∙ any-perm (convicts_one e) p ∙ sym (convicts-any ds e)) i
-
-  kept : Permᴰ (filter (keeps_one (convicts cs)) cs) (filter (keeps_one (convicts cs)) ds)
-  kept = filter-perm (keeps_one (convicts cs)) p
-
-  remaining-of : remaining ds ≡ filter (keeps_one (convicts cs)) ds
-  remaining-of = keep-filter (convicts ds) ds ∙ ap (λ (f : ℕ → Bool). filter (keeps_one f) ds) (sym convicts-same)
+  unfolding convicts
+  convicts-same = λ i e. any-perm (is_conviction_of e) p i
 
   -- a test of the calls that remain
   same_test : (test : Call → Bool) → list_any test (remaining cs) ≡ list_any test (remaining ds)
-  same_test test = ap (list_any test) (keep-filter (convicts cs) cs) ∙ any-perm test kept ∙ ap (list_any test) (sym remaining-of)
+  unfolding keep
+  same_test test =
+      any-perm test (filter-perm (λ (c : Call). is_sound c && not (convicts cs (call_engine c))) p)
+      ∙ ap (λ (f : ℕ → Bool). list_any test (keep f ds)) convicts-same
 
   pub same-remains : SameRemains cs ds
+  unfolding reports
   same-remains = record {
     summaries = λ s. summaries-any (remaining cs) s ∙ same_test (summary_one s) ∙ sym (summaries-any (remaining ds) s);
-    reported = λ e r. reports-any (remaining cs) e r ∙ same_test (reports_one e r) ∙ sym (reports-any (remaining ds) e r);
+    reported = λ e r. same_test (is_report_of e r);
   }
 
 -- ---- few calls
@@ -100,17 +65,18 @@ unfolding records_of
 records-few [] = omega arith
 records-few (report k r ∷ cs) = let r = records-few cs in omega arith
 records-few (summary k model spec inputs ∷ cs) = let r = records-few cs in omega arith
-records-few (conviction k ∷ cs) = let r = records-few cs in omega arith
+records-few (conviction d k ∷ cs) = let r = records-few cs in omega arith
 
 summaries-few : (cs : List Call) → length (summaries_of cs) ≤ length cs
 unfolding summaries_of
 summaries-few [] = omega arith
 summaries-few (report k r ∷ cs) = let r = summaries-few cs in omega arith
 summaries-few (summary k model spec inputs ∷ cs) = let r = summaries-few cs in omega arith
-summaries-few (conviction k ∷ cs) = let r = summaries-few cs in omega arith
+summaries-few (conviction d k ∷ cs) = let r = summaries-few cs in omega arith
 
 remaining-few : (cs : List Call) → length (remaining cs) ≤ length cs
-remaining-few cs = rw (keep-filter (convicts cs) cs) (filter-few (keeps_one (convicts cs)) cs)
+unfolding keep
+remaining-few cs = filter-few (λ (c : Call). is_sound c && not (convicts cs (call_engine c))) cs
 
 few-fit : (cs : List Call) → length cs ≤ max_records → fits cs ≡ true
 few-fit cs h =

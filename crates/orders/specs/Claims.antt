@@ -2,9 +2,11 @@
 -- calls in those two orders, or in any other two where nothing is refused as full, show the same board. A reader who believes this file, and the definitions it
 -- names, needs none of the proofs; the contract of src/claims.rt names the claim, and the proof is in proofs/Claimed.
 -- Source: docs/REFERENCE.md, 'Any order of calls' and 'Track and listing'.
-use Rattle.std.specs.Prelude.{ℕ, ◌≤◌, ◌≡◌, true, length}
+use Rattle.std.specs.Prelude.{ℕ, ◌≤◌, ◌≡◌, true, length, Option, Some, None, if◌then◌else◌}
+use Rattle.std.specs.List.{filter_map}
 use mathlib.Core.List.{List, [], ◌∷◌, map, Permᴰ}
 use Rattle.decision.specs.Positions.{S, M, L}
+use Rattle.desks.specs.Desks.{may_convict, has_right}
 use Rattle.register.specs.Layout.{max_records}
 use Rattle.register.specs.Calls.{Call, report, summary, conviction, none_full}
 use Rattle.register.specs.Memory as R
@@ -18,24 +20,27 @@ use Rattle.board.specs.Claims.{SameInBothRooms}
 
 -- ---- calls on a track
 
--- a track has the calls of a register
-abbrev pub on_track : Call → C.Call
-on_track (report e r) = C.report e r
-on_track (summary e model spec inputs) = C.summary e model spec inputs
-on_track (conviction e) = C.conviction e
+-- a track has the calls of a register, and no desk: a conviction that is refused for its desk is no call of a track
+abbrev pub on_track : Call → Option C.Call
+on_track (report e r) = Some (C.report e r)
+on_track (summary e model spec inputs) = Some (C.summary e model spec inputs)
+on_track (conviction desk e) = if has_right may_convict desk then Some (C.conviction e) else None
+
+abbrev pub track_calls : List Call → List C.Call
+track_calls cs = filter_map on_track cs
 
 -- the bytes of a fresh track after the calls of a list
 abbrev pub track_bytes : List Call → List ℕ
-track_bytes cs = C.runs T.fresh (map on_track cs)
+track_bytes cs = C.runs T.fresh (track_calls cs)
 
 -- the track that they are
 abbrev pub track_after : List Call → Track
 track_after cs = T.decode (track_bytes cs)
 
--- what each call is answered, first to last
-unfoldable pub track_answers : List ℕ → List Call → List ℕ
+-- what each call of a track is answered, first to last
+unfoldable pub track_answers : List ℕ → List C.Call → List ℕ
 track_answers m [] = []
-track_answers m (c ∷ cs) = (T.on_memory (C.act (on_track c)) m).answer ∷ track_answers (T.on_memory (C.act (on_track c)) m).left cs
+track_answers m (c ∷ cs) = (T.on_memory (C.act c) m).answer ∷ track_answers (T.on_memory (C.act c) m).left cs
 
 -- the record of the fix that a track serves, if it serves one
 abbrev pub serves : Track → List (List ℕ)
@@ -57,8 +62,8 @@ pub record Position9 : Type 0 where
   pub none_contested : (track_after growing).contested ≡ 0
   pub one_contested : (track_after largest_first).contested ≡ 1
   -- the answers do not tell: each is Changed
-  pub growing_answers : track_answers T.fresh growing ≡ merged_number Changed ∷ merged_number Changed ∷ merged_number Changed ∷ []
-  pub largest_first_answers : track_answers T.fresh largest_first ≡ merged_number Changed ∷ merged_number Changed ∷ merged_number Changed ∷ []
+  pub growing_answers : track_answers T.fresh (track_calls growing) ≡ merged_number Changed ∷ merged_number Changed ∷ merged_number Changed ∷ []
+  pub largest_first_answers : track_answers T.fresh (track_calls largest_first) ≡ merged_number Changed ∷ merged_number Changed ∷ merged_number Changed ∷ []
 
 -- ---- the claim
 

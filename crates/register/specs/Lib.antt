@@ -1,5 +1,5 @@
 -- The register: its layout (Layout), what it holds and what its operations do (Register), its bytes (Memory), lists of calls (Calls) and what remains of them
--- (Remains), what is claimed of them (Claims); what a loop does to a place (Strikes), and the signers that a search finds (Signers).
+-- (Remains), what is claimed of them (Claims) and of a conviction's desk (Checks); what a loop does to a place (Strikes), and the signers that a search finds (Signers).
 pub mod Layout
 pub mod Register
 pub mod Memory
@@ -8,3 +8,4 @@ pub mod Signers
 pub mod Calls
 pub mod Remains
 pub mod Claims
+pub mod Checks

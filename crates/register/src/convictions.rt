@@ -4,16 +4,20 @@ ghost use Rattle.std.specs.Prelude.{◌≡◌, true, ◌+◌, ◌*◌, ◌≤◌
 ghost use Rattle.tables.specs.Places.{places, keep_places};
 ghost use Rattle.record.specs.Layout.{record_size};
 ghost use Rattle.errors.specs.After.{after};
+ghost use Rattle.desks.specs.Desks.{number_of};
 ghost use Rattle.signed_records.specs.Signed.{place_size, drop_signer, has_another_signer};
 ghost use Rattle.tables.specs.Strikes.{Struck};
 ghost use Rattle.errors.specs.Errors.{answer_number};
 ghost use Rattle.register.specs.Register.{strike_engine, take_conviction};
-ghost use Rattle.register.specs.Memory.{well_formed, decode, on_memory};
+ghost use Rattle.register.specs.Memory.{well_formed, decode};
+ghost use Rattle.register.specs.Calls as C;
+ghost use Rattle.register.specs.Calls.{called};
 ghost use Rattle.register.specs.Strikes.{kept_at};
 
 use crate::Register;
 use crate::formed::well_formed;
 use crate::layout::{CONVICTED_AT, RECORD_COUNT_AT, SUMMARIES_AT, SUMMARY_COUNT_AT};
+use desks::Desk;
 use engines::{Engine, Signers};
 use errors::Error;
 use models::layout::SUMMARIES_SIZE;
@@ -84,11 +88,14 @@ impl<'a> Register<'a> {
     }
 }
 
-/// Convicts an engine.
+/// Convicts an engine, if the desk may convict: that is asked before anything else.
 #[tactic(auto, unfolding(crate::specs::Memory::on_memory))]
-pub fn conviction(memory: &mut [u8], engine: u32) -> Result<(), Error>
-    ensures { after (answer_number result) memory.new ≡ on_memory (take_conviction engine) memory.old }
+pub fn conviction(desk: Desk, memory: &mut [u8], engine: u32) -> Result<(), Error>
+    ensures { after (answer_number result) memory.new ≡ called (C.conviction (number_of desk) engine) memory.old }
 {
+    if !desk.may_convict() {
+        return Err(Error::NoRight);
+    }
     if !well_formed(memory) {
         return Err(Error::Malformed);
     }

@@ -7,7 +7,9 @@ ghost use Rattle.errors.specs.After.{after};
 ghost use Rattle.errors.specs.Errors.{answer_number};
 ghost use Rattle.register.specs.Signers.{signers_found};
 ghost use Rattle.register.specs.Register.{sign_record, take_report};
-ghost use Rattle.register.specs.Memory.{well_formed, decode, on_memory};
+ghost use Rattle.register.specs.Memory.{well_formed, decode};
+ghost use Rattle.register.specs.Calls as C;
+ghost use Rattle.register.specs.Calls.{called};
 
 use crate::Register;
 use crate::formed::well_formed;
@@ -105,7 +107,7 @@ impl<'a> Register<'a> {
 /// Reports a record for an engine.
 #[tactic(auto, unfolding(crate::specs::Memory::on_memory))]
 pub fn report(memory: &mut [u8], engine: u32, r: &[u8]) -> Result<(), Error>
-    ensures { after (answer_number result) memory.new ≡ on_memory (take_report engine r.now) memory.old }
+    ensures { after (answer_number result) memory.new ≡ called (C.report engine r.now) memory.old }
 {
     if !well_formed(memory) {
         return Err(Error::Malformed);

@@ -5,7 +5,9 @@ ghost use Rattle.errors.specs.After.{after};
 ghost use Rattle.models.specs.Summaries.{summary_formed};
 ghost use Rattle.errors.specs.Errors.{answer_number};
 ghost use Rattle.register.specs.Register.{hold_summary, take_summary};
-ghost use Rattle.register.specs.Memory.{well_formed, decode, on_memory};
+ghost use Rattle.register.specs.Memory.{well_formed, decode};
+ghost use Rattle.register.specs.Calls as C;
+ghost use Rattle.register.specs.Calls.{called};
 
 use crate::Register;
 use crate::formed::well_formed;
@@ -78,7 +80,7 @@ pub fn summary(
     spec: u16,
     inputs: &[u8],
 ) -> Result<(), Error>
-    ensures { after (answer_number result) memory.new ≡ on_memory (take_summary engine model spec inputs.now) memory.old }
+    ensures { after (answer_number result) memory.new ≡ called (C.summary engine model spec inputs.now) memory.old }
 {
     if !well_formed(memory) {
         return Err(Error::Malformed);

@@ -1,6 +1,8 @@
 -- What the code's reader gives is what reading gives.
 -- Source: docs/REFERENCE.md, 'Session'.
 use Rattle.std.specs.Prelude.{◌≡◌, Result, Ok, Err}
+use Rattle.desks.specs.declared.Desk.TheVariants.{Manager}
+use Rattle.desks.specs.Desks.{number_of}
 use Rattle.register.specs.Calls as calls
 use Rattle.record.specs.Encoded.{bytes_of}
 use Rattle.session_lines.specs.declared.lines.Lines.{Lines}
@@ -19,5 +21,5 @@ Gives view (Err e) new m = m ≡ Err e
 
 abbrev pub call_of : Call → calls.Call
 call_of (call.Summary engine model spec inputs) = calls.summary engine model spec inputs
-call_of (call.Conviction engine) = calls.conviction engine
+call_of (call.Conviction engine) = calls.conviction (number_of Manager) engine
 call_of (call.Report engine fields) = calls.report engine (bytes_of fields)

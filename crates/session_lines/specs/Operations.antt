@@ -4,6 +4,8 @@ use Rattle.std.specs.Prelude.{ℕ, cond, List, ◌++◌, length, Option, Some, N
 use Rattle.std.specs.Str.{bytes_eq}
 use Rattle.record.specs.Layout.{max_tags, max_models}
 use Rattle.models.specs.Summary.{inputs_size}
+use Rattle.desks.specs.declared.Desk.TheVariants.{Manager}
+use Rattle.desks.specs.Desks.{number_of}
 use Rattle.register.specs.Calls.{Call, report, summary, conviction}
 use Rattle.record.specs.Encoded.{unsigned_of, pad, height_bytes, message_bytes, place_bytes, sighting_bytes, cited_bytes}
 use Rattle.session_lines.specs.declared.lines.Due.TheVariants as due
@@ -12,10 +14,11 @@ use Rattle.session_lines.specs.declared.lines.Kind.TheVariants as kind
 use Rattle.session_lines.specs.Numbers as Val
 use Rattle.session_lines.specs.Lines.{At, Reading, ◌>>=◌, value}
 
+-- a session acts as a manager
 unfoldable pub conviction_at : At → Reading Call
 conviction_at s = do
   engine ← value due.Engine (Val.read_number Val.u8) s
-  Ok (conviction engine.0, engine.1)
+  Ok (conviction (number_of Manager) engine.0, engine.1)
 
 unfoldable pub summary_at : At → Reading Call
 summary_at s = do

@@ -2,8 +2,8 @@
 use Rattle.std.proofs.Common.{◌≡◌, ◌∙◌, ap, refl, ℕ, ◌+◌, ◌<◌, false, List, [], ◌∷◌, ◌++◌, length, length-append, arith, ◌==◌}
 use Rattle.lists.proofs.Bools.{by}
 use Rattle.octets.specs.Ascii.{ascii}
-use Rattle.register.specs.Calls.{act}
-use Rattle.register.specs.Memory.{on_memory, fresh}
+use Rattle.register.specs.Calls.{called}
+use Rattle.register.specs.Memory.{fresh}
 use Rattle.session_notices.specs.Notices.{lines_of, notice, notices, all_done}
 use Rattle.session_notices.specs.Told.{ending_by, ending_of}
 use Rattle.session_notices.specs.Claims.{NothingSaid, DoneExactlyWhen}
@@ -23,10 +23,10 @@ pub nothing-said : NothingSaid
 unfolding notices all_done
 nothing-said number line m [] = refl
 nothing-said number line m (c ∷ cs) =
-    let next = nothing-said (number + 1) (line + lines_of c) (on_memory (act c) m).left cs in
-    by ((on_memory (act c) m).answer == 0)
+    let next = nothing-said (number + 1) (line + lines_of c) (called c m).left cs in
+    by ((called c m).answer == 0)
     (λ h. rw (h, next) refl)
-    (λ h. rw h (some-before (notice number line (on_memory (act c) m).answer) _ (notice-long number line (on_memory (act c) m).answer)))
+    (λ h. rw h (some-before (notice number line (called c m).answer) _ (notice-long number line (called c m).answer)))
 
 pub done-exactly-when : DoneExactlyWhen
 unfolding ending_of

@@ -2,8 +2,7 @@
 use Rattle.std.proofs.Common.{◌≡◌, ◌∙◌, ap, sym, refl, ℕ, ◌+◌, ◌≤◌, ◌<◌, List, ◌++◌, length, append_assoc, arith, Ok, Err}
 use mathlib.Core.List.{append-nil}
 use Rattle.errors.specs.After.{After, after}
-use Rattle.register.specs.Calls.{Call, act}
-use Rattle.register.specs.Memory.{on_memory}
+use Rattle.register.specs.Calls.{Call, called}
 use Rattle.session_lines.specs.declared.lines.BadLine.{BadLine}
 use Rattle.session_lines.specs.Lines.{At}
 use Rattle.session_lines.specs.Operations.{operation_at}
@@ -21,12 +20,12 @@ pub record Saying (whole : List ℕ) (most : ℕ) (out : List ℕ) (number line 
 module _ (whole : List ℕ) (most : ℕ) (out : List ℕ) (number line : ℕ) (m : List ℕ) (s : At) (h : Saying whole most out number line m s) where
   -- after an operation
   pub saying-more : (c : Call) (r : At) → operation_at s ≡ Ok (c, r) → length r.rest < length s.rest
-      → (a : ℕ) (m' : List ℕ) → after a m' ≡ on_memory (act c) m → (out' : List ℕ) → out' ≡ out ++ notice_if_refused number line a
+      → (a : ℕ) (m' : List ℕ) → after a m' ≡ called c m → (out' : List ℕ) → out' ≡ out ++ notice_if_refused number line a
       → Saying whole most out' (number + 1) r.line m' r
   unfolding notices
   saying-more c r q less a m' p out' e =
-      let x : (on_memory (act c) m).answer ≡ a = ap (λ (y : After (List ℕ)). y.answer) (sym p) in
-      let y : (on_memory (act c) m).left ≡ m' = ap (λ (z : After (List ℕ)). z.left) (sym p) in
+      let x : (called c m).answer ≡ a = ap (λ (y : After (List ℕ)). y.answer) (sym p) in
+      let y : (called c m).left ≡ m' = ap (λ (z : After (List ℕ)). z.left) (sym p) in
       let z : line + lines_of c ≡ r.line = ap (λ (n : ℕ). n + lines_of c) h.here ∙ sym (lines-counted s c r q) in
       record {
         text = h.text ∙ ap (λ (cs : List Call). out ++ notices number line m cs) (calls-step s c r q)

@@ -3,14 +3,13 @@
 use Rattle.std.specs.Prelude.{ℕ, ◌+◌, Bool, true, List, [], ◌∷◌, ◌++◌, ◌==◌, ◌&&◌, if◌then◌else◌, codes}
 use Rattle.octets.specs.Ascii.{ascii}
 use Rattle.text.specs.Numbers.{decimal}
-use Rattle.register.specs.Calls.{Call, report, summary, conviction, act}
-use Rattle.register.specs.Memory.{on_memory}
+use Rattle.register.specs.Calls.{Call, report, summary, conviction, called}
 
 -- the lines of an operation
 abbrev pub lines_of : Call → ℕ
 lines_of (report e r) = 12
 lines_of (summary e model spec inputs) = 5
-lines_of (conviction e) = 2
+lines_of (conviction desk e) = 2
 
 -- an answer's name in C, and why an operation of a session has it
 abbrev pub reason_for : ℕ → List ℕ
@@ -35,9 +34,9 @@ notice_if_refused number line answer = if answer == 0 then [] else notice number
 unfoldable pub notices : ℕ → ℕ → List ℕ → List Call → List ℕ
 notices number line m [] = []
 notices number line m (c ∷ cs) =
-    notice_if_refused number line (on_memory (act c) m).answer ++ notices (number + 1) (line + lines_of c) (on_memory (act c) m).left cs
+    notice_if_refused number line (called c m).answer ++ notices (number + 1) (line + lines_of c) (called c m).left cs
 
 -- whether each call is answered 0
 unfoldable pub all_done : List ℕ → List Call → Bool
 all_done m [] = true
-all_done m (c ∷ cs) = (on_memory (act c) m).answer == 0 && all_done (on_memory (act c) m).left cs
+all_done m (c ∷ cs) = (called c m).answer == 0 && all_done (called c m).left cs

@@ -1,4 +1,5 @@
 pub mod Digits
+pub mod Managed
 pub mod Answering
 pub mod Ending
 pub mod Cases

@@ -9,6 +9,7 @@ use Rattle.register.proofs.Opened.{opened}
 use Rattle.register.proofs.Kept.{decode-valid}
 use Rattle.register.proofs.History.{run}
 use Rattle.register.proofs.Whole.{decoded}
+use Rattle.desks.specs.declared.Desk.TheVariants.{Manager}
 use Rattle.board.specs.Board.{board_in}
 use Rattle.board.proofs.Fitting.{long}
 use Rattle.board.proofs.Nothing.{no_bytes}
@@ -61,7 +62,7 @@ never-silent s = text-long (calls_of s)
 -- a fresh register has a board of no bytes
 fresh-board : board_in (decode (runs fresh [])) ≡ []
 unfolding none_full run
-fresh-board = ap board_in (decoded [] refl) ∙ no_bytes [] [] refl
+fresh-board = ap board_in (decoded [] refl) ∙ no_bytes [] [] Manager refl
 
 pub empty-text : text_by (Ok []) ≡ no_transmissions
 unfolding answers_then_board answers

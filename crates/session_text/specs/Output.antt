@@ -4,8 +4,8 @@ use Rattle.std.specs.Prelude.{ℕ, ◌+◌, cond, List, [], ◌∷◌, ◌++◌,
 use Rattle.std.specs.Result.{result_map_both}
 use Rattle.text.specs.Numbers.{decimal}
 use Rattle.octets.specs.Ascii.{ascii}
-use Rattle.register.specs.Memory.{decode, fresh, on_memory}
-use Rattle.register.specs.Calls.{Call, act, runs}
+use Rattle.register.specs.Memory.{decode, fresh}
+use Rattle.register.specs.Calls.{Call, called, runs}
 use Rattle.fix_lines.specs.Text.{board_size}
 use Rattle.board.specs.Board.{board_in}
 use Rattle.session_lines.specs.Session.{session_of}
@@ -30,7 +30,7 @@ output_size = max_input + board_size
 -- the answers of calls on a register, first to last
 unfoldable pub answers : List ℕ → List Call → List ℕ
 answers m [] = []
-answers m (c ∷ cs) = answer_line (on_memory (act c) m).answer ++ answers (on_memory (act c) m).left cs
+answers m (c ∷ cs) = answer_line (called c m).answer ++ answers (called c m).left cs
 
 -- the line in place of a board without bytes
 abbrev pub no_transmissions : List ℕ

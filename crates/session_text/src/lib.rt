@@ -8,13 +8,14 @@ ghost use Rattle.text.specs.Texts.{append};
 ghost use Rattle.fix_lines.specs.Text.{board_size};
 ghost use Rattle.errors.specs.After.{after};
 ghost use Rattle.errors.specs.Errors.{answer_number};
-ghost use Rattle.register.specs.Memory.{on_memory, fresh};
-ghost use Rattle.register.specs.Calls.{act, runs};
+ghost use Rattle.register.specs.Memory.{fresh};
+ghost use Rattle.register.specs.Calls.{called, runs};
 ghost use Rattle.board.specs.Board.{board_in};
 ghost use Rattle.session_lines.specs.Gives.{call_of};
 ghost use Rattle.session_lines.specs.Session.{at_start, calls_from};
 ghost use Rattle.session_text.specs.Output as O;
 
+use desks::Desk;
 use errors::{Error, answer_number};
 use register::layout::REGISTER_SIZE;
 use register::view::View;
@@ -44,9 +45,9 @@ fn push_answer(out: &mut Text, answer: Result<(), Error>)
     out.push_str("\n");
 }
 
-/// Makes the call of an operation on a register.
+/// Makes the call of an operation on a register, as a manager.
 pub fn perform(memory: &mut [u8], call: &Call) -> Result<(), Error>
-    ensures { after (answer_number result) memory.new ≡ on_memory (act (call_of call.now)) memory.old }
+    ensures { after (answer_number result) memory.new ≡ called (call_of call.now) memory.old }
 {
     match call {
         Call::Summary {
@@ -55,7 +56,9 @@ pub fn perform(memory: &mut [u8], call: &Call) -> Result<(), Error>
             spec,
             inputs,
         } => register::summaries::summary(memory, *engine as u32, *model as u32, *spec, inputs),
-        Call::Conviction { engine } => register::convictions::conviction(memory, *engine as u32),
+        Call::Conviction { engine } => {
+            register::convictions::conviction(Desk::Manager, memory, *engine as u32)
+        }
         Call::Report { engine, fields } => {
             register::reports::report(memory, *engine as u32, &fields.bytes())
         }
@@ -92,7 +95,7 @@ fn write_board(register: &View<'_>, out: &mut [u8]) -> usize
     ensures text { Put out.old 0 (O.printed (board_in register.now)) result out.new }
     ensures bound { result ≤ board_size }
 {
-    match board::write(register, out) {
+    match board::write(Desk::Manager, register, out) {
         0 => octets::runs::put_bytes(out, 0, b"transmissions=0\n"),
         n => n,
     }

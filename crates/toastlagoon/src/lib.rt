@@ -10,8 +10,8 @@ ghost use Rattle.arithmetic.specs.Agree.{agreement_of, sigma_of};
 ghost use Rattle.decision.specs.Answer.{decided_arrays};
 ghost use Rattle.decision.specs.Sorted.{sorted_arrays};
 ghost use Rattle.errors.specs.After.{after};
-ghost use Rattle.register.specs.Register.{take_report, take_summary, take_conviction};
-ghost use Rattle.register.specs.Memory.{on_memory};
+ghost use Rattle.register.specs.Calls as C;
+ghost use Rattle.register.specs.Calls.{called};
 ghost use Rattle.register_columns.specs.Columns.{columns, uncolumns, rearrange};
 ghost use Rattle.board.specs.Board.{draw_board};
 ghost use Rattle.board.specs.Preview.{draw_preview};
@@ -24,7 +24,8 @@ ghost use Rattle.decision_bytes.specs.Answer.{hand_out};
 
 use arithmetic::standing::{Agreement, Claimed, Measure};
 use decision_bytes::ANSWER_SIZE;
-use errors::{answer_number, value_or_number};
+use desks::Desk;
+use errors::{Error, answer_number, value_or_number};
 use geometry::linalg::Covariance;
 use track::reports::reported_number;
 
@@ -205,7 +206,7 @@ pub extern "C" fn tl_decide_any(items: &[u8], answer: &mut [u8; ANSWER_SIZE]) ->
 /// Reports a record for an engine into a register.
 #[unsafe(no_mangle)]
 pub extern "C" fn tl_register_report(memory: &mut [u8], engine: u32, r: &[u8]) -> u32
-    ensures { after result memory.new ≡ on_memory (take_report engine r.now) memory.old }
+    ensures { after result memory.new ≡ called (C.report engine r.now) memory.old }
 {
     answer_number(register::reports::report(memory, engine, r))
 }
@@ -219,25 +220,32 @@ pub extern "C" fn tl_register_summary(
     spec: u16,
     inputs: &[u8],
 ) -> u32
-    ensures { after result memory.new ≡ on_memory (take_summary engine model spec inputs.now) memory.old }
+    ensures { after result memory.new ≡ called (C.summary engine model spec inputs.now) memory.old }
 {
     answer_number(register::summaries::summary(memory, engine, model, spec, inputs))
 }
 
-/// Strikes an engine from a register, with all that it alone said.
+/// Strikes an engine from a register, with all that it alone said, for a desk that may convict.
 #[unsafe(no_mangle)]
-pub extern "C" fn tl_register_conviction(memory: &mut [u8], engine: u32) -> u32
-    ensures { after result memory.new ≡ on_memory (take_conviction engine) memory.old }
+pub extern "C" fn tl_register_conviction(desk: u32, memory: &mut [u8], engine: u32) -> u32
+    ensures { after result memory.new ≡ called (C.conviction desk engine) memory.old }
 {
-    answer_number(register::convictions::conviction(memory, engine))
+    let Some(desk) = Desk::new(desk) else {
+        return Error::UnknownDesk.number();
+    };
+    answer_number(register::convictions::conviction(desk, memory, engine))
 }
 
-/// The board of a register into `out`: 1 or 10, or its length, which is 0 or greater than every refusal's number.
+/// The board of a register into `out`, in the form of a desk: 15, 1 or 10, or its length, which is 0 or greater than every refusal's
+/// number.
 #[unsafe(no_mangle)]
-pub extern "C" fn tl_board(memory: &[u8], out: &mut [u8]) -> u32
-    ensures { after result out.new ≡ draw_board memory.now out.old }
+pub extern "C" fn tl_board(desk: u32, memory: &[u8], out: &mut [u8]) -> u32
+    ensures { after result out.new ≡ draw_board desk memory.now out.old }
 {
-    value_or_number(board::board(memory, out))
+    let Some(desk) = Desk::new(desk) else {
+        return Error::UnknownDesk.number();
+    };
+    value_or_number(board::board(desk, memory, out))
 }
 
 /// The map of a register into `out`: 1 or 14, or its length, which is greater than every refusal's number. The register is only read.
@@ -265,13 +273,16 @@ pub extern "C" fn tl_register_uncolumns(input: &[u8], out: &mut [u8]) -> u32
     answer_number(register_columns::uncolumns(input, out))
 }
 
-/// The board of a register as it would be if an engine were convicted, into `out`: 1, 2 or 10, or its length, which is 0 or greater than
-/// every refusal's number. The register is only read.
+/// The board of a register as it would be if an engine were convicted, into `out`, for a desk that may preview: 15, 16, 1, 2 or 10, or its
+/// length, which is 0 or greater than every refusal's number. The register is only read.
 #[unsafe(no_mangle)]
-pub extern "C" fn tl_register_preview(memory: &[u8], engine: u32, out: &mut [u8]) -> u32
-    ensures { after result out.new ≡ draw_preview engine memory.now out.old }
+pub extern "C" fn tl_register_preview(desk: u32, memory: &[u8], engine: u32, out: &mut [u8]) -> u32
+    ensures { after result out.new ≡ draw_preview desk engine memory.now out.old }
 {
-    value_or_number(board::preview(memory, engine, out))
+    let Some(desk) = Desk::new(desk) else {
+        return Error::UnknownDesk.number();
+    };
+    value_or_number(board::preview(desk, memory, engine, out))
 }
 
 /// Reports a record for an engine into a track.

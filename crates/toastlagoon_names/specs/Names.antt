@@ -9,10 +9,10 @@ abbrev pub major : ℕ
 major = 0
 
 abbrev pub minor : ℕ
-minor = 9
+minor = 10
 
 abbrev pub patch : ℕ
-patch = 3
+patch = 0
 
 -- as one number, which grows with the version
 abbrev pub version_number : ℕ
@@ -39,6 +39,8 @@ name_of n =
     else if n == 9 then codes "bad summary"
     else if n == 10 then codes "output too small"
     else if n == 14 then codes "output too small for a map"
+    else if n == 15 then codes "unknown desk"
+    else if n == 16 then codes "desk lacks the right"
     else if n == 17 then codes "not the length of a register"
     else if n == 20 then codes "changed"
     else if n == 21 then codes "contested"

@@ -8,7 +8,7 @@ ghost use Rattle.toastlagoon_names.specs.Names as N;
 pub mod claims;
 
 // The version as one number: a million for each major number, a thousand for each minor one.
-const VERSION: u32 = 9_003;
+const VERSION: u32 = 10_000;
 
 /// The version of the library.
 pub fn version() -> u32
@@ -21,7 +21,7 @@ pub fn version() -> u32
 pub fn version_text() -> &'static [u8]
     ensures { result.now ≡ N.version_text }
 {
-    b"0.9.3"
+    b"0.10.0"
 }
 
 /// What an answer says, in words.
@@ -41,6 +41,8 @@ pub fn name(answer: u32) -> &'static [u8]
         9 => b"bad summary",
         10 => b"output too small",
         14 => b"output too small for a map",
+        15 => b"unknown desk",
+        16 => b"desk lacks the right",
         17 => b"not the length of a register",
         20 => b"changed",
         21 => b"contested",

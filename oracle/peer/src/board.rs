@@ -1,6 +1,6 @@
 //! The board: what a register's counting records come to; and the board as it would be after a conviction.
 
-use crate::register::{Register, struck};
+use crate::register::{ANALYST, CREW, MANAGER, Register, struck};
 use oracle::decide::Decision;
 use oracle::layout::RECORD;
 use oracle::lines::{self, Said};
@@ -219,29 +219,45 @@ pub fn text(register: &Register) -> String {
     out
 }
 
+/// The board of a well-formed register as a crew sees it: the ranked lines, under headers that give only the number.
+pub fn crew_text(register: &Register) -> String {
+    let fixes = representatives(register);
+    let mut out = String::new();
+    for (n, (one, d)) in latest(&fixes).iter().enumerate() {
+        out += &format!("transmission={}\n", n + 1);
+        for &at in &d.ranked {
+            out += &format!("{}\n", lines::line("ranked", &said(&fixes[one[usize::from(at)]])));
+        }
+    }
+    out
+}
+
 /// Writes the board of a well-formed register: 10, or the length of what was written.
-fn draw(register: &Register, out: &mut [u8]) -> usize {
+fn draw(desk: u32, register: &Register, out: &mut [u8]) -> usize {
     if out.len() < ROOM {
         return 10;
     }
-    let text = text(register);
+    let text = if desk == CREW { crew_text(register) } else { text(register) };
     out[..text.len()].copy_from_slice(text.as_bytes());
     text.len()
 }
 
-/// Board: 1, 10, or the length of what was written.
-pub fn board(memory: &[u8], out: &mut [u8]) -> usize {
+/// Board of a desk: 15, 1, 10, or the length of what was written.
+pub fn board(desk: u32, memory: &[u8], out: &mut [u8]) -> usize {
     match Register::read(memory) {
-        Some(register) => draw(&register, out),
+        _ if desk > MANAGER => 15,
+        Some(register) => draw(desk, &register, out),
         None => 1,
     }
 }
 
-/// Preview of a conviction: the board of what the conviction would leave. It is refused as the conviction is, then
-/// as the board is: 1, 2, 10, or the length of what was written.
-pub fn preview(memory: &[u8], engine: u32, out: &mut [u8]) -> usize {
-    match struck(memory, engine) {
-        Ok(register) => draw(&register, out),
-        Err(refused) => refused as usize,
+/// Preview of a conviction, for an analyst and a manager: the board of what the conviction would leave. It is refused for its desk, then as
+/// the conviction is, then as the board is: 15, 16, 1, 2, 10, or the length of what was written.
+pub fn preview(desk: u32, memory: &[u8], engine: u32, out: &mut [u8]) -> usize {
+    match (desk, struck(memory, engine)) {
+        (CREW, _) => 16,
+        (ANALYST | MANAGER, Ok(register)) => draw(desk, &register, out),
+        (ANALYST | MANAGER, Err(refused)) => refused as usize,
+        _ => 15,
     }
 }

@@ -145,6 +145,10 @@ pub fn summary(memory: &mut [u8], engine: u32, model: u32, spec: u16, inputs: &[
     0
 }
 
+pub const CREW: u32 = 0;
+pub const ANALYST: u32 = 1;
+pub const MANAGER: u32 = 2;
+
 /// The register that a conviction leaves, or the number that it is refused with. The memory keeps its bytes.
 pub fn struck(memory: &[u8], engine: u32) -> Result<Register, u32> {
     let mut register = Register::read(memory).ok_or(1u32)?;
@@ -155,13 +159,17 @@ pub fn struck(memory: &[u8], engine: u32) -> Result<Register, u32> {
     Ok(register)
 }
 
-/// Register conviction.
-pub fn convict(memory: &mut [u8], engine: u32) -> u32 {
-    match struck(memory, engine) {
-        Ok(register) => {
-            register.write(memory);
-            0
-        }
-        Err(refused) => refused,
+/// Register conviction, of a desk: 0 a crew, 1 an analyst, 2 a manager, who alone convicts.
+pub fn convict(desk: u32, memory: &mut [u8], engine: u32) -> u32 {
+    match desk {
+        MANAGER => match struck(memory, engine) {
+            Ok(register) => {
+                register.write(memory);
+                0
+            }
+            Err(refused) => refused,
+        },
+        CREW | ANALYST => 16,
+        _ => 15,
     }
 }

@@ -130,7 +130,7 @@ fn answer(memory: &mut [u8], operation: &Operation) -> u32 {
         Operation::Summary { engine, model, spec, inputs } => {
             register::summary(memory, u32::from(*engine), u32::from(*model), *spec, inputs)
         }
-        Operation::Convict { engine } => register::convict(memory, u32::from(*engine)),
+        Operation::Convict { engine } => register::convict(register::MANAGER, memory, u32::from(*engine)),
         Operation::Report { engine, record } => register::report(memory, u32::from(*engine), record),
     }
 }
@@ -148,8 +148,17 @@ pub fn register_after(input: &[u8]) -> Option<Vec<u8>> {
     operations(input).ok().map(|all| done(&all).0)
 }
 
-/// What the program prints for an input.
+/// What the program prints for an input: it acts as a manager.
 pub fn session(input: &[u8]) -> String {
+    session_with(input, board::text)
+}
+
+/// The same with the board as a crew sees it.
+pub fn crew_session(input: &[u8]) -> String {
+    session_with(input, board::crew_text)
+}
+
+fn session_with(input: &[u8], text: fn(&Register) -> String) -> String {
     if input.len() > MOST {
         return "refused=12\n".to_string();
     }
@@ -159,6 +168,6 @@ pub fn session(input: &[u8]) -> String {
     };
     let (memory, answers) = done(&all);
     let out: String = answers.iter().map(|answer| format!("answer={answer}\n")).collect();
-    let board = board::text(&Register::read(&memory).expect("a register"));
+    let board = text(&Register::read(&memory).expect("a register"));
     out + if board.is_empty() { QUIET } else { &board }
 }

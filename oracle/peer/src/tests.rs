@@ -2,7 +2,7 @@
 
 use crate::board;
 use crate::cases::*;
-use crate::register::{self, Register, SIZE};
+use crate::register::{self, ANALYST, CREW, MANAGER, Register, SIZE};
 use crate::session::{register_after, session};
 use oracle::lines::metres;
 
@@ -290,12 +290,17 @@ fn refusals_leave_the_memory_alone() {
     let before = memory.clone();
     assert_eq!(register::report(&mut memory, 99, &[]), 1);
     assert_eq!(register::summary(&mut memory, 99, 99, 0, &[]), 1);
-    assert_eq!(register::convict(&mut memory, 99), 1);
-    assert_eq!(board::board(&memory, &mut []), 1);
+    assert_eq!(register::convict(MANAGER, &mut memory, 99), 1);
+    assert_eq!(board::board(MANAGER, &memory, &mut []), 1);
+    for (desk, convicted, previewed, drawn) in [(0, 16, 16, 1), (1, 16, 1, 1), (2, 1, 1, 1), (3, 15, 15, 15), (258, 15, 15, 15), (u32::MAX, 15, 15, 15)] {
+        assert_eq!(register::convict(desk, &mut memory, 99), convicted);
+        assert_eq!(board::preview(desk, &memory, 99, &mut []), previewed);
+        assert_eq!(board::board(desk, &memory, &mut []), drawn);
+    }
     assert_eq!(memory, before);
     let mut fresh = vec![0u8; SIZE];
-    assert_eq!(board::board(&fresh, &mut [0; 16_383]), 10);
-    assert_eq!(board::board(&fresh, &mut [7; 16_384]), 0);
+    assert_eq!(board::board(MANAGER, &fresh, &mut [0; 16_383]), 10);
+    assert_eq!(board::board(MANAGER, &fresh, &mut [7; 16_384]), 0);
     assert_eq!(register::report(&mut fresh, 32, &[]), 2);
     assert_eq!(register::report(&mut fresh, 31, &[0; 221]), 3);
     assert_eq!(register::summary(&mut fresh, 31, 63, 0, &[0; 31]), 9);
@@ -307,7 +312,7 @@ fn refusals_leave_the_memory_alone() {
 fn preview_of(input: &str, engine: u32) -> String {
     let memory = register_after(input.as_bytes()).expect("good lines");
     let mut out = vec![7u8; board::ROOM];
-    let length = board::preview(&memory, engine, &mut out);
+    let length = board::preview(MANAGER, &memory, engine, &mut out);
     assert!(out[length..].iter().all(|&b| b == 7), "{input}");
     String::from_utf8(out[..length].to_vec()).expect("text")
 }
@@ -335,7 +340,7 @@ fn refusals_of_a_preview() {
         (&shown, 2, 0, 10),
     ] {
         let mut out = vec![7u8; room];
-        assert_eq!(board::preview(memory, engine, &mut out), answer, "{engine} {room}");
+        assert_eq!(board::preview(MANAGER, memory, engine, &mut out), answer, "{engine} {room}");
         assert!(out.iter().all(|&b| b == 7), "{engine} {room}");
     }
 }
@@ -357,6 +362,19 @@ fn previews_of_the_worked_session() {
     assert_eq!(preview_of(&(worked() + &convict(1)), 1), "");
     // A fresh register has no board, and no preview.
     assert_eq!(preview_of("", 5), "");
+}
+
+#[test]
+fn a_crew_sees_positions() {
+    let memory = register_after(worked().as_bytes()).expect("good lines");
+    let mut out = vec![7u8; board::ROOM];
+    let length = board::board(CREW, &memory, &mut out);
+    let line = "role=ranked time=1000 lat=500000000 lon=100000000 height=2 weight=2 signers=00000002\n";
+    assert_eq!(str::from_utf8(&out[..length]).expect("text"), format!("transmission=1\n{line}"));
+    assert_eq!(board::board(CREW, &vec![0; SIZE], &mut out), 0);
+    for engine in [0, 31, 32] {
+        assert_eq!(board::preview(CREW, &memory, engine, &mut out), 16);
+    }
 }
 
 #[test]
@@ -399,11 +417,11 @@ fn a_preview_is_the_board_after_the_conviction() {
     for (name, memory) in good {
         for engine in 0..32 {
             let mut copy = memory.clone();
-            assert_eq!(register::convict(&mut copy, engine), 0);
+            assert_eq!(register::convict(MANAGER, &mut copy, engine), 0);
             let (mut preview, mut drawn) = (vec![7u8; 20_000], vec![7u8; 20_000]);
             let before = memory.clone();
-            let length = board::preview(&memory, engine, &mut preview);
-            assert_eq!(length, board::board(&copy, &mut drawn), "{name} {engine}");
+            let length = board::preview(ANALYST, &memory, engine, &mut preview);
+            assert_eq!(length, board::board(MANAGER, &copy, &mut drawn), "{name} {engine}");
             assert!(preview == drawn && memory == before, "{name} {engine}");
             tried += 1;
         }

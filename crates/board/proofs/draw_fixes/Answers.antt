@@ -8,7 +8,7 @@ use Rattle.board.proofs.draw_fixes.Goals as goal
 
 pub write_latest-requires-clause-room : goal.write_latest-requires-clause-room
 write_latest-requires-clause-room c =
-    rw (latest-drawn c.args.fixes.now _ (ap (λ (p : Parted). p.parts) c.of-transmissions.ensures) _ (ap (λ (s : Shows). s.parts) c.fill.ensures) c.saturating_sub-start.result (rw c.len.ensures at c.saturating_sub-start.ensures)) c.requires.room
+    rw (latest-drawn c.args.desk c.args.fixes.now _ (ap (λ (p : Parted). p.parts) c.of-transmissions.ensures) _ (ap (λ (s : Shows). s.parts) c.fill.ensures) c.saturating_sub-start.result (rw c.len.ensures at c.saturating_sub-start.ensures)) c.requires.room
 
 pub returns : goal.returns
-returns c = put_as (latest-drawn c.args.fixes.now _ (ap (λ (p : Parted). p.parts) c.of-transmissions.ensures) _ (ap (λ (s : Shows). s.parts) c.fill.ensures) c.saturating_sub-start.result (rw c.len.ensures at c.saturating_sub-start.ensures)) c.write_latest.ensures
+returns c = put_as (latest-drawn c.args.desk c.args.fixes.now _ (ap (λ (p : Parted). p.parts) c.of-transmissions.ensures) _ (ap (λ (s : Shows). s.parts) c.fill.ensures) c.saturating_sub-start.result (rw c.len.ensures at c.saturating_sub-start.ensures)) c.write_latest.ensures

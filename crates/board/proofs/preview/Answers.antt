@@ -1,4 +1,4 @@
-use Rattle.std.proofs.Common.{ℕ, ◌≡◌, refl, sym, ap, ◌∙◌, true, List, Result, Ok, Err}
+use Rattle.std.proofs.Common.{ℕ, ◌≡◌, refl, sym, ap, ◌∙◌, true, false, List, Result, Ok, Err}
 use borrow.Author.Tests.{eqb-false}
 use Rattle.std.specs.Result.{IsErrAnd}
 use Rattle.octets.specs.Bytes.{Bytes}
@@ -9,15 +9,24 @@ use Rattle.errors.specs.declared.Error.{Error}
 use Rattle.errors.proofs.Numbered.{never-zero}
 use Rattle.register.specs.Memory.{well_formed, decode}
 use Rattle.register.proofs.Opened.{other-size}
-use Rattle.board.specs.Board.{draw_board}
+use Rattle.desks.specs.Desks.{may_preview}
+use Rattle.board.specs.Board.{draw_for}
 use Rattle.board.specs.Preview.{convict}
+use Rattle.board.proofs.Desks.{preview-for}
 use Rattle.board.proofs.Previewed.{preview-refused, preview-drawn, no_copy, copy-formed}
 use Rattle.board.proofs.preview.Goals as goal
 
+pub returns-then-not-may_preview : goal.returns-then-not-may_preview
+returns-then-not-may_preview c =
+    let lacking : may_preview c.args.desk ≡ false = sym c.may_preview.ensures ∙ c.if-not-may_preview.true in
+    rw (preview-for c.args.desk c.args.engine c.args.memory.now c.args.out.now, lacking) refl
+
 pub returns-in_default : goal.returns-in_default
 returns-in_default c =
-    sym (preview-refused c.args.engine c.args.memory.now c.args.out.now 1 c.args.memory.now
-    (no_copy c.args.engine c.args.memory.now (other-size c.args.memory.now c.in_default.ensures.1)) (eqb-false 1 0 refl))
+    let allowed : may_preview c.args.desk ≡ true = sym c.may_preview.ensures ∙ c.if-not-may_preview.false in
+    rw (preview-for c.args.desk c.args.engine c.args.memory.now c.args.out.now, allowed)
+    (sym (preview-refused c.args.engine c.args.memory.now c.args.out.now 1 c.args.memory.now
+    (no_copy c.args.engine c.args.memory.now (other-size c.args.memory.now c.in_default.ensures.1)) (eqb-false 1 0 refl)))
 
 numbered : (r : Result ℕ Error) (x : Error) → IsErrAnd r (λ y. y ≡ x) → value_or_number r ≡ error_number x
 numbered (Ok n) x h = absurd h
@@ -29,7 +38,8 @@ returns-in_err-conviction c =
     let e : ℕ = c.args.engine in
     let x : Error = c.in_err-conviction.field-0.0 in
     let refused : value_or_number c.from_residual.result ≡ error_number x = numbered c.from_residual.result x c.from_residual.ensures.1 in
-    rw refused (sym (preview-refused e m c.args.out.now _ _ (c.in_err-conviction.ensures ∙ ap (convict e) c.in-Ok.ensures.1.same) (never-zero x)))
+    let may : may_preview c.args.desk ≡ true = sym c.may_preview.ensures ∙ c.if-not-may_preview.false in
+    rw (preview-for c.args.desk e m c.args.out.now, may, refused) (sym (preview-refused e m c.args.out.now _ _ (c.in_err-conviction.ensures ∙ ap (convict e) c.in-Ok.ensures.1.same) (never-zero x)))
 
 pub of-requires : goal.of-requires
 of-requires c =
@@ -41,7 +51,7 @@ of-requires c =
     drawn
 
 pub returns : goal.returns
-unfolding draw_board
+unfolding draw_for
 returns c =
     let m : List ℕ = c.args.memory.now in
     let e : ℕ = c.args.engine in
@@ -49,4 +59,5 @@ returns c =
     let bytes : Bytes m = all-bytes m (λ i. (c.type_inv.memory i).fits) in
     let formed : well_formed c.conviction.new.memory ≡ true = copy-formed e m _ _ convicted (ap answer_number c.in_ok-conviction.was) bytes in
     let shown : c.of.result ≡ decode c.conviction.new.memory = c.of.ensures in
-    rw (preview-drawn e m c.args.out.now _ _ convicted (ap answer_number c.in_ok-conviction.was), formed, ← shown) c.draw.ensures
+    let may : may_preview c.args.desk ≡ true = sym c.may_preview.ensures ∙ c.if-not-may_preview.false in
+    rw (preview-for c.args.desk e m c.args.out.now, may, preview-drawn e m c.args.out.now _ _ convicted (ap answer_number c.in_ok-conviction.was), formed, ← shown) c.draw.ensures

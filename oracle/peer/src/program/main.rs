@@ -1,4 +1,5 @@
-//! The peer as a program: a session on standard input, what it prints on standard output; or `cases FOLDER`, which writes each
+//! The peer as a program: a session on standard input, what it prints on standard output; with `crew`, the board
+//! as a crew sees it; or `cases FOLDER`, which writes each
 //! case's session and what it prints to FOLDER/NAME/stdin and FOLDER/NAME/stdout; or `map`, a register's bytes on standard input and its
 //! map on standard output, or `refused=1`; or `monthly`, which reads buffers one after another, each as its length in four bytes, lowest
 //! first, and its bytes, and prints of each its monthly numbers, and an empty line.
@@ -27,14 +28,17 @@ fn monthly(mut input: &[u8]) -> String {
     text
 }
 
+fn print(session: fn(&[u8]) -> String) -> std::io::Result<()> {
+    let mut input = Vec::new();
+    std::io::stdin().read_to_end(&mut input)?;
+    std::io::stdout().write_all(session(&input).as_bytes())
+}
+
 fn main() -> std::io::Result<()> {
     let words: Vec<String> = std::env::args().skip(1).collect();
     match words.iter().map(String::as_str).collect::<Vec<_>>().as_slice() {
-        [] => {
-            let mut input = Vec::new();
-            std::io::stdin().read_to_end(&mut input)?;
-            std::io::stdout().write_all(peer::session::session(&input).as_bytes())
-        }
+        [] => print(peer::session::session),
+        ["crew"] => print(peer::session::crew_session),
         ["cases", folder] => write_cases(folder),
         ["map"] => {
             let mut memory = Vec::new();
@@ -48,7 +52,7 @@ fn main() -> std::io::Result<()> {
             std::io::stdout().write_all(monthly(&input).as_bytes())
         }
         _ => {
-            eprintln!("peer: a session on standard input, or: peer cases FOLDER, or: peer map, or: peer monthly");
+            eprintln!("peer [crew]: a session on standard input, or: peer cases FOLDER, or: peer map, or: peer monthly");
             std::process::exit(2)
         }
     }

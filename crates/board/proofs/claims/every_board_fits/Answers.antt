@@ -8,4 +8,4 @@ pub returns-clause-fits : goal.returns-clause-fits
 returns-clause-fits c = fits-board
 
 pub returns-clause-no_refusal : goal.returns-clause-no_refusal
-returns-clause-no_refusal c = λ m b w. no_refusal (decode m) (decode-valid m (opened m w) b)
+returns-clause-no_refusal c = λ desk m b w. no_refusal (decode m) (decode-valid m (opened m w) b) desk

@@ -4,6 +4,9 @@ use Rattle.board.proofs.claims.previews.Goals as goal
 pub returns-clause-refused_in_order : goal.returns-clause-refused_in_order
 returns-clause-refused_in_order c = P.refused-in-order
 
+pub returns-clause-analyst_as_manager : goal.returns-clause-analyst_as_manager
+returns-clause-analyst_as_manager c = P.analyst-as-manager
+
 pub returns-clause-then_convicted : goal.returns-clause-then_convicted
 returns-clause-then_convicted c = P.then-convicted
 
