@@ -204,7 +204,7 @@ fn decide(random: &mut Random, n: usize) {
     line(&what, "the Rust, items read from the same bytes and sorted", 1.0, binding::DECIDE_ANY, &mut any, &mut sorted);
 }
 
-/// A full register, made by the peer: 96 records of 16 tags and 256 summaries, with the last record and summary put in. They differ
+/// A full register, made by the peer: 96 records of 24 tags and 256 summaries, with the last record and summary put in. They differ
 /// in their first bytes, or, where they are alike, in their last alone, so that each is compared whole with the next.
 fn full_register(alike: bool) -> (Vec<u8>, Vec<u8>, [u8; 32]) {
     let mut memory = vec![0u8; peer::register::SIZE];
@@ -249,7 +249,7 @@ fn register(alike: bool) {
         black_box(peer::register::report(&mut n, 3, black_box(&held)));
     };
     let name = |what: &str| format!("{what}, full register{}", if alike { ", all but the last bytes alike" } else { "" });
-    let against = "memcmp of 30,920 bytes";
+    let against = "memcmp of 37,256 bytes";
     let has = binding::REGISTER;
     assert!(!has || binding::report(&mut m, 3, &held) == 0 && binding::report(&mut m, 3, &new) == 5);
     assert!(!has || binding::summary(&mut m, 3, 63, 3, &inputs) == 0 && m == memory);

@@ -57,7 +57,7 @@ static void write_record(uint8_t r[TL_RECORD_SIZE], int i) {
     r[TL_RECORD_MESSAGE_LENGTH_AT] = TL_SHORT_MESSAGE;
     r[TL_RECORD_MESSAGE_AT] = 0x8d;
     r[TL_RECORD_TAG_COUNT_AT] = (uint8_t)tags;
-    put(r + TL_RECORD_USED_AT, 2, (1u << tags) - 1);
+    put(r + TL_RECORD_USED_AT, 4, (1u << tags) - 1);
     for (int k = 0; k < tags; k++) put(r + TL_RECORD_TAGS_AT + TL_TAG_SIZE * k, TL_TAG_SIZE, (uint64_t)k + 1);
     put_double(r + TL_RECORD_XX_AT, 100.0);
     put_double(r + TL_RECORD_YY_AT, 100.0);

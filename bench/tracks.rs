@@ -349,7 +349,7 @@ fn read_through(clock: f64) {
     };
     let ours = Side::new((), &nothing, &mut work, 1);
     let theirs = Side::new((), &nothing, &mut compared, 1);
-    race(&row.name, "memcmp of 29,104 bytes", 1.0, clock, ours, theirs);
+    race(&row.name, "memcmp of 33,856 bytes", 1.0, clock, ours, theirs);
 }
 
 /// The Rust has no listing: the other side is the oracle's text of the Rust's state.

@@ -50,10 +50,10 @@ extern "C" {
  * have the same minor number. A change of the patch number adds names and changes nothing that was there. */
 
 #define TL_VERSION_MAJOR 0
-#define TL_VERSION_MINOR 10
+#define TL_VERSION_MINOR 11
 #define TL_VERSION_PATCH 0
 #define TL_VERSION (TL_VERSION_MAJOR * 1000000 + TL_VERSION_MINOR * 1000 + TL_VERSION_PATCH)
-#define TL_VERSION_TEXT TL_VERSION_JOINED(TL_VERSION_MAJOR, TL_VERSION_MINOR, TL_VERSION_PATCH) /* "0.10.0" */
+#define TL_VERSION_TEXT TL_VERSION_JOINED(TL_VERSION_MAJOR, TL_VERSION_MINOR, TL_VERSION_PATCH) /* "0.11.0" */
 #define TL_VERSION_JOINED(major, minor, patch) TL_VERSION_QUOTED(major, minor, patch)
 #define TL_VERSION_QUOTED(major, minor, patch) #major "." #minor "." #patch
 
@@ -139,7 +139,7 @@ uint32_t tl_answer_text(uint32_t answer, uint8_t *out, size_t out_len);
 
 #define TL_MAX_ENGINE 31
 #define TL_MAX_MODEL 63
-#define TL_MAX_TAGS 16         /* of a record */
+#define TL_MAX_TAGS 24         /* of a record */
 #define TL_MAX_CITED 4         /* models that a record cites */
 #define TL_MAX_ITEMS 96        /* of a decision */
 #define TL_MAX_RECORDS 96      /* different ones of a register */
@@ -170,8 +170,8 @@ uint32_t tl_answer_text(uint32_t answer, uint8_t *out, size_t out_len);
 #define TL_RECORD_MESSAGE_LENGTH_AT (TL_RECORD_HEIGHT_AT + 4)         /* u8, TL_SHORT_MESSAGE or TL_LONG_MESSAGE */
 #define TL_RECORD_MESSAGE_AT (TL_RECORD_MESSAGE_LENGTH_AT + 1)
 #define TL_RECORD_TAG_COUNT_AT (TL_RECORD_MESSAGE_AT + TL_LONG_MESSAGE) /* u8, 1 to TL_MAX_TAGS */
-#define TL_RECORD_USED_AT (TL_RECORD_TAG_COUNT_AT + 1)                /* u16: bit i is the i-th tag in ascending order, from 0 */
-#define TL_RECORD_TAGS_AT (TL_RECORD_USED_AT + 2)                     /* u64 each, strictly ascending */
+#define TL_RECORD_USED_AT (TL_RECORD_TAG_COUNT_AT + 1)                /* u32: bit i is the i-th tag in ascending order, from 0 */
+#define TL_RECORD_TAGS_AT (TL_RECORD_USED_AT + 4)                     /* u64 each, strictly ascending */
 #define TL_RECORD_MODEL_COUNT_AT (TL_RECORD_TAGS_AT + TL_MAX_TAGS * TL_TAG_SIZE) /* u8, 0 to TL_MAX_CITED */
 #define TL_RECORD_MODELS_AT (TL_RECORD_MODEL_COUNT_AT + 1)            /* u8 each, at most TL_MAX_MODEL, in any order */
 #define TL_RECORD_SPEC_AT (TL_RECORD_MODELS_AT + TL_MAX_CITED)        /* u16 */
@@ -181,7 +181,7 @@ uint32_t tl_answer_text(uint32_t answer, uint8_t *out, size_t out_len);
 #define TL_RECORD_YY_AT (TL_RECORD_XZ_AT + TL_F64_SIZE)
 #define TL_RECORD_YZ_AT (TL_RECORD_YY_AT + TL_F64_SIZE)
 #define TL_RECORD_ZZ_AT (TL_RECORD_YZ_AT + TL_F64_SIZE)
-#define TL_RECORD_SIZE (TL_RECORD_ZZ_AT + TL_F64_SIZE)                /* 222 */
+#define TL_RECORD_SIZE (TL_RECORD_ZZ_AT + TL_F64_SIZE)                /* 288 */
 
 /* A summary: what an engine says of a model. */
 #define TL_SUMMARY_ENGINE_AT 0                                        /* u8 */
@@ -193,7 +193,7 @@ uint32_t tl_answer_text(uint32_t answer, uint8_t *out, size_t out_len);
 /* A record that a register holds, with the engines that reported it. */
 #define TL_HELD_RECORD_AT 0
 #define TL_HELD_SIGNERS_AT (TL_HELD_RECORD_AT + TL_RECORD_SIZE)
-#define TL_HELD_SIZE (TL_HELD_SIGNERS_AT + TL_SIGNERS_SIZE)           /* 226 */
+#define TL_HELD_SIZE (TL_HELD_SIGNERS_AT + TL_SIGNERS_SIZE)           /* 292 */
 
 /* A register. A fresh one is all zeros. Used places come first and ascend in byte order. */
 #define TL_REGISTER_CONVICTED_AT 0                                    /* u32, bit n for engine n */
@@ -201,27 +201,27 @@ uint32_t tl_answer_text(uint32_t answer, uint8_t *out, size_t out_len);
 #define TL_REGISTER_RECORD_COUNT_AT (TL_REGISTER_SUMMARY_COUNT_AT + 2) /* u16, at most TL_MAX_RECORDS */
 #define TL_REGISTER_SUMMARIES_AT (TL_REGISTER_RECORD_COUNT_AT + 2)
 #define TL_REGISTER_RECORDS_AT (TL_REGISTER_SUMMARIES_AT + TL_MAX_SUMMARIES * TL_SUMMARY_SIZE)
-#define TL_REGISTER_SIZE (TL_REGISTER_RECORDS_AT + TL_MAX_RECORDS * TL_HELD_SIZE) /* 30,920 */
+#define TL_REGISTER_SIZE (TL_REGISTER_RECORDS_AT + TL_MAX_RECORDS * TL_HELD_SIZE) /* 37,256 */
 
 /* A fix of a track: a record, the engines that reported it, the model inputs that it was checked under. */
 #define TL_FIX_RECORD_AT 0
 #define TL_FIX_SIGNERS_AT (TL_FIX_RECORD_AT + TL_RECORD_SIZE)
 #define TL_FIX_INPUTS_AT (TL_FIX_SIGNERS_AT + TL_SIGNERS_SIZE)
-#define TL_FIX_SIZE (TL_FIX_INPUTS_AT + TL_INPUTS_SIZE)               /* 258 */
+#define TL_FIX_SIZE (TL_FIX_INPUTS_AT + TL_INPUTS_SIZE)               /* 324 */
 
 /* A refused fix of a track, the identity that it is refused against, and the chi-square between them: positive infinity where
  * there is none (TL_UNMEASURABLE). */
 #define TL_REFUSED_FIX_AT 0
 #define TL_REFUSED_AGAINST_AT (TL_REFUSED_FIX_AT + TL_FIX_SIZE)
 #define TL_REFUSED_CHI2_AT (TL_REFUSED_AGAINST_AT + TL_IDENTITY_SIZE) /* f64 */
-#define TL_REFUSED_SIZE (TL_REFUSED_CHI2_AT + TL_F64_SIZE)            /* 298 */
+#define TL_REFUSED_SIZE (TL_REFUSED_CHI2_AT + TL_F64_SIZE)            /* 364 */
 
 /* A transmission of a track. */
 #define TL_TRANSMISSION_FIX_COUNT_AT 0                                /* u8, 1 to TL_MAX_STANDING */
 #define TL_TRANSMISSION_REFUSED_COUNT_AT (TL_TRANSMISSION_FIX_COUNT_AT + 1) /* u8, 0 to TL_MAX_REFUSED */
 #define TL_TRANSMISSION_FIXES_AT (TL_TRANSMISSION_REFUSED_COUNT_AT + 1)
 #define TL_TRANSMISSION_REFUSED_AT (TL_TRANSMISSION_FIXES_AT + TL_MAX_STANDING * TL_FIX_SIZE)
-#define TL_TRANSMISSION_SIZE (TL_TRANSMISSION_REFUSED_AT + TL_MAX_REFUSED * TL_REFUSED_SIZE) /* 2,484 */
+#define TL_TRANSMISSION_SIZE (TL_TRANSMISSION_REFUSED_AT + TL_MAX_REFUSED * TL_REFUSED_SIZE) /* 3,078 */
 
 /* A track. A fresh one is all zeros. The byte before the contested count is zero. */
 #define TL_TRACK_CONVICTED_AT 0                                       /* u32, bit n for engine n */
@@ -230,7 +230,7 @@ uint32_t tl_answer_text(uint32_t answer, uint8_t *out, size_t out_len);
 #define TL_TRACK_CONTESTED_AT (TL_TRACK_TRANSMISSION_COUNT_AT + 1 + 1) /* u64 */
 #define TL_TRACK_SUMMARIES_AT (TL_TRACK_CONTESTED_AT + 8)
 #define TL_TRACK_TRANSMISSIONS_AT (TL_TRACK_SUMMARIES_AT + TL_MAX_SUMMARIES * TL_SUMMARY_SIZE)
-#define TL_TRACK_SIZE (TL_TRACK_TRANSMISSIONS_AT + TL_MAX_TRANSMISSIONS * TL_TRANSMISSION_SIZE) /* 29,104 */
+#define TL_TRACK_SIZE (TL_TRACK_TRANSMISSIONS_AT + TL_MAX_TRANSMISSIONS * TL_TRANSMISSION_SIZE) /* 33,856 */
 
 /* An item of a decision. It is malformed exactly where its record is; so an item of zeros is malformed. */
 #define TL_ITEM_RECORD_AT 0
@@ -240,7 +240,7 @@ uint32_t tl_answer_text(uint32_t answer, uint8_t *out, size_t out_len);
 #define TL_ITEM_CONSISTENT_AT (TL_ITEM_STANDING_AT + 8)               /* u8; an item whose byte is zero refuses nobody */
 #define TL_ITEM_PREFERRED_AT (TL_ITEM_CONSISTENT_AT + 1)              /* u8, zero or not */
 #define TL_ITEM_VERIFIED_AT (TL_ITEM_PREFERRED_AT + 1)                /* u8, TL_PASSED, TL_FAILED, else unjudged */
-#define TL_ITEM_SIZE (TL_ITEM_VERIFIED_AT + 1)                        /* 297 */
+#define TL_ITEM_SIZE (TL_ITEM_VERIFIED_AT + 1)                        /* 363 */
 #define TL_UNJUDGED 0
 #define TL_PASSED 1
 #define TL_FAILED 2
@@ -345,7 +345,7 @@ uint32_t tl_register_map(const uint8_t *memory, size_t memory_len, uint8_t *out,
 
 /* Writes the bytes of a register, or any other TL_REGISTER_SIZE bytes, so that like bytes of its places are together, for an archive
  * that packs them: after the first TL_REGISTER_RECORDS_AT bytes, which are copied, comes the first byte of each of the 96 places (a
- * record and its signers, 226 bytes, in use or not), then the second byte of each, and so on. So byte j of place i is at
+ * record and its signers, 292 bytes, in use or not), then the second byte of each, and so on. So byte j of place i is at
  * TL_REGISTER_RECORDS_AT + 96 j + i. Nothing is asked of what the bytes mean. Returns TL_OK, or TL_BAD_LENGTH and leaves out. */
 uint32_t tl_register_columns(const uint8_t *in, size_t in_len, uint8_t *out, size_t out_len);
 

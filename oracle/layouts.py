@@ -6,8 +6,17 @@
 Nothing is tested here, so a script can write what is malformed too. Nothing is taken from the proved crates."""
 import struct
 
-RECORD, SUMMARY, SUMMARIES, PLACES, REGISTER = 222, 36, 256, 96, 30920
+MAX_TAGS, SUMMARY, SUMMARIES, PLACES = 24, 36, 256, 96
+USED_AT = 37
+TAGS_AT = USED_AT + 4
+MODEL_COUNT_AT = TAGS_AT + 8 * MAX_TAGS
+MODELS_AT = MODEL_COUNT_AT + 1
+SPEC_AT = MODELS_AT + 4
+COVARIANCE_AT = SPEC_AT + 2
+RECORD = COVARIANCE_AT + 48
 PLACE = RECORD + 4
+REGISTER = 8 + SUMMARIES * SUMMARY + PLACES * PLACE
+ITEM = RECORD + 32 + 32 + 8 + 3
 SHORT = b"\x8d" + bytes(6)
 
 
@@ -21,7 +30,7 @@ def record(tags, *, time=1000, lat=0, lon=0, height=1500, message=SHORT, used=No
     used = (1 << len(tags)) - 1 if used is None else used
     data = struct.pack("<QiiBi", time, lat, lon, height is not None, height or 0)
     data += struct.pack("<B14s", len(message), message)
-    data += struct.pack("<BH16Q", len(tags), used, *tags, *[0] * (16 - len(tags)))
+    data += struct.pack("<BI%dQ" % MAX_TAGS, len(tags), used, *tags, *[0] * (MAX_TAGS - len(tags)))
     data += struct.pack("<B4BH", len(models), *models, *[0] * (4 - len(models)), spec)
     data += struct.pack("<6d", *covariance)
     assert len(data) == RECORD

@@ -14,7 +14,7 @@ import sys
 HERE = os.path.dirname(os.path.abspath(__file__))
 ROOT = os.path.join(HERE, "..", "..")
 PROGRAM = os.path.join(ROOT, "target", "oracle", "oracle-program")
-RULES = os.path.join(HERE, "..", "decisions", "make_stdout.py")
+RULES = os.path.join(HERE, "..", "test_decisions", "make_stdout.py")
 
 spec = importlib.util.spec_from_file_location("rules", RULES)
 rules = importlib.util.module_from_spec(spec)

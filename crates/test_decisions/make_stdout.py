@@ -15,6 +15,7 @@ from fractions import Fraction
 HERE = os.path.dirname(os.path.abspath(__file__))
 sys.path.insert(0, os.path.join(HERE, "..", "..", "oracle"))
 import layouts  # noqa: E402
+from layouts import ITEM, MAX_TAGS, MODEL_COUNT_AT, TAGS_AT, USED_AT  # noqa: E402
 
 E7 = float("1e-7")
 DEGREE = float(Fraction("3.14159265358979323846264338327950288419716939937510") / 180)
@@ -247,6 +248,7 @@ def named():
     yield [item(rec([k % 16 + 1], 0), k) for k in range(96)]
     yield [item(rec([k % 16 + 1], 0), k) for k in range(97)]
     yield [item(rec(range(1, k // 6 + 2), 700 * (k // 6)), k, standing=k * 7 % 5, verified=k % 3) for k in range(96)]
+    yield [item(rec(range(1, k + 2), 300 * k), k) for k in range(MAX_TAGS)]
 
 
 def randoms():
@@ -295,7 +297,7 @@ def broken(items):
     whole = b"".join(item_bytes(i) for i in items)
     yield whole[:-1]
     yield whole + b"\0"
-    for at, value in ((16, 2), (21, 8), (36, 0), (36, 17), (37, 255), (167, 5), (297 + 39 + 8, 1)):
+    for at, value in ((16, 2), (21, 8), (36, 0), (36, MAX_TAGS + 1), (USED_AT, 255), (USED_AT + 3, 1), (MODEL_COUNT_AT, 5), (ITEM + TAGS_AT + 8, 1)):
         yield whole[:at] + bytes([value]) + whole[at + 1 :]
 
 
@@ -308,7 +310,7 @@ def main():
         stdout += show_verdict(items[0]["record"], items[1]["record"]) if len(items) > 1 else "malformed added\n"
     for data in broken([item(rec([1], 0), 1), item(rec([1, 2], 0), 2)]):
         stdin += struct.pack("<H", len(data)) + data
-        whole = data[297 + 39 + 8] == 2 and len(data) > 297 and all(data[k] == v for k, v in ((16, 1), (21, 7), (36, 1), (37, 1), (167, 0)))
+        whole = data[ITEM + TAGS_AT + 8] == 2 and len(data) > ITEM and all(data[k] == v for k, v in ((16, 1), (21, 7), (36, 1), (USED_AT, 1), (USED_AT + 3, 0), (MODEL_COUNT_AT, 0)))
         stdout += show(None) + show(None) + ("agrees added\n" if whole else "malformed added\n")
     with open(os.path.join(HERE, "stdin"), "wb") as out:
         out.write(stdin)

@@ -13,7 +13,7 @@ import sys
 HERE = os.path.dirname(os.path.abspath(__file__))
 sys.path.insert(0, os.path.join(HERE, "..", "..", "oracle"))
 import layouts  # noqa: E402
-from layouts import SHORT  # noqa: E402
+from layouts import COVARIANCE_AT, MAX_TAGS, MODEL_COUNT_AT, MODELS_AT, SHORT, SPEC_AT, TAGS_AT  # noqa: E402
 
 
 def record(models, spec=3, tags=(11, 12), message=SHORT, time=1000, height=1500):
@@ -51,13 +51,13 @@ def show_state(table, model):
 def line(table, r):
     if not well_formed(r):
         return "malformed\n"
-    models = list(r[168 : 168 + r[167]])
+    models = list(r[MODELS_AT : MODELS_AT + r[MODEL_COUNT_AT]])
     said = [state(table, m) for m in models]
-    counts = all(s and s[:2] == r[172:174] for s in said)
+    counts = all(s and s[:2] == r[SPEC_AT:COVARIANCE_AT] for s in said)
     missing = any(s is None for s in said)
     inputs = blake2s(b"tally pair model cited inputs" + b"\0" + b"".join(s[2:] for s in said if s))
     message = r[22 : 22 + r[21]]
-    tags = struct.unpack("<%dQ" % r[36], r[39 : 39 + 8 * r[36]])
+    tags = struct.unpack("<%dQ" % r[36], r[TAGS_AT : TAGS_AT + 8 * r[36]])
     sets = blake2s(bytes([len(message)]) + message + bytes([len(tags)]) + b"".join(t.to_bytes(8, "little") for t in tags))
     identity = blake2s(b"tally merge input set" + b"\0" + sets + inputs)
     return "states %s counts %s missing %s %s %s %s\n" % (
@@ -72,7 +72,7 @@ def line(table, r):
 
 def well_formed(r):
     """Only what the cases below break: the message's length, and that tags ascend."""
-    tags = struct.unpack("<%dQ" % r[36], r[39 : 39 + 8 * r[36]])
+    tags = struct.unpack("<%dQ" % r[36], r[TAGS_AT : TAGS_AT + 8 * r[36]])
     return r[21] in (7, 14) and all(a < b for a, b in zip(tags, tags[1:]))
 
 
@@ -118,7 +118,7 @@ def named():
     # messages of both lengths, the longer filled up with zeros; one tag, all tags, high and low tags
     for message in (SHORT, SHORT + bytes(7), bytes(range(14))):
         yield both, record([1], message=message)
-    for tags in ((0,), (1,), (255, 256), (11, 12, 13), tuple(range(16)), tuple(2**64 - 16 + i for i in range(16))):
+    for tags in ((0,), (1,), (255, 256), (11, 12, 13), tuple(range(16)), tuple(range(17)), tuple(range(MAX_TAGS)), tuple(2**64 - MAX_TAGS + i for i in range(MAX_TAGS))):
         yield both, record([1], tags=tags)
     # what is not hashed
     yield both, record([1], time=1)

@@ -54,7 +54,7 @@ LISTS = [
     # Heights: none, zero, a millimetre below it, and both ends.
     [Fix(number, -5, 5, height) for number, height in enumerate((None, 0, -1, 1, 999, -1000, LEAST, GREATEST))],
     # Everything at its widest, eight times; and two transmissions more, of which a board shows none.
-    [Fix(number, -1_800_000_000, -900_000_000, LEAST, (1 << 64) - 1 - SECONDS * (9 - number), 16, (1 << 32) - 1) for number in range(10)],
+    [Fix(number, -1_800_000_000, -900_000_000, LEAST, (1 << 64) - 1 - SECONDS * (9 - number), 24, (1 << 32) - 1) for number in range(10)],
 ]
 
 # One transmission: the larger fix is ranked second, since it is heard by fewer used tags; the first lies beyond, so there is no point.

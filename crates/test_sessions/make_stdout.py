@@ -221,7 +221,10 @@ def cases():
     )
     # heights and widths
     yield from map(of_heights, HEIGHTS)
-    yield report(31, range(16), -2147483648, 18446744073709551615, 2147483647, used=0), None
+    yield report(31, range(24), -2147483648, 18446744073709551615, 2147483647, used=0), None
+    # a mask of 32 bits: the last tag's, and one at and above the count
+    yield report(1, range(17), used=2**16) + report(2, range(24)) + report(3, range(24), used=2**24) + report(4, range(16), used=2**16), None
+    yield report(1, [1], used=65536) + report(1, [1], used=2**32 - 1) + report(1, [1]), None
     yield report(1, [18446744073709551615], cov="7ff8000000000001" * 6) + report(1, [1, 18446744073709551615], cov="fff0000000000000" * 6), None
     # a full register: a 97th record is 5, a held one with a new signer 0; a conviction half way makes room
     full = "".join(report(1 + i % 2, [i + 1], time=i, cov=ZERO) for i in range(96))
@@ -249,7 +252,7 @@ def cases():
         (2, "motor=1"), (3, "time=18446744073709551616"), (3, "time=-1"), (3, "time=" + "9" * 200), (4, "lat=2147483648"), (4, "lat=-2147483649"),
         (4, "lat=-0"), (4, "lat=--1"), (5, "lon=00"), (6, "height="), (6, "height=None"), (6, "height=2147483648"), (7, "message="),
         (7, "message=8d0000000000"), (7, "message=8D000000000000"), (7, "message=8d00000000000g"), (8, "tags="), (8, "tags=none"), (8, "tags=1,"),
-        (8, "tags=,1"), (8, "tags=1,,2"), (8, "tags=" + ",".join(str(i) for i in range(17))), (8, "tags=01"), (9, "used=65536"), (10, "models="),
+        (8, "tags=,1"), (8, "tags=1,,2"), (8, "tags=" + ",".join(str(i) for i in range(25))), (8, "tags=01"), (9, "used=4294967296"), (10, "models="),
         (10, "models=1,2,3,4,5"), (10, "models=256"), (10, "models=none,1"), (11, "spec=65536"), (12, "cov=" + "0" * 95), (12, "cov=" + "0" * 97),
         (12, "cov=" + "A" * 96),
     ):
@@ -258,7 +261,7 @@ def cases():
     yield changed(summary(1, 5), 5, "inputs=" + "0" * 66), bad(5)
     yield changed(summary(1, 5), 4, "spec=-1"), bad(4)
     # good lines that look odd
-    yield report(1, range(16), models="1,2,3,4") + report(1, [0], message="8d" + "00" * 13) + report(1, [5], used=0), None
+    yield report(1, range(24), models="1,2,3,4") + report(1, [0], message="8d" + "00" * 13) + report(1, [5], used=0), None
     # 65,536 bytes are read, one more is not
     longest = convict(1) * 3260 + convict(10) * 16
     assert len(longest) == 65536

@@ -19,8 +19,11 @@ import layouts  # noqa: E402
 
 ORACLE = HERE.parent.parent / "target" / "oracle" / "oracle-program"
 NUMBERS = {"Changed": 20, "Contested": 21, "Duplicate": 22, "Dropped": 23}
-SIZES = {0: 223, 1: 36, 2: 1, 3: 0}
-TRANSMISSIONS_AT, TRANSMISSION, FIX, REFUSED_AT, REFUSED = 9232, 2484, 258, 1292, 298
+SIZES = {0: 1 + layouts.RECORD, 1: 36, 2: 1, 3: 0}
+FIX = layouts.PLACE + 32
+REFUSED = FIX + 32 + 8
+REFUSED_AT = 2 + 5 * FIX
+TRANSMISSIONS_AT, TRANSMISSION = 9232, REFUSED_AT + 4 * REFUSED
 INFINITY = 0x7FF0_0000_0000_0000
 
 
@@ -84,7 +87,7 @@ def measured(bits):
 def line(role, fix, chi2=None):
     time, lat, lon, has_height, height = struct.unpack_from("<QiiBi", fix)
     (used,) = struct.unpack_from("<H", fix, 37)
-    (signers,) = struct.unpack_from("<I", fix, 222)
+    (signers,) = struct.unpack_from("<I", fix, layouts.RECORD)
     shown = metres(height) if has_height else "none"
     text = f"role={role} time={time} lat={lat} lon={lon} height={shown} weight={used.bit_count()} signers={signers:08x}"
     return text + ("\n" if chi2 is None else f" chi2={measured(chi2)}\n")

@@ -45,7 +45,7 @@ static void write_record(uint8_t r[TL_RECORD_SIZE], int tags, int32_t lat) {
     r[TL_RECORD_MESSAGE_LENGTH_AT] = TL_SHORT_MESSAGE;
     r[TL_RECORD_MESSAGE_AT] = 0x8d;
     r[TL_RECORD_TAG_COUNT_AT] = (uint8_t)tags;
-    put(r + TL_RECORD_USED_AT, 2, (1u << tags) - 1);
+    put(r + TL_RECORD_USED_AT, 4, (1u << tags) - 1);
     for (int i = 0; i < tags; i++) put(r + TL_RECORD_TAGS_AT + TL_TAG_SIZE * i, TL_TAG_SIZE, (uint64_t)i + 1);
     put_variance(r, VARIANCE);
 }

@@ -59,10 +59,10 @@ def bits(column, text):
 
 def tags_and_mask(fix):
     """The tags ascending, and which of them were used: bit i stands for the i-th."""
-    tags = sorted(numbers("tags", fix["tags"], 2**64 - 1, 16))
+    tags = sorted(numbers("tags", fix["tags"], 2**64 - 1, 24))
     if not tags:
         raise Refused("tags is empty and must have at least one number")
-    used = numbers("used_tags", fix["used_tags"], 2**64 - 1, 16)
+    used = numbers("used_tags", fix["used_tags"], 2**64 - 1, 24)
     for column, values in (("tags", tags), ("used_tags", used)):
         twice = [v for v in values if values.count(v) > 1]
         if twice:

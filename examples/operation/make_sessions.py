@@ -3,6 +3,7 @@
     python3 examples/operation/make_sessions.py
 """
 import os
+import struct
 
 HERE = os.path.dirname(os.path.abspath(__file__))
 T = 1731679200 * 10**9
@@ -11,10 +12,10 @@ COV = HUNDRED + 2 * ZERO + HUNDRED + ZERO + HUNDRED
 END = 2**64 - 1
 
 
-def report(engine, time, lat=481370000, message="8d3c6dd0000000", tags=(101,), models="none", spec=0, cov=COV):
+def report(engine, time, lat=481370000, message="8d3c6dd0000000", tags=(101,), models="none", spec=0, cov=COV, used=None):
     fields = [
         ("op", "report"), ("engine", engine), ("time", time), ("lat", lat), ("lon", 115820000), ("height", 312400), ("message", message),
-        ("tags", ",".join(map(str, tags))), ("used", 2 ** len(tags) - 1), ("models", models), ("spec", spec), ("cov", cov),
+        ("tags", ",".join(map(str, tags))), ("used", 2 ** len(tags) - 1 if used is None else used), ("models", models), ("spec", spec), ("cov", cov),
     ]
     return "".join(f"{k}={v}\n" for k, v in fields)
 
@@ -76,3 +77,32 @@ write("unchained", report(1, T), report(1, T + 4 * SECOND, tags=(101, 103)))
 
 # A conviction of an engine that reported nothing.
 write("bystander", *agreed, convict(9))
+
+# A register of version 0.10 or before, in which a record has room for 16 tags, and a session with the same calls: of the 16 tags that the widest record has, two
+# were used, and two engines reported it.
+MANY = tuple(range(101, 117))
+
+
+def before(engines, time, lat=481370000, message="8d3c6dd0000000", tags=(101,), used=None, models=(), spec=0):
+    """A record as it was, and its signers: the mask of used tags in two bytes, room for 16 tags, 222 bytes in all."""
+    used, data = 2 ** len(tags) - 1 if used is None else used, bytes.fromhex(message)
+    record = struct.pack("<QiiBiB14s", time, lat, 115820000, 1, 312400, len(data), data)
+    record += struct.pack("<BH16Q", len(tags), used, *tags, *[0] * (16 - len(tags))) + struct.pack("<B4BH", len(models), *models, *[0] * (4 - len(models)), spec)
+    record += struct.pack("<6d", 100, 0, 0, 100, 0, 100)
+    assert len(record) == 222
+    return record + struct.pack("<I", sum(1 << engine for engine in engines))
+
+
+places = sorted([
+    before([1, 3], T + 200, 481372000, tags=MANY, used=3),
+    before([2], T + 100, 481370000, tags=(101, 102)),
+    before([1], T + 10**10, message="8d3c6dd0000001", models=(5,), spec=1),
+])
+said = b"".join(struct.pack("<BBH", engine, 5, 1) + bytes(32) for engine in (1, 2))
+with open(os.path.join(HERE, "widen.register"), "wb") as f:
+    f.write((struct.pack("<IHH", 0, 2, 3) + said).ljust(8 + 256 * 36, b"\0") + b"".join(places).ljust(96 * 226, b"\0"))
+widest = dict(time=T + 200, lat=481372000, tags=MANY, used=3)
+write(
+    "widened", summary(1, 5, "00"), summary(2, 5, "00"), report(1, **widest), report(3, **widest), report(2, T + 100, 481370000, tags=(101, 102)),
+    report(1, T + 10**10, message="8d3c6dd0000001", models="5", spec=1),
+)

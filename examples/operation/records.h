@@ -32,7 +32,7 @@ static inline void write_record(uint8_t r[TL_RECORD_SIZE], int transmission, uin
     r[TL_RECORD_MESSAGE_LENGTH_AT] = TL_SHORT_MESSAGE;
     put(r + TL_RECORD_MESSAGE_AT, 4, (uint64_t)transmission);
     r[TL_RECORD_TAG_COUNT_AT] = 1;
-    put(r + TL_RECORD_USED_AT, 2, 1);
+    put(r + TL_RECORD_USED_AT, 4, 1);
     put(r + TL_RECORD_TAGS_AT, TL_TAG_SIZE, 101);
     put_double(r + TL_RECORD_XX_AT, 100.0);
     put_double(r + TL_RECORD_YY_AT, 100.0);

@@ -13,7 +13,7 @@ unsafe extern "C" {
     fn tl_board(desk: u32, memory: *const u8, memory_len: usize, out: *mut u8, out_len: usize) -> u32;
 }
 
-const REGISTER_SIZE: usize = 30_920;
+const REGISTER_SIZE: usize = 37_256;
 const BOARD_SIZE: usize = 16_384;
 const INSIDE: u32 = 0;
 const OUTSIDE: u32 = 1;

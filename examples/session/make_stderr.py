@@ -16,20 +16,21 @@ LINES = {
 }
 NUMBER = "a decimal number from {} to {} without leading zeros"
 BYTE, SIXTEEN = NUMBER.format(0, 255), NUMBER.format(0, 65535)
+MASK = NUMBER.format(0, 4294967295)
 SIGNED, LONG = NUMBER.format(-(2**31), 2**31 - 1), f"from 0 to {2**64 - 1} without leading zeros"
 WORDS = {
     "op": "summary, convict or report",
     "engine": BYTE,
     "model": BYTE,
     "spec": SIXTEEN,
-    "used": SIXTEEN,
+    "used": MASK,
     "inputs": "64 lowercase hex digits",
     "time": f"a decimal number {LONG}",
     "lat": SIGNED,
     "lon": SIGNED,
     "height": f"the word none, or {SIGNED}",
     "message": "14 or 28 lowercase hex digits",
-    "tags": f"1 to 16 decimal numbers {LONG}, with commas between",
+    "tags": f"1 to 24 decimal numbers {LONG}, with commas between",
     "models": "the word none, or 1 to 4 decimal numbers from 0 to 255 without leading zeros, with commas between",
     "cov": "96 lowercase hex digits, 16 for each of six numbers",
 }

@@ -31,7 +31,7 @@ static void report(int room, uint32_t engine, int transmission, uint8_t model) {
     r[TL_RECORD_MESSAGE_LENGTH_AT] = TL_SHORT_MESSAGE;
     r[TL_RECORD_MESSAGE_AT] = (uint8_t)transmission;
     r[TL_RECORD_TAG_COUNT_AT] = 1;
-    put(r + TL_RECORD_USED_AT, 2, 1);
+    put(r + TL_RECORD_USED_AT, 4, 1);
     put(r + TL_RECORD_TAGS_AT, 8, 101);
     if (model != NO_MODEL) {
         r[TL_RECORD_MODEL_COUNT_AT] = 1;

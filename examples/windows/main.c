@@ -96,7 +96,7 @@ static void write_record(uint8_t r[TL_RECORD_SIZE], int transmission, int engine
     put(r + TL_RECORD_MESSAGE_AT, 4, 0xd06d3c8d);
     put(r + TL_RECORD_MESSAGE_AT + 4, 3, (uint64_t)transmission);
     r[TL_RECORD_TAG_COUNT_AT] = (uint8_t)by->tags;
-    put(r + TL_RECORD_USED_AT, 2, (1u << by->tags) - 1);
+    put(r + TL_RECORD_USED_AT, 4, (1u << by->tags) - 1);
     for (int i = 0; i < by->tags; i++) put(r + TL_RECORD_TAGS_AT + TL_TAG_SIZE * i, TL_TAG_SIZE, by->first_tag + (uint64_t)i);
     if (engine != LIAR) {
         r[TL_RECORD_MODEL_COUNT_AT] = 1;

@@ -14,7 +14,7 @@ SUMMARIES, RECORDS = 256, 96
 def record(transmission, model):
     r = struct.pack("<Qii", START + transmission * 2 * SECOND // 5, 481370000 + 1800 * transmission, 115820000)
     r += bytes(5) + bytes([7, transmission]) + bytes(13)
-    r += bytes([1]) + struct.pack("<H", 1) + struct.pack("<Q", 101) + bytes(15 * 8)
+    r += bytes([1]) + struct.pack("<I", 1) + struct.pack("<Q", 101) + bytes(23 * 8)
     r += bytes([1, model, 0, 0, 0]) + struct.pack("<H", 1) if model else bytes(7)
     return r + bytes(48)
 
@@ -37,7 +37,7 @@ class Room:
 
     def state(self):
         held = sorted(record(*k) + struct.pack("<I", sum(1 << e for e in v)) for k, v in self.records.items())
-        tables = b"".join(sorted(self.summaries)).ljust(SUMMARIES * 36, b"\0") + b"".join(held).ljust(RECORDS * 226, b"\0")
+        tables = b"".join(sorted(self.summaries)).ljust(SUMMARIES * 36, b"\0") + b"".join(held).ljust(RECORDS * 292, b"\0")
         register = struct.pack("<HH", len(self.summaries), len(held)) + tables
         return hashlib.blake2s(register).hexdigest(), sum(1 << e for e in self.convicted)
 

@@ -7,14 +7,14 @@ from typing import Iterable, Sequence
 
 from .agreement import Agreement, Outcome, agreement
 from .answers import Answer
-from .record import Record, read_record
+from .record import RECORD_SIZE, Record, read_record
 
-ITEM_SIZE = 297
+ITEM_SIZE = 363
 ANSWER_SIZE = 1_347
 MAX_ITEMS = 96
 PASSED = 1
 
-_ITEM = struct.Struct("<222s32s32sQBBB")
+_ITEM = struct.Struct(f"<{RECORD_SIZE}s32s32sQBBB")
 _REFUSAL = struct.Struct("<BBBBd")
 
 

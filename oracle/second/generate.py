@@ -12,7 +12,7 @@ from .agreement import Claim, agreement
 from .answers import TEXT_ROOM
 from .decision import ITEM_SIZE
 from .identity import Models, Summary
-from .record import Record, read_record, record_bytes
+from .record import MAX_TAGS, RECORD_SIZE, Record, read_record, record_bytes
 
 SECONDS = 1_000_000_000
 EDGES = (-2**31, -1_350_000_000, -900_000_000, -450_000_000, 0, 450_000_000, 900_000_000, 1_350_000_000, 2**31 - 1)
@@ -168,6 +168,8 @@ class World:
         self.rng = rng
         self.messages = [rng.randbytes(rng.choice((7, 14))) for _ in range(rng.choice((1, 1, 2, 3, 12)))]
         self.tags = sorted(rng.sample((0, 1, 2, 3, 255, 256, 2**63, 2**64 - 1), rng.randrange(2, 7)))
+        if rng.random() < 0.1:
+            self.tags = sorted({*self.tags, *range(1_000, 1_000 + MAX_TAGS - len(self.tags))})
         self.models = rng.sample(range(64), rng.randrange(1, 4))
         self.inputs = [rng.randbytes(32) for _ in range(2)]
         self.specs = [0, 1] if rng.random() < 0.5 else [rng.randrange(2**16)]
@@ -188,7 +190,7 @@ class World:
         return (self.time + self.rng.randrange(self.span) * SECONDS + step) % 2**64
 
     def record(self) -> bytes:
-        """222 bytes, almost always well-formed."""
+        """288 bytes, almost always well-formed."""
         rng = self.rng
         tags = tuple(sorted(rng.sample(self.tags, rng.randrange(1, len(self.tags) + 1))))
         reach = rng.choice((0, 300, 3_000, 10_000))
@@ -380,7 +382,7 @@ def item_list(rng: random.Random) -> list[bytes]:
         if ascending and (read := read_record(record)):
             # More tags, more standing: items that supersede are superseded in their turn.
             standing, flags = len(read.tags), (1, flags[1], 1 if rng.random() < 0.9 else flags[2])
-        items.append(struct.pack("<222s32s32sQ3B", record.ljust(222, b"\0"), rng.choice(world.inputs), identity, standing, *flags))
+        items.append(struct.pack(f"<{RECORD_SIZE}s32s32sQ3B", record.ljust(RECORD_SIZE, b"\0"), rng.choice(world.inputs), identity, standing, *flags))
     if items and rng.random() < 0.02:
         items[-1] = rng.choice((items[-1][:-1], items[-1] + b"\0", items[0], items[-1][:ITEM_SIZE // 2]))
     return items
@@ -405,9 +407,9 @@ def session_lines(rng: random.Random) -> list[bytes]:
 
 
 def report_lines(engine: int, raw: bytes) -> list[bytes]:
-    """A report of these 222 bytes, whose counts are not over their limits."""
-    time, lat, lon, has_height, height, length, message, count, used, *rest = struct.unpack("<QiiBiB14sBH16QB4BH48s", raw)
-    tags, (cited, *models), (spec, numbers) = rest[:count], rest[16:21], rest[21:]
+    """A report of these 288 bytes, whose counts are not over their limits."""
+    time, lat, lon, has_height, height, length, message, count, used, *rest = struct.unpack(f"<QiiBiB14sBI{MAX_TAGS}QB4BH48s", raw)
+    tags, (cited, *models), (spec, numbers) = rest[:count], rest[MAX_TAGS : MAX_TAGS + 5], rest[MAX_TAGS + 5 :]
     return lines_of(
         op="report", engine=engine, time=time, lat=lat, lon=lon, height=height if has_height else "none", message=message[:length].hex(),
         tags=",".join(map(str, tags)), used=used, models=",".join(map(str, models[:cited])) or "none", spec=spec,
@@ -433,7 +435,7 @@ def without_a_line(operation: bytes) -> Iterator[bytes]:
 
 
 ODD_VALUES = (
-    b"", b"0", b"00", b"+1", b"01", b"255", b"256", b"65535", b"65536", b"18446744073709551615", b"18446744073709551616", b"none",
+    b"", b"0", b"00", b"+1", b"01", b"255", b"256", b"65535", b"65536", b"4294967295", b"4294967296", b"18446744073709551615", b"18446744073709551616", b"none",
     b"None", b"1,", b",1", b"1,2", b"1,2,3,4,5", b"0,1,63,64", b"1, 2", b" 1", b"1 ", b"1\r", b"\xc2\xb2", b"\xd9\xa1", b"1\0",
     b"1_0", b"a", b"AB", b"=", b"9" * 5000
 )

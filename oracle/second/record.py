@@ -7,20 +7,20 @@ from functools import cached_property, lru_cache
 
 from .agreement import Claim
 
-RECORD_SIZE = 222
-MAX_TAGS = 16
+RECORD_SIZE = 288
+MAX_TAGS = 24
 MAX_CITED = 4
 MAX_MODEL = 63
 MAX_ENGINE = 31
 MESSAGE_LENGTHS = (7, 14)
 
-_LAYOUT = struct.Struct("<QiiBiB14sBH16QB4BH48s")
+_LAYOUT = struct.Struct(f"<QiiBiB14sBI{MAX_TAGS}QB4BH48s")
 _COVARIANCE = struct.Struct("<6d")
 
 
 @dataclass(frozen=True)
 class Record:
-    """The fields of 222 well-formed bytes."""
+    """The fields of 288 well-formed bytes."""
 
     raw: bytes = field(repr=False)
     time: int
@@ -67,7 +67,7 @@ def record_bytes(
     *, time: int, lat: int, lon: int, height: int | None, message: bytes, used: int, tags: tuple[int, ...], models: tuple[int, ...],
     spec: int, covariance: bytes
 ) -> bytes:
-    """The 222 bytes with these fields, which need not keep the limits of a record."""
+    """The 288 bytes with these fields, which need not keep the limits of a record."""
     return _LAYOUT.pack(
         time, lat, lon, height is not None, height or 0, len(message), message, len(tags), used, *_filled(tags, MAX_TAGS),
         len(models), *_filled(models, MAX_CITED), spec, covariance
@@ -80,7 +80,7 @@ def read_record(raw: bytes) -> Record | None:
     if len(raw) != RECORD_SIZE:
         return None
     time, lat, lon, has_height, height, message_length, message, tag_count, used, *rest = _LAYOUT.unpack(raw)
-    tags, (model_count, *models), (spec, covariance) = rest[:16], rest[16:21], rest[21:]
+    tags, (model_count, *models), (spec, covariance) = rest[:MAX_TAGS], rest[MAX_TAGS : MAX_TAGS + 5], rest[MAX_TAGS + 5 :]
     if message_length not in MESSAGE_LENGTHS or not 1 <= tag_count <= MAX_TAGS or model_count > MAX_CITED:
         return None
     record = Record(

@@ -32,7 +32,7 @@ class Register:
 
     @property
     def raw(self) -> bytes:
-        """The 30,920 bytes."""
+        """The 37,256 bytes."""
         summaries = b"".join(sorted(summary.raw for summary in self.summaries))
         records = b"".join(sorted(record.raw + signers.to_bytes(4, "little") for record, signers in self.signers.items()))
         head = _HEAD.pack(self.convicted, len(self.summaries), len(self.signers))

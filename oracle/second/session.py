@@ -93,14 +93,14 @@ def covariance(value: str) -> bytes:
     return b"".join(digits[at:at + 8][::-1] for at in range(0, 48, 8))
 
 
-BYTE, HALF, WORD = unsigned(2**8 - 1), unsigned(2**16 - 1), unsigned(2**64 - 1)
+BYTE, HALF, WORD, LONG = (unsigned(2**bits - 1) for bits in (8, 16, 32, 64))
 
 OPERATIONS: Mapping[str, Mapping[str, Parser]] = {
     "summary": {"engine": BYTE, "model": BYTE, "spec": HALF, "inputs": hexadecimal(32)},
     "convict": {"engine": BYTE},
     "report": {
-        "engine": BYTE, "time": WORD, "lat": signed, "lon": signed, "height": signed_or_none, "message": hexadecimal(7, 14),
-        "tags": several(16, WORD), "used": HALF, "models": several_or_none(4, BYTE), "spec": HALF, "cov": covariance
+        "engine": BYTE, "time": LONG, "lat": signed, "lon": signed, "height": signed_or_none, "message": hexadecimal(7, 14),
+        "tags": several(24, LONG), "used": WORD, "models": several_or_none(4, BYTE), "spec": HALF, "cov": covariance
     },
 }
 
@@ -166,14 +166,14 @@ DUE_VALUES: Mapping[str, str] = {
     "engine": f"a decimal number from 0 to 255 {DECIMAL}",
     "model": f"a decimal number from 0 to 255 {DECIMAL}",
     "spec": f"a decimal number from 0 to 65535 {DECIMAL}",
-    "used": f"a decimal number from 0 to 65535 {DECIMAL}",
+    "used": f"a decimal number from 0 to 4294967295 {DECIMAL}",
     "inputs": "64 lowercase hex digits",
     "time": f"a decimal number from 0 to 18446744073709551615 {DECIMAL}",
     "lat": f"a decimal number from -2147483648 to 2147483647 {DECIMAL}",
     "lon": f"a decimal number from -2147483648 to 2147483647 {DECIMAL}",
     "height": f"the word none, or a decimal number from -2147483648 to 2147483647 {DECIMAL}",
     "message": "14 or 28 lowercase hex digits",
-    "tags": f"1 to 16 decimal numbers from 0 to 18446744073709551615 {DECIMAL}, with commas between",
+    "tags": f"1 to 24 decimal numbers from 0 to 18446744073709551615 {DECIMAL}, with commas between",
     "models": f"the word none, or 1 to 4 decimal numbers from 0 to 255 {DECIMAL}, with commas between",
     "cov": "96 lowercase hex digits, 16 for each of six numbers",
 }

@@ -51,7 +51,7 @@ class Fix:
 
     @property
     def raw(self) -> bytes:
-        """The 258 bytes."""
+        """The 324 bytes."""
         return _FIX.pack(self.record.raw, self.signers, self.inputs)
 
     def without_signer(self, engine: int) -> Fix:
@@ -69,7 +69,7 @@ class RefusedFix:
 
     @property
     def raw(self) -> bytes:
-        """The 298 bytes."""
+        """The 364 bytes."""
         return _REFUSED.pack(self.fix.raw, self.against, self.chi_square)
 
 
@@ -92,7 +92,7 @@ class Transmission:
 
     @property
     def raw(self) -> bytes:
-        """The 2,484 bytes."""
+        """The 3,078 bytes."""
         counts = _COUNTS.pack(len(self.standing), len(self.refused))
         standing = b"".join(fix.raw for fix in self.standing)
         refused = b"".join(fix.raw for fix in self.refused)
@@ -139,7 +139,7 @@ class Track:
 
     @property
     def raw(self) -> bytes:
-        """The 29,104 bytes."""
+        """The 33,856 bytes."""
         head = _HEAD.pack(self.convicted, len(self.summaries), len(self.transmissions), 0, self.contested)
         summaries = b"".join(summary.raw for summary in self.summaries)
         transmissions = b"".join(transmission.raw for transmission in self.transmissions)
@@ -304,7 +304,7 @@ def read_track(memory: bytes | bytearray) -> Track | None:
 
 
 def read_transmission(raw: bytes) -> Transmission | None:
-    """The transmission in 2,484 bytes, or none; bytes that are not used are not looked at."""
+    """The transmission in 3,078 bytes, or none; bytes that are not used are not looked at."""
     standing_count, refused_count = _COUNTS.unpack_from(raw)
     if not 1 <= standing_count <= MAX_STANDING or refused_count > MAX_REFUSED:
         return None
@@ -317,7 +317,7 @@ def read_transmission(raw: bytes) -> Transmission | None:
 
 
 def read_fix(raw: bytes) -> Fix | None:
-    """The fix in 258 bytes, or none where its record is malformed."""
+    """The fix in 324 bytes, or none where its record is malformed."""
     record_bytes, signers, inputs = _FIX.unpack(raw)
     record = read_record(record_bytes)
     return None if record is None else Fix(record, signers, inputs)

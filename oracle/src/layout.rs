@@ -1,8 +1,8 @@
 //! Where the parts of a record, an item, a held fix and a track begin, each from the one before it (docs/REFERENCE.md, 'Layouts').
 
-pub const MAX_TAGS: usize = 16;
+pub const MAX_TAGS: usize = 24;
 /// Which tags were used: bit i stands for the i-th.
-pub type Mask = u16;
+pub type Mask = u32;
 
 pub const MESSAGE_LENGTH_AT: usize = 21;
 pub const TAG_COUNT_AT: usize = 36;

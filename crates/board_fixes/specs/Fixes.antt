@@ -1,4 +1,4 @@
--- The fixes of a board, from the summaries of a register (36 bytes each) and the slots of its records (a record of 222
+-- The fixes of a board, from the summaries of a register (36 bytes each) and the slots of its records (a record of 288
 -- bytes, and its signers).
 -- Source: docs/REFERENCE.md, 'Register and board', step 1.
 use Rattle.std.specs.Prelude.{ℕ, cond, List, [], ◌∷◌, map, take, drop}

@@ -1,5 +1,5 @@
 -- The numbers of a register's fixes are as wide as those of a record and its signers.
-use Rattle.std.proofs.Common.{ℕ, zero, suc, ◌-◌, ◌/◌, ◌^◌, ◌≤◌, ◌<◌, ◌≡◌, refl, sym, ap, subst, Bool, true, false, cond, ltb, List, [], ◌∷◌, ◌++◌, map, length, take, drop, arith, length-take, length-drop, ltb-true, ltb-false, nat_abs, ℤ, Option, Some, None, unwrap_or, eqb}
+use Rattle.std.proofs.Common.{◌*◌, ℕ, zero, suc, ◌-◌, ◌/◌, ◌^◌, ◌≤◌, ◌<◌, ◌≡◌, refl, sym, ap, subst, Bool, true, false, cond, ltb, List, [], ◌∷◌, ◌++◌, map, length, take, drop, arith, length-take, length-drop, ltb-true, ltb-false, nat_abs, ℤ, Option, Some, None, unwrap_or, eqb}
 use Rattle.std.proofs.Math.Nat.{one-le-pow, pow-suc}
 use Rattle.std.proofs.lemmas.Nat.{or_of_32}
 use Rattle.std.specs.List.{filter}
@@ -16,7 +16,7 @@ use Rattle.lists.proofs.Lists.{filter-in, map-from, sort-perm}
 use Rattle.lists.proofs.Orders.{perm-mem}
 use Rattle.lists.proofs.Bools.{by, or}
 use Rattle.tables.specs.Places.{places}
-use Rattle.record.specs.Layout.{record_size, lat_at, lon_at, height_flag_at, height_at, max_tags}
+use Rattle.record.specs.Layout.{record_size, lat_at, lon_at, height_flag_at, height_at, used_size}
 use Rattle.record.specs.Fields.{byte_at, used}
 use Rattle.signed_records.specs.Signed.{place_size}
 use Rattle.fixes.specs.Fix.{Fix}
@@ -161,7 +161,7 @@ fix-fits f h = record {
   latitude = signed-below (word_at 4 lat_at f.record_bytes);
   height = above (eqb (byte_at height_flag_at f.record_bytes) 1) (word_at 4 height_at f.record_bytes);
   time = h.time;
-  weight = let b = bits-few max_tags (used f.record_bytes) in omega arith;
+  weight = let b = bits-few (8 * used_size) (used f.record_bytes) in omega arith;
   signers = h.signers;
 }
   where

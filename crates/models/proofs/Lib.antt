@@ -6,3 +6,4 @@ pub mod Sets
 pub mod Refusing
 pub mod Cited
 pub mod Summarized
+mod Carried

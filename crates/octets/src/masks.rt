@@ -1,5 +1,4 @@
-//! Sets of small numbers as the bits of a mask: bit n stands for n. A mask of 16 bits is handled as
-//! one of 32 whose upper half is zero.
+//! Sets of small numbers as the bits of a mask: bit n stands for n.
 
 ghost use Rattle.std.specs.Prelude.{◌≡◌, ◌<◌};
 ghost use Rattle.octets.specs.Masks.{bit, with_bit, without_bit, bit_count};
@@ -33,8 +32,8 @@ pub fn without_u32(mask: u32, n: u32) -> u32
 }
 
 /// How many bits are set.
-pub fn count_u16(mask: u16) -> u32
-    ensures { result ≡ bit_count 16 mask }
+pub fn count_u32(mask: u32) -> u32
+    ensures { result ≡ bit_count 32 mask }
 {
-    u16::count_ones(mask)
+    u32::count_ones(mask)
 }

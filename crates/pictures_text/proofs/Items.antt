@@ -1,4 +1,4 @@
--- A case's items have 891 bytes and are not bad.
+-- A case's items are three items long and are not bad.
 use Rattle.std.proofs.Common.{◌≡◌, refl, sym, ap, ◌∙◌, subst, arith, ℕ, ◌+◌, ◌*◌, ◌≤◌, Bool, true, false, List, [], ◌++◌, length, take, drop, length-append, append_assoc, append-nil, ◌-◌}
 use Rattle.std.specs.Prelude.{not}
 use Rattle.std.specs.List.{list_any}
@@ -45,7 +45,7 @@ pub item-long : (m : Member) (n : ℕ) → length (item_of m n) ≡ item_size
 unfolding item_of
 item-long m n = length-append (bytes_of (said_of m)) (inputs ++ (identity n ++ stand)) ∙ ap (λ (k : ℕ). k + 75) (record-long m)
 
-pub items-long : (c : Case) → length (items_of c) ≡ 891
+pub items-long : (c : Case) → length (items_of c) ≡ 3 * item_size
 items-long c = simp length-append (omega (arith, item-long c.first 1, item-long c.second 2, item-long c.third 3))
 
 -- ---- what each field is
@@ -97,7 +97,7 @@ not_bad : (s : List ℕ) (i : ℕ) (m : Member) (n : ℕ) → Stands s i m n →
 unfolding bad_at
 not_bad s i m n w h e = rw (ap well_formed (record-here s i m n w) ∙ formed m h, e) refl
 
-all-good : (s : List ℕ) → length s ≡ 891 → bad_at s 0 ≡ false → bad_at s 1 ≡ false → bad_at s 2 ≡ false → is_bad s ≡ false
+all-good : (s : List ℕ) → length s ≡ 3 * item_size → bad_at s 0 ≡ false → bad_at s 1 ≡ false → bad_at s 2 ≡ false → is_bad s ≡ false
 unfolding is_bad count_from
 all-good s e a b d = rw (e, a, b, d) refl
 
@@ -108,10 +108,10 @@ none-bad c w =
     let x = item_of c.first 1 in
     let y = item_of c.second 2 in
     let z = item_of c.third 3 in
-    let behind : drop 297 s ≡ y ++ z = drop-front 297 x (y ++ z) (item-long c.first 1) in
+    let behind : drop item_size s ≡ y ++ z = drop-front item_size x (y ++ z) (item-long c.first 1) in
     let first : Stands s 0 c.first 1 = record { rest = y ++ z; here = refl } in
     let second : Stands s 1 c.second 2 = record { rest = z; here = behind } in
-    let third : Stands s 2 c.third 3 = record { rest = []; here = sym (drop-drop 297 297 s) ∙ ap (drop 297) behind ∙ drop-front 297 y z (item-long c.second 2) ∙ sym (append-nil z) } in
+    let third : Stands s 2 c.third 3 = record { rest = []; here = sym (drop-drop item_size item_size s) ∙ ap (drop item_size) behind ∙ drop-front item_size y z (item-long c.second 2) ∙ sym (append-nil z) } in
     let one = identity-here s 0 c.first 1 first in
     let two = identity-here s 1 c.second 2 second in
     let three = identity-here s 2 c.third 3 third in

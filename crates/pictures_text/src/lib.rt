@@ -97,8 +97,8 @@ fn tags_of(mask: u8) -> ArrayVec<u64, MAX_TAGS>
 }
 
 // The mask of the first n tags.
-fn first_tags(n: usize) -> u16
-    requires { n < 16 }
+fn first_tags(n: usize) -> u32
+    requires { n < 32 }
     ensures { result ≡ 2 ^ n - 1 }
 {
     (1 << n) - 1

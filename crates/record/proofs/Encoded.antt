@@ -60,7 +60,7 @@ height-length (Some z) = refl
 place-length : (time lat lon : ℕ) (h : List ℕ) → length h ≡ 5 → length (place_bytes time lat lon h) ≡ 21
 place-length time lat lon h e = simp (length-append, length-word-bytes) (omega arith)
 
-sighting-length : (message tags : List ℕ) (count used : ℕ) → length message ≡ 15 → length tags ≡ 16 → length (sighting_bytes message count used tags) ≡ 146
+sighting-length : (message tags : List ℕ) (count used : ℕ) → length message ≡ 15 → length tags ≡ max_tags → length (sighting_bytes message count used tags) ≡ 212
 sighting-length message tags count used e f = simp (length-append, length-word-bytes, length-words) (omega arith)
 
 cited-length : (models cov : List ℕ) (count spec : ℕ) → length models ≡ 4 → length cov ≡ 48 → length (cited_bytes count models spec cov) ≡ 55

@@ -5,3 +5,4 @@ pub mod Whole
 pub mod Values
 pub mod Encoded
 pub mod Written
+pub mod Carried

@@ -120,7 +120,7 @@ module _ (a b : List ℕ) (ba : Bytes a) (bb : Bytes b) (f : Formed a) (g : Form
       let p = byte-piece L.model_count_at (omega arith) k p in
       let p = zero-piece (L.tags_at + 8 * F.tag_count a) (8 * (L.max_tags - F.tag_count a)) L.model_count_at (omega arith) (omega arith) f.spare (rw (← n) at g.spare) p in
       let p = words-piece (F.tag_count a) 0 (omega arith) (s.tags ∙ ap (F.tags_from b 0) (sym n)) (rw zero-add p) in
-      let p = word_piece 2 L.used_at (omega arith) s.used p in
+      let p = word_piece L.used_size L.used_at (omega arith) s.used p in
       let p = byte-piece L.tag_count_at (omega arith) n p in
       let p = zero-piece (L.message_at + F.message_length a) (L.long_message - F.message_length a) L.tag_count_at (omega arith) (omega arith) f.room (rw (← m) at g.room) p in
       let p = piece L.message_at (F.message_length a) (s.message ∙ ap (λ (x : ℕ). take x (drop L.message_at b)) (sym m)) p in

@@ -114,7 +114,7 @@ module _ (v : Value) (fit : Fits v) where
   from_tags = words 8 v.tags ++ (words 8 (zeros (L.max_tags - length v.tags)) ++ (length v.models ∷ from_models))
 
   abbrev from_used : List ℕ
-  from_used = word_bytes 2 v.used ++ from_tags
+  from_used = word_bytes L.used_size v.used ++ from_tags
 
   abbrev from_message : List ℕ
   from_message = v.message ++ (zeros (L.long_message - length v.message) ++ (length v.tags ∷ from_used))
@@ -128,9 +128,9 @@ module _ (v : Value) (fit : Fits v) where
       rw (words-of-pad L.max_models v.models fit.model_numbers, flat_map-append (word_bytes 8) v.tags (zeros (L.max_tags - length v.tags)))
       (place-parts (word_bytes 8 v.time) (word_bytes 4 (unsigned_of v.latitude)) (word_bytes 4 (unsigned_of v.longitude)) (height_bytes v.height) _
       ∙ ap (λ (l : List ℕ). word_bytes 8 v.time ++ (word_bytes 4 (unsigned_of v.latitude) ++ (word_bytes 4 (unsigned_of v.longitude) ++ (height_bytes v.height ++ l))))
-      (sighting-parts (length v.message) (length v.tags) v.message (zeros (L.long_message - length v.message)) (word_bytes 2 v.used) (words 8 v.tags) (words 8 (zeros (L.max_tags - length v.tags)))
+      (sighting-parts (length v.message) (length v.tags) v.message (zeros (L.long_message - length v.message)) (word_bytes L.used_size v.used) (words 8 v.tags) (words 8 (zeros (L.max_tags - length v.tags)))
       (length v.models ∷ ((v.models ++ zeros (L.max_models - length v.models)) ++ from_spec))
-      ∙ ap (λ (l : List ℕ). length v.message ∷ (v.message ++ (zeros (L.long_message - length v.message) ++ (length v.tags ∷ (word_bytes 2 v.used ++ (words 8 v.tags ++ (words 8 (zeros (L.max_tags - length v.tags)) ++ (length v.models ∷ l))))))))
+      ∙ ap (λ (l : List ℕ). length v.message ∷ (v.message ++ (zeros (L.long_message - length v.message) ++ (length v.tags ∷ (word_bytes L.used_size v.used ++ (words 8 v.tags ++ (words 8 (zeros (L.max_tags - length v.tags)) ++ (length v.models ∷ l))))))))
       (append_assoc v.models (zeros (L.max_models - length v.models)) from_spec)))
 
   at_latitude : drop L.lat_at r ≡ word_bytes 4 (unsigned_of v.latitude) ++ (word_bytes 4 (unsigned_of v.longitude) ++ from_height)
@@ -158,7 +158,7 @@ module _ (v : Value) (fit : Fits v) where
   at_used = behind r (length v.tags ∷ []) from_used L.tag_count_at at_tag_count
 
   at_tags : drop L.tags_at r ≡ from_tags
-  at_tags = behind-number r _ L.used_at 2 v.used at_used
+  at_tags = behind-number r _ L.used_at L.used_size v.used at_used
 
   at_model_count : drop L.model_count_at r ≡ length v.models ∷ from_models
   at_model_count =
@@ -226,7 +226,7 @@ module _ (v : Value) (fit : Fits v) where
         height-by v.height _ at_height fit.height,
         message_is,
         tags_is,
-        number r _ L.used_at 2 v.used at_used fit.used,
+        number r _ L.used_at L.used_size v.used at_used fit.used,
         models_is,
         number r _ L.spec_at 2 v.spec at_spec fit.spec,
         covariance_is,

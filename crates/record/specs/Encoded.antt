@@ -1,8 +1,8 @@
--- A record's value as 222 bytes (docs/REFERENCE.md, 'Record').
+-- A record's value as 288 bytes (docs/REFERENCE.md, 'Record').
 use Rattle.std.specs.Prelude.{ℕ, ◌-◌, List, ◌∷◌, ◌++◌, length, replicate, flat_map, Option, Some, None, ℤ, if◌then◌else◌}
 use Rattle.std.specs.Int.{w32, cast_unsigned}
 use Rattle.octets.specs.Words.{word_bytes}
-use Rattle.record.specs.Layout.{long_message, max_tags, max_models}
+use Rattle.record.specs.Layout.{long_message, used_size, max_tags, max_models}
 use Rattle.record.specs.Formed.{well_formed}
 use Rattle.record.specs.Value.{Value}
 
@@ -31,9 +31,9 @@ message_bytes m = length m ∷ pad long_message m
 abbrev pub place_bytes : ℕ → ℕ → ℕ → List ℕ → List ℕ
 place_bytes time lat lon height = word_bytes 8 time ++ (word_bytes 4 lat ++ (word_bytes 4 lon ++ height))
 
--- the message and the tags: the next 146
+-- the message and the tags: the next 212
 abbrev pub sighting_bytes : List ℕ → ℕ → ℕ → List ℕ → List ℕ
-sighting_bytes message count used tags = message ++ (count ∷ (word_bytes 2 used ++ words 8 tags))
+sighting_bytes message count used tags = message ++ (count ∷ (word_bytes used_size used ++ words 8 tags))
 
 -- the models, spec and covariance: the last 55
 abbrev pub cited_bytes : ℕ → List ℕ → ℕ → List ℕ → List ℕ

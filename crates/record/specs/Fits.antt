@@ -1,9 +1,9 @@
 -- Which values a record has room for: what each field's type allows.
 -- Source: docs/REFERENCE.md, 'Record'.
-use Rattle.std.specs.Prelude.{◌≡◌, ◌^◌, ◌<◌, ◌≤◌, length, IfSome, All, FitsSigned}
+use Rattle.std.specs.Prelude.{◌≡◌, ◌*◌, ◌^◌, ◌<◌, ◌≤◌, length, IfSome, All, FitsSigned}
 use Rattle.std.specs.Int.{w32}
 use Rattle.octets.specs.Bytes.{Bytes}
-use Rattle.record.specs.Layout.{max_tags, max_models, long_message}
+use Rattle.record.specs.Layout.{used_size, max_tags, max_models, long_message}
 use Rattle.record.specs.Value.{Value}
 
 pub record Fits (v : Value) : Type 0 where
@@ -14,7 +14,7 @@ pub record Fits (v : Value) : Type 0 where
   pub message : length v.message ≤ long_message
   pub tags : length v.tags ≤ max_tags
   pub tag_numbers : All (λ t. t < 2 ^ 64) v.tags
-  pub used : v.used < 2 ^ 16
+  pub used : v.used < 2 ^ (8 * used_size)
   pub models : length v.models ≤ max_models
   pub model_numbers : Bytes v.models
   pub spec : v.spec < 2 ^ 16

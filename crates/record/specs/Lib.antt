@@ -7,4 +7,6 @@ pub mod Encoded
 pub mod Fits
 pub mod Worked
 pub mod Added
+pub mod Before
+pub mod Carried
 pub mod Claims

@@ -1,5 +1,6 @@
 //! What is claimed of records. Each function's contract is the claim; there is nothing to run.
 
+ghost use Rattle.record.specs.Carried.{CarriedOver};
 ghost use Rattle.record.specs.Claims.{RecordIsItsValue, BytesSayTheValue, RelationsAreOfValues, SubsetIsAnOrder};
 
 /// A record's value determines its bytes.
@@ -20,4 +21,9 @@ pub fn relations_are_of_values()
 /// To be a subset is a strict order.
 pub fn subset_is_an_order()
     ensures { SubsetIsAnOrder }
+{}
+
+/// A record of the layout before, once it is widened, is a record; it says the same, and stands before or behind another as it did.
+pub fn carried_over()
+    ensures { CarriedOver }
 {}

@@ -3,7 +3,7 @@
 ghost use Rattle.std.specs.Prelude.{◌≡◌, ◌≤◌, ◌∷◌, ◌++◌, length};
 ghost use Rattle.octets.specs.Words.{word_bytes};
 ghost use Rattle.text.specs.Texts.{append};
-ghost use Rattle.record.specs.Layout.{record_size, max_tags, max_models, long_message};
+ghost use Rattle.record.specs.Layout.{record_size, used_size, max_tags, max_models, long_message};
 ghost use Rattle.record.specs.Encoded.{unsigned_of, pad, words, height_bytes, message_bytes, bytes_of, record_of};
 
 use crate::formed;
@@ -26,7 +26,7 @@ pub struct Fields {
     pub message: ArrayVec<u8, MESSAGE_ROOM>,
     pub tags: ArrayVec<u64, MAX_TAGS>,
     /// Which tags were used: bit i stands for the i-th.
-    pub used: u16,
+    pub used: u32,
     pub models: ArrayVec<u8, MAX_MODELS>,
     pub spec: u16,
     /// The bits of xx, xy, xz, yy, yz, zz.
@@ -82,8 +82,8 @@ fn push_words(out: &mut Text, values: &[u64])
 }
 
 // How many tags there are, which of them were used, and the tags with zeros behind them.
-fn push_tags(out: &mut Text, tags: &ArrayVec<u64, MAX_TAGS>, used: u16)
-    ensures text { out.new ≡ append out.old (length tags.now.items ∷ (word_bytes 2 used ++ words 8 (pad max_tags tags.now.items))) }
+fn push_tags(out: &mut Text, tags: &ArrayVec<u64, MAX_TAGS>, used: u32)
+    ensures text { out.new ≡ append out.old (length tags.now.items ∷ (word_bytes used_size used ++ words 8 (pad max_tags tags.now.items))) }
     ensures fits { length tags.now.items ≤ max_tags }
 {
     let tags = tags.as_slice();

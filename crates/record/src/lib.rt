@@ -1,4 +1,4 @@
-//! A record: one engine's fix of one transmission, in 222 lent bytes. A `Record` is made by `parse` alone, or where a caller shows
+//! A record: one engine's fix of one transmission, in 288 lent bytes. A `Record` is made by `parse` alone, or where a caller shows
 //! that the bytes are a record; so whoever has one asks for nothing more.
 #![tactic(auto)]
 
@@ -35,7 +35,9 @@ static BLANK: [u8; layout::RECORD_SIZE] = [
     0, 0, 0, 0, 0, 0, 0, 0, 0, 0, 0, 0, 0, 0, 0, 0, 0, 0, 0, 0, 0, 0, 0, 0, 0, 0, 0, 0, 0, 0, 0, 0,
     0, 0, 0, 0, 0, 0, 0, 0, 0, 0, 0, 0, 0, 0, 0, 0, 0, 0, 0, 0, 0, 0, 0, 0, 0, 0, 0, 0, 0, 0, 0, 0,
     0, 0, 0, 0, 0, 0, 0, 0, 0, 0, 0, 0, 0, 0, 0, 0, 0, 0, 0, 0, 0, 0, 0, 0, 0, 0, 0, 0, 0, 0, 0, 0,
-    0, 0, 0, 0, 0, 0, 0, 0, 0, 0, 0, 0, 0, 0, 0, 0, 0, 0, 0, 0, 0, 0, 0, 0, 0, 0, 0, 0, 0, 0,
+    0, 0, 0, 0, 0, 0, 0, 0, 0, 0, 0, 0, 0, 0, 0, 0, 0, 0, 0, 0, 0, 0, 0, 0, 0, 0, 0, 0, 0, 0, 0, 0,
+    0, 0, 0, 0, 0, 0, 0, 0, 0, 0, 0, 0, 0, 0, 0, 0, 0, 0, 0, 0, 0, 0, 0, 0, 0, 0, 0, 0, 0, 0, 0, 0,
+    0, 0, 0, 0, 0, 0, 0, 0, 0, 0, 0, 0, 0, 0, 0, 0, 0, 0, 0, 0, 0, 0, 0, 0, 0, 0, 0, 0, 0, 0, 0, 0,
 ];
 
 impl Default for Record<'_> {
@@ -136,17 +138,17 @@ impl<'a> Record<'a> {
     }
 
     /// Which tags were used: bit i stands for the i-th.
-    pub fn used(self) -> u16
+    pub fn used(self) -> u32
         ensures { result ≡ F.used self.entry.bytes.now }
     {
-        octets::words::u16_at(self.bytes, layout::USED_AT)
+        octets::words::u32_at(self.bytes, layout::USED_AT)
     }
 
     /// The number of used tags.
     pub fn weight(self) -> u32
         ensures { result ≡ F.weight self.entry.bytes.now }
     {
-        octets::masks::count_u16(self.used())
+        octets::masks::count_u32(self.used())
     }
 
     /// The models cited, in their order.

@@ -1,5 +1,5 @@
 //! The register of one aircraft: every report and summary that was made, and the engines convicted, in
-//! 30,920 lent bytes. What it holds does not depend on the order in which calls came.
+//! 37,256 lent bytes. What it holds does not depend on the order in which calls came.
 //!
 //! A `Register` is bytes that are one; its operations take any numbers and any slices, and say why they take a call or not.
 //! report, summary and conviction do the same to any bytes (docs/REFERENCE.md, 'Operations'); an error changes no byte.

@@ -94,7 +94,7 @@ report_below s n h =
     step_below due.Height Val.read_height o.1 n _ (omega arith) λ z h₅.
     step_below due.Message Val.read_message z.1 n _ (omega arith) λ m h₆.
     step_below due.Tags Val.read_tags m.1 n _ (omega arith) λ g h₇.
-    step_below due.Used (Val.read_number 0xffff) g.1 n _ (omega arith) λ u h₈.
+    step_below due.Used (Val.read_number 0xffff_ffff) g.1 n _ (omega arith) λ u h₈.
     step_below due.Models Val.read_models u.1 n _ (omega arith) λ l h₉.
     step_below due.Spec (Val.read_number 0xffff) l.1 n _ (omega arith) λ p h₁₀.
     step_below due.Cov Val.read_covariance p.1 n _ (omega arith) λ v h₁₁. h₁₁

@@ -69,7 +69,7 @@ report-passes s =
     more-passes due.Height Val.read_height (λ t. refl) o.1 (due.Message ∷ due.Tags ∷ due.Used ∷ due.Models ∷ due.Spec ∷ due.Cov ∷ []) _ λ h.
     more-passes due.Message Val.read_message (λ t. refl) h.1 (due.Tags ∷ due.Used ∷ due.Models ∷ due.Spec ∷ due.Cov ∷ []) _ λ m.
     more-passes due.Tags Val.read_tags (λ t. refl) m.1 (due.Used ∷ due.Models ∷ due.Spec ∷ due.Cov ∷ []) _ λ g.
-    more-passes due.Used (Val.read_number Val.u16) (λ t. refl) g.1 (due.Models ∷ due.Spec ∷ due.Cov ∷ []) _ λ u.
+    more-passes due.Used (Val.read_number Val.u32) (λ t. refl) g.1 (due.Models ∷ due.Spec ∷ due.Cov ∷ []) _ λ u.
     more-passes due.Models Val.read_models (λ t. refl) u.1 (due.Spec ∷ due.Cov ∷ []) _ λ l.
     more-passes due.Spec (Val.read_number Val.u16) (λ t. refl) l.1 (due.Cov ∷ []) _ λ p.
     more-passes due.Cov Val.read_covariance (λ t. refl) p.1 [] _ λ v. none-passes v.1

@@ -10,7 +10,7 @@ use Rattle.session_lines.specs.declared.lines.Due.{Due}
 use Rattle.session_lines.specs.declared.lines.Due.TheVariants as due
 use Rattle.session_lines.specs.declared.lines.Kind.{Kind}
 use Rattle.session_lines.specs.declared.lines.Kind.TheVariants as kind
-use Rattle.session_lines.specs.Numbers.{u8, u16, u64, read_number, read_signed, read_height, read_message, read_tags, read_models, read_hex, read_covariance}
+use Rattle.session_lines.specs.Numbers.{u8, u16, u32, u64, read_number, read_signed, read_height, read_message, read_tags, read_models, read_hex, read_covariance}
 use Rattle.session_lines.specs.Lines.{At, Reading, ◌>>=◌, bad_line, text, value}
 use Rattle.session_lines.specs.Operations.{kind_of, operands_at, operation_at}
 use Rattle.session_lines.specs.Session.{at_start, session_at, session_of, bad_of}
@@ -69,7 +69,7 @@ is_value due.Lon t = is_some (read_signed t)
 is_value due.Height t = is_some (read_height t)
 is_value due.Message t = is_some (read_message t)
 is_value due.Tags t = is_some (read_tags t)
-is_value due.Used t = is_some (read_number u16 t)
+is_value due.Used t = is_some (read_number u32 t)
 is_value due.Models t = is_some (read_models t)
 is_value due.Cov t = is_some (read_covariance t)
 

@@ -28,6 +28,9 @@ u8 = 0xff
 abbrev pub u16 : ℕ
 u16 = 0xffff
 
+abbrev pub u32 : ℕ
+u32 = 0xffff_ffff
+
 abbrev pub u64 : ℕ
 u64 = 0xffff_ffff_ffff_ffff
 

@@ -37,7 +37,7 @@ report_at s = do
   height ← value due.Height Val.read_height lon.1
   message ← value due.Message Val.read_message height.1
   tags ← value due.Tags Val.read_tags message.1
-  used ← value due.Used (Val.read_number Val.u16) tags.1
+  used ← value due.Used (Val.read_number Val.u32) tags.1
   models ← value due.Models Val.read_models used.1
   spec ← value due.Spec (Val.read_number Val.u16) models.1
   cov ← value due.Cov Val.read_covariance spec.1

@@ -41,7 +41,8 @@ impl Due {
         match self {
             Due::Op => b"summary, convict or report",
             Due::Engine | Due::Model => b"a decimal number from 0 to 255 without leading zeros",
-            Due::Spec | Due::Used => b"a decimal number from 0 to 65535 without leading zeros",
+            Due::Spec => b"a decimal number from 0 to 65535 without leading zeros",
+            Due::Used => b"a decimal number from 0 to 4294967295 without leading zeros",
             Due::Inputs => b"64 lowercase hex digits",
             Due::Time => b"a decimal number from 0 to 18446744073709551615 without leading zeros",
             Due::Lat | Due::Lon =>
@@ -50,7 +51,7 @@ impl Due {
                 b"the word none, or a decimal number from -2147483648 to 2147483647 without leading zeros",
             Due::Message => b"14 or 28 lowercase hex digits",
             Due::Tags =>
-                b"1 to 16 decimal numbers from 0 to 18446744073709551615 without leading zeros, with commas between",
+                b"1 to 24 decimal numbers from 0 to 18446744073709551615 without leading zeros, with commas between",
             Due::Models =>
                 b"the word none, or 1 to 4 decimal numbers from 0 to 255 without leading zeros, with commas between",
             Due::Cov => b"96 lowercase hex digits, 16 for each of six numbers",

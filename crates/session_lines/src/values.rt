@@ -37,6 +37,14 @@ impl Value for u16 {
     }
 }
 
+impl Value for u32 {
+    ghost reading = { Val.read_number Val.u32 };
+
+    fn read(text: &[u8]) -> Option<u32> {
+        Some(numbers::number(text, 0xffff_ffff)? as u32)
+    }
+}
+
 impl Value for u64 {
     ghost reading = { Val.read_number Val.u64 };
 

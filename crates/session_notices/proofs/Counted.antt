@@ -59,7 +59,7 @@ report-counts n s h =
     step (Counts n) due.Height Val.read_height lon.1 _ λ height h₅.
     step (Counts n) due.Message Val.read_message height.1 _ λ message h₆.
     step (Counts n) due.Tags Val.read_tags message.1 _ λ tags h₇.
-    step (Counts n) due.Used (Val.read_number 0xffff) tags.1 _ λ used h₈.
+    step (Counts n) due.Used (Val.read_number 0xffff_ffff) tags.1 _ λ used h₈.
     step (Counts n) due.Models Val.read_models used.1 _ λ models h₉.
     step (Counts n) due.Spec (Val.read_number 0xffff) models.1 _ λ spec h₁₀.
     step (Counts n) due.Cov Val.read_covariance spec.1 _ λ cov h₁₁. omega arith

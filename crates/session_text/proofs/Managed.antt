@@ -45,7 +45,7 @@ report-managed s =
     behind (value due.Height Val.read_height lon.1) _ λ height.
     behind (value due.Message Val.read_message height.1) _ λ message.
     behind (value due.Tags Val.read_tags message.1) _ λ tags.
-    behind (value due.Used (Val.read_number Val.u16) tags.1) _ λ used.
+    behind (value due.Used (Val.read_number Val.u32) tags.1) _ λ used.
     behind (value due.Models Val.read_models used.1) _ λ models.
     behind (value due.Spec (Val.read_number Val.u16) models.1) _ λ spec.
     behind (value due.Cov Val.read_covariance spec.1) _ λ cov. refl

@@ -5,7 +5,7 @@
 
 use arithmetic::standing::ChiSquare;
 use decision::{Decision, Items, Refusal};
-use decision_items::layout::MAX_ITEMS;
+use decision_items::layout::{INPUTS_AT, ITEM_SIZE, MAX_ITEMS};
 use decision_superset::{Comparison, SupersetVerdict};
 use std::io;
 
@@ -113,13 +113,11 @@ fn show_comparison(rt: &impl Print, comparison: Comparison) -> io::Result<()> {
 // The bytes of a list of items, and of the records of its first two.
 fn run(rt: &impl Print, s: &[u8]) -> io::Result<()> {
     show_decisions(rt, s)?;
-    if s.len() < 519 {
-        return show_comparison(rt, decision_superset::superset_verdict(s, s));
-    }
-    show_comparison(
-        rt,
-        decision_superset::superset_verdict(&s[0..222], &s[297..519]),
-    )
+    let verdict = match (s.get(..INPUTS_AT), s.get(ITEM_SIZE..ITEM_SIZE + INPUTS_AT)) {
+        (Some(first), Some(second)) => decision_superset::superset_verdict(first, second),
+        _ => decision_superset::superset_verdict(s, s),
+    };
+    show_comparison(rt, verdict)
 }
 
 // Reads a list and runs it; false at the end of the input.

@@ -2,7 +2,7 @@
 //! output is that of the Rust (make_stdout.py).
 //!
 //! On standard input a list is the number of its calls, in two bytes, and the calls; numbers have their lowest byte first. A call is
-//! a byte for its kind and its fields: 0, a report: engine, a record of 222 bytes; 1, a summary: engine, model, spec in two
+//! a byte for its kind and its fields: 0, a report: engine, a record of 288 bytes; 1, a summary: engine, model, spec in two
 //! bytes, inputs of 32; 2, a conviction: engine; 3, a listing. Each list begins with a fresh track. A list that is cut short, or a
 //! call of another kind, ends the work.
 #![tactic(auto)]

@@ -9,7 +9,7 @@ abbrev pub major : ℕ
 major = 0
 
 abbrev pub minor : ℕ
-minor = 10
+minor = 11
 
 abbrev pub patch : ℕ
 patch = 0

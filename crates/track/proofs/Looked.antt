@@ -32,6 +32,11 @@ module _ (ps : List (List ℕ)) (r : List ℕ) where
   pub looked-in-vain : (x : Error) → counts ps r ≡ false → x ≡ refusal (why_uncited ps r) → Err x ≡ inputs_or_error ps r
   looked-in-vain x k q = rw (k, q) refl
 
+-- a record of an engine that is convicted
+pub convicted-is-4 : (m r : List ℕ) (e : ℕ) → well_formed m ≡ true → e < 32 → R.well_formed r ≡ true → bit (decode m).convicted e ≡ true → after 4 m ≡ on_memory (track_report e r) m
+unfolding on_memory
+convicted-is-4 m r e t h w b = rw (t, le-ltb max_engine e (omega arith), w, b) refl
+
 -- a record of an engine that is not convicted
 module _ (m r : List ℕ) (e : ℕ) (t : well_formed m ≡ true) (h : e < 32) (w : R.well_formed r ≡ true) (b : bit (decode m).convicted e ≡ false) where
   pub refused-by : (x : Error) → counts (decode m).summaries r ≡ false → x ≡ refusal (why_uncited (decode m).summaries r) → after (error_number x) m ≡ on_memory (track_report e r) m

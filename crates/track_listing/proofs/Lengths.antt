@@ -19,7 +19,7 @@ use Rattle.text.proofs.Shapes.{digits-one}
 use Rattle.text.proofs.Readback.{digits-width, hex-width}
 use Rattle.text.proofs.Exact.{digits-short}
 use Rattle.tables.proofs.Tables.{length-places}
-use Rattle.record.specs.Layout.{height_flag_at, height_at, max_tags}
+use Rattle.record.specs.Layout.{height_flag_at, height_at, used_size}
 use Rattle.record.specs.Fields.{time, latitude, longitude, byte_at, used, weight}
 use Rattle.track_transmission.specs.Layout.{fix_size, refused_size, max_standing, max_refused}
 use Rattle.track_transmission.specs.Held.{HeldTransmission}
@@ -85,7 +85,7 @@ module _ (r : List ℕ) where
   fix-width : (role : List ℕ) (s : ℕ) → length (fix_text role r s) ≤ 106 + length role
   unfolding fix_text ascii
   fix-width role s =
-      let b = bits-few max_tags (used r) in
+      let b = bits-few (8 * used_size) (used r) in
       let w = digits-short 19 1 (weight r) (omega arith) in
       let p = where-width in
       let q = height-width in

@@ -18,11 +18,11 @@ abbrev pub widest_header : List ℕ
 widest_header = ascii "transmission=8 ranked=5 dominated=0 refused=4\n"
 
 abbrev pub widest_ranked : List ℕ
-widest_ranked = ascii "role=ranked time=18446744073709551615 lat=-2147483648 lon=-2147483648 height=-2147484 weight=16 signers=ffffffff\n"
+widest_ranked = ascii "role=ranked time=18446744073709551615 lat=-2147483648 lon=-2147483648 height=-2147484 weight=24 signers=ffffffff\n"
 
 abbrev pub widest_refused : List ℕ
 widest_refused =
-    ascii "role=refused time=18446744073709551615 lat=-2147483648 lon=-2147483648 height=-2147484 weight=16 signers=ffffffff chi2=7ff8000000000000\n"
+    ascii "role=refused time=18446744073709551615 lat=-2147483648 lon=-2147483648 height=-2147484 weight=24 signers=ffffffff chi2=7ff8000000000000\n"
 
 -- ---- a listing has 12 to 9,271 bytes: its first line, and a header and a line for each fix that eight transmissions can hold
 

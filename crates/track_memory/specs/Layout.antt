@@ -1,5 +1,5 @@
 -- The layout of a track (docs/REFERENCE.md, 'Layouts'): the convicted engines, the counts of summaries and transmissions, a zero byte, and `contested`, which is
--- counted modulo 2^64; 256 places of summaries, ascending by engine and model, one for each pair; 8 transmissions of 2,484 bytes. Each part begins where the one
+-- counted modulo 2^64; 256 places of summaries, ascending by engine and model, one for each pair; 8 transmissions of 3,078 bytes. Each part begins where the one
 -- before it ends.
 use Rattle.std.specs.Prelude.{ℕ, ◌+◌, ◌*◌}
 use Rattle.models.specs.Summary.{summary_spec_at}

@@ -1,5 +1,5 @@
--- The layout of a transmission in a track (docs/REFERENCE.md, 'Layouts'): how many fixes stand (1 to 5), how many are refused (0 to 4), places for 5 fixes of 258
--- bytes (record, signers, the model inputs that it was checked under), places for 4 refused of 298 (a fix, the identity that is kept, the chi-square of the two).
+-- The layout of a transmission in a track (docs/REFERENCE.md, 'Layouts'): how many fixes stand (1 to 5), how many are refused (0 to 4), places for 5 fixes of 324
+-- bytes (record, signers, the model inputs that it was checked under), places for 4 refused of 364 (a fix, the identity that is kept, the chi-square of the two).
 -- Each part begins where the one before it ends.
 use Rattle.std.specs.Prelude.{ℕ, ◌+◌, ◌*◌}
 use Rattle.record.specs.Layout.{record_size}

@@ -1,4 +1,4 @@
-//! One transmission of a track, in 2,484 lent bytes: the fixes that stand, the best first, and the refused. It is read as a value and written
+//! One transmission of a track, in 3,078 lent bytes: the fixes that stand, the best first, and the refused. It is read as a value and written
 //! back; what is asked of all transmissions of a track is read where it lies.
 #![tactic(auto)]
 

@@ -11,7 +11,7 @@ use Rattle.track_merge.specs.Merged.{merged_number}
 use Rattle.track.specs.Answers.{reported_number}
 use Rattle.track.specs.Eligible.{inputs_or_error}
 use Rattle.track.specs.Track.{track_report}
-use Rattle.track.proofs.Looked.{eligible, not-eligible, refused-by, taken}
+use Rattle.track.proofs.Looked.{convicted-is-4, eligible, not-eligible, refused-by, taken}
 use Rattle.track.proofs.reports.report.Goals as goal
 use Rattle.track.proofs.reports.report.Goals.{After-inputs_or_error}
 
@@ -60,3 +60,12 @@ returns c =
     let k = eligible (decode m).summaries r _ t.looked c.in_ok-inputs.inputs c.in_ok-inputs.was in
     taken m r c.in-Some.engine t.track t.engine t.formed t.free (merged_number c.merge_record.result) c.merge_record.new.memory k.0 c.merge_record.ensures
     ∙ ap₂ (λ (n : ℕ) (s : List ℕ). on_memory (track_report n s) m) c.in-Some.ensures.same c.in-Some-parse.ensures.same
+
+pub returns-then-contains : goal.returns-then-contains
+returns-then-contains c =
+    let m : List ℕ = c.args.memory.now in
+    let r : List ℕ = c.in-Some-parse.r.bytes.now in
+    let k = parsed (well_formed m) (decode m) _ c.parse.ensures _ c.in_ok-track.was in
+    let small : c.in-Some.engine < 32 = rw c.in-Some.ensures.same (ltb-true c.args.engine 32 (sym c.in-Some.ensures.small)) in
+    let is : bit (decode m).convicted c.in-Some.engine ≡ true = ap (λ (x : ℕ). bit x c.in-Some.engine) (ap (λ (s : Track). s.convicted) k.1 ∙ sym c.convicted.ensures) ∙ sym c.contains.ensures ∙ c.if-contains.true in
+    convicted-is-4 m r c.in-Some.engine k.0 small c.in-Some-parse.r.formed is ∙ ap₂ (λ (n : ℕ) (s : List ℕ). on_memory (track_report n s) m) c.in-Some.ensures.same c.in-Some-parse.ensures.same

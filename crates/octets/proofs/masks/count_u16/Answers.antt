@@ -1,5 +1,0 @@
-use Rattle.octets.proofs.Lookup.{count_ones}
-use Rattle.octets.proofs.masks.count_u16.Goals as goal
-
-pub returns : goal.returns
-returns c = count_ones 16 c.args.mask c.ranges.mask.fits
