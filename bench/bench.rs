@@ -243,7 +243,7 @@ fn register(alike: bool) {
         black_box(unsafe { memcmp(a.as_ptr(), b.as_ptr(), a.len()) });
     };
     let mut new = held.clone();
-    new[221] ^= 1;
+    new[RECORD - 1] ^= 1;
     let (mut m, mut n) = (memory.clone(), memory.clone());
     let mut peers = || {
         black_box(peer::register::report(&mut n, 3, black_box(&held)));
@@ -343,7 +343,7 @@ fn map(what: &str, memory: &[u8]) {
         black_box(binding::map(black_box(memory), &mut a));
     };
     let mut drawn = || {
-        black_box(binding::board(black_box(memory), &mut board));
+        black_box(binding::board(MANAGER, black_box(memory), &mut board));
     };
     let mut theirs = || {
         black_box(peer::map::map(black_box(memory), &mut b));

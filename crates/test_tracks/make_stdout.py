@@ -86,7 +86,7 @@ def measured(bits):
 
 def line(role, fix, chi2=None):
     time, lat, lon, has_height, height = struct.unpack_from("<QiiBi", fix)
-    (used,) = struct.unpack_from("<H", fix, 37)
+    (used,) = struct.unpack_from("<I", fix, layouts.USED_AT)
     (signers,) = struct.unpack_from("<I", fix, layouts.RECORD)
     shown = metres(height) if has_height else "none"
     text = f"role={role} time={time} lat={lat} lon={lon} height={shown} weight={used.bit_count()} signers={signers:08x}"
@@ -102,7 +102,7 @@ def listing(state):
         refused = [block[REFUSED_AT + i * REFUSED :][:REFUSED] for i in range(block[1])]
         text += f"transmission={k + 1} ranked={len(fixes)} dominated=0 refused={len(refused)}\n"
         text += "".join(line("ranked", f) for f in fixes)
-        text += "".join(line("refused", r, struct.unpack_from("<Q", r, 290)[0]) for r in refused)
+        text += "".join(line("refused", r, struct.unpack_from("<Q", r, FIX + 32)[0]) for r in refused)
     return text
 
 

@@ -58,7 +58,7 @@ fn announce(rt: &impl Print, number: u64) -> io::Result<()> {
 }
 
 fn main(rt: HostRuntime) -> io::Result<()> {
-    for number in 1..153 {
+    for number in 1..155 {
         announce(&rt, number)?;
         rehearse(&rt, next_length(&rt)?)?;
     }
