@@ -50,10 +50,10 @@ extern "C" {
  * have the same minor number. A change of the patch number adds names and changes nothing that was there. */
 
 #define TL_VERSION_MAJOR 0
-#define TL_VERSION_MINOR 11
+#define TL_VERSION_MINOR 12
 #define TL_VERSION_PATCH 0
 #define TL_VERSION (TL_VERSION_MAJOR * 1000000 + TL_VERSION_MINOR * 1000 + TL_VERSION_PATCH)
-#define TL_VERSION_TEXT TL_VERSION_JOINED(TL_VERSION_MAJOR, TL_VERSION_MINOR, TL_VERSION_PATCH) /* "0.11.0" */
+#define TL_VERSION_TEXT TL_VERSION_JOINED(TL_VERSION_MAJOR, TL_VERSION_MINOR, TL_VERSION_PATCH) /* "0.12.0" */
 #define TL_VERSION_JOINED(major, minor, patch) TL_VERSION_QUOTED(major, minor, patch)
 #define TL_VERSION_QUOTED(major, minor, patch) #major "." #minor "." #patch
 
@@ -65,16 +65,16 @@ uint32_t tl_version(void);
 
 #define TL_OK 0
 #define TL_MALFORMED_REGISTER 1 /* the memory is not a well-formed register */
-#define TL_MALFORMED_TRACK 1    /* the memory is not a well-formed track */
+#define TL_MALFORMED_TRACK 1    /* the memory is not a well-formed track, or the shelf is none beside it */
 #define TL_ENGINE_OVER_31 2
 #define TL_MALFORMED_RECORD 3
 #define TL_ENGINE_CONVICTED 4
 #define TL_FULL 5               /* not held yet, and there is no place left */
-#define TL_MODEL_MISSING 6      /* a track has no summary of a model that the record cites */
 #define TL_MODEL_DISPUTED 7     /* a track's summaries of a cited model disagree, or are of another spec */
 #define TL_BAD_ITEMS 8          /* over 96 items, no whole number of items, a malformed item, or two of one identity */
 #define TL_BAD_SUMMARY 9        /* a model over 63, or inputs that are not of 32 bytes */
 #define TL_OUTPUT_TOO_SMALL 10  /* under TL_BOARD_SIZE bytes for a board or a preview, under TL_LISTING_SIZE for a listing */
+#define TL_SHELF_FULL 13        /* the fix has to wait, and TL_MAX_WAITING wait already */
 #define TL_MAP_TOO_SMALL 14     /* under TL_MAP_SIZE bytes for a map */
 #define TL_UNKNOWN_DESK 15      /* the desk is none of TL_CREW, TL_ANALYST and TL_MANAGER; all 32 bits count */
 #define TL_NO_RIGHT 16          /* the desk may not do this */
@@ -86,6 +86,7 @@ uint32_t tl_version(void);
 #define TL_CONTESTED 21 /* a smaller fix disagrees with it, and it is kept among the refused */
 #define TL_DUPLICATE 22 /* its identity was held in the one transmission that it is tied to, and gained the signer */
 #define TL_DROPPED 23   /* it is not kept */
+#define TL_WAITING 24   /* a track has no summary of a model that the record cites: it waits on the shelf, and the track is as it was */
 
 /* Outcomes of tl_agreement, and of nothing else. Answers above have the same numbers; tl_answer_name does not name these. */
 #define TL_INSIDE 0       /* the chi-square is at most the limit: the two agree */
@@ -98,16 +99,16 @@ uint32_t tl_version(void);
 static inline const char *tl_answer_name(uint32_t answer) {
     switch (answer) {
     case TL_OK: return "done";
-    case TL_MALFORMED_REGISTER: return "not a well-formed register or track";
+    case TL_MALFORMED_REGISTER: return "not a well-formed register, track or shelf";
     case TL_ENGINE_OVER_31: return "engine over 31";
     case TL_MALFORMED_RECORD: return "malformed record";
     case TL_ENGINE_CONVICTED: return "engine convicted";
     case TL_FULL: return "full";
-    case TL_MODEL_MISSING: return "model missing";
     case TL_MODEL_DISPUTED: return "model disputed or of another spec";
     case TL_BAD_ITEMS: return "bad items";
     case TL_BAD_SUMMARY: return "bad summary";
     case TL_OUTPUT_TOO_SMALL: return "output too small";
+    case TL_SHELF_FULL: return "shelf full";
     case TL_MAP_TOO_SMALL: return "output too small for a map";
     case TL_UNKNOWN_DESK: return "unknown desk";
     case TL_NO_RIGHT: return "desk lacks the right";
@@ -116,6 +117,7 @@ static inline const char *tl_answer_name(uint32_t answer) {
     case TL_CONTESTED: return "contested";
     case TL_DUPLICATE: return "duplicate";
     case TL_DROPPED: return "dropped";
+    case TL_WAITING: return "waiting";
     default: return "no answer of the library";
     }
 }
@@ -147,6 +149,7 @@ uint32_t tl_answer_text(uint32_t answer, uint8_t *out, size_t out_len);
 #define TL_MAX_TRANSMISSIONS 8 /* of a track, and of a board */
 #define TL_MAX_STANDING 5      /* fixes that stand in a transmission of a track */
 #define TL_MAX_REFUSED 4       /* refused fixes that a transmission of a track keeps */
+#define TL_MAX_WAITING 64      /* fixes that wait beside a track */
 
 /* ---- layouts
  *
@@ -231,6 +234,17 @@ uint32_t tl_answer_text(uint32_t answer, uint8_t *out, size_t out_len);
 #define TL_TRACK_SUMMARIES_AT (TL_TRACK_CONTESTED_AT + 8)
 #define TL_TRACK_TRANSMISSIONS_AT (TL_TRACK_SUMMARIES_AT + TL_MAX_SUMMARIES * TL_SUMMARY_SIZE)
 #define TL_TRACK_SIZE (TL_TRACK_TRANSMISSIONS_AT + TL_MAX_TRANSMISSIONS * TL_TRANSMISSION_SIZE) /* 33,856 */
+
+/* A fix that waits: the model that it waits for, the engine that reported it, and the record. */
+#define TL_WAITING_MODEL_AT 0                                         /* u8 */
+#define TL_WAITING_ENGINE_AT (TL_WAITING_MODEL_AT + 1)                /* u8 */
+#define TL_WAITING_RECORD_AT (TL_WAITING_ENGINE_AT + 1)
+#define TL_WAITING_SIZE (TL_WAITING_RECORD_AT + TL_RECORD_SIZE)       /* 290 */
+
+/* The shelf beside a track. A fresh one is all zeros. */
+#define TL_SHELF_COUNT_AT 0                                           /* u8, at most TL_MAX_WAITING */
+#define TL_SHELF_PLACES_AT (TL_SHELF_COUNT_AT + 1)
+#define TL_SHELF_SIZE (TL_SHELF_PLACES_AT + TL_MAX_WAITING * TL_WAITING_SIZE) /* 18,561 */
 
 /* An item of a decision. It is malformed exactly where its record is; so an item of zeros is malformed. */
 #define TL_ITEM_RECORD_AT 0
@@ -353,22 +367,29 @@ uint32_t tl_register_columns(const uint8_t *in, size_t in_len, uint8_t *out, siz
 uint32_t tl_register_uncolumns(const uint8_t *in, size_t in_len, uint8_t *out, size_t out_len);
 
 /* A track is what the merge of sky-commons/tally holds of one aircraft, decided report by report: it depends on the order of the
- * calls, as a register does not. */
+ * calls, as a register does not. Beside it lies its shelf: the fixes that came before a summary of each model that they cite. A shelf
+ * is one of a track: where an engine that reported a fix on it is convicted there, or the model that a fix waits for has a summary
+ * there, both are refused as TL_MALFORMED_TRACK. */
 
-/* Reports a record for an engine into a track. Returns TL_CHANGED, TL_CONTESTED, TL_DUPLICATE or TL_DROPPED, or the first that
- * holds of TL_MALFORMED_TRACK, TL_ENGINE_OVER_31, TL_MALFORMED_RECORD, TL_ENGINE_CONVICTED, TL_MODEL_MISSING, TL_MODEL_DISPUTED. */
-uint32_t tl_track_report(uint8_t *memory, size_t memory_len, uint32_t engine, const uint8_t *record, size_t record_len);
+/* Reports a record for an engine into a track. Where a model that it cites has no summary, the fix goes to the end of the shelf and
+ * waits for the first such model, in its order. Returns TL_CHANGED, TL_CONTESTED, TL_DUPLICATE, TL_DROPPED or TL_WAITING, or the
+ * first that holds of TL_MALFORMED_TRACK, TL_ENGINE_OVER_31, TL_MALFORMED_RECORD, TL_ENGINE_CONVICTED, TL_SHELF_FULL,
+ * TL_MODEL_DISPUTED. */
+uint32_t tl_track_report(uint8_t *memory, size_t memory_len, uint8_t *shelf, size_t shelf_len, uint32_t engine, const uint8_t *record,
+                         size_t record_len);
 
 /* Puts in what an engine says of a model, in the place of what it said before. Where the model is disputed now and was not, the
  * fixes whose models no longer say what they were checked under are removed; if any is, every transmission is decided again.
+ * Then the fixes that waited for the model leave the shelf and are tried, in its order, as if they were reported now: each is merged,
+ * or waits at the shelf's end for the next model that is missing, or is gone where TL_MODEL_DISPUTED would be returned.
  * Returns TL_OK, or the first that holds of TL_MALFORMED_TRACK, TL_ENGINE_OVER_31, TL_BAD_SUMMARY, TL_ENGINE_CONVICTED, TL_FULL. */
-uint32_t tl_track_summary(uint8_t *memory, size_t memory_len, uint32_t engine, uint32_t model, uint16_t spec, const uint8_t *inputs,
-                          size_t inputs_len);
+uint32_t tl_track_summary(uint8_t *memory, size_t memory_len, uint8_t *shelf, size_t shelf_len, uint32_t engine, uint32_t model,
+                          uint16_t spec, const uint8_t *inputs, size_t inputs_len);
 
 /* Convicts an engine: its summaries and signatures are removed, so are the fixes whose models no longer say what they were checked
- * under, and every transmission is decided again. Returns TL_OK, also for an engine that is convicted already, or the first that
- * holds of TL_MALFORMED_TRACK, TL_ENGINE_OVER_31. */
-uint32_t tl_track_conviction(uint8_t *memory, size_t memory_len, uint32_t engine);
+ * under, every transmission is decided again, and its fixes that wait are thrown out. Returns TL_OK, also for an engine that is
+ * convicted already, or the first that holds of TL_MALFORMED_TRACK, TL_ENGINE_OVER_31. */
+uint32_t tl_track_conviction(uint8_t *memory, size_t memory_len, uint8_t *shelf, size_t shelf_len, uint32_t engine);
 
 /* Writes the listing of a track to the start of out and returns the length, which is greater than both numbers below; or the
  * first that holds of TL_MALFORMED_TRACK, TL_OUTPUT_TOO_SMALL. The text has no zero byte at its end. Bytes past the length, and

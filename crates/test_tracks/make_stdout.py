@@ -1,11 +1,13 @@
 #!/usr/bin/env python3
-"""Writes the files stdin and stdout beside this one: lists of calls on a track, and what the Rust answers and holds after each.
+"""Writes the files stdin and stdout beside this one: lists of calls on a track and its shelf, and what is answered and held after each.
 
     oracle/build && crates/test_tracks/make_stdout.py [FILE]
 
-FILE has lists in the form that src/main.rt reads. Without one the lists are few: three nested fixes S, M and L in two orders,
-and the same with a call more. The answers and the tracks come from target/oracle/oracle-program, which is the Rust (oracle/README.md); they are hashed by
-hashlib, and a listing is written here from the Rust's track. Nothing of what the program itself prints goes into them."""
+FILE has lists in the form that src/main.rt reads. Without one the lists of tracks are few: three nested fixes S, M and L in two
+orders, and the same with a call more. Behind them come the lists of shelf_lists.py, in which fixes wait. The answers and the tracks
+come from target/oracle/oracle-program, which is the Rust (oracle/README.md); which fix waits, where and for how long is written
+here, from docs/REFERENCE.md, and the Rust is only asked to take a fix none of whose models is missing. Both are hashed by hashlib,
+and a listing is written here from the Rust's track. Nothing of what the program itself prints goes into them."""
 import fractions
 import hashlib
 import pathlib
@@ -16,6 +18,8 @@ import sys
 HERE = pathlib.Path(__file__).resolve().parent
 sys.path.insert(0, str(HERE.parent.parent / "oracle"))
 import layouts  # noqa: E402
+import shelf_lists  # noqa: E402
+from second.record import read_record  # noqa: E402
 
 ORACLE = HERE.parent.parent / "target" / "oracle" / "oracle-program"
 NUMBERS = {"Changed": 20, "Contested": 21, "Duplicate": 22, "Dropped": 23}
@@ -25,6 +29,8 @@ REFUSED = FIX + 32 + 8
 REFUSED_AT = 2 + 5 * FIX
 TRANSMISSIONS_AT, TRANSMISSION = 9232, REFUSED_AT + 4 * REFUSED
 INFINITY = 0x7FF0_0000_0000_0000
+SHELF_FULL, WAITING, MAX_WAITING = 13, 24, 64
+SHELF_SIZE = 1 + MAX_WAITING * (2 + layouts.RECORD)
 
 
 def own_lists():
@@ -68,10 +74,65 @@ class Rust:
     def ask(self, line):
         self.process.stdin.write(line + "\n")
         self.process.stdin.flush()
-        answer, state = self.process.stdout.readline().split()
-        answer, state = answer.removeprefix("answer="), bytes.fromhex(state.removeprefix("state="))
+        told = dict(word.split("=") for word in self.process.stdout.readline().split())
+        answer, state = told["answer"], bytes.fromhex(told["state"])
         assert len(state) == TRANSMISSIONS_AT + 8 * TRANSMISSION
         return int(NUMBERS.get(answer, answer)), state
+
+
+class Both:
+    """The Rust's track, and the fixes that wait beside it: for each the model, the engine and the record."""
+
+    def __init__(self, rust):
+        self.rust, self.waiting = rust, []
+        _, self.track = rust.ask("fresh")
+
+    @property
+    def shelf(self):
+        places = b"".join(struct.pack("<BB", model, engine) + record for model, engine, record in self.waiting)
+        return (bytes([len(self.waiting)]) + places).ljust(SHELF_SIZE, b"\0")
+
+    def stated(self):
+        """The models that have a summary."""
+        (count,) = struct.unpack_from("<H", self.track, 4)
+        return {self.track[16 + 36 * k + 1] for k in range(count)}
+
+    def ask(self, kind, fields):
+        answer, self.track = self.rust.ask(request(kind, fields))
+        return answer
+
+    def report(self, engine, record):
+        read = read_record(record)
+        (convicted,) = struct.unpack_from("<I", self.track)
+        if engine > 31 or read is None or convicted >> engine & 1:
+            return self.ask(0, bytes([engine]) + record)
+        missing = [model for model in read.models if model not in self.stated()]
+        if not missing:
+            return self.ask(0, bytes([engine]) + record)
+        if len(self.waiting) == MAX_WAITING:
+            return SHELF_FULL
+        self.waiting.append((missing[0], engine, record))
+        return WAITING
+
+    def summary(self, fields):
+        answer = self.ask(1, fields)
+        if answer == 0:
+            tried = [fix for fix in self.waiting if fix[0] == fields[1]]
+            self.waiting = [fix for fix in self.waiting if fix[0] != fields[1]]
+            for _, engine, record in tried:
+                self.report(engine, record)
+        return answer
+
+    def conviction(self, engine):
+        answer = self.ask(2, bytes([engine]))
+        if answer == 0:
+            self.waiting = [fix for fix in self.waiting if fix[1] != engine]
+        return answer
+
+    def call(self, kind, fields):
+        if kind == 0:
+            return self.report(fields[0], fields[1:])
+        return self.summary(fields) if kind == 1 else self.conviction(fields[0])
 
 
 def metres(height):
@@ -109,20 +170,20 @@ def listing(state):
 def expected(data):
     rust = Rust()
     for calls in lists_in(data):
-        _, state = rust.ask("fresh")
+        both = Both(rust)
         for kind, fields in calls:
             if kind == 3:
-                yield listing(state)
+                yield listing(both.track)
                 continue
-            answer, state = rust.ask(request(kind, fields))
-            yield f"answer={answer} hash={hashlib.blake2s(state).hexdigest()}\n"
+            answer = both.call(kind, fields)
+            yield f"answer={answer} hash={hashlib.blake2s(both.track).hexdigest()} shelf={hashlib.blake2s(both.shelf).hexdigest()}\n"
         yield "\n"
 
 
 def main():
     if not ORACLE.is_file():
         sys.exit("make_stdout.py: run oracle/build first")
-    data = pathlib.Path(sys.argv[1]).read_bytes() if len(sys.argv) > 1 else own_lists()
+    data = (pathlib.Path(sys.argv[1]).read_bytes() if len(sys.argv) > 1 else own_lists()) + shelf_lists.lists()
     (HERE / "stdin").write_bytes(data)
     (HERE / "stdout").write_text("".join(expected(data)))
     print(f"make_stdout.py: {sum(1 for _ in lists_in(data))} lists")

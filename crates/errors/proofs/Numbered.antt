@@ -2,7 +2,7 @@
 use Rattle.std.proofs.Common.{ℕ, ◌≡◌, arith}
 use Rattle.errors.specs.Errors.{error_number}
 use Rattle.errors.specs.declared.Error.{Error}
-use Rattle.errors.specs.declared.Error.TheVariants.{Malformed, NoEngine, NoRecord, Convicted, Full, ModelMissing, ModelDisputed, NoSummary, SmallOutput, SmallMap, UnknownDesk, NoRight, OtherLength}
+use Rattle.errors.specs.declared.Error.TheVariants.{Malformed, NoEngine, NoRecord, Convicted, Full, ModelDisputed, NoSummary, SmallOutput, ShelfFull, SmallMap, UnknownDesk, NoRight, OtherLength}
 
 pub never-zero : (e : Error) → error_number e ≡ 0 → ⊥
 never-zero Malformed h = omega arith
@@ -10,7 +10,7 @@ never-zero NoEngine h = omega arith
 never-zero NoRecord h = omega arith
 never-zero Convicted h = omega arith
 never-zero Full h = omega arith
-never-zero ModelMissing h = omega arith
+never-zero ShelfFull h = omega arith
 never-zero ModelDisputed h = omega arith
 never-zero NoSummary h = omega arith
 never-zero SmallOutput h = omega arith

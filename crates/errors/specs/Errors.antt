@@ -1,10 +1,10 @@
 -- The numbers of what is refused (docs/REFERENCE.md, 'Answers').
 use Rattle.std.specs.Prelude.{ℕ, Result, Ok, Err}
 use Rattle.errors.specs.declared.Error.{Error}
-use Rattle.errors.specs.declared.Error.TheVariants.{Malformed, NoEngine, NoRecord, Convicted, Full, ModelMissing, ModelDisputed, NoSummary, SmallOutput, SmallMap, UnknownDesk, NoRight, OtherLength}
+use Rattle.errors.specs.declared.Error.TheVariants.{Malformed, NoEngine, NoRecord, Convicted, Full, ModelDisputed, NoSummary, SmallOutput, ShelfFull, SmallMap, UnknownDesk, NoRight, OtherLength}
 
--- 1: the memory is no register or track. 2: no engine has the number. 3: the bytes are no record. 4: the engine is convicted. 5: full. 6: a model has no summary.
--- 7: a model is disputed. 9: no summary. 10: the output is too small. 14: it is too small for a map. 15: no desk has the number. 16: the desk has no right. 17: another length
+-- 1: the memory is no register or track. 2: no engine has the number. 3: the bytes are no record. 4: the engine is convicted. 5: full.
+-- 7: a model is disputed. 9: no summary. 10: the output is too small. 13: the shelf is full. 14: the output is too small for a map. 15: no desk has the number. 16: the desk has no right. 17: another length
 -- than a register's.
 abbrev pub error_number : Error → ℕ
 error_number Malformed = 1
@@ -12,10 +12,10 @@ error_number NoEngine = 2
 error_number NoRecord = 3
 error_number Convicted = 4
 error_number Full = 5
-error_number ModelMissing = 6
 error_number ModelDisputed = 7
 error_number NoSummary = 9
 error_number SmallOutput = 10
+error_number ShelfFull = 13
 error_number SmallMap = 14
 error_number UnknownDesk = 15
 error_number NoRight = 16

@@ -17,14 +17,14 @@ pub enum Error {
     Convicted,
     /// It is not held, and there is no room for one more.
     Full,
-    /// A model that the record cites has no summary.
-    ModelMissing,
     /// A model that the record cites is disputed, or of another spec than the record's.
     ModelDisputed,
     /// The model is above the greatest model number, or the inputs are not of their size.
     NoSummary,
     /// The output is smaller than the text may need.
     SmallOutput,
+    /// The fix has to wait, and the shelf has no room for one more.
+    ShelfFull,
     /// The output is smaller than a map may need.
     SmallMap,
     /// No desk has this number.
@@ -46,10 +46,10 @@ impl Error {
             Error::NoRecord => 3,
             Error::Convicted => 4,
             Error::Full => 5,
-            Error::ModelMissing => 6,
             Error::ModelDisputed => 7,
             Error::NoSummary => 9,
             Error::SmallOutput => 10,
+            Error::ShelfFull => 13,
             Error::SmallMap => 14,
             Error::UnknownDesk => 15,
             Error::NoRight => 16,

@@ -3,7 +3,7 @@ pub mod Agreeing
 pub mod Citing
 pub mod Held
 pub mod Sets
-pub mod Refusing
+pub mod Waiting
 pub mod Cited
 pub mod Summarized
 mod Carried

@@ -2,11 +2,8 @@
 use Rattle.std.specs.Prelude.{ℕ, cond, List, eqb, Option, Some, None}
 use Rattle.models.specs.Summary.{summary_inputs}
 use Rattle.models.specs.Models.{State, missing, agreed, disputed, counts}
-use Rattle.models.specs.Missing.{cites_missing}
 use Rattle.models.specs.Identity.{cited_inputs}
 use Rattle.models.specs.declared.summaries.Summary.{Summary}
-use Rattle.models.specs.declared.citations.Uncited.{Uncited}
-use Rattle.models.specs.declared.citations.Uncited.TheVariants.{Missing, Disputed}
 
 -- the inputs of a model in this state, if a record of spec s that cites it may count
 abbrev pub model_cited : ℕ → State → Option (List ℕ)
@@ -22,7 +19,3 @@ inputs_found None = None
 -- the model inputs of a record that counts
 abbrev pub cited : List (List ℕ) → List ℕ → Option (List ℕ)
 cited ps r = cond (counts ps r) (Some (cited_inputs ps r)) None
-
--- why a record does not count
-abbrev pub why_uncited : List (List ℕ) → List ℕ → Uncited
-why_uncited ps r = cond (cites_missing ps r) Missing Disputed

@@ -1,14 +1,16 @@
--- What is claimed of models, beside what each function promises. The contract of src/claims.rt names it; the proofs are in proofs/Refusing.
+-- What is claimed of models, beside what each function promises. The contract of src/claims.rt names it; the proofs are in proofs/Waiting.
 -- Source: docs/REFERENCE.md, 'Models and identity' and 'Answers'.
-use Rattle.std.specs.Prelude.{ℕ, ◌≡◌, ◌↔◌, true, List, Some, None}
-use Rattle.models.specs.Models.{State, agreed_as, counts}
-use Rattle.models.specs.Missing.{is_missing}
-use Rattle.models.specs.Refusals.{model_refusal, record_refusal}
+use Rattle.std.specs.Prelude.{ℕ, ◌≡◌, ◌↔◌, true, false, List, Some, None}
+use Rattle.std.specs.List.{list_any}
+use Rattle.record.specs.Fields.{models}
+use Rattle.record.specs.Relations.{member}
+use Rattle.models.specs.Models.{state_of, counts}
+use Rattle.models.specs.Missing.{is_missing, first_missing}
 
-pub record RefusedExactlyWhere : Type 0 where
-  -- there is no number for a model exactly where it is agreed and of the record's spec
-  pub model_passes : (s : ℕ) (x : State) → (model_refusal s x ≡ None) ↔ (agreed_as s x ≡ true)
-  -- 6 stands for a model exactly where it has no summary
-  pub model_missing : (s : ℕ) (x : State) → (model_refusal s x ≡ Some 6) ↔ (is_missing x ≡ true)
-  -- there is no number for a record exactly where it counts
-  pub record_passes : (ps : List (List ℕ)) (r : List ℕ) → (record_refusal ps r ≡ None) ↔ (counts ps r ≡ true)
+pub record WaitsExactlyWhere : Type 0 where
+  -- a record waits for no model exactly where each that it cites has a summary
+  pub none_missing : (ps : List (List ℕ)) (r : List ℕ) → (first_missing ps r ≡ None) ↔ (list_any (λ m. is_missing (state_of m ps)) (models r) ≡ false)
+  -- it waits for a model that it cites and that has no summary
+  pub for_missing : (ps : List (List ℕ)) (r : List ℕ) (m : ℕ) → first_missing ps r ≡ Some m → (member m (models r) ≡ true) × (is_missing (state_of m ps) ≡ true)
+  -- one that counts waits for none
+  pub counted : (ps : List (List ℕ)) (r : List ℕ) → counts ps r ≡ true → first_missing ps r ≡ None

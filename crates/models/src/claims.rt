@@ -1,11 +1,11 @@
 //! What is claimed of models. Each function's contract is the claim; there is nothing to run.
 
 ghost use Rattle.models.specs.Carried.{IdentityCarriedOver};
-ghost use Rattle.models.specs.Claims.{RefusedExactlyWhere};
+ghost use Rattle.models.specs.Claims.{WaitsExactlyWhere};
 
-/// A track refuses a report for its models exactly where the record does not count, and with 6 for one that has no summary.
-pub fn refused_exactly_where()
-    ensures { RefusedExactlyWhere }
+/// A record waits for a model exactly where one that it cites has no summary, and then for one of those.
+pub fn waits_exactly_where()
+    ensures { WaitsExactlyWhere }
 {}
 
 /// A record of the layout before, once it is widened, has the identity that it had.

@@ -1,8 +1,10 @@
 -- The tracks that S, M and L leave in the two orders, in bytes.
 use Prim.Native.Nat.{ℕ, ◌+◌, ◌%◌, ◌^◌}
 use mathlib.Core.Path.{◌≡◌, refl, sym, ap, ◌∙◌, subst}
-use mathlib.Core.Bool.{true, false}
+use mathlib.Core.Bool.{true}
 use mathlib.Core.List.{List, [], ◌∷◌, ◌++◌, flat_map}
+use Rattle.std.specs.Prelude.{None}
+use Rattle.std.specs.List.{find}
 use native.Mathlib.Omega.{arith}
 use Rattle.octets.specs.Words.{word, word_bytes}
 use Rattle.octets.specs.Masks.{bit, with_bit}
@@ -11,7 +13,8 @@ use Rattle.record.specs.Formed.{well_formed, ascends, ascends_from, all_up_to}
 use Rattle.record.specs.Fields.{models, spec, tags_from}
 use Rattle.hashing.specs.Blake2s.{blake2s256}
 use Rattle.models.specs.Models.{all_agreed, counts}
-use Rattle.models.specs.Missing.{any_missing, cites_missing}
+use Rattle.models.specs.Models.{state_of}
+use Rattle.models.specs.Missing.{is_missing, first_missing}
 use Rattle.models.specs.Identity.{cited_domain, cited_inputs, inputs_in_order, identity_of}
 use Rattle.errors.specs.After.{After, after}
 use Rattle.decision.specs.Positions.{S, M, L}
@@ -20,18 +23,26 @@ use Rattle.track_transmission.specs.Held.{HeldTransmission}
 use Rattle.track_merge.specs.Merged.{Step, merged_number, merged}
 use Rattle.track_merge.specs.declared.Merged.TheVariants.{Changed}
 use Rattle.track_memory.specs.Track.{Track, done}
-use Rattle.track_memory.specs.Memory.{fresh, decode, encode, commit, on_memory}
-use Rattle.track_memory.proofs.Valid.{Valid, decode-encode, on-encode}
+use Rattle.track_memory.specs.Memory.{decode, encode}
+use Rattle.track_memory.proofs.Valid.{Valid, decode-encode}
+use Rattle.track_shelf.specs.Memory.{encode_shelf}
+use Rattle.track_shelf.specs.Both.{Both, encode_both, commit_both, on_both}
+use Rattle.track_shelf.proofs.Shelves.{fresh-encoded}
+use Rattle.track_shelf.proofs.Boths.{ValidBoth, on-encode}
 use Rattle.track.specs.Track.{reported_fix, track_report}
-use Rattle.track.specs.Calls.{runs}
+use Rattle.track.specs.Calls.{fresh, runs}
 use Rattle.track.proofs.Merging.{stepped-valid}
 use Rattle.track.proofs.Ordered.{fresh-is, start-valid}
-use Rattle.orders.specs.Claims.{track_calls, track_bytes, track_answers, track_after, serves, growing, largest_first, Position9}
+use Rattle.orders.specs.Claims.{track_calls, both_bytes, track_answers, track_after, serves, growing, largest_first, Position9}
 use Rattle.orders.proofs.Taken.{id_s, id_m, id_l, no_inputs, is-id_s, is-id_m, is-id_l, none-cited, fix_with, fix_s, fix_m, fix_l, alone, refusing, first-s, then-m, then-l, first-l, then-s, last-m}
 
 -- a track without summaries and convictions
 abbrev holding : ℕ → List HeldTransmission → Track
 holding n ts = record { convicted = 0; contested = n; summaries = []; transmissions = ts }
+
+-- beside which none waits
+abbrev alone_with : Track → Both
+alone_with s = record { track = s; shelf = [] }
 
 -- ---- the three records
 
@@ -76,10 +87,13 @@ known-l = known L id_l (refl, refl) is-id_l
 
 -- ---- one call
 
--- m has the bytes of a track that bytes can hold
-record Holds (m : List ℕ) (s : Track) : Type 0 where
-  is : m ≡ encode s
+-- p has the bytes of a track that bytes can hold, and of an empty shelf
+record Holds (p : List ℕ × List ℕ) (s : Track) : Type 0 where
+  is : p ≡ encode_both (alone_with s)
   valid : Valid s
+
+both-valid : (s : Track) → Valid s → ValidBoth (alone_with s)
+both-valid s v = record { track = v; few = omega arith; wait = refl }
 
 -- the track after a step
 abbrev after_step : ℕ → Step → Track
@@ -89,58 +103,64 @@ module _ {r : List ℕ} {f : Fix} (k : Known r f) (n : ℕ) (ts : List HeldTrans
   is-step : merged (reported_fix 1 r (holding n ts)) ts ≡ x
   is-step = ap (λ (g : Fix). merged g ts) (k.its_fix n ts) ∙ e
 
-  none-missing : cites_missing [] r ≡ false
-  unfolding any_missing
-  none-missing = ap (λ (l : List ℕ). any_missing l []) k.cites_none
+  none-missing : first_missing [] r ≡ None
+  none-missing = ap (find (λ (m : ℕ). is_missing (state_of m []))) k.cites_none
 
   it-counts : counts [] r ≡ true
   unfolding all_agreed
   it-counts = ap (λ (l : List ℕ). all_agreed (spec r) l []) k.cites_none
 
-  taken : track_report 1 r (holding n ts) ≡ done (merged_number x.answer) (after_step n x)
+  taken : track_report 1 r (alone_with (holding n ts)) ≡ done (merged_number x.answer) (alone_with (after_step n x))
   unfolding bit
   taken = rw (k.formed, none-missing, it-counts, is-step) refl
 
-  module _ {m : List ℕ} (h : Holds m (holding n ts)) where
-    called : on_memory (track_report 1 r) m ≡ after (merged_number x.answer) (encode (after_step n x))
-    called = ap (on_memory (track_report 1 r)) h.is ∙ on-encode (holding n ts) h.valid (track_report 1 r) ∙ ap (commit (encode (holding n ts))) taken
+  module _ {p : List ℕ × List ℕ} (h : Holds p (holding n ts)) where
+    called : on_both (track_report 1 r) p.0 p.1 ≡ after (merged_number x.answer) (encode_both (alone_with (after_step n x)))
+    called =
+        ap (λ (q : List ℕ × List ℕ). on_both (track_report 1 r) q.0 q.1) h.is
+        ∙ on-encode (alone_with (holding n ts)) (both-valid (holding n ts) h.valid) (track_report 1 r)
+        ∙ ap (commit_both (encode (holding n ts)) (encode_shelf [])) taken
 
-    answered : (on_memory (track_report 1 r) m).answer ≡ merged_number x.answer
-    answered = ap (λ (a : After (List ℕ)). a.answer) called
+    answered : (on_both (track_report 1 r) p.0 p.1).answer ≡ merged_number x.answer
+    answered = ap (λ (a : After (List ℕ × List ℕ)). a.answer) called
 
-    left : Holds (on_memory (track_report 1 r) m).left (after_step n x)
+    left : Holds (on_both (track_report 1 r) p.0 p.1).left (after_step n x)
     left = record {
-      is = ap (λ (a : After (List ℕ)). a.left) called;
+      is = ap (λ (a : After (List ℕ × List ℕ)). a.left) called;
       valid = subst (λ (y : Step). Valid (after_step n y)) is-step (stepped-valid (holding n ts) h.valid 1 r (omega arith) k.formed (unfold bit in refl));
     }
 
 -- ---- fresh bytes
 
 after_none : Holds fresh (holding 0 [])
-after_none = record { is = sym fresh-is; valid = start-valid }
+after_none = record { is = λ i. (sym fresh-is i, sym fresh-encoded i); valid = start-valid }
 
 -- ---- the two orders
 
 abbrev one : HeldTransmission → List HeldTransmission
 one t = t ∷ []
 
-after-s : Holds (on_memory (track_report 1 S) fresh).left (holding 0 (one (alone fix_s)))
+-- a report by engine 1 on bytes of both
+abbrev told : List ℕ → List ℕ × List ℕ → List ℕ × List ℕ
+told r p = (on_both (track_report 1 r) p.0 p.1).left
+
+after-s : Holds (told S fresh) (holding 0 (one (alone fix_s)))
 after-s = left known-s 0 [] first-s after_none
 
-after-s-m : Holds (on_memory (track_report 1 M) (on_memory (track_report 1 S) fresh).left).left (holding 0 (one (alone fix_m)))
+after-s-m : Holds (told M (told S fresh)) (holding 0 (one (alone fix_m)))
 after-s-m = left known-m 0 (one (alone fix_s)) then-m after-s
 
-after-growing : Holds (track_bytes growing) (holding 0 (one (alone fix_l)))
+after-growing : Holds (both_bytes growing) (holding 0 (one (alone fix_l)))
 unfolding runs
 after-growing = left known-l 0 (one (alone fix_m)) then-l after-s-m
 
-after-l : Holds (on_memory (track_report 1 L) fresh).left (holding 0 (one (alone fix_l)))
+after-l : Holds (told L fresh) (holding 0 (one (alone fix_l)))
 after-l = left known-l 0 [] first-l after_none
 
-after-l-s : Holds (on_memory (track_report 1 S) (on_memory (track_report 1 L) fresh).left).left (holding 1 (one (refusing fix_s)))
+after-l-s : Holds (told S (told L fresh)) (holding 1 (one (refusing fix_s)))
 after-l-s = left known-s 0 (one (alone fix_l)) then-s after-l
 
-after-largest-first : Holds (track_bytes largest_first) (holding 1 (one (refusing fix_m)))
+after-largest-first : Holds (both_bytes largest_first) (holding 1 (one (refusing fix_m)))
 unfolding runs
 after-largest-first = left known-m 1 (one (refusing fix_s)) last-m after-l-s
 
@@ -162,8 +182,8 @@ largest_first_answers = λ i.
     ∷ answered known-m 1 (one (refusing fix_s)) last-m after-l-s i
     ∷ []
 
-decoded : {m : List ℕ} {s : Track} → Holds m s → decode m ≡ s
-decoded {m} {s} h = ap decode h.is ∙ decode-encode s h.valid
+decoded : {p : List ℕ × List ℕ} {s : Track} → Holds p s → decode p.0 ≡ s
+decoded {p} {s} h = ap (λ (q : List ℕ × List ℕ). decode q.0) h.is ∙ decode-encode s h.valid
 
 growing-leaves : track_after growing ≡ holding 0 (one (alone fix_l))
 growing-leaves = decoded after-growing

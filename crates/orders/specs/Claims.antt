@@ -14,6 +14,7 @@ use Rattle.track_merge.specs.Merged.{merged_number}
 use Rattle.track_merge.specs.declared.Merged.TheVariants.{Changed}
 use Rattle.track_memory.specs.Track.{Track}
 use Rattle.track_memory.specs.Memory as T
+use Rattle.track_shelf.specs.Both.{on_both}
 use Rattle.track.specs.Served.{served}
 use Rattle.track.specs.Calls as C
 use Rattle.board.specs.Claims.{SameInBothRooms}
@@ -29,18 +30,22 @@ on_track (conviction desk e) = if has_right may_convict desk then Some (C.convic
 abbrev pub track_calls : List Call → List C.Call
 track_calls cs = filter_map on_track cs
 
--- the bytes of a fresh track after the calls of a list
+-- the bytes of a fresh track, and of the fresh shelf beside it, after the calls of a list
+abbrev pub both_bytes : List Call → List ℕ × List ℕ
+both_bytes cs = C.runs C.fresh (track_calls cs)
+
+-- those of the track
 abbrev pub track_bytes : List Call → List ℕ
-track_bytes cs = C.runs T.fresh (track_calls cs)
+track_bytes cs = (both_bytes cs).0
 
 -- the track that they are
 abbrev pub track_after : List Call → Track
 track_after cs = T.decode (track_bytes cs)
 
 -- what each call of a track is answered, first to last
-unfoldable pub track_answers : List ℕ → List C.Call → List ℕ
-track_answers m [] = []
-track_answers m (c ∷ cs) = (T.on_memory (C.act c) m).answer ∷ track_answers (T.on_memory (C.act c) m).left cs
+unfoldable pub track_answers : List ℕ × List ℕ → List C.Call → List ℕ
+track_answers p [] = []
+track_answers p (c ∷ cs) = (on_both (C.act c) p.0 p.1).answer ∷ track_answers (on_both (C.act c) p.0 p.1).left cs
 
 -- the record of the fix that a track serves, if it serves one
 abbrev pub serves : Track → List (List ℕ)
@@ -62,8 +67,8 @@ pub record Position9 : Type 0 where
   pub none_contested : (track_after growing).contested ≡ 0
   pub one_contested : (track_after largest_first).contested ≡ 1
   -- the answers do not tell: each is Changed
-  pub growing_answers : track_answers T.fresh (track_calls growing) ≡ merged_number Changed ∷ merged_number Changed ∷ merged_number Changed ∷ []
-  pub largest_first_answers : track_answers T.fresh (track_calls largest_first) ≡ merged_number Changed ∷ merged_number Changed ∷ merged_number Changed ∷ []
+  pub growing_answers : track_answers C.fresh (track_calls growing) ≡ merged_number Changed ∷ merged_number Changed ∷ merged_number Changed ∷ []
+  pub largest_first_answers : track_answers C.fresh (track_calls largest_first) ≡ merged_number Changed ∷ merged_number Changed ∷ merged_number Changed ∷ []
 
 -- ---- the claim
 

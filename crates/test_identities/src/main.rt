@@ -6,7 +6,7 @@
 //! out the same with another BLAKE2s.
 #![tactic(auto)]
 
-use models::citations::{Uncited, cited_inputs, why_uncited};
+use models::citations::{cited_inputs, first_missing};
 use models::hashes::Inputs;
 use models::identities;
 use models::layout::SUMMARY_SIZE;
@@ -16,7 +16,7 @@ use record::Record;
 use record::layout::RECORD_SIZE;
 use std::io;
 
-// A model's state: 6 without a summary and 7 where it is disputed, as a track refuses them; 0 where it is agreed, with the place
+// A model's state: 6 without a summary, and 7 where it is disputed, as a track refuses what cites it; 0 where it is agreed, with the place
 // of its first summary.
 fn show_state(rt: &impl Print, state: ModelState) -> io::Result<()> {
     match state {
@@ -49,8 +49,8 @@ fn show_counted(rt: &impl Print, inputs: Inputs, r: Record) -> io::Result<()> {
 }
 
 // What is known of a record that does not count: neither its model inputs nor its identity are defined.
-fn show_uncounted(rt: &impl Print, why: Uncited, r: Record) -> io::Result<()> {
-    let missing = yes_or_no(matches!(why, Uncited::Missing));
+fn show_uncounted(rt: &impl Print, waits: bool, r: Record) -> io::Result<()> {
+    let missing = yes_or_no(waits);
     print!(rt; " counts no missing {missing} none")?;
     show_hash(rt, identities::set_hash(r).0)?;
     print!(rt; " none")
@@ -66,7 +66,7 @@ fn show_record(rt: &impl Print, all: Summaries, r: Record) -> io::Result<()> {
     show_states(rt, all)?;
     match cited_inputs(all, r) {
         Some(inputs) => show_counted(rt, inputs, r)?,
-        None => show_uncounted(rt, why_uncited(all, r), r)?,
+        None => show_uncounted(rt, first_missing(all, r).is_some(), r)?,
     }
     println!(rt;)
 }

@@ -1,10 +1,10 @@
-//! Replays lists of calls on a track and prints what each is answered, with the hash of the bytes that it leaves. The expected
-//! output is that of the Rust (make_stdout.py).
+//! Replays lists of calls on a track and its shelf and prints what each is answered, with the hashes of the bytes that it leaves of
+//! both. The expected output is that of the Rust for the track, and of a second writing in Python for the shelf (make_stdout.py).
 //!
 //! On standard input a list is the number of its calls, in two bytes, and the calls; numbers have their lowest byte first. A call is
 //! a byte for its kind and its fields: 0, a report: engine, a record of 288 bytes; 1, a summary: engine, model, spec in two
-//! bytes, inputs of 32; 2, a conviction: engine; 3, a listing. Each list begins with a fresh track. A list that is cut short, or a
-//! call of another kind, ends the work.
+//! bytes, inputs of 32; 2, a conviction: engine; 3, a listing. Each list begins with a fresh track and a fresh shelf. A list that is
+//! cut short, or a call of another kind, ends the work.
 #![tactic(auto)]
 
 use errors::{answer_number, value_or_number};
@@ -13,6 +13,7 @@ use record::layout::RECORD_SIZE;
 use std::io;
 use track::reports::reported_number;
 use track_memory::layout::TRACK_SIZE;
+use track_shelf::layout::SHELF_SIZE;
 
 // More lists than these are not read.
 const MAX_LISTS: u32 = 65536;
@@ -25,43 +26,47 @@ const LISTING_SIZE: usize = 16384;
 
 const GREATEST_REFUSAL: u32 = 10;
 
-// An answer, and the hash of the track that it leaves.
-fn show(rt: &impl Print, answer: u32, memory: &[u8]) -> io::Result<()> {
+// An answer, and the hashes of the track and the shelf that the call leaves.
+fn show(rt: &impl Print, answer: u32, memory: &[u8], shelf: &[u8]) -> io::Result<()> {
     print!(rt; "answer={answer} hash=")?;
     console::print_hash(rt, hashing::blake2s256(memory))?;
+    print!(rt; " shelf=")?;
+    console::print_hash(rt, hashing::blake2s256(shelf))?;
     println!(rt;)
 }
 
 // A report; false where it is cut short.
-fn report(rt: &(impl Input + Print), memory: &mut [u8]) -> io::Result<bool> {
+fn report(rt: &(impl Input + Print), memory: &mut [u8], shelf: &mut [u8]) -> io::Result<bool> {
     let Some(fields) = console::array::<REPORT_SIZE>(rt)? else {
         return Ok(false);
     };
-    let answer = reported_number(track::reports::report(memory, fields[0] as u32, &fields[1..]));
-    show(rt, answer, memory)?;
+    let engine = fields[0] as u32;
+    let answer = reported_number(track::reports::report(memory, shelf, engine, &fields[1..]));
+    show(rt, answer, memory, shelf)?;
     Ok(true)
 }
 
 // A summary; false where it is cut short.
-fn summary(rt: &(impl Input + Print), memory: &mut [u8]) -> io::Result<bool> {
+fn summary(rt: &(impl Input + Print), memory: &mut [u8], shelf: &mut [u8]) -> io::Result<bool> {
     let Some(fields) = console::array::<SUMMARY_SIZE>(rt)? else {
         return Ok(false);
     };
     let engine = fields[ENGINE_AT] as u32;
     let model = fields[MODEL_AT] as u32;
     let spec = octets::words::u16_at(&fields, SPEC_AT);
-    let answer = track::summaries::summary(memory, engine, model, spec, &fields[INPUTS_AT..]);
-    show(rt, answer_number(answer), memory)?;
+    let inputs = &fields[INPUTS_AT..];
+    let answer = track::summaries::summary(memory, shelf, engine, model, spec, inputs);
+    show(rt, answer_number(answer), memory, shelf)?;
     Ok(true)
 }
 
 // A conviction; false where it is cut short.
-fn conviction(rt: &(impl Input + Print), memory: &mut [u8]) -> io::Result<bool> {
+fn conviction(rt: &(impl Input + Print), memory: &mut [u8], shelf: &mut [u8]) -> io::Result<bool> {
     let Some(fields) = console::array::<1>(rt)? else {
         return Ok(false);
     };
-    let answer = answer_number(track::convictions::conviction(memory, fields[0] as u32));
-    show(rt, answer, memory)?;
+    let answer = track::convictions::conviction(memory, shelf, fields[0] as u32);
+    show(rt, answer_number(answer), memory, shelf)?;
     Ok(true)
 }
 
@@ -81,14 +86,14 @@ fn show_listing(rt: &impl Print, memory: &[u8]) -> io::Result<()> {
 }
 
 // One call; false where it is cut short, or is of no kind.
-fn call(rt: &(impl Input + Print), memory: &mut [u8]) -> io::Result<bool> {
+fn call(rt: &(impl Input + Print), memory: &mut [u8], shelf: &mut [u8]) -> io::Result<bool> {
     let Some(kind) = console::array::<1>(rt)? else {
         return Ok(false);
     };
     match kind[0] {
-        0 => report(rt, memory),
-        1 => summary(rt, memory),
-        2 => conviction(rt, memory),
+        0 => report(rt, memory, shelf),
+        1 => summary(rt, memory, shelf),
+        2 => conviction(rt, memory, shelf),
         3 => {
             show_listing(rt, memory)?;
             Ok(true)
@@ -101,11 +106,16 @@ fn fresh_track() -> [u8; TRACK_SIZE] {
     [0; TRACK_SIZE]
 }
 
-// So many calls on a fresh track; false where one is cut short.
+fn fresh_shelf() -> [u8; SHELF_SIZE] {
+    [0; SHELF_SIZE]
+}
+
+// So many calls on a fresh track and its shelf; false where one is cut short.
 fn run(rt: &(impl Input + Print), count: u16) -> io::Result<bool> {
     let mut memory = fresh_track();
+    let mut shelf = fresh_shelf();
     for i in 0..count {
-        if !call(rt, &mut memory)? {
+        if !call(rt, &mut memory, &mut shelf)? {
             return Ok(false);
         }
     }

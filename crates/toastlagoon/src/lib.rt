@@ -16,7 +16,7 @@ ghost use Rattle.register_columns.specs.Columns.{columns, uncolumns, rearrange};
 ghost use Rattle.board.specs.Board.{draw_board};
 ghost use Rattle.board.specs.Preview.{draw_preview};
 ghost use Rattle.board_map.specs.Map.{draw_map};
-ghost use Rattle.track_memory.specs.Memory as T;
+ghost use Rattle.track_shelf.specs.Both.{on_both};
 ghost use Rattle.track.specs.Track.{track_report, track_summary, track_conviction};
 ghost use Rattle.track_listing.specs.Listing.{list_track};
 ghost use Rattle.toastlagoon.specs.Border.{covariance_from, claim_from, agreement_out};
@@ -285,34 +285,35 @@ pub extern "C" fn tl_register_preview(desk: u32, memory: &[u8], engine: u32, out
     value_or_number(board::preview(desk, memory, engine, out))
 }
 
-/// Reports a record for an engine into a track.
+/// Reports a record for an engine into a track, or onto the shelf beside it.
 #[unsafe(no_mangle)]
-pub extern "C" fn tl_track_report(memory: &mut [u8], engine: u32, r: &[u8]) -> u32
-    ensures { after result memory.new ≡ T.on_memory (track_report engine r.now) memory.old }
+pub extern "C" fn tl_track_report(memory: &mut [u8], shelf: &mut [u8], engine: u32, r: &[u8]) -> u32
+    ensures { after result (memory.new, shelf.new) ≡ on_both (track_report engine r.now) memory.old shelf.old }
 {
-    reported_number(track::reports::report(memory, engine, r))
+    reported_number(track::reports::report(memory, shelf, engine, r))
 }
 
-/// Puts an engine's summary of a model into a track.
+/// Puts an engine's summary of a model into a track, and tries the fixes that waited for it.
 #[unsafe(no_mangle)]
 pub extern "C" fn tl_track_summary(
     memory: &mut [u8],
+    shelf: &mut [u8],
     engine: u32,
     model: u32,
     spec: u16,
     inputs: &[u8],
 ) -> u32
-    ensures { after result memory.new ≡ T.on_memory (track_summary engine model spec inputs.now) memory.old }
+    ensures { after result (memory.new, shelf.new) ≡ on_both (track_summary engine model spec inputs.now) memory.old shelf.old }
 {
-    answer_number(track::summaries::summary(memory, engine, model, spec, inputs))
+    answer_number(track::summaries::summary(memory, shelf, engine, model, spec, inputs))
 }
 
-/// Convicts an engine in a track, and decides again what it signed.
+/// Convicts an engine in a track, decides again what it signed, and throws out its fixes that wait.
 #[unsafe(no_mangle)]
-pub extern "C" fn tl_track_conviction(memory: &mut [u8], engine: u32) -> u32
-    ensures { after result memory.new ≡ T.on_memory (track_conviction engine) memory.old }
+pub extern "C" fn tl_track_conviction(memory: &mut [u8], shelf: &mut [u8], engine: u32) -> u32
+    ensures { after result (memory.new, shelf.new) ≡ on_both (track_conviction engine) memory.old shelf.old }
 {
-    answer_number(track::convictions::conviction(memory, engine))
+    answer_number(track::convictions::conviction(memory, shelf, engine))
 }
 
 /// The listing of a track into `out`: 1 or 10, or its length, which is greater than both.

@@ -9,7 +9,7 @@ abbrev pub major : ℕ
 major = 0
 
 abbrev pub minor : ℕ
-minor = 11
+minor = 12
 
 abbrev pub patch : ℕ
 patch = 0
@@ -28,16 +28,16 @@ version_text = decimal major ++ codes "." ++ decimal minor ++ codes "." ++ decim
 abbrev pub name_of : ℕ → List ℕ
 name_of n =
     if n == 0 then codes "done"
-    else if n == 1 then codes "not a well-formed register or track"
+    else if n == 1 then codes "not a well-formed register, track or shelf"
     else if n == 2 then codes "engine over 31"
     else if n == 3 then codes "malformed record"
     else if n == 4 then codes "engine convicted"
     else if n == 5 then codes "full"
-    else if n == 6 then codes "model missing"
     else if n == 7 then codes "model disputed or of another spec"
     else if n == 8 then codes "bad items"
     else if n == 9 then codes "bad summary"
     else if n == 10 then codes "output too small"
+    else if n == 13 then codes "shelf full"
     else if n == 14 then codes "output too small for a map"
     else if n == 15 then codes "unknown desk"
     else if n == 16 then codes "desk lacks the right"
@@ -46,6 +46,7 @@ name_of n =
     else if n == 21 then codes "contested"
     else if n == 22 then codes "duplicate"
     else if n == 23 then codes "dropped"
+    else if n == 24 then codes "waiting"
     else codes "no answer of the library"
 
 -- a text at the start of a buffer; where it does not fit, the buffer stays. The answer is the text's length either way

@@ -8,7 +8,7 @@ ghost use Rattle.toastlagoon_names.specs.Names as N;
 pub mod claims;
 
 // The version as one number: a million for each major number, a thousand for each minor one.
-const VERSION: u32 = 11_000;
+const VERSION: u32 = 12_000;
 
 /// The version of the library.
 pub fn version() -> u32
@@ -21,7 +21,7 @@ pub fn version() -> u32
 pub fn version_text() -> &'static [u8]
     ensures { result.now ≡ N.version_text }
 {
-    b"0.11.0"
+    b"0.12.0"
 }
 
 /// What an answer says, in words.
@@ -30,16 +30,16 @@ pub fn name(answer: u32) -> &'static [u8]
 {
     match answer {
         0 => b"done",
-        1 => b"not a well-formed register or track",
+        1 => b"not a well-formed register, track or shelf",
         2 => b"engine over 31",
         3 => b"malformed record",
         4 => b"engine convicted",
         5 => b"full",
-        6 => b"model missing",
         7 => b"model disputed or of another spec",
         8 => b"bad items",
         9 => b"bad summary",
         10 => b"output too small",
+        13 => b"shelf full",
         14 => b"output too small for a map",
         15 => b"unknown desk",
         16 => b"desk lacks the right",
@@ -48,6 +48,7 @@ pub fn name(answer: u32) -> &'static [u8]
         21 => b"contested",
         22 => b"duplicate",
         23 => b"dropped",
+        24 => b"waiting",
         _ => b"no answer of the library",
     }
 }

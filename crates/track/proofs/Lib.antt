@@ -1,8 +1,13 @@
-pub mod Holding
 pub mod Merging
 pub mod Reported
+pub mod Holding
 pub mod Leaving
+pub mod Arriving
 pub mod Kept
 pub mod Counted
 pub mod Ordered
-pub mod Looked
+pub mod Shelved
+pub mod Taking
+pub mod Trying
+pub mod Placed
+pub mod Early

@@ -1,10 +1,10 @@
 -- The claims about the order of a track's transmissions and the fix that it serves.
-use Rattle.std.proofs.Common.{◌≡◌, ℕ, suc, ◌+◌, ◌-◌, ◌≤◌, true, false, List, [], ◌∷◌, ◌++◌, length, take, drop, replicate, sym, refl, ap, ◌∙◌, subst, arith}
+use Rattle.std.proofs.Common.{◌≡◌, ℕ, not, suc, ◌+◌, ◌-◌, ◌≤◌, true, false, List, [], ◌∷◌, ◌++◌, length, take, drop, replicate, sym, refl, ap, ap₂, ◌∙◌, subst, arith}
 use mathlib.Core.Bool.{false≢true}
 use mathlib.Core.List.Memᴰ
 use mathlib.Core.List.{flat_map, Memᴰ}
 use lib.ListN.{replicate-append-replicate}
-use Rattle.std.specs.List.{list_any}
+use Rattle.std.specs.List.{filter, list_any}
 use Rattle.lists.specs.Lists.{last_of}
 use Rattle.lists.proofs.Bools.{by, or}
 use Rattle.lists.proofs.Lists.{flat_in}
@@ -23,18 +23,27 @@ use Rattle.track_arrange.proofs.Claimed.{arranged-in-order}
 use Rattle.track_merge.proofs.Claimed.{order-kept}
 use Rattle.track_memory.specs.Layout.{summaries_at, transmissions_size}
 use Rattle.track_memory.specs.Track.{Track, Transition, refused, done}
-use Rattle.track_memory.specs.Memory.{encode, fresh, commit, on_memory}
-use Rattle.track_memory.proofs.Valid.{Valid, formed-encode, decode-encode, on-encode}
+use Rattle.track_memory.specs.Memory as M
+use Rattle.track_memory.specs.Memory.{encode}
+use Rattle.track_memory.proofs.Valid.{Valid}
 use Rattle.track_recheck.specs.Recheck.{has_stale, recheck, strike_engine}
-use Rattle.track.specs.Track.{reported_fix}
+use Rattle.track_shelf.specs.Waiting.{Waiting, waits_for}
+use Rattle.track_shelf.specs.Memory.{encode_shelf}
+use Rattle.track_shelf.specs.Both.{Both, both_formed, decode_both, encode_both, commit_both, on_both}
+use Rattle.track_shelf.proofs.Shelves.{fresh-encoded}
+use Rattle.track_shelf.proofs.Boths.{ValidBoth, formed-encode, decode-encode, on-encode}
+use Rattle.track.specs.Track.{reported_fix, track_report, tried}
 use Rattle.track.specs.Served.{kept_of}
-use Rattle.track.specs.Calls.{Call, report, summary, conviction, act, runs}
+use Rattle.track.specs.Calls.{Call, report, summary, conviction, act, fresh, runs}
 use Rattle.track.specs.Claims.{StaysInOrder, ReachedInOrder, OneServed, LatestServed}
-use Rattle.track.proofs.Kept.{act-sound}
-use Rattle.track.proofs.Leaving.{Leaves, report-leaves, summary-leaves, conviction-leaves, left_after}
+use Rattle.track.proofs.Kept.{act-valid}
+use Rattle.track.proofs.Leaving.{Leaves, left_after, report-leaves, tried-keeps, summary-leaves, conviction-leaves}
 
 abbrev Ordered : Track → Type 0
 Ordered s = InOrder s.transmissions
+
+abbrev BothOrdered : Both → Type 0
+BothOrdered b = Ordered b.track
 
 -- ---- every call keeps the order
 
@@ -46,21 +55,32 @@ strike-order : (e : ℕ) (s : Track) → Ordered (strike_engine e s)
 unfolding strike_engine
 strike-order e s = arranged-in-order _
 
-act-leaves : (c : Call) (s : Track) → Ordered s → Leaves Ordered (act c s)
-act-leaves (report e r) s w = report-leaves Ordered e r s (λ h v c. order-kept (reported_fix e r s) s.transmissions w)
-act-leaves (summary e model spec inputs) s w = summary-leaves Ordered e model spec inputs s (λ h g l c d. w) recheck-order
-act-leaves (conviction e) s w = conviction-leaves Ordered e s (λ h. recheck-order (strike_engine e s) (strike-order e s))
+report-order : (e : ℕ) (r : List ℕ) (b : Both) → BothOrdered b → Leaves BothOrdered (track_report e r b)
+report-order e r b w = report-leaves BothOrdered e r b (λ h v c. ((λ m q k. w), (λ q. order-kept (reported_fix e r b.track) b.track.transmissions w)))
+
+tried-order : (b : Both) (x : Waiting) → BothOrdered b → BothOrdered (tried b x)
+tried-order b x w = left_after BothOrdered b (track_report x.engine x.record_bytes b) w (report-order x.engine x.record_bytes b w)
+
+act-leaves : (c : Call) (b : Both) → BothOrdered b → Leaves BothOrdered (act c b)
+act-leaves (report e r) b w = report-order e r b w
+act-leaves (summary e model spec inputs) b w =
+    summary-leaves Ordered BothOrdered e model spec inputs b (λ h g l c d. w) recheck-order
+    (λ t q. tried-keeps BothOrdered tried-order (filter (waits_for model) b.shelf) (record { track = t; shelf = filter (λ x. not (waits_for model x)) b.shelf }) q)
+act-leaves (conviction e) b w = conviction-leaves BothOrdered e b (λ h. recheck-order (strike_engine e b.track) (strike-order e b.track))
 
 pub stays-in-order : StaysInOrder
-stays-in-order c s w = left_after Ordered s (act c s) w (act-leaves c s w)
+stays-in-order c b w = left_after BothOrdered b (act c b) w (act-leaves c b w)
 
 -- ---- tracks that are reached
 
 abbrev pub start : Track
 start = record { convicted = 0; contested = 0; summaries = []; transmissions = [] }
 
--- fresh bytes are those of the empty track
-pub fresh-is : encode start ≡ fresh
+abbrev pub start-both : Both
+start-both = record { track = start; shelf = [] }
+
+-- fresh bytes are those of the empty track and of the empty shelf
+pub fresh-is : encode start ≡ M.fresh
 unfolding encode flat word_bytes
 fresh-is =
     ap (λ (t : List ℕ). replicate summaries_at 0 ++ t) (replicate-append-replicate summaries_size transmissions_size 0)
@@ -79,35 +99,45 @@ start-valid = record {
   held = λ t m. absurd (Memᴰ.not-nil m);
 }
 
--- the bytes of a track that is valid and in order
-pub record Reached (m : List ℕ) : Type 0 where
-  pub track : Track
-  pub valid : Valid track
-  pub order : Ordered track
-  pub is : m ≡ encode track
+start-both-valid : ValidBoth start-both
+start-both-valid = record { track = start-valid; few = omega arith; wait = refl }
 
-call-reaches : (c : Call) (m : List ℕ) → Reached m → Reached (on_memory (act c) m).left
-call-reaches c m x =
-    let s = x.track in
-    subst Reached (sym (ap (λ (k : List ℕ). (on_memory (act c) k).left) x.is ∙ ap (λ (a : After (List ℕ)). a.left) (on-encode s x.valid (act c))))
-    (go (act c s) (act-sound c s x.valid) (act-leaves c s x.order))
+-- the bytes of a track and a shelf that are valid, and in order
+pub record Reached (p : List ℕ × List ℕ) : Type 0 where
+  pub both : Both
+  pub valid : ValidBoth both
+  pub order : BothOrdered both
+  pub is : p ≡ encode_both both
+
+call-reaches : (c : Call) (p : List ℕ × List ℕ) → Reached p → Reached (on_both (act c) p.0 p.1).left
+call-reaches c p x =
+    let b = x.both in
+    subst Reached (sym (ap (λ (k : List ℕ × List ℕ). (on_both (act c) k.0 k.1).left) x.is ∙ ap (λ (a : After (List ℕ × List ℕ)). a.left) (on-encode b x.valid (act c))))
+    (go (act c b) (act-valid c b x.valid) (act-leaves c b x.order))
   where
-    go : (o : Transition) → Leaves Valid o → Leaves Ordered o → Reached (commit (encode x.track) o).left
-    go (refused n) v w = record { track = x.track; valid = x.valid; order = x.order; is = refl }
-    go (done n t) v w = record { track = t; valid = v; order = w; is = refl }
+    go : (o : Transition Both) → Leaves ValidBoth o → Leaves BothOrdered o → Reached (commit_both (encode x.both.track) (encode_shelf x.both.shelf) o).left
+    go (refused n) v w = record { both = x.both; valid = x.valid; order = x.order; is = refl }
+    go (done n t) v w = record { both = t; valid = v; order = w; is = refl }
 
-runs-reach : (cs : List Call) (m : List ℕ) → Reached m → Reached (runs m cs)
+runs-reach : (cs : List Call) (p : List ℕ × List ℕ) → Reached p → Reached (runs p cs)
 unfolding runs
-runs-reach [] m x = x
-runs-reach (c ∷ cs) m x = runs-reach cs (on_memory (act c) m).left (call-reaches c m x)
+runs-reach [] p x = x
+runs-reach (c ∷ cs) p x = runs-reach cs (on_both (act c) p.0 p.1).left (call-reaches c p x)
 
 fresh-reached : Reached fresh
-fresh-reached = record { track = start; valid = start-valid; order = none; is = sym fresh-is }
+fresh-reached = record { both = start-both; valid = start-both-valid; order = none; is = sym (ap₂ (λ (m w : List ℕ). (m, w)) fresh-is fresh-encoded) }
+
+pub all-reached : (cs : List Call) → Reached (runs fresh cs)
+all-reached cs = runs-reach cs fresh fresh-reached
+
+pub reached-formed : {p : List ℕ × List ℕ} → Reached p → both_formed p.0 p.1 ≡ true
+reached-formed x = rw x.is (formed-encode x.both x.valid)
+
+pub reached-held : {p : List ℕ × List ℕ} (x : Reached p) → decode_both p.0 p.1 ≡ x.both
+reached-held x = ap (λ (k : List ℕ × List ℕ). decode_both k.0 k.1) x.is ∙ decode-encode x.both x.valid
 
 pub reached-in-order : ReachedInOrder
-reached-in-order cs =
-    let x = runs-reach cs fresh fresh-reached in
-    rw (x.is, decode-encode x.track x.valid) (formed-encode x.track x.valid, x.order)
+reached-in-order cs = let x = all-reached cs in (reached-formed x, subst BothOrdered (sym (reached-held x)) x.order)
 
 -- ---- the fix that is served
 

@@ -151,7 +151,7 @@ module _ (s : Track) (v : Valid s) where
       (and_both a₄ (a₅ && (a₆ && a₇)) (eq-eqb (get_or (encode s) zero_at 0) 0 zero-back) (and_both a₅ (a₆ && a₇) summary-table (and_both a₆ a₇ formed-summaries formed-transmissions)))))
 
   -- an operation on its bytes is the operation on it
-  pub on-encode : (f : Track → Transition) → on_memory f (encode s) ≡ commit (encode s) (f s)
+  pub on-encode : (f : Track → Transition Track) → on_memory f (encode s) ≡ commit (encode s) (f s)
   unfolding on_memory
   on-encode f = rw (formed-encode, decode-encode) refl
 

@@ -74,10 +74,10 @@ fresh = replicate L.track_size 0
 -- ---- an operation on bytes
 
 -- a refusal answers its number, and changes no lent byte
-abbrev pub commit : List ℕ → Transition → After (List ℕ)
+abbrev pub commit : List ℕ → Transition Track → After (List ℕ)
 commit m (refused n) = after n m
 commit m (done n s) = after n (encode s)
 
 -- 1 for bytes that are no track
-unfoldable pub on_memory : (Track → Transition) → List ℕ → After (List ℕ)
+unfoldable pub on_memory : (Track → Transition Track) → List ℕ → After (List ℕ)
 on_memory f m = cond (well_formed m) (commit m (f (decode m))) (after 1 m)

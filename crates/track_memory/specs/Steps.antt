@@ -9,6 +9,6 @@ use Rattle.track_memory.specs.Track.{Track, Transition, refused, done, with_summ
 abbrev pub with_pair : List ℕ → Track → Track
 with_pair p s = with_summaries (put_place pair_size (λ v. drop pair_size p) (take pair_size p) s.summaries) s
 
-abbrev pub put_pair : List ℕ → Track → Transition
+abbrev pub put_pair : List ℕ → Track → Transition Track
 put_pair p s =
     cond (not (holds pair_size (take pair_size p) s.summaries) && leb max_summaries (length s.summaries)) (refused 5) (done 0 (with_pair p s))

@@ -10,10 +10,10 @@ pub record Track : Type 0 where
   pub summaries : List (List ℕ)
   pub transmissions : List HeldTransmission
 
--- an operation is refused with a number, or it answers one and leaves a track
-pub data Transition : Type 0 where
-  refused : ℕ → Transition
-  done : ℕ → Track → Transition
+-- an operation is refused with a number, or it answers one and leaves something
+pub data Transition (A : Type 0) : Type 0 where
+  refused : ℕ → Transition A
+  done : ℕ → A → Transition A
 
 abbrev pub with_transmissions : List HeldTransmission → Track → Track
 with_transmissions ts s = record { convicted = s.convicted; contested = s.contested; summaries = s.summaries; transmissions = ts }

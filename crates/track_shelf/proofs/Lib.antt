@@ -1,0 +1,4 @@
+pub mod Marks
+pub mod Shelves
+pub mod Writing
+pub mod Boths
