@@ -399,7 +399,8 @@ fn previews() {
 
 /// All but the track's.
 fn others(random: &mut Random) {
-    for length in [86, 144, 4096] {
+    // Of an identity; of the sets of a long message with 16 and with 24 tags; and of a long text.
+    for length in [86, 144, 208, 4096] {
         hash(random, length);
     }
     root(random);

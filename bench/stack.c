@@ -46,7 +46,7 @@ static void put_double(uint8_t *at, double x) {
     put(at, 8, bits);
 }
 
-/* The i-th of nested fixes: it has i % 16 + 1 tags, and lies so far north that some disagree with others. */
+/* The i-th of nested fixes: it has i % TL_MAX_TAGS + 1 tags, and lies so far north that some disagree with others. */
 static void write_record(uint8_t r[TL_RECORD_SIZE], int i) {
     int tags = i % TL_MAX_TAGS + 1;
     memset(r, 0, TL_RECORD_SIZE);
@@ -113,6 +113,9 @@ static void write_register(void) {
 /* A track of 8 transmissions of 5 fixes that stand and 4 refused, and the one that a call is made on. */
 static uint8_t full[TL_TRACK_SIZE], track[TL_TRACK_SIZE];
 
+/* The shelf beside it; and one on which as many fixes wait for model 6 as it holds, in 8 transmissions of 8. */
+static uint8_t shelf[TL_SHELF_SIZE], full_shelf[TL_SHELF_SIZE];
+
 /* The k-th fix of a transmission: five have a tag of their own, the others are larger than the first and lie too far from it. */
 static void write_fix(uint8_t r[TL_RECORD_SIZE], int transmission, int k) {
     int refused = k >= TL_MAX_STANDING, tags = refused ? 3 : 2;
@@ -127,10 +130,12 @@ static void write_fix(uint8_t r[TL_RECORD_SIZE], int transmission, int k) {
     r[TL_RECORD_MODELS_AT] = 5;
 }
 
-static uint32_t say(uint8_t *memory, uint32_t engine, uint8_t first) {
+static uint32_t say_of(uint8_t *memory, uint32_t engine, uint32_t model, uint8_t first) {
     uint8_t inputs[32] = {first};
-    return tl_track_summary(memory, TL_TRACK_SIZE, engine, 5, 0, inputs, sizeof inputs);
+    return tl_track_summary(memory, TL_TRACK_SIZE, shelf, sizeof shelf, engine, model, 0, inputs, sizeof inputs);
 }
+
+static uint32_t say(uint8_t *memory, uint32_t engine, uint8_t first) { return say_of(memory, engine, 5, first); }
 
 static void write_track(void) {
     uint8_t r[TL_RECORD_SIZE];
@@ -138,7 +143,7 @@ static void write_track(void) {
     for (int t = 0; t < TL_MAX_TRANSMISSIONS; t++) {
         for (int k = 0; k < TL_MAX_STANDING + TL_MAX_REFUSED; k++) {
             write_fix(r, t, k);
-            if (tl_track_report(full, sizeof full, 2, r, sizeof r) < TL_CHANGED) exit(1);
+            if (tl_track_report(full, sizeof full, shelf, sizeof shelf, 2, r, sizeof r) < TL_CHANGED) exit(1);
         }
         const uint8_t *block = full + TL_TRACK_TRANSMISSIONS_AT + TL_TRANSMISSION_SIZE * t;
         if (block[0] != TL_MAX_STANDING || block[1] != TL_MAX_REFUSED) exit(1);
@@ -150,17 +155,53 @@ static void join(void) {
     memcpy(track, full, sizeof track);
     write_fix(r, 0, 0);
     put(r + TL_RECORD_TAGS_AT + TL_TAG_SIZE, TL_TAG_SIZE, 30);
-    tl_track_report(track, sizeof track, 2, r, sizeof r);
+    tl_track_report(track, sizeof track, shelf, sizeof shelf, 2, r, sizeof r);
 }
 
 static void conviction(void) {
     memcpy(track, full, sizeof track);
-    tl_track_conviction(track, sizeof track, 30);
+    tl_track_conviction(track, sizeof track, shelf, sizeof shelf, 30);
 }
 
 static void dispute(void) {
     memcpy(track, full, sizeof track);
     say(track, 3, 2);
+}
+
+/* Fixes of transmissions that are held, which cite model 6 too; they agree with the first, and join it. */
+static void write_early(uint8_t r[TL_RECORD_SIZE], int n) {
+    write_fix(r, n / 8, 0);
+    put(r + TL_RECORD_TAGS_AT + TL_TAG_SIZE, TL_TAG_SIZE, 1000u * (uint64_t)(n / 8) + 40 + (uint64_t)n % 8);
+    r[TL_RECORD_MODEL_COUNT_AT] = 2;
+    r[TL_RECORD_MODELS_AT + 1] = 6;
+}
+
+static void write_shelf(void) {
+    uint8_t r[TL_RECORD_SIZE];
+    for (int n = 0; n < TL_MAX_WAITING; n++) {
+        write_early(r, n);
+        if (tl_track_report(full, sizeof full, full_shelf, sizeof full_shelf, 2, r, sizeof r) != TL_WAITING) exit(1);
+    }
+}
+
+static void wait(void) {
+    uint8_t r[TL_RECORD_SIZE];
+    memcpy(track, full, sizeof track);
+    memset(shelf, 0, sizeof shelf);
+    write_early(r, 0);
+    tl_track_report(track, sizeof track, shelf, sizeof shelf, 2, r, sizeof r);
+}
+
+static void arrival(void) {
+    memcpy(track, full, sizeof track);
+    memcpy(shelf, full_shelf, sizeof shelf);
+    say_of(track, 3, 6, 1);
+}
+
+static void throw_out(void) {
+    memcpy(track, full, sizeof track);
+    memcpy(shelf, full_shelf, sizeof shelf);
+    tl_track_conviction(track, sizeof track, shelf, sizeof shelf, 2);
 }
 
 static void listing(void) { tl_track_listing(full, sizeof full, out, sizeof out); }
@@ -198,5 +239,9 @@ int main(void) {
     row("track conviction, 72 fixes held", conviction);
     row("track summary that disputes, 72 fixes held", dispute);
     row("track listing, 72 fixes held", listing);
+    write_shelf();
+    row("track report that has to wait, 72 fixes held", wait);
+    row("track summary for which 64 fixes wait, 72 held", arrival);
+    row("track conviction that throws out 64, 72 fixes held", throw_out);
     return 0;
 }

@@ -7,7 +7,8 @@ use crate::calls::{self, Call};
 use crate::random::Random;
 use crate::{ROUNDS, binding, least, median};
 use oracle::Record;
-use oracle::layout::Mask;
+use oracle::layout::{Mask, SHELF};
+use oracle::shelf;
 use oracle::track::{SIZE, Sent, Track};
 use std::hint::black_box;
 use std::time::Instant;
@@ -51,10 +52,11 @@ fn take(track: &mut Track, ready: &Ready) {
 
 /// A state and the calls that are timed on it.
 pub struct Row {
-    name: String,
+    pub name: String,
     state: Track,
-    bytes: Vec<u8>,
-    calls: Vec<Call>,
+    pub bytes: Vec<u8>,
+    shelf: Vec<u8>,
+    pub calls: Vec<Call>,
 }
 
 fn record(tags: &[u64], step: i32, time: u64) -> Record {
@@ -138,8 +140,9 @@ impl Row {
             let told = call.on_rust(&mut state);
             assert!(!matches!(told.number(), 1..=9), "{name}: {told}");
         }
-        let bytes = state.bytes();
-        Self { name: name.to_string(), state, bytes, calls }
+        // Of a row all that waits waits for one model, so that the Rust's order is the shelf's.
+        let (bytes, shelf) = (state.bytes(), shelf::write(&state.waiting()));
+        Self { name: name.to_string(), state, bytes, shelf, calls }
     }
 
     /// A row of one call, which is answered so.
@@ -216,6 +219,19 @@ fn others() -> Vec<Row> {
         Row::of("summary that disputes, 72 fixes held, all fall", &full, summary(3, 8), 0, &[]),
         Row::of("summary that disputes, one fix held, it falls", &held(1, 1), summary(3, 8), 0, &[]),
     ]
+}
+
+/// The rows of one call beside an empty shelf that stays empty.
+pub fn of_one_call() -> Vec<Row> {
+    let mut all = reports();
+    all.extend(joins());
+    all.extend(others());
+    all
+}
+
+/// The bytes of a track of 72 fixes.
+pub fn full_track() -> Vec<u8> {
+    Row::new("a full track", &held(8, 9), Vec::new()).bytes
 }
 
 /// The comparison's own lists, each from a fresh track; the same in each run.
@@ -300,9 +316,9 @@ fn race<A, B>(name: &str, against: &str, per: f64, clock: f64, mut ours: Side<A>
 }
 
 /// All calls of a row on our memory.
-fn on_ours(row: &Row, memory: &mut [u8]) {
+fn on_ours(row: &Row, memory: &mut [u8], shelf: &mut [u8]) {
     for call in &row.calls {
-        black_box(call.on_library(black_box(memory)));
+        black_box(call.on_library(black_box(memory), black_box(shelf)));
     }
 }
 
@@ -310,15 +326,17 @@ fn on_ours(row: &Row, memory: &mut [u8]) {
 fn time(rows: &[Row], clock: f64) {
     let ready: Vec<Vec<Ready>> = rows.iter().map(|row| row.calls.iter().map(ready).collect()).collect();
     let per = rows.iter().map(|row| row.calls.len()).sum::<usize>() as f64 / rows.len() as f64;
-    let back = |on: &mut (usize, Vec<u8>)| {
+    let back = |on: &mut (usize, Vec<u8>, Vec<u8>)| {
         on.0 = (on.0 + 1) % rows.len();
         on.1.copy_from_slice(&rows[on.0].bytes);
+        on.2.copy_from_slice(&rows[on.0].shelf);
     };
     let again = |on: &mut (usize, Track)| {
         on.0 = (on.0 + 1) % rows.len();
         on.1 = rows[on.0].state.clone();
     };
-    let mut work = |on: &mut (usize, Vec<u8>)| on_ours(&rows[on.0], &mut on.1);
+    let mut work = |on: &mut (usize, Vec<u8>, Vec<u8>)| on_ours(&rows[on.0], &mut on.1, &mut on.2);
+    let fresh = || (0, vec![0; SIZE], vec![0; SHELF]);
     let mut structs = |on: &mut (usize, Track)| ready[on.0].iter().for_each(|one| take(&mut on.1, one));
     let mut bytes = |on: &mut (usize, Track)| {
         for call in &rows[on.0].calls {
@@ -327,11 +345,11 @@ fn time(rows: &[Row], clock: f64) {
     };
     let name = &rows[0].name;
     let reads = rows.iter().any(|row| row.calls.iter().any(|call| matches!(call, Call::Report { .. })));
-    let ours = Side::new((0, vec![0; SIZE]), &back, &mut work, rows.len());
+    let ours = Side::new(fresh(), &back, &mut work, rows.len());
     let theirs = Side::new((0, Track::default()), &again, &mut structs, rows.len());
     race(name, if reads { "the Rust, records in structs" } else { "the Rust" }, per, clock, ours, theirs);
     if reads {
-        let ours = Side::new((0, vec![0; SIZE]), &back, &mut work, rows.len());
+        let ours = Side::new(fresh(), &back, &mut work, rows.len());
         let theirs = Side::new((0, Track::default()), &again, &mut bytes, rows.len());
         race(name, "the Rust, records read from the same bytes", per, clock, ours, theirs);
     }
@@ -340,9 +358,9 @@ fn time(rows: &[Row], clock: f64) {
 /// A call that only reads the track, to see that it is one: beside memcmp of as many bytes.
 fn read_through(clock: f64) {
     let row = Row::new("summary that is held already, 72 fixes held", &held(8, 9), vec![summary(2, 7)]);
-    let (copy, mut memory) = (row.bytes.clone(), row.bytes.clone());
+    let (copy, mut memory, mut shelf) = (row.bytes.clone(), row.bytes.clone(), row.shelf.clone());
     let nothing = |_: &mut ()| {};
-    let mut work = |_: &mut ()| on_ours(&row, &mut memory);
+    let mut work = |_: &mut ()| on_ours(&row, &mut memory, &mut shelf);
     let mut compared = |_: &mut ()| {
         let (a, b) = (black_box(&row.bytes), black_box(&copy));
         black_box(unsafe { crate::memcmp(a.as_ptr(), b.as_ptr(), a.len()) });
@@ -370,10 +388,37 @@ fn listing(name: &str, before: &[Call], clock: f64) {
     race(name, "the oracle's text of the Rust's state", 1.0, clock, ours, theirs);
 }
 
+/// A fix that cites model 6 too, or 6 and then 7.
+fn early(transmission: u64, k: u64, models: &[u8]) -> Call {
+    report(&Record { models: models.to_vec(), ..fix(transmission, k) }, 1)
+}
+
+/// What takes a fix to the shelf, and what takes it from there.
+fn shelves() -> Vec<Row> {
+    let of_six = |engine| Call::Summary { engine, model: 6, spec: 3, inputs: vec![7; 32] };
+    let waiting = |count: u64, models: &[u8]| {
+        let mut calls = vec![summary(1, 7)];
+        calls.extend((0..count).map(|n| early(n / 8, n % 8, models)));
+        calls
+    };
+    let apart = |count: u64| {
+        let mut calls = vec![summary(1, 7)];
+        calls.extend((0..count).map(|n| early(n, 0, &[5, 6])));
+        calls
+    };
+    vec![
+        Row::of("report that has to wait, none waits", &held(1, 1), early(1, 0, &[5, 6]), 24, &[(1, 0)]),
+        Row::of("report that has to wait, 63 wait", &waiting(63, &[5, 6]), early(7, 7, &[5, 6]), 24, &[]),
+        Row::of("summary of a model for which 1 waits, no fix held", &waiting(1, &[5, 6]), of_six(1), 0, &[(1, 0)]),
+        Row::of("summary of a model for which 64 wait, in 8 transmissions", &waiting(64, &[5, 6]), of_six(1), 0, &[(5, 3); 8]),
+        Row::of("summary of a model for which 64 wait, each a transmission", &apart(64), of_six(1), 0, &[(1, 0); 8]),
+        Row::of("summary of a model for which 64 wait, which then wait for another", &waiting(64, &[6, 9]), of_six(1), 0, &[]),
+    ]
+}
+
 fn rows() -> Vec<Row> {
-    let mut all = reports();
-    all.extend(joins());
-    all.extend(others());
+    let mut all = of_one_call();
+    all.extend(shelves());
     all
 }
 
@@ -400,13 +445,14 @@ pub fn alone(name: &str, times: u64) {
     if "mix" == name {
         all = mix();
     }
-    let mut memory = vec![0u8; SIZE];
+    let (mut memory, mut shelf) = (vec![0u8; SIZE], vec![0u8; SHELF]);
     let mut out = vec![0u8; 16_384];
     for row in all.iter().filter(|row| name == "mix" || row.name.contains(name)) {
         println!("{} times {}", times, row.name);
         for _ in 0..times {
             memory.copy_from_slice(&row.bytes);
-            on_ours(row, &mut memory);
+            shelf.copy_from_slice(&row.shelf);
+            on_ours(row, &mut memory, &mut shelf);
             if row.calls.is_empty() {
                 black_box(binding::track::listing(&memory, &mut out));
             }

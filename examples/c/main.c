@@ -1,5 +1,6 @@
 /* The sizes of the layouts, a hash, the three outcomes of an agreement, decisions over three fixes of one transmission, also in another order,
- * reports into a register, a conviction that is shown first, a map, a register turned for an archive, and the same three fixes in two orders into tracks, called from C. */
+ * reports into a register, a conviction that is shown first, a map, a register turned for an archive, the same three fixes in two orders into tracks,
+ * and a fix that waits on a shelf, called from C. */
 #include <inttypes.h>
 #include <stdio.h>
 #include <string.h>
@@ -82,9 +83,10 @@ static void show_text(const char *what, uint32_t length, const uint8_t *text) {
 }
 
 static void sizes(void) {
-    printf("header %s (%d): record %d, summary %d, register %d, item %d, answer %d, fix %d, refused %d, transmission %d, track %d\n",
+    printf("header %s (%d): record %d, summary %d, register %d, item %d, answer %d, fix %d, refused %d, transmission %d, track %d, shelf "
+           "%d\n",
            TL_VERSION_TEXT, TL_VERSION, TL_RECORD_SIZE, TL_SUMMARY_SIZE, TL_REGISTER_SIZE, TL_ITEM_SIZE, TL_ANSWER_SIZE, TL_FIX_SIZE,
-           TL_REFUSED_SIZE, TL_TRANSMISSION_SIZE, TL_TRACK_SIZE);
+           TL_REFUSED_SIZE, TL_TRANSMISSION_SIZE, TL_TRACK_SIZE, TL_SHELF_SIZE);
     show_words();
 }
 
@@ -233,12 +235,13 @@ static void archive(void) {
 
 /* Fix i has i + 1 receivers and lies i steps north: the first disagrees with the third, and the second with none. */
 static void track(const int order[FIXES]) {
-    static uint8_t memory[TL_TRACK_SIZE], out[TL_LISTING_SIZE];
+    static uint8_t memory[TL_TRACK_SIZE], shelf[TL_SHELF_SIZE], out[TL_LISTING_SIZE];
     uint8_t r[TL_RECORD_SIZE];
     memset(memory, 0, sizeof memory);
+    memset(shelf, 0, sizeof shelf);
     for (int i = 0; i < FIXES; i++) {
         write_record(r, order[i] + 1, STEP * order[i]);
-        uint32_t answer = tl_track_report(memory, sizeof memory, 1, r, sizeof r);
+        uint32_t answer = tl_track_report(memory, sizeof memory, shelf, sizeof shelf, 1, r, sizeof r);
         printf("track, fix %d: answer %" PRIu32 " (%s)\n", order[i] + 1, answer, tl_answer_name(answer));
     }
     const uint8_t *last = memory + TL_TRACK_TRANSMISSIONS_AT + (memory[TL_TRACK_TRANSMISSION_COUNT_AT] - 1) * TL_TRANSMISSION_SIZE;
@@ -249,12 +252,30 @@ static void track(const int order[FIXES]) {
 }
 
 static void disputes(void) {
-    static uint8_t memory[TL_TRACK_SIZE];
+    static uint8_t memory[TL_TRACK_SIZE], shelf[TL_SHELF_SIZE];
     uint8_t inputs[TL_INPUTS_SIZE] = {0};
-    show("track, summary", tl_track_summary(memory, sizeof memory, 1, MODEL, SPEC, inputs, sizeof inputs));
-    show("track, summary of model 64", tl_track_summary(memory, sizeof memory, 1, TL_MAX_MODEL + 1, SPEC, inputs, sizeof inputs));
-    show("track, conviction", tl_track_conviction(memory, sizeof memory, 1));
-    show("track, summary", tl_track_summary(memory, sizeof memory, 1, MODEL, SPEC, inputs, sizeof inputs));
+    show("track, summary", tl_track_summary(memory, sizeof memory, shelf, sizeof shelf, 1, MODEL, SPEC, inputs, sizeof inputs));
+    show("track, summary of model 64",
+         tl_track_summary(memory, sizeof memory, shelf, sizeof shelf, 1, TL_MAX_MODEL + 1, SPEC, inputs, sizeof inputs));
+    show("track, conviction", tl_track_conviction(memory, sizeof memory, shelf, sizeof shelf, 1));
+    show("track, summary", tl_track_summary(memory, sizeof memory, shelf, sizeof shelf, 1, MODEL, SPEC, inputs, sizeof inputs));
+}
+
+/* A fix that comes before its model waits on the shelf; the summary takes it from there into the track. */
+static void waiting(void) {
+    static uint8_t memory[TL_TRACK_SIZE], shelf[TL_SHELF_SIZE], out[TL_LISTING_SIZE];
+    uint8_t r[TL_RECORD_SIZE], inputs[TL_INPUTS_SIZE] = {0};
+    write_record(r, 2, 0);
+    r[TL_RECORD_MODEL_COUNT_AT] = 1;
+    r[TL_RECORD_MODELS_AT] = MODEL;
+    put(r + TL_RECORD_SPEC_AT, 2, SPEC);
+    show("track, a fix before its model", tl_track_report(memory, sizeof memory, shelf, sizeof shelf, 1, r, sizeof r));
+    const uint8_t *place = shelf + TL_SHELF_PLACES_AT;
+    printf("waiting: %d, for model %d, of engine %d\n", shelf[TL_SHELF_COUNT_AT], place[TL_WAITING_MODEL_AT], place[TL_WAITING_ENGINE_AT]);
+    show("track, the summary", tl_track_summary(memory, sizeof memory, shelf, sizeof shelf, 2, MODEL, SPEC, inputs, sizeof inputs));
+    printf("waiting: %d\n", shelf[TL_SHELF_COUNT_AT]);
+    show_text("listing", tl_track_listing(memory, sizeof memory, out, sizeof out), out);
+    show("track, a shelf of too little", tl_track_conviction(memory, sizeof memory, shelf, sizeof shelf - 1, 1));
 }
 
 /* One fix of one receiver, with one digit for each number: the shortest board that is not empty. */
@@ -286,6 +307,7 @@ int main(void) {
     track(smallest_first);
     track(largest_first);
     disputes();
+    waiting();
     shortest();
     return 0;
 }

@@ -29,12 +29,12 @@ static void print_state(const uint8_t *memory, const uint8_t *r) {
     printf("counts");
 }
 
-static uint8_t memory[TL_REGISTER_SIZE], fresh[TL_TRACK_SIZE], track[TL_TRACK_SIZE], board[TL_BOARD_SIZE];
+static uint8_t memory[TL_REGISTER_SIZE], fresh[TL_TRACK_SIZE], track[TL_TRACK_SIZE], shelf[TL_SHELF_SIZE], board[TL_BOARD_SIZE];
 
 static void summary(uint32_t engine, uint32_t model, uint8_t first) {
     uint8_t inputs[TL_INPUTS_SIZE] = {first};
     must(tl_register_summary(memory, sizeof memory, engine, model, SPEC, inputs, sizeof inputs));
-    must(tl_track_summary(fresh, sizeof fresh, engine, model, SPEC, inputs, sizeof inputs));
+    must(tl_track_summary(fresh, sizeof fresh, shelf, sizeof shelf, engine, model, SPEC, inputs, sizeof inputs));
 }
 
 static void report(uint32_t engine, int transmission, int32_t lat, uint8_t model, uint16_t spec) {
@@ -58,7 +58,8 @@ int main(void) {
     for (uint64_t i = 0; i < held_count(memory); i++) {
         const uint8_t *r = held(memory, i) + TL_HELD_RECORD_AT;
         memcpy(track, fresh, sizeof track);
-        uint32_t answer = tl_track_report(track, sizeof track, 1, r, TL_RECORD_SIZE);
+        memset(shelf, 0, sizeof shelf);
+        uint32_t answer = tl_track_report(track, sizeof track, shelf, sizeof shelf, 1, r, TL_RECORD_SIZE);
         printf("lat=%" PRIu64 " message %d reported by %08" PRIx64 ": ", get(r + TL_RECORD_LAT_AT, 4), r[TL_RECORD_MESSAGE_AT],
                get(held(memory, i) + TL_HELD_SIGNERS_AT, TL_SIGNERS_SIZE));
         print_state(memory, r);

@@ -120,38 +120,51 @@ pub mod register {
 
 #[cfg(has_track)]
 unsafe extern "C" {
-    fn tl_track_report(memory: *mut u8, len: usize, engine: u32, record: *const u8, record_len: usize) -> u32;
+    fn tl_track_report(
+        memory: *mut u8,
+        len: usize,
+        shelf: *mut u8,
+        shelf_len: usize,
+        engine: u32,
+        record: *const u8,
+        record_len: usize,
+    ) -> u32;
     fn tl_track_summary(
         memory: *mut u8,
         len: usize,
+        shelf: *mut u8,
+        shelf_len: usize,
         engine: u32,
         model: u32,
         spec: u16,
         inputs: *const u8,
         inputs_len: usize,
     ) -> u32;
-    fn tl_track_conviction(memory: *mut u8, len: usize, engine: u32) -> u32;
+    fn tl_track_conviction(memory: *mut u8, len: usize, shelf: *mut u8, shelf_len: usize, engine: u32) -> u32;
     fn tl_track_listing(memory: *const u8, len: usize, out: *mut u8, out_len: usize) -> u32;
 }
 
-/// The track's calls, each with the number that it answers. Without a track in the library nobody may call them.
+/// The track's calls, each with the number that it answers; behind the track stands its shelf. Without a track in the library nobody
+/// may call them.
 pub const TRACK: bool = cfg!(has_track);
 
 #[cfg(has_track)]
 pub mod track {
     #[inline(always)]
-    pub fn report(m: &mut [u8], engine: u32, record: &[u8]) -> u32 {
-        unsafe { super::tl_track_report(m.as_mut_ptr(), m.len(), engine, record.as_ptr(), record.len()) }
+    pub fn report(m: &mut [u8], s: &mut [u8], engine: u32, record: &[u8]) -> u32 {
+        let (shelf, shelf_len) = (s.as_mut_ptr(), s.len());
+        unsafe { super::tl_track_report(m.as_mut_ptr(), m.len(), shelf, shelf_len, engine, record.as_ptr(), record.len()) }
     }
 
     #[inline(always)]
-    pub fn summary(m: &mut [u8], engine: u32, model: u32, spec: u16, inputs: &[u8]) -> u32 {
-        unsafe { super::tl_track_summary(m.as_mut_ptr(), m.len(), engine, model, spec, inputs.as_ptr(), inputs.len()) }
+    pub fn summary(m: &mut [u8], s: &mut [u8], engine: u32, model: u32, spec: u16, inputs: &[u8]) -> u32 {
+        let (memory, len, shelf, shelf_len) = (m.as_mut_ptr(), m.len(), s.as_mut_ptr(), s.len());
+        unsafe { super::tl_track_summary(memory, len, shelf, shelf_len, engine, model, spec, inputs.as_ptr(), inputs.len()) }
     }
 
     #[inline(always)]
-    pub fn convict(m: &mut [u8], engine: u32) -> u32 {
-        unsafe { super::tl_track_conviction(m.as_mut_ptr(), m.len(), engine) }
+    pub fn convict(m: &mut [u8], s: &mut [u8], engine: u32) -> u32 {
+        unsafe { super::tl_track_conviction(m.as_mut_ptr(), m.len(), s.as_mut_ptr(), s.len(), engine) }
     }
 
     #[inline(always)]
@@ -162,16 +175,16 @@ pub mod track {
 
 #[cfg(not(has_track))]
 pub mod track {
-    pub fn report(m: &mut [u8], engine: u32, record: &[u8]) -> u32 {
-        unreachable!("{} {engine} {}", m.len(), record.len())
+    pub fn report(m: &mut [u8], s: &mut [u8], engine: u32, record: &[u8]) -> u32 {
+        unreachable!("{} {} {engine} {}", m.len(), s.len(), record.len())
     }
 
-    pub fn summary(m: &mut [u8], engine: u32, model: u32, spec: u16, inputs: &[u8]) -> u32 {
-        unreachable!("{} {engine} {model} {spec} {}", m.len(), inputs.len())
+    pub fn summary(m: &mut [u8], s: &mut [u8], engine: u32, model: u32, spec: u16, inputs: &[u8]) -> u32 {
+        unreachable!("{} {} {engine} {model} {spec} {}", m.len(), s.len(), inputs.len())
     }
 
-    pub fn convict(m: &mut [u8], engine: u32) -> u32 {
-        unreachable!("{} {engine}", m.len())
+    pub fn convict(m: &mut [u8], s: &mut [u8], engine: u32) -> u32 {
+        unreachable!("{} {} {engine}", m.len(), s.len())
     }
 
     pub fn listing(m: &[u8], out: &mut [u8]) -> usize {

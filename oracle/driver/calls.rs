@@ -3,7 +3,10 @@
 use crate::heights::EDGES;
 use crate::random::Random;
 use crate::{binding, claims};
-use oracle::layout::{MAX_TAGS, MESSAGE_LENGTH_AT, MODEL_COUNT_AT, MODELS_AT, Mask, SPEC_AT, TAG_COUNT_AT, TAGS_AT, USED_AT};
+use oracle::layout::{
+    MAX_TAGS, MAX_WAITING, MESSAGE_LENGTH_AT, MODEL_COUNT_AT, MODELS_AT, Mask, SPEC_AT, TAG_COUNT_AT, TAGS_AT, USED_AT,
+};
+use oracle::shelf::{Shelved, Waiting};
 use oracle::track::{Answer, Track};
 use oracle::{Record, hex};
 use std::collections::BTreeMap;
@@ -24,13 +27,37 @@ impl Call {
         }
     }
 
-    pub fn on_library(&self, memory: &mut [u8]) -> u32 {
+    /// The same beside the second writing of the shelf.
+    pub fn on_shelved(&self, both: &mut Shelved) -> Answer {
         match self {
-            Self::Report { engine, record } => binding::track::report(memory, (*engine).into(), record),
+            Self::Report { engine, record } => both.report(*engine, record),
+            Self::Summary { engine, model, spec, inputs } => Answer::Number(both.summary(*engine, *model, *spec, inputs)),
+            Self::Convict { engine } => Answer::Number(both.convict(*engine)),
+        }
+    }
+
+    pub fn on_library(&self, memory: &mut [u8], shelf: &mut [u8]) -> u32 {
+        match self {
+            Self::Report { engine, record } => binding::track::report(memory, shelf, (*engine).into(), record),
             Self::Summary { engine, model, spec, inputs } => {
-                binding::track::summary(memory, (*engine).into(), (*model).into(), *spec, inputs)
+                binding::track::summary(memory, shelf, (*engine).into(), (*model).into(), *spec, inputs)
             }
-            Self::Convict { engine } => binding::track::convict(memory, (*engine).into()),
+            Self::Convict { engine } => binding::track::convict(memory, shelf, (*engine).into()),
+        }
+    }
+
+    /// Whether the Rust does something else by design where this waits in it: where a fix has to wait and a shelf is full, where what is
+    /// reported waits already, and at the conviction of an engine whose fixes wait.
+    pub fn parts_from_rust(&self, track: &Track, waiting: &[Waiting]) -> bool {
+        match self {
+            Self::Report { engine, record } => {
+                let repeated = waiting.iter().any(|one| one.engine == *engine && one.record == *record);
+                let must_wait = || Record::read(record).is_some_and(|r| r.models.iter().any(|model| !track.has_summary(*model)));
+                let refused = *engine > 31 || track.is_convicted(*engine);
+                !refused && (repeated || waiting.len() == MAX_WAITING && must_wait())
+            }
+            Self::Summary { .. } => false,
+            Self::Convict { engine } => waiting.iter().any(|one| one.engine == *engine),
         }
     }
 
@@ -102,6 +129,8 @@ struct Style {
     messages: u64,
     engines: u64,
     models: u64,
+    /// One report in so many that cite anything cites any models, whether or not they have a summary.
+    blind: u64,
     /// One call in so many is a summary, one in so many a conviction; one report in so many repeats an earlier one.
     summaries: u64,
     convictions: u64,
@@ -128,7 +157,8 @@ fn style(random: &mut Random) -> Style {
         length: random.pick(&[Length::Seven, Length::Seven, Length::Seven, Length::Seven, Length::Fourteen, Length::Either]),
         messages: random.pick(&[1, 1, 1, 2]),
         engines: random.pick(&[2, 3, 5, 32]),
-        models: random.pick(&[0, 1, 2, 3, 64]),
+        models: random.pick(&[0, 1, 2, 3, 6, 64]),
+        blind: random.pick(&[3, 24, 24]),
         summaries: random.pick(&[4, 8, 20]),
         convictions: random.pick(&[12, 30, 100, 400]),
         repeats: random.pick(&[3, 6, 20]),
@@ -142,6 +172,11 @@ pub struct Growing {
     /// By engine and model: the spec and the first byte of the inputs.
     pub said: BTreeMap<(u8, u8), (u16, u8)>,
     pub convicted: u32,
+}
+
+/// The spec of most summaries of a model.
+fn usual_spec(model: u8) -> u16 {
+    u16::from(model % 8 == 7)
 }
 
 pub fn inputs(first: u8) -> Vec<u8> {
@@ -221,8 +256,11 @@ impl Growing {
         if self.style.models == 0 || random.one_in(3) {
             return (Vec::new(), random.below(2) as u16);
         }
-        if random.one_in(24) {
-            return (vec![random.below(self.style.models) as u8], random.below(2) as u16);
+        if random.one_in(self.style.blind) {
+            let count = random.pick(&[1, 1, 2, 3, 4]);
+            let any: Vec<u8> = (0..count).map(|_| random.below(self.style.models) as u8).collect();
+            let spec = usual_spec(any[0]);
+            return (any, if random.one_in(6) { spec ^ 1 } else { spec });
         }
         if let (true, Some(((_, model), (spec, _)))) = (random.one_in(12), self.said.iter().next()) {
             return (vec![*model], *spec);
@@ -316,7 +354,7 @@ impl Growing {
     pub fn summary(&mut self, random: &mut Random, first: bool) -> Call {
         let engine = if random.one_in(2_000) { 32 } else { self.engine(random) };
         let model = if random.one_in(2_000) { 64 } else { random.below(self.style.models.max(1)) as u8 };
-        let usual = (u16::from(model % 8 == 7), model);
+        let usual = (usual_spec(model), model);
         let (spec, said) = match random.below(if first { 40 } else { 8 }) {
             0 => (usual.0, model.wrapping_add(1)),
             1 if random.one_in(3) => (usual.0 ^ 1, model),
@@ -330,6 +368,16 @@ impl Growing {
             inputs.pop();
         }
         Call::Summary { engine, model, spec, inputs }
+    }
+
+    /// What most say of a model, or now and then something else, by an engine that is not convicted.
+    pub fn summary_of(&mut self, random: &mut Random, model: u8) -> Call {
+        let engine = self.engine(random);
+        let spec = if random.one_in(6) { usual_spec(model) ^ 1 } else { usual_spec(model) };
+        if self.convicted >> engine & 1 == 0 {
+            self.said.insert((engine, model), (spec, model));
+        }
+        Call::Summary { engine, model, spec, inputs: inputs(model) }
     }
 
     /// An engine that calls, one that is convicted already, or one that nobody heard of.
@@ -384,7 +432,7 @@ pub fn list(random: &mut Random) -> Vec<Call> {
     if random.one_in(4_000) {
         full(random, &mut growing);
     }
-    if growing.style.models > 0 {
+    if growing.style.models > 0 && !random.one_in(4) {
         for _ in 0..1 + random.below(growing.style.models.min(4)) {
             let call = growing.summary(random, true);
             growing.calls.push(call);
@@ -392,6 +440,37 @@ pub fn list(random: &mut Random) -> Vec<Call> {
     }
     for _ in 0..length {
         growing.grow(random);
+    }
+    growing.calls
+}
+
+/// Reports of about as many fixes that must wait as a shelf holds, and then calls that mostly concern what waits.
+pub fn heap(random: &mut Random) -> Vec<Call> {
+    let mut growing = Growing::new(random);
+    growing.style.models = random.pick(&[1, 2, 4]);
+    growing.style.engines = random.pick(&[2, 3, 5]);
+    growing.style.blind = 1;
+    let due = MAX_WAITING as u64 - 6 + random.below(12);
+    let (mut wait, mut due_models) = (0, Vec::new());
+    while wait < due {
+        let call = growing.report(random);
+        if let Call::Report { record, .. } = &call
+            && let Some(record) = Record::read(record)
+        {
+            wait += u64::from(!record.models.is_empty());
+            due_models.extend(record.models);
+        }
+        growing.calls.push(call);
+    }
+    for _ in 0..4 + random.below(20) {
+        match random.below(3) {
+            0 if !due_models.is_empty() => {
+                let model = random.pick(&due_models);
+                let call = growing.summary_of(random, model);
+                growing.calls.push(call);
+            }
+            _ => growing.grow(random),
+        }
     }
     growing.calls
 }

@@ -10,7 +10,7 @@
 mod binding;
 
 use oracle::decide::{Decision, SIZE, decide};
-use oracle::layout::{CONSISTENT_AT, IDENTITY_AT, Mask, RECORD, STANDING_AT, VERIFIED_AT};
+use oracle::layout::{CONSISTENT_AT, IDENTITY_AT, Mask, RECORD, SHELF, STANDING_AT, VERIFIED_AT};
 use oracle::measured::{Outcome, outcome};
 use oracle::track::{FIX, FIXES_AT, REFUSED, REFUSED_AT, SIZE as TRACK_SIZE, TRANSMISSION, TRANSMISSIONS_AT, Track};
 use oracle::{Claim, Record};
@@ -75,6 +75,7 @@ fn name(number: u32) -> String {
         21 => "Contested".to_string(),
         22 => "Duplicate".to_string(),
         23 => "Dropped".to_string(),
+        24 => "Waiting".to_string(),
         other => other.to_string(),
     }
 }
@@ -88,42 +89,43 @@ enum Whose {
 
 enum Held {
     Rust(Box<Track>),
-    Ours(Vec<u8>),
+    /// A track and its shelf.
+    Ours(Vec<u8>, Vec<u8>),
 }
 
 impl Held {
     fn fresh(whose: Whose) -> Self {
         match whose {
             Whose::Rust => Self::Rust(Box::default()),
-            Whose::Ours => Self::Ours(vec![0; TRACK_SIZE]),
+            Whose::Ours => Self::Ours(vec![0; TRACK_SIZE], vec![0; SHELF]),
         }
     }
 
     fn bytes(&self) -> Vec<u8> {
         match self {
             Self::Rust(track) => track.bytes(),
-            Self::Ours(bytes) => bytes.clone(),
+            Self::Ours(bytes, _) => bytes.clone(),
         }
     }
 
     fn report(&mut self, engine: u8, record: &[u8]) -> u32 {
         match self {
             Self::Rust(track) => track.report(engine, record).number(),
-            Self::Ours(bytes) => binding::track::report(bytes, engine.into(), record),
+            Self::Ours(bytes, shelf) => binding::track::report(bytes, shelf, engine.into(), record),
         }
     }
 
     fn summary(&mut self, engine: u8, model: u8, inputs: &[u8]) -> u32 {
         match self {
             Self::Rust(track) => track.summary(engine, model, 0, inputs).into(),
-            Self::Ours(bytes) => binding::track::summary(bytes, engine.into(), model.into(), 0, inputs),
+            Self::Ours(bytes, shelf) => binding::track::summary(bytes, shelf, engine.into(), model.into(), 0, inputs),
         }
     }
 
     fn convict(&mut self, engine: u8) -> u32 {
         match self {
             Self::Rust(track) => track.convict(engine).into(),
-            Self::Ours(bytes) => binding::track::convict(bytes, engine.into()),
+            Self::Ours(bytes, shelf) => binding::track::convict(bytes, shelf, engine.into()),
         }
     }
 }
@@ -337,6 +339,34 @@ fn models(f: &mut Findings) {
     );
 }
 
+/// Fixes that come before their model. The first is a difference: what it is said to do is the Rust's, then ours.
+fn waiting(f: &mut Findings) {
+    let cites = |tags: &[u64], models: &[u8]| Record { models: models.to_vec(), ..fix(tags, 0) };
+    let mut convicted = f.session();
+    convicted.report(1, &cites(&[1], &[5])).convict(1).summary(2, 5, 1);
+    let left = if f.whose == Whose::Rust { "Waiting contested=0 [{1}@0]" } else { "Waiting contested=0 []" };
+    f.see("waiting: report by 1 citing 5, which is missing, convict 1, summary(2, 5, X)", convicted.told(), left);
+    let mut again = f.session();
+    let (one, two, both) = (cites(&[1], &[5]), cites(&[2], &[5]), cites(&[1, 2], &[5]));
+    again.report(1, &one).report(1, &two).report(1, &both).report(1, &both).summary(2, 5, 1);
+    f.see(
+        "waiting: a repeat waits too, {1} {2} {1,2} {1,2} citing 5, then summary(2, 5, X): transmissions",
+        format!("{} {}", again.answers.join(","), again.transmissions()),
+        "Waiting,Waiting,Waiting,Waiting 4",
+    );
+    let many: Vec<Record> = (0..65).map(|n| Record { time: 1000 + n, ..cites(&[10 + n], &[5]) }).collect();
+    let many = f.reports(&many);
+    let last = if f.whose == Whose::Rust { "Waiting" } else { "13" };
+    f.see("waiting: 65 fixes that wait, the last", many.answers[64].clone(), last);
+    let mut order = f.session();
+    order.report(1, &cites(&[1], &[6, 5])).summary(1, 5, 1).summary(1, 6, 2);
+    f.see(
+        "waiting: a fix citing [6,5] waits for 6, its first, and is merged when 6 comes",
+        order.told(),
+        "Waiting contested=0 [{1}@0]",
+    );
+}
+
 /// Models in any order, and twice.
 fn citations(f: &mut Findings) {
     let cites = |models: &[u8]| Record { models: models.to_vec(), ..fix(&[1], 0) };
@@ -464,6 +494,7 @@ fn tracks(f: &mut Findings) {
     dropped(f);
     models(f);
     citations(f);
+    waiting(f);
 }
 
 fn main() {

@@ -7,7 +7,9 @@ use crate::random::Random;
 use crate::tracks::{Both, ROOM};
 use crate::{binding, claims, measured, tried};
 use oracle::formed::formed;
-use oracle::layout::{CHI2_AT, MAX_TAGS, MESSAGE_LENGTH_AT, MODEL_COUNT_AT, MODELS_AT, Mask, PLACE, RECORD, TAGS_AT, USED_AT};
+use oracle::layout::{
+    CHI2_AT, MAX_TAGS, MESSAGE_LENGTH_AT, MODEL_COUNT_AT, MODELS_AT, Mask, PLACE, RECORD, SHELF, TAGS_AT, USED_AT,
+};
 use oracle::track::{FIX, FIXES_AT, REFUSED, REFUSED_AT, SIZE, SUMMARIES_AT, SUMMARY, TRANSMISSION, TRANSMISSIONS_AT, Track};
 use oracle::{Record, hex};
 
@@ -16,7 +18,7 @@ type Parts = (Vec<Vec<u8>>, Vec<Vec<u8>>);
 
 /// The parts of a track, so that some can be left out again.
 #[derive(Clone, Default)]
-struct Lent {
+pub struct Lent {
     convicted: u32,
     contested: u64,
     summaries: Vec<Vec<u8>>,
@@ -24,7 +26,7 @@ struct Lent {
 }
 
 impl Lent {
-    fn bytes(&self) -> Vec<u8> {
+    pub fn bytes(&self) -> Vec<u8> {
         let mut b = vec![0u8; SIZE];
         b[..4].copy_from_slice(&self.convicted.to_le_bytes());
         b[4..6].copy_from_slice(&(self.summaries.len() as u16).to_le_bytes());
@@ -149,7 +151,7 @@ fn summaries(random: &mut Random, growing: &mut Growing) -> Vec<Vec<u8>> {
 }
 
 /// A well-formed track, and what its calls are chosen by.
-fn track(random: &mut Random) -> (Lent, Growing) {
+pub fn track(random: &mut Random) -> (Lent, Growing) {
     let mut growing = Growing::new(random);
     let convicted = match random.below(3) {
         0 => 0,
@@ -225,7 +227,9 @@ fn run(lent: &Lent, calls: &[Call], both: &mut Both, counts: &mut Counts) -> Res
     both.begin(rust, &bytes);
     both.listing(counts)?;
     for (n, call) in calls.iter().enumerate() {
-        let told = both.call(call).map_err(|words| format!("call {n}: {words}"))?;
+        let Some(told) = both.call(call, counts).map_err(|words| format!("call {n}: {words}"))? else {
+            continue;
+        };
         Seen { before: &both.before, after: &both.after, counts }.call(call, told);
         if both.after[15] < both.before[15] {
             *counts.entry("contested passed 2^64").or_default() += 1;
@@ -289,9 +293,10 @@ fn area(at: usize) -> &'static str {
 
 /// Whether a call on these bytes is answered 1 and leaves them, and the listing's output too.
 fn refuses(bytes: &[u8], call: &Call) -> bool {
-    let (mut memory, mut out) = (bytes.to_vec(), vec![7u8; ROOM]);
-    let told = call.on_library(&mut memory);
-    told == 1 && memory == bytes && binding::track::listing(bytes, &mut out) == 1 && out.iter().all(|&b| b == 7)
+    let (mut memory, mut shelf, mut out) = (bytes.to_vec(), vec![0u8; SHELF], vec![7u8; ROOM]);
+    let told = call.on_library(&mut memory, &mut shelf);
+    let stays = memory == bytes && shelf.iter().all(|&b| b == 0);
+    told == 1 && stays && binding::track::listing(bytes, &mut out) == 1 && out.iter().all(|&b| b == 7)
 }
 
 /// One byte changed: refused with 1 exactly where the specification's rules are broken. What is still a track is called as any other.
@@ -306,7 +311,7 @@ fn damaged(random: &mut Random, bytes: &mut [u8], call: &Call, both: &mut Both, 
         return if ok { Ok(()) } else { Err(format!("byte {at} changed: not well-formed, and not refused with 1")) };
     };
     both.begin(rust, bytes);
-    both.call(call).map_err(|words| format!("byte {at} changed: {words}"))?;
+    both.call(call, counts).map_err(|words| format!("byte {at} changed: {words}"))?;
     both.listing(counts)
 }
 
@@ -330,20 +335,20 @@ fn other_arguments(bytes: &[u8], counts: &mut Counts) -> Result<(), String> {
         return Ok(());
     }
     *counts.entry("tracks called with engines over 31, models over 63 and outputs too small").or_default() += 1;
-    let (mut memory, record, text) = (bytes.to_vec(), [0u8; RECORD], [0u8; 32]);
+    let (mut memory, mut shelf, record, text) = (bytes.to_vec(), vec![0u8; SHELF], [0u8; RECORD], [0u8; 32]);
     let mut told = Vec::new();
     for number in [256, 287, u32::MAX] {
-        told.push((binding::track::report(&mut memory, number, &record), 2));
-        told.push((binding::track::convict(&mut memory, number), 2));
-        told.push((binding::track::summary(&mut memory, number, 64, 0, &[]), 2));
-        told.push((binding::track::summary(&mut memory, 0, number, 0, &text), 9));
+        told.push((binding::track::report(&mut memory, &mut shelf, number, &record), 2));
+        told.push((binding::track::convict(&mut memory, &mut shelf, number), 2));
+        told.push((binding::track::summary(&mut memory, &mut shelf, number, 64, 0, &[]), 2));
+        told.push((binding::track::summary(&mut memory, &mut shelf, 0, number, 0, &text), 9));
     }
     for length in [0, 12, ROOM - 1] {
         let mut out = vec![7u8; length];
         told.push((binding::track::listing(&memory, &mut out) as u32, if out.iter().all(|&b| b == 7) { 10 } else { 0 }));
         told.push((binding::track::listing(&memory[1..], &mut out) as u32, 1));
     }
-    let fine = memory == bytes && told.iter().all(|(a, b)| a == b);
+    let fine = memory == bytes && shelf.iter().all(|&b| b == 0) && told.iter().all(|(a, b)| a == b);
     if fine { Ok(()) } else { Err(format!("answers and what was due {told:?}, bytes alike: {}", memory == bytes)) }
 }
 

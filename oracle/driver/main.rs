@@ -17,6 +17,7 @@ mod previews;
 mod random;
 #[cfg(has_register)]
 mod registers;
+mod shelves;
 #[cfg(has_register)]
 mod spans;
 mod tracks;
@@ -280,7 +281,7 @@ fn main() {
     let mut words = std::env::args().skip(1);
     let mut number = |otherwise: u64| words.next().map_or(otherwise, |w| w.parse().expect("a number"));
     let (pairs, lists, others) = (number(1_000_000), number(200_000), number(200_000));
-    let (calls, tracks, seed) = (number(200_000), number(1_000_000), number(1));
+    let (calls, tracks, shelves, seed) = (number(200_000), number(1_000_000), number(200_000), number(1));
     let mut random = Random(seed);
     compare_hash(&mut random, others / 10);
     compare_root(&mut random, others);
@@ -289,6 +290,7 @@ fn main() {
     compare_decide(&mut random, lists);
     tracks::compare(&mut random, tracks);
     lent::compare(&mut random, tracks / 5);
+    shelves::compare(&mut random, shelves);
     #[cfg(has_register)]
     registers::compare(&mut random, calls);
     #[cfg(not(has_register))]

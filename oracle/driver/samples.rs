@@ -5,7 +5,8 @@ use crate::calls::{self, Call};
 use crate::cases::{self, Counts, Seen};
 use crate::random::Random;
 use oracle::layout::RECORD;
-use oracle::track::{SIZE, Track};
+use oracle::shelf::{self, Shelved};
+use oracle::track::SIZE;
 use oracle::{Record, blake2s256, hex};
 use std::collections::{BTreeMap, BTreeSet};
 
@@ -41,14 +42,14 @@ fn fits(calls: &[Call]) -> bool {
     })
 }
 
-/// What comes up in a list, on the Rust.
+/// What comes up in a list, on the Rust's track beside the second writing of the shelf.
 fn seen(calls: &[Call]) -> Counts {
-    let (mut track, mut counts) = (Track::default(), Counts::new());
+    let (mut both, mut counts) = (Shelved::default(), Counts::new());
     let (mut before, mut after) = (vec![0u8; SIZE], vec![0u8; SIZE]);
     for call in calls {
         std::mem::swap(&mut before, &mut after);
-        let told = call.on_rust(&mut track);
-        track.write(&mut after);
+        let told = call.on_shelved(&mut both);
+        both.track.write(&mut after);
         Seen { before: &before, after: &after, counts: &mut counts }.call(call, told);
     }
     cases::count_heights(&after, &mut counts);
@@ -98,24 +99,25 @@ fn nested() -> [Vec<Call>; 2] {
     [[1, 2, 3], [3, 1, 2]].map(|order| order.map(report).to_vec())
 }
 
-/// A list and what is printed of it: after each call the answer and the hash of all bytes, in the end (and in the middle of a longer
-/// list) the listing.
+/// A list and what is printed of it: after each call the answer and the hashes of all bytes of the track and of the shelf, in the end
+/// (and in the middle of a longer list) the listing.
 fn put_list(bin: &mut Vec<u8>, out: &mut String, calls: &[Call]) {
     let middle = if calls.len() > 3 { calls.len() / 2 } else { 0 };
     let count = calls.len() + 1 + usize::from(middle > 0);
     bin.extend_from_slice(&(count as u16).to_le_bytes());
-    let mut track = Track::default();
+    let mut both = Shelved::default();
     for (n, call) in calls.iter().enumerate() {
         put_call(bin, call);
-        let told = call.on_rust(&mut track).number();
-        *out += &format!("answer={told} hash={}\n", hex::write(&blake2s256(&track.bytes())));
+        let told = call.on_shelved(&mut both).number();
+        let hash = |bytes: &[u8]| hex::write(&blake2s256(bytes));
+        *out += &format!("answer={told} hash={} shelf={}\n", hash(&both.track.bytes()), hash(&shelf::write(&both.waiting)));
         if n + 1 == middle {
             bin.push(3);
-            *out += &track.listing();
+            *out += &both.track.listing();
         }
     }
     bin.push(3);
-    *out += &track.listing();
+    *out += &both.track.listing();
     out.push('\n');
 }
 

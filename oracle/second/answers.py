@@ -18,19 +18,20 @@ class Answer(IntEnum):
     MALFORMED_RECORD = 3
     ENGINE_CONVICTED = 4
     FULL = 5
-    MODEL_MISSING = 6
     MODEL_DISPUTED = 7
     BAD_ITEMS = 8
     BAD_SUMMARY = 9
     OUTPUT_TOO_SMALL = 10
     BAD_LINE = 11
     SESSION_TOO_LONG = 12
+    SHELF_FULL = 13
     UNKNOWN_DESK = 15
     NO_RIGHT = 16
     CHANGED = 20
     CONTESTED = 21
     DUPLICATE = 22
     DROPPED = 23
+    WAITING = 24
 
 
 class Refused(Exception):

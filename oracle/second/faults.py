@@ -10,7 +10,7 @@ from dataclasses import dataclass, replace
 from typing import Any, Callable, Sequence
 from unittest.mock import patch
 
-from . import agreement, board, decision, identity, session, track, trials
+from . import agreement, board, decision, identity, session, shelf, track, trials
 from .agreement import Agreement, Claim, Outcome, Vector
 from .record import Record
 from .register import Register
@@ -114,6 +114,28 @@ def _counting_what_falls(without: Callable[..., track.Track]) -> Callable[..., t
     return counting
 
 
+def _least_missing(models: identity.Models, record: Record) -> int | None:
+    return min((model for model in record.models if models.is_without_summary(model)), default=None)
+
+
+def _tried_in_reverse(both: shelf.Both, model: int) -> shelf.Both:
+    left = replace(both, shelf=tuple(waiting for waiting in both.shelf if waiting.model != model))
+    for waiting in reversed(both.shelf):
+        left = left.with_trial(waiting) if waiting.model == model else left
+    return left
+
+
+def _moved_to_the_front(both: shelf.Both, model: int) -> shelf.Both:
+    left, stay = replace(both, shelf=()), tuple(waiting for waiting in both.shelf if waiting.model != model)
+    for waiting in both.shelf:
+        left = left.with_trial(waiting) if waiting.model == model else left
+    return replace(left, shelf=left.shelf + stay)
+
+
+def _leaving_its_places(both: shelf.Both, engine: int) -> shelf.Both:
+    return shelf.Both(both.track.with_conviction(engine), both.shelf)
+
+
 FAULTS = (
     Fault("the second solution begins with its last product", "agreements", agreement, "solve_back", _solved_from_the_last_row),
     Fault("the sine's last coefficient is one bit more", "agreements", agreement, "SINE_SERIES", _SINE_SERIES_OF_ONE_BIT_MORE),
@@ -134,6 +156,11 @@ FAULTS = (
     Fault("a conviction in a track orders once, at its end", "track calls", track.Track, "with_conviction", _ordered_once),
     Fault("contested grows where fixes fall too", "track calls", track.Track, "without", _counting_what_falls(track.Track.without)),
     Fault("a chi-square that is a NaN is none", "track calls", track, "NAN", track.INFINITY),
+    Fault("a fix waits for the least missing model", "track calls", shelf, "first_missing", _least_missing),
+    Fault("63 fixes may wait", "track calls", shelf, "MAX_WAITING", 63),
+    Fault("fixes that wait are tried in reverse", "track calls", shelf.Both, "with_arrival", _tried_in_reverse),
+    Fault("a fix that waits again goes to the front", "track calls", shelf.Both, "with_arrival", _moved_to_the_front),
+    Fault("a conviction leaves its engine's waiting fixes", "track calls", shelf.Both, "without_engine", _leaving_its_places),
     Fault("a session of 65,536 bytes is too long", "sessions", session, "MOST_BYTES", session.MOST_BYTES - 1),
     Fault("a minus may stand before zero", "sessions", session, "_SIGNED", re.compile(r"-?(0|[1-9][0-9]*)")),
 )

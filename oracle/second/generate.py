@@ -7,7 +7,7 @@ import struct
 from dataclasses import dataclass, replace
 from typing import Any, Iterable, Iterator, Sequence
 
-from . import register, track
+from . import register, shelf, track
 from .agreement import Claim, agreement
 from .answers import TEXT_ROOM
 from .decision import ITEM_SIZE
@@ -39,10 +39,11 @@ class Call:
 
 @dataclass(frozen=True)
 class Flip:
-    """A change of one byte of the memory."""
+    """A change of one byte of the memory, or of the one behind it."""
 
     at: int
     mask: int
+    behind: bool = False
 
 
 @dataclass(frozen=True)
@@ -63,12 +64,13 @@ class Signed:
 
 @dataclass(frozen=True)
 class Raw:
-    """Bytes that are passed as a memory."""
+    """Bytes that are passed as a memory, or as the one behind it."""
 
     data: bytes
+    behind: bool = False
 
 
-Part = Call | Flip | Head | Signed | Raw | Summary | track.Transmission
+Part = Call | Flip | Head | Signed | Raw | Summary | track.Transmission | shelf.Waiting
 
 
 def of_kind(parts: Iterable[Part], kind: type) -> list[Any]:
@@ -76,19 +78,25 @@ def of_kind(parts: Iterable[Part], kind: type) -> list[Any]:
     return [part for part in parts if isinstance(part, kind)]
 
 
-def passed_register(parts: Sequence[Part]) -> bytes:
+def passed_register(parts: Sequence[Part]) -> tuple[bytes, ...]:
     """The memory before the calls of a list: that of a fresh register where no part says more."""
     for raw in of_kind(parts, Raw):
-        return raw.data
+        return (raw.data,)
     head = (of_kind(parts, Head) or [Head(0)])[0]
     signers = {signed.record: signed.signers for signed in of_kind(parts, Signed)}
-    return register.Register(head.convicted, frozenset(of_kind(parts, Summary)), signers).raw
+    return (register.Register(head.convicted, frozenset(of_kind(parts, Summary)), signers).raw,)
 
 
-def passed_track(parts: Sequence[Part]) -> bytes:
-    """The same for a track."""
+def passed_track(parts: Sequence[Part]) -> tuple[bytes, ...]:
+    """The same for a track and its shelf."""
+    memory, behind = passed_track_alone(parts), shelf.shelf_bytes(tuple(of_kind(parts, shelf.Waiting)))
     for raw in of_kind(parts, Raw):
-        return raw.data
+        memory, behind = (memory, raw.data) if raw.behind else (raw.data, behind)
+    return memory, behind
+
+
+def passed_track_alone(parts: Sequence[Part]) -> bytes:
+    """A passed track that is well-formed."""
     head = (of_kind(parts, Head) or [Head(0)])[0]
     summaries = {track.pair_of(summary): summary for summary in of_kind(parts, Summary)}
     ascending = tuple(summaries[pair] for pair in sorted(summaries))
@@ -189,8 +197,8 @@ class World:
         step = self.rng.randrange(5) * SECONDS + self.rng.choice((-1, 0, 0, 0, 1))
         return (self.time + self.rng.randrange(self.span) * SECONDS + step) % 2**64
 
-    def record(self) -> bytes:
-        """288 bytes, almost always well-formed."""
+    def record(self, cited: int | None = None) -> bytes:
+        """288 bytes, almost always well-formed; where a model is given, it is among those that are cited."""
         rng = self.rng
         tags = tuple(sorted(rng.sample(self.tags, rng.randrange(1, len(self.tags) + 1))))
         reach = rng.choice((0, 300, 3_000, 10_000))
@@ -198,16 +206,19 @@ class World:
         raw = record_bytes(
             time=self.moment(), lat=within(self.lat + rng.randrange(-reach, reach + 1), 32),
             lon=within(self.lon + rng.randrange(-reach, reach + 1), 32), height=height, message=rng.choice(self.messages),
-            used=rng.randrange(2 ** len(tags)), tags=tags, models=self.cited(), spec=rng.choice(self.specs),
+            used=rng.randrange(2 ** len(tags)), tags=tags, models=self.cited(cited), spec=rng.choice(self.specs),
             covariance=struct.pack("<6d", *rng.choice(self.covariances))
         )
         self.made.append(raw)
         return raw
 
-    def cited(self) -> tuple[int, ...]:
-        """Up to four models, with repeats."""
-        count = self.rng.choice((0, 0, 0, 1, 1, 2, 4))
-        return tuple(self.rng.choice(self.models) for _ in range(count))
+    def cited(self, model: int | None = None) -> tuple[int, ...]:
+        """Up to four models, with repeats; where one is given, it is among them."""
+        count = self.rng.choice((0, 0, 0, 1, 1, 2, 4) if model is None else (1, 2, 4))
+        models = [self.rng.choice(self.models) for _ in range(count)]
+        if model is not None:
+            models[self.rng.randrange(count)] = model
+        return tuple(models)
 
     def reported(self) -> bytes:
         """A record, often one that was made before; now and then one that is damaged, or bytes that can be none."""
@@ -279,6 +290,24 @@ def register_parts(world: World) -> list[Part]:
     return [Head(world.convicted(held)), *summaries, *records.values()]
 
 
+def waiting_parts(world: World, parts: Sequence[Part]) -> list[Part]:
+    """Fixes that may wait beside a passed track: mostly few, now and then as many as a shelf holds, or one less."""
+    rng = world.rng
+    head = (of_kind(parts, Head) or [Head(0)])[0]
+    models = Models(of_kind(parts, Summary))
+    missing = [model for model in (*world.models, rng.randrange(64)) if models.is_without_summary(model)]
+    engines = [engine for engine in (*world.engines, rng.randrange(32)) if not head.convicted >> engine & 1]
+    count = rng.choice((shelf.MAX_WAITING - 1, shelf.MAX_WAITING)) if rng.random() < 0.1 else rng.choice((0, 0, 1, 2, 5))
+    waiting: list[Part] = []
+    while missing and engines and len(waiting) < count:
+        record = read_record(world.record(rng.choice(missing)))
+        assert record is not None
+        model = rng.choice([model for model in record.models if models.is_without_summary(model)])
+        one = shelf.Waiting(model, rng.choice(engines), record)
+        waiting += [one] if rng.random() < 0.95 or len(waiting) + 1 == count else [one, one]
+    return waiting
+
+
 def track_parts(world: World) -> list[Part]:
     """A passed track that no list of calls need lead to."""
     rng = world.rng
@@ -332,7 +361,9 @@ def calls(world: World, kind: str, text: str, second_part: int, count: int, conv
                 engine = world.engine() if rng.random() < 0.7 else rng.randrange(32)
                 made.append(Call("tl_register_preview", (engine,), world.room(), world.desk(kind)))
             case "flip":
-                flip = Flip(rng.choice((0, 8, second_part)) + rng.randrange(rng.choice((16, 1_000))), rng.randrange(1, 256))
+                behind = kind == "track" and rng.random() < 0.3
+                at = rng.choice((0, 0, second_part)) if behind else rng.choice((0, 8, second_part))
+                flip = Flip(at + rng.randrange(rng.choice((16, 1_000))), rng.randrange(1, 256), behind)
                 made += [flip, Call(f"tl_{kind}_report", (world.engine(), world.record()))]
                 made += [flip] if rng.random() < 0.8 else []
     return [*made, Call(text, room=TEXT_ROOM, desk=world.desk(kind))]
@@ -351,19 +382,23 @@ def register_list(rng: random.Random, passed: bool) -> list[Part]:
 
 
 def track_list(rng: random.Random, passed: bool) -> list[Part]:
-    """A track, fresh or passed, and calls on it, with a listing at the end."""
+    """A track and its shelf, fresh or passed, and calls on them, with a listing at the end."""
     world = World(rng)
     parts = track_parts(world) if passed else []
+    parts += waiting_parts(world, parts) if passed else []
     count, convictions = (rng.randrange(1, 6), 30) if passed else (list_length(rng), 4)
     return other_length(rng, parts, passed_track) + calls(world, "track", "tl_track_listing", track.TRANSMISSIONS_AT, count, convictions)
 
 
 def other_length(rng: random.Random, parts: list[Part], memory_of: Any) -> list[Part]:
-    """Now and then a memory that is longer or shorter instead."""
+    """Now and then a memory that is longer or shorter instead, or one behind it that is."""
     if rng.random() > 0.01:
         return parts
-    raw = memory_of(parts)
-    return [Raw(rng.choice((raw[:-1], raw + b"\0", raw[:8], b"")))]
+    memories = memory_of(parts)
+    behind = len(memories) > 1 and rng.random() < 0.5
+    raw = memories[behind]
+    other = Raw(rng.choice((raw[:-1], raw + b"\0", raw[:8], b"")), behind)
+    return [*parts, other] if behind else [other]
 
 
 def item_list(rng: random.Random) -> list[bytes]:

@@ -68,9 +68,9 @@ class Models:
             case _:
                 return State.DISPUTED
 
-    def is_missing(self, record: Record) -> bool:
-        """Whether some model that the record cites is missing."""
-        return any(self.state(model) is State.MISSING for model in record.models)
+    def is_without_summary(self, model: int) -> bool:
+        """Whether the model is missing."""
+        return self.state(model) is State.MISSING
 
     def is_eligible(self, record: Record) -> bool:
         """Whether each model that the record cites is agreed and of the record's spec."""

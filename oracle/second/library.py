@@ -9,7 +9,7 @@ import subprocess
 import tempfile
 from typing import Any, Callable, Mapping
 
-from . import board, register, track
+from . import board, register, shelf, track
 
 Functions = Mapping[str, Callable[..., int]]
 
@@ -27,9 +27,9 @@ _ON_MEMORY: Mapping[str, tuple[Any, ...]] = {
     "tl_register_conviction": (*_DESK, *_CONVICTION),
     "tl_register_preview": (*_DESK, _SLICE, _NUMBER, _SLICE),
     "tl_board": (*_DESK, *_TEXT),
-    "tl_track_report": _REPORT,
-    "tl_track_summary": _SUMMARY,
-    "tl_track_conviction": _CONVICTION,
+    "tl_track_report": (_SLICE, *_REPORT),
+    "tl_track_summary": (_SLICE, *_SUMMARY),
+    "tl_track_conviction": (_SLICE, *_CONVICTION),
     "tl_track_listing": _TEXT,
 }
 
@@ -42,9 +42,9 @@ def second_writing() -> Functions:
         "tl_register_conviction": register.conviction,
         "tl_register_preview": board.preview,
         "tl_board": board.board,
-        "tl_track_report": track.report,
-        "tl_track_summary": track.summary,
-        "tl_track_conviction": track.conviction,
+        "tl_track_report": shelf.report,
+        "tl_track_summary": shelf.summary,
+        "tl_track_conviction": shelf.conviction,
         "tl_track_listing": track.listing,
     }
 

@@ -1,4 +1,4 @@
-"""The track and its listing: docs/REFERENCE.md, 'Track' among the layouts, 'Track and listing'."""
+"""The track and its listing: docs/REFERENCE.md, 'Track' among the layouts, 'Track and listing'. The other operations are in shelf.py."""
 from __future__ import annotations
 
 import struct
@@ -10,8 +10,8 @@ from .answers import Answer, operation, require, write_text
 from .board import NO_CHI_SQUARE, bits_of, header, line
 from .decision import Item, decide
 from .identity import HASH_SIZE, SUMMARY_SIZE, Models, State, Summary, identity, read_summary
-from .record import MAX_ENGINE, RECORD_SIZE, Record, read_record
-from .register import checked_record, checked_summary, places
+from .record import RECORD_SIZE, Record, read_record
+from .register import places
 
 MAX_PAIRS = 256
 MAX_TRANSMISSIONS = 8
@@ -329,41 +329,6 @@ def taken_in(memory: bytes | bytearray) -> Track:
     require(track is not None, Answer.MALFORMED_MEMORY)
     assert track is not None
     return track
-
-
-@operation
-def report(memory: bytearray, engine: int, raw: bytes) -> int:
-    """Report to a track: checks 1, 2, 3, 4, 6, 7."""
-    track = taken_in(memory)
-    require(engine <= MAX_ENGINE, Answer.ENGINE_OVER_31)
-    record = checked_record(raw)
-    require(not track.is_convicted(engine), Answer.ENGINE_CONVICTED)
-    require(not track.models.is_missing(record), Answer.MODEL_MISSING)
-    require(track.models.is_eligible(record), Answer.MODEL_DISPUTED)
-    track, answer = track.with_report(engine, record)
-    memory[:] = track.raw
-    return answer
-
-
-@operation
-def summary(memory: bytearray, engine: int, model: int, spec: int, inputs: bytes) -> int:
-    """Summary to a track: checks 1, 2, 9, 4, 5."""
-    track = taken_in(memory)
-    stated = checked_summary(engine, model, spec, inputs)
-    require(not track.is_convicted(engine), Answer.ENGINE_CONVICTED)
-    held = {pair_of(summary) for summary in track.summaries}
-    require(pair_of(stated) in held or len(held) < MAX_PAIRS, Answer.FULL)
-    memory[:] = track.with_summary(stated).raw
-    return Answer.OK
-
-
-@operation
-def conviction(memory: bytearray, engine: int) -> int:
-    """Conviction in a track: checks 1, 2."""
-    track = taken_in(memory)
-    require(engine <= MAX_ENGINE, Answer.ENGINE_OVER_31)
-    memory[:] = track.with_conviction(engine).raw
-    return Answer.OK
 
 
 @operation

@@ -213,11 +213,11 @@ def register_calls(trial: Trial) -> Counter[str]:
 
 
 def track_calls(trial: Trial) -> Counter[str]:
-    """Lists of calls on a track."""
+    """Lists of calls on a track and its shelf."""
     return _lists(trial, generate.track_list, generate.passed_track)
 
 
-def _lists(trial: Trial, make: Callable[..., Parts], memory_of: Callable[[Parts], bytes]) -> Counter[str]:
+def _lists(trial: Trial, make: Callable[..., Parts], memory_of: Callable[[Parts], tuple[bytes, ...]]) -> Counter[str]:
     """Lists of calls, from a fresh memory or, one in three, from one that is passed."""
     rng, seen = trial.rng(), Counter[str]()
 
@@ -232,20 +232,20 @@ def _lists(trial: Trial, make: Callable[..., Parts], memory_of: Callable[[Parts]
     return seen
 
 
-def differing_call(library: Library, start: bytes, parts: Parts, seen: Counter[str] | None = None) -> str | None:
+def differing_call(library: Library, start: tuple[bytes, ...], parts: Parts, seen: Counter[str] | None = None) -> str | None:
     """The first call after which answer, memory or output differ; counts what the calls did."""
-    memory, second_memory, second = bytearray(start), bytearray(start), second_writing()
+    memory, second_memory, second = [bytearray(each) for each in start], [bytearray(each) for each in start], second_writing()
     for number, part in enumerate(generate.of_kind(parts, generate.Call | generate.Flip), start=1):
         if isinstance(part, generate.Flip):
-            for each in (memory, second_memory):
+            for each in (memory[part.behind], second_memory[part.behind]):
                 if each:
                     each[part.at % len(each)] ^= part.mask
             continue
         answer, out = _outcome(library.on_memory, memory, part)
         second_answer, second_out = _outcome(second, second_memory, part)
         difference = (
-            told(f"answer {answer}", f"answer {second_answer}") or first_difference("the memory", bytes(memory), bytes(second_memory))
-            or first_difference("the output", out, second_out)
+            told(f"answer {answer}", f"answer {second_answer}")
+            or first_difference("the memory", b"".join(memory), b"".join(second_memory)) or first_difference("the output", out, second_out)
         )
         if difference:
             return f"call {number}, {part.name}: {difference}"
@@ -254,11 +254,11 @@ def differing_call(library: Library, start: bytes, parts: Parts, seen: Counter[s
     return None
 
 
-def _outcome(functions: Functions, memory: bytearray, call: generate.Call) -> tuple[int, bytes]:
-    """What a call returns, and its output."""
+def _outcome(functions: Functions, memory: list[bytearray], call: generate.Call) -> tuple[int, bytes]:
+    """What a call returns, and its output; a call with an output has the first memory alone."""
     out = [] if call.room is None else [bytearray(UNTOUCHED * call.room)]
     desk = [] if call.desk is None else [call.desk]
-    answer = functions[call.name](*desk, memory, *call.arguments, *out)
+    answer = functions[call.name](*desk, *(memory[:1] if out else memory), *call.arguments, *out)
     return answer, bytes().join(out)
 
 

@@ -1,4 +1,4 @@
-//! Where the parts of a record, an item, a held fix and a track begin, each from the one before it (docs/REFERENCE.md, 'Layouts').
+//! Where the parts of a record, an item, a held fix, a track and a shelf begin, each from the one before it (docs/REFERENCE.md, 'Layouts').
 
 pub const MAX_TAGS: usize = 24;
 /// Which tags were used: bit i stands for the i-th.
@@ -32,3 +32,12 @@ pub const FIX: usize = PLACE + 32;
 pub const KEPT_AT: usize = FIX;
 pub const CHI2_AT: usize = KEPT_AT + 32;
 pub const REFUSED: usize = CHI2_AT + 8;
+
+/// A fix that waits beside a track: the model that it waits for, the engine that reported it, and the record.
+pub const WAITING_RECORD_AT: usize = 2;
+pub const WAITING: usize = WAITING_RECORD_AT + RECORD;
+
+/// The shelf beside a track: how many fixes wait, and a place for each.
+pub const MAX_WAITING: usize = 64;
+pub const WAITING_AT: usize = 1;
+pub const SHELF: usize = WAITING_AT + MAX_WAITING * WAITING;

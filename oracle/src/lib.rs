@@ -7,6 +7,7 @@ pub mod layout;
 pub mod lines;
 pub mod measured;
 pub mod record;
+pub mod shelf;
 pub mod track;
 
 pub use record::Record;

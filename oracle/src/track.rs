@@ -1,12 +1,13 @@
-//! The Rust's merge of one aircraft behind the specification's track: its calls, its refusals, its bytes.
+//! The Rust's merge of one aircraft behind the specification's track: its calls, its refusals, its bytes, and what waits in it.
 
 use crate::layout::{CHI2_AT, KEPT_AT, Mask, PLACE, RECORD};
 pub use crate::layout::{FIX, REFUSED};
 use crate::lines::{self, Said};
 use crate::measured::measured;
+use crate::shelf::Waiting;
 use crate::{Record, formed};
 use tally_merge::{Contest, Fix, Merge, Settings, Transmission, link::Told};
-use tally_wire::{ClientClockModel, ClientClockModelContent, TaggedFix, TaggedSet};
+use tally_wire::{ClientClockModel, ClientClockModelContent, EnuCovariance, TaggedFix, TaggedSet};
 
 pub const SIZE: usize = TRANSMISSIONS_AT + TRANSMISSIONS * TRANSMISSION;
 pub const SUMMARIES: usize = 256;
@@ -28,10 +29,11 @@ pub enum Answer {
     Contested,
     Duplicate,
     Dropped,
+    Waiting,
 }
 
 impl Answer {
-    /// As the library answers; the last four numbers are ours.
+    /// As the library answers; the last five numbers are ours.
     pub fn number(self) -> u32 {
         match self {
             Self::Number(n) => n.into(),
@@ -39,6 +41,7 @@ impl Answer {
             Self::Contested => 21,
             Self::Duplicate => 22,
             Self::Dropped => 23,
+            Self::Waiting => 24,
         }
     }
 }
@@ -108,15 +111,38 @@ impl Track {
 
     /// A report by an engine under 32.
     pub fn sent(&mut self, engine: u8, sent: &Sent) -> Answer {
-        match self.0.told(u32::from(engine), sent.spec, &sent.fix) {
-            Told::Faulted => Answer::Number(4),
-            Told::Missing => Answer::Number(6),
-            Told::Failed => Answer::Number(7),
-            Told::Changed => Answer::Changed,
-            Told::Contested => Answer::Contested,
-            Told::Duplicate => Answer::Duplicate,
-            Told::Dropped => Answer::Dropped,
-        }
+        answer(self.0.told(u32::from(engine), sent.spec, &sent.fix))
+    }
+
+    /// The same of a fix none of whose models is missing.
+    pub fn taken(&mut self, engine: u8, sent: &Sent) -> Answer {
+        answer(self.0.taken(u32::from(engine), sent.spec, &sent.fix))
+    }
+
+    pub fn convicted(&self) -> u32 {
+        self.0.faulted().iter().fold(0u32, |mask, engine| mask | 1 << engine)
+    }
+
+    pub fn is_convicted(&self, engine: u8) -> bool {
+        self.0.is_faulted(&u32::from(engine))
+    }
+
+    pub fn has_summary(&self, model: u8) -> bool {
+        self.0.has_summary(&id(model))
+    }
+
+    /// What waits in the Rust: by ascending model, and for each in the Rust's order.
+    pub fn waiting(&self) -> Vec<Waiting> {
+        let place = |(id, (engine, spec, fix)): (&[u8; 32], &(u32, u16, TaggedFix))| Waiting {
+            model: id[0],
+            engine: *engine as u8,
+            record: wire_record(*spec, fix).write().to_vec(),
+        };
+        self.0.waiting().map(place).collect()
+    }
+
+    pub fn waits(&self) -> usize {
+        self.0.waiting().count()
     }
 
     pub fn summary(&mut self, engine: u8, model: u8, spec: u16, inputs: &[u8]) -> u8 {
@@ -176,8 +202,7 @@ impl Track {
     /// The same into lent bytes, of which there are SIZE.
     pub fn write(&self, out: &mut [u8]) {
         out.fill(0);
-        let mask = self.0.faulted().iter().fold(0u32, |mask, engine| mask | 1 << engine);
-        out[..4].copy_from_slice(&mask.to_le_bytes());
+        out[..4].copy_from_slice(&self.convicted().to_le_bytes());
         out[8..16].copy_from_slice(&self.contested().to_le_bytes());
         put_summaries(out, &mut self.0.summaries());
         out[6] = self.transmissions().len() as u8;
@@ -216,6 +241,18 @@ impl Track {
             }
         }
         out
+    }
+}
+
+fn answer(told: Told) -> Answer {
+    match told {
+        Told::Faulted => Answer::Number(4),
+        Told::Waits => Answer::Waiting,
+        Told::Failed => Answer::Number(7),
+        Told::Changed => Answer::Changed,
+        Told::Contested => Answer::Contested,
+        Told::Duplicate => Answer::Duplicate,
+        Told::Dropped => Answer::Dropped,
     }
 }
 
@@ -263,23 +300,45 @@ fn put_transmission(out: &mut [u8], one: &Transmission) {
     }
 }
 
+/// Which of these tags were used.
+fn mask(considered: &TaggedSet, used: &TaggedSet) -> Mask {
+    let bit = |(i, tag): (usize, &u64)| Mask::from(used.tags().contains(tag)) << i;
+    considered.tags().iter().enumerate().map(bit).sum()
+}
+
+fn numbers(c: &EnuCovariance) -> [f64; 6] {
+    [c.xx, c.xy, c.xz, c.yy, c.yz, c.zz]
+}
+
 /// The record that a fix was made of.
 fn record_of(fix: &Fix) -> Record {
-    let tags = fix.considered.tags().to_vec();
-    let used = fix.used.tags();
-    let mask = |i: usize| Mask::from(used.contains(&tags[i])) << i;
-    let c = &fix.covariance;
     Record {
         time: fix.transmitted,
         lat: fix.lat_e7,
         lon: fix.lon_e7,
         height: fix.alt_hae_mm,
         message: fix.considered.message().to_vec(),
-        used: (0..tags.len()).map(mask).sum(),
-        tags,
+        used: mask(&fix.considered, &fix.used),
+        tags: fix.considered.tags().to_vec(),
         models: fix.models.iter().map(|id| id[0]).collect(),
         spec: fix.spec,
-        covariance: [c.xx, c.xy, c.xz, c.yy, c.yz, c.zz],
+        covariance: numbers(&fix.covariance),
+    }
+}
+
+/// The record that a fix was sent as.
+fn wire_record(spec: u16, fix: &TaggedFix) -> Record {
+    Record {
+        time: fix.transmitted,
+        lat: fix.lat_e7,
+        lon: fix.lon_e7,
+        height: fix.alt_hae_mm,
+        message: fix.considered.message().to_vec(),
+        used: mask(&fix.considered, &fix.used),
+        tags: fix.considered.tags().to_vec(),
+        models: fix.models.iter().map(|id| id[0]).collect(),
+        spec,
+        covariance: numbers(&fix.covariance),
     }
 }
 

@@ -1,5 +1,5 @@
 //! Takes the place of the merge crate's module `link`, which is not to be had. A module sees what its parents keep private,
-//! so this is how the oracle calls `Merge::check`, `merge`, `model` and `convict`, and reads all that a merge holds.
+//! so this is how the oracle calls `Merge::fix`, `check`, `merge`, `model` and `convict`, and reads all that a merge holds.
 
 use crate::*;
 
@@ -8,8 +8,8 @@ use crate::*;
 pub enum Told {
     /// The engine is convicted (refusal 4).
     Faulted,
-    /// A cited model has no summary (refusal 6, in the place of the Rust's waiting).
-    Missing,
+    /// A cited model has no summary: the fix waits for the first such model.
+    Waits,
     /// A cited model is disputed or of another spec (refusal 7).
     Failed,
     Changed,
@@ -23,9 +23,15 @@ impl Merge {
         if self.is_faulted(&engine) {
             return Told::Faulted;
         }
-        if wire.models.iter().any(|id| matches!(self.resolve(id), Resolved::Missing)) {
-            return Told::Missing;
+        if wire.models.iter().any(|id| !self.has_summary(id)) {
+            self.fix(engine, spec, wire.clone(), &mut Tally::default());
+            return Told::Waits;
         }
+        self.taken(engine, spec, wire)
+    }
+
+    /// A fix none of whose models is missing: what stands in `fix` behind the waiting, with what the merge came to.
+    pub fn taken(&mut self, engine: PublicKey, spec: u16, wire: &TaggedFix) -> Told {
         let Some(fix) = self.check(engine, spec, wire) else {
             return Told::Failed;
         };
@@ -59,6 +65,16 @@ impl Merge {
             }
         }
         all
+    }
+
+    /// Whether any engine's summary of a model is held.
+    pub fn has_summary(&self, id: &Hash) -> bool {
+        !matches!(self.resolve(id), Resolved::Missing)
+    }
+
+    /// What waits: for each model the engines, specs and fixes, in their order.
+    pub fn waiting(&self) -> impl Iterator<Item = (&Hash, &(PublicKey, u16, TaggedFix))> {
+        self.pending.iter().flat_map(|(id, waiting)| waiting.iter().map(move |one| (id, one)))
     }
 
     /// How many summaries are held.

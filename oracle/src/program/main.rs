@@ -70,7 +70,7 @@ fn record(words: &mut Words) -> Result<String, String> {
         spec: words.number()?,
         covariance: words.covariance()?,
     };
-    if !matches!(made.message.len(), 7 | 14) || made.tags.len() > 16 || made.models.len() > 4 {
+    if !matches!(made.message.len(), 7 | 14) || made.tags.len() > oracle::layout::MAX_TAGS || made.models.len() > 4 {
         return Err("no record has room for that".to_string());
     }
     Ok(hex::write(&made.write()))
