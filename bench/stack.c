@@ -90,6 +90,15 @@ static void columns(void) { tl_register_columns(memory, sizeof memory, turned, s
 
 static void uncolumns(void) { tl_register_uncolumns(memory, sizeof memory, turned, sizeof turned); }
 
+static uint8_t joined[TL_REGISTER_SIZE];
+
+static void join_registers(void) {
+    memcpy(joined, memory, sizeof joined);
+    tl_register_join(joined, sizeof joined, memory, sizeof memory);
+}
+
+static void lacks(void) { tl_register_lacks(memory, sizeof memory, joined, sizeof joined, turned, sizeof turned); }
+
 static void write_items(void) {
     for (int i = 0; i < TL_MAX_ITEMS; i++) {
         uint8_t *item = items + i * TL_ITEM_SIZE;
@@ -234,6 +243,8 @@ int main(void) {
     }
     row("columns of a register", columns);
     row("columns turned back", uncolumns);
+    row("join of two registers, 96 records", join_registers);
+    row("what a register lacks, 96 records", lacks);
     write_track();
     row("track report that joins 9 fixes, 72 held", join);
     row("track conviction, 72 fixes held", conviction);

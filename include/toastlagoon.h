@@ -23,11 +23,11 @@
  * - The floating-point environment that a thread begins with: rounding to nearest, no flush to zero and no denormals as zero
  *   (MXCSR 1f80 but for its flags), no exception unmasked. Another changes chi-squares, and so which fixes are refused, and the
  *   result of tl_horizontal_sigma.
- * - Stack: 48 KB for tl_decide and tl_decide_any, 112 KB for tl_board, tl_register_map and each function of a track, 144 KB for
- *   tl_register_preview, 4 KB for each other function (a KB is 1,024 bytes). bench/stack measures it; seen were up to 14 KB for
- *   a decision of up to 32 items and 43 KB for one of more, 72 KB for a board or a map, 102 KB for a preview, which has a copy of
- *   the register there, 25 to 29 KB for a call on a track and 1 to 3 KB for the others. What a dynamic linker takes at a first call
- *   is not in these: bind names at the start (-Wl,-z,now).
+ * - Stack: 48 KB for tl_decide, tl_decide_any and tl_register_join, 112 KB for tl_board, tl_register_map and each function of a
+ *   track, 144 KB for tl_register_preview, 4 KB for each other function (a KB is 1,024 bytes). bench/stack measures it; seen
+ *   were up to 14 KB for a decision of up to 32 items and 43 KB for one of more, 72 KB for a board or a map, 102 KB for a
+ *   preview and 37 KB for a join, which have a register there, 25 to 29 KB for a call on a track and 1 to 3 KB for the others.
+ *   What a dynamic linker takes at a first call is not in these: bind names at the start (-Wl,-z,now).
  * - Threads: any number of them may call at once, as long as no two calls have memory in common that one of them may write. A
  *   register or a track that several threads use needs the caller's lock.
  *
@@ -330,6 +330,22 @@ uint32_t tl_register_summary(uint8_t *memory, size_t memory_len, uint32_t engine
  * left. A manager alone may. Returns TL_OK, also for an engine that is convicted already, or the first that holds of TL_UNKNOWN_DESK,
  * TL_NO_RIGHT, TL_MALFORMED_REGISTER, TL_ENGINE_OVER_31. */
 uint32_t tl_register_conviction(uint32_t desk, uint8_t *memory, size_t memory_len, uint32_t engine);
+
+/* Joins what another register holds to a register of the same aircraft and window: the convicted engines of both, and of both the
+ * summaries and the records, each record with the signers that it has in either, without what convicted engines said and signed.
+ * Returns TL_OK, or the first that holds of TL_MALFORMED_REGISTER (either of the two), TL_FULL: together they hold more than
+ * TL_MAX_RECORDS records or TL_MAX_SUMMARIES summaries. It makes no difference which of the two is joined to which, nor in which
+ * order several are joined, nor how often. A refused join keeps the other's convictions back, which may be what would make room: a
+ * register of the other's first 4 bytes and zeros has these alone, and joining that is never refused as full. The two do not
+ * overlap. */
+uint32_t tl_register_join(uint8_t *memory, size_t memory_len, const uint8_t *other, size_t other_len);
+
+/* Writes what another register holds and this one does not to the first TL_REGISTER_SIZE bytes of out. That is a register too: all
+ * zeros exactly where joining the other changes nothing; and joining it to this one is joining the other. Returns TL_OK, or the
+ * first that holds of TL_MALFORMED_REGISTER (either of the two), TL_OUTPUT_TOO_SMALL (under TL_REGISTER_SIZE bytes). Bytes past
+ * it, and all bytes of a refused call, stay as found. Both registers are only read. */
+uint32_t tl_register_lacks(const uint8_t *memory, size_t memory_len, const uint8_t *other, size_t other_len, uint8_t *out,
+                           size_t out_len);
 
 /* Computes the board of a register in the form of a desk, writes it to the start of out, and returns the length: 0 for an empty board,
  * else greater than every refusal's number; or the first that holds of TL_UNKNOWN_DESK, TL_MALFORMED_REGISTER, TL_OUTPUT_TOO_SMALL. An

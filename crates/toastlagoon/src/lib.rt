@@ -12,6 +12,8 @@ ghost use Rattle.decision.specs.Sorted.{sorted_arrays};
 ghost use Rattle.errors.specs.After.{after};
 ghost use Rattle.register.specs.Calls as C;
 ghost use Rattle.register.specs.Calls.{called};
+ghost use Rattle.register_join.specs.Join.{join_memory};
+ghost use Rattle.register_join.specs.Lacks.{lacks_memory};
 ghost use Rattle.register_columns.specs.Columns.{columns, uncolumns, rearrange};
 ghost use Rattle.board.specs.Board.{draw_board};
 ghost use Rattle.board.specs.Preview.{draw_preview};
@@ -234,6 +236,22 @@ pub extern "C" fn tl_register_conviction(desk: u32, memory: &mut [u8], engine: u
         return Error::UnknownDesk.number();
     };
     answer_number(register::convictions::conviction(desk, memory, engine))
+}
+
+/// Joins to a register what another holds: 0; 1 where either is none, or 5 where what both hold has no room. The other is only read.
+#[unsafe(no_mangle)]
+pub extern "C" fn tl_register_join(memory: &mut [u8], other: &[u8]) -> u32
+    ensures { after result memory.new ≡ join_memory other.now memory.old }
+{
+    answer_number(register_join::join(memory, other))
+}
+
+/// Writes what another register holds and this one does not, which is a register too, into `out`: 0; 1 where either is none, or 10.
+#[unsafe(no_mangle)]
+pub extern "C" fn tl_register_lacks(memory: &[u8], other: &[u8], out: &mut [u8]) -> u32
+    ensures { after result out.new ≡ lacks_memory other.now memory.now out.old }
+{
+    answer_number(register_join::lacks(memory, other, out))
 }
 
 /// The board of a register into `out`, in the form of a desk: 15, 1 or 10, or its length, which is 0 or greater than every refusal's

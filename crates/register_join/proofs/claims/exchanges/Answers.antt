@@ -1,0 +1,8 @@
+use Rattle.register_join.proofs.Exchanging.{exchange, convergence}
+use Rattle.register_join.proofs.claims.exchanges.Goals as goal
+
+pub returns-clause-exchange : goal.returns-clause-exchange
+returns-clause-exchange c = exchange
+
+pub returns-clause-convergence : goal.returns-clause-convergence
+returns-clause-convergence c = convergence

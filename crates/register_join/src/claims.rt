@@ -1,0 +1,34 @@
+//! What is claimed of joins. Each function's contract is the claim; there is nothing to run.
+
+ghost use Rattle.register_join.specs.Claims.{JoinHoldsWhatRemains, JoinIsTheRun, Commutative, Associative, Idempotent, CallAfterJoin, Exchange, Convergence, WhatIsLacking, ConvictionsAlone};
+
+/// The join of what two lists of calls leave holds exactly what remains of both, or is refused as full exactly where that is more than a register has room for; and
+/// where one room can take both lists, it is that room's bytes.
+pub fn joins_of_lists()
+    ensures remains { JoinHoldsWhatRemains }
+    ensures run { JoinIsTheRun }
+{}
+
+/// The order of joins makes no difference, nor do repeats or fresh registers.
+pub fn joins_in_any_order()
+    ensures commutative { Commutative }
+    ensures associative { Associative }
+    ensures idempotent { Idempotent }
+{}
+
+/// A call after a join is the join after that call.
+pub fn calls_after_joins()
+    ensures { CallAfterJoin }
+{}
+
+/// Rooms that take calls and join one another hold what remains of the calls that they know of, and rooms that have got from every room hold the same bytes.
+pub fn exchanges()
+    ensures exchange { Exchange }
+    ensures convergence { Convergence }
+{}
+
+/// What a register lacks of another is a register, and as calls leaves the join; and convictions alone are never refused.
+pub fn what_is_lacking()
+    ensures lacking { WhatIsLacking }
+    ensures convictions { ConvictionsAlone }
+{}
