@@ -27,9 +27,9 @@ mod found;
 mod reasons;
 mod refusals;
 
+pub use found::from_line;
 pub use reasons::REASON_SIZE;
-pub use refusals::Refusal;
-use refusals::check;
+pub use refusals::{Refusal, check};
 
 /// The longest input that is read.
 pub const MAX_INPUT: usize = 65536;

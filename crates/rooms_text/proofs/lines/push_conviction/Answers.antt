@@ -1,0 +1,8 @@
+use Rattle.text.proofs.Appending.{append-then}
+use Rattle.octets.specs.Ascii.{ascii}
+use Rattle.rooms_text.specs.Lines.{conviction_line}
+use Rattle.rooms_text.proofs.lines.push_conviction.Goals as goal
+
+pub returns : goal.returns
+unfolding conviction_line ascii
+returns c = append-then _ _ _ _ _ (append-then _ _ _ _ _ c.push_head.ensures c.push_engine.ensures) c.push_str.ensures
