@@ -307,6 +307,58 @@ uint32_t tl_agreement(int32_t lat, int32_t lon, bool has_height, int32_t height,
                       double yz, double zz, int32_t lat2, int32_t lon2, bool has_height2, int32_t height2, double xx2, double xy2,
                       double xz2, double yy2, double yz2, double zz2, double *chi2, double *limit);
 
+/* Writes the record that says this: transmit time in nanoseconds, latitude and longitude in 1e-7 degree, the height in millimetres
+ * where has_height is set, the message, the tags, the mask of used tags, the models that it cites, its spec, and its covariance xx,
+ * xy, xz, yy, yz, zz in m^2, of which each number's bits are kept. Lengths of tags are in tags and not in bytes; tags and covariance
+ * are aligned as their type is. Returns TL_OK, or TL_MALFORMED_RECORD where no record says this: the message has neither
+ * TL_SHORT_MESSAGE nor TL_LONG_MESSAGE bytes, there is no tag or over TL_MAX_TAGS, tags do not ascend strictly, a bit of used is set
+ * at or above their number, there are over TL_MAX_CITED models, or one is over TL_MAX_MODEL. */
+uint32_t tl_record_write(uint64_t time, int32_t lat, int32_t lon, bool has_height, int32_t height, const uint8_t *message,
+                         size_t message_len, const uint64_t *tags, size_t tags_len, uint32_t used, const uint8_t *models,
+                         size_t models_len, uint16_t spec, const double covariance[6], uint8_t out[TL_RECORD_SIZE]);
+
+/* What a record says, by name. What is not named is zero: so no height, and no models. */
+typedef struct {
+    uint64_t time;          /* nanoseconds */
+    int32_t lat, lon;       /* 1e-7 degree */
+    bool has_height;
+    int32_t height;         /* millimetres */
+    const uint8_t *message; /* TL_SHORT_MESSAGE or TL_LONG_MESSAGE bytes */
+    size_t message_len;
+    const uint64_t *tags;   /* strictly ascending */
+    size_t tags_len;        /* 1 to TL_MAX_TAGS */
+    uint32_t used;          /* bit i for the i-th tag */
+    const uint8_t *models;  /* each at most TL_MAX_MODEL; may be null where there are none */
+    size_t models_len;      /* 0 to TL_MAX_CITED */
+    uint16_t spec;
+    double covariance[6];   /* xx, xy, xz, yy, yz, zz, m^2 */
+} tl_fields;
+
+/* tl_record_write of fields that have names:
+ *
+ *     tl_fields fields = {.time = now, .lat = 481372700, .lon = 115820000, .message = message, .message_len = TL_SHORT_MESSAGE,
+ *                         .tags = tags, .tags_len = 2, .used = 3, .covariance = {100, 0, 0, 100, 0, 100}};
+ *     if (tl_record_of(&fields, record) != TL_OK) return 1; */
+static inline uint32_t tl_record_of(const tl_fields *fields, uint8_t record[TL_RECORD_SIZE]) {
+    static const uint8_t no_models[1] = {0};
+    return tl_record_write(fields->time, fields->lat, fields->lon, fields->has_height, fields->height, fields->message,
+                           fields->message_len, fields->tags, fields->tags_len, fields->used,
+                           fields->models_len == 0 ? no_models : fields->models, fields->models_len, fields->spec,
+                           fields->covariance, record);
+}
+
+/* Writes the identity of a record that has these model inputs, as a decision wants it of an item and a fix is known by it. Returns
+ * TL_OK or TL_MALFORMED_RECORD. */
+uint32_t tl_record_identity(const uint8_t *record, size_t record_len, const uint8_t inputs[TL_INPUTS_SIZE],
+                            uint8_t out[TL_IDENTITY_SIZE]);
+
+/* Writes the model inputs that a record has by a register's summaries; the record need not be held there. Returns TL_OK, or the first
+ * that holds of TL_MALFORMED_REGISTER, TL_MALFORMED_RECORD, TL_WAITING (a model that it cites has no summary), TL_MODEL_DISPUTED (one
+ * is disputed, or of another spec than the record's). A record that a register holds counts on its board exactly where this is
+ * TL_OK; else it is withheld, and this says why. */
+uint32_t tl_register_inputs(const uint8_t *memory, size_t memory_len, const uint8_t *record, size_t record_len,
+                            uint8_t out[TL_INPUTS_SIZE]);
+
 /* Which of one transmission's fixes stand, in rank, which are dominated and which are refused. The items follow each other without
  * a gap. Returns TL_OK and fills the answer, or TL_BAD_ITEMS and leaves it. */
 uint32_t tl_decide(const uint8_t *items, size_t items_len, uint8_t answer[TL_ANSWER_SIZE]);

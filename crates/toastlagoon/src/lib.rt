@@ -21,7 +21,9 @@ ghost use Rattle.board_map.specs.Map.{draw_map};
 ghost use Rattle.track_shelf.specs.Both.{on_both};
 ghost use Rattle.track.specs.Track.{track_report, track_summary, track_conviction};
 ghost use Rattle.track_listing.specs.Listing.{list_track};
-ghost use Rattle.toastlagoon.specs.Border.{covariance_from, claim_from, agreement_out};
+ghost use Rattle.record_values.specs.Written.{write_record};
+ghost use Rattle.record_values.specs.Known.{write_identity, write_inputs};
+ghost use Rattle.toastlagoon.specs.Border.{covariance_from, claim_from, agreement_out, value_from};
 ghost use Rattle.decision_bytes.specs.Answer.{hand_out};
 
 use arithmetic::standing::{Agreement, Claimed, Measure};
@@ -29,6 +31,10 @@ use decision_bytes::ANSWER_SIZE;
 use desks::Desk;
 use errors::{Error, answer_number, value_or_number};
 use geometry::linalg::Covariance;
+use models::hashes::HASH_SIZE;
+use record::layout::{COVARIANCE_NUMBERS, RECORD_SIZE};
+use record_values::known::known_number;
+use record_values::written::Said;
 use track::reports::reported_number;
 
 // The answers for how a larger fix stands to a smaller one.
@@ -203,6 +209,62 @@ pub extern "C" fn tl_decide_any(items: &[u8], answer: &mut [u8; ANSWER_SIZE]) ->
     ensures { after result answer.new ≡ hand_out (sorted_arrays items.now) answer.old }
 {
     decision_bytes::decide_any(items, answer)
+}
+
+/// Writes the record that says this, of the bits of six f64 for its covariance, into `out`. Answers 0, or 3 where no record says it, and then
+/// nothing is written.
+#[unsafe(no_mangle)]
+pub extern "C" fn tl_record_write(
+    time: u64,
+    lat: i32,
+    lon: i32,
+    has_height: bool,
+    height: i32,
+    message: &[u8],
+    tags: &[u64],
+    used: u32,
+    models: &[u8],
+    spec: u16,
+    covariance: &[u64; COVARIANCE_NUMBERS],
+    out: &mut [u8; RECORD_SIZE],
+) -> u32
+    ensures { after result out.new ≡ write_record (value_from time lat lon has_height height message.now tags.now used models.now spec covariance.now) out.old }
+{
+    let said = Said {
+        time,
+        latitude: lat,
+        longitude: lon,
+        height: has_height.then_some(height),
+        message,
+        tags,
+        used,
+        models,
+        spec,
+        covariance,
+    };
+    answer_number(record_values::written::write(&said, out))
+}
+
+/// Writes the identity of a record that has these model inputs into `out`. Answers 0, or 3 where the bytes are no record, and then nothing
+/// is written.
+#[unsafe(no_mangle)]
+pub extern "C" fn tl_record_identity(
+    r: &[u8],
+    inputs: &[u8; HASH_SIZE],
+    out: &mut [u8; HASH_SIZE],
+) -> u32
+    ensures { after result out.new ≡ write_identity r.now inputs.now out.old }
+{
+    answer_number(record_values::known::identity(r, inputs, out))
+}
+
+/// Writes the model inputs that a record has by a register's summaries into `out`. Answers 0, or 1, 3, 24 or 7, and then nothing is written.
+/// The register is only read.
+#[unsafe(no_mangle)]
+pub extern "C" fn tl_register_inputs(memory: &[u8], r: &[u8], out: &mut [u8; HASH_SIZE]) -> u32
+    ensures { after result out.new ≡ write_inputs memory.now r.now out.old }
+{
+    known_number(record_values::known::inputs(memory, r, out))
 }
 
 /// Reports a record for an engine into a register.

@@ -1,0 +1,13 @@
+//! What is claimed of values. Each function's contract is the claim; there is nothing to run.
+
+ghost use Rattle.record_values.specs.Claims.{RecordsAreWritten, HadWhereCounted};
+
+/// Every record is written of what it says.
+pub fn records_are_written()
+    ensures { RecordsAreWritten }
+{}
+
+/// A record has model inputs in a register exactly where it counts on its board.
+pub fn had_where_counted()
+    ensures { HadWhereCounted }
+{}
