@@ -90,6 +90,24 @@ static void columns(void) { tl_register_columns(memory, sizeof memory, turned, s
 
 static void uncolumns(void) { tl_register_uncolumns(memory, sizeof memory, turned, sizeof turned); }
 
+static uint8_t made[TL_RECORD_SIZE], model_inputs[TL_INPUTS_SIZE], identity[TL_IDENTITY_SIZE];
+
+static void record_write(void) {
+    static const uint8_t message[TL_LONG_MESSAGE] = {0x8d};
+    static const uint8_t models[TL_MAX_CITED] = {1, 2, 3, 4};
+    uint64_t tags[TL_MAX_TAGS];
+    for (int i = 0; i < TL_MAX_TAGS; i++) tags[i] = (uint64_t)i;
+    tl_fields fields = {.time = 1000, .has_height = true, .height = 1500, .message = message, .message_len = sizeof message, .tags = tags,
+                        .tags_len = TL_MAX_TAGS, .used = 1, .models = models, .models_len = sizeof models};
+    tl_record_of(&fields, made);
+}
+
+static void record_identity(void) { tl_record_identity(made, sizeof made, model_inputs, identity); }
+
+static void register_inputs(void) {
+    tl_register_inputs(memory, sizeof memory, memory + TL_REGISTER_RECORDS_AT, TL_RECORD_SIZE, model_inputs);
+}
+
 static uint8_t joined[TL_REGISTER_SIZE];
 
 static void join_registers(void) {
@@ -243,6 +261,9 @@ int main(void) {
     }
     row("columns of a register", columns);
     row("columns turned back", uncolumns);
+    row("a record of what it says", record_write);
+    row("identity of a record", record_identity);
+    row("model inputs of a record, 96 records", register_inputs);
     row("join of two registers, 96 records", join_registers);
     row("what a register lacks, 96 records", lacks);
     write_track();

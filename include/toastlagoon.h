@@ -25,8 +25,9 @@
  *   result of tl_horizontal_sigma.
  * - Stack: 48 KB for tl_decide, tl_decide_any and tl_register_join, 112 KB for tl_board, tl_register_map and each function of a
  *   track, 144 KB for tl_register_preview, 4 KB for each other function (a KB is 1,024 bytes). bench/stack measures it; seen
- *   were up to 14 KB for a decision of up to 32 items and 43 KB for one of more, 72 KB for a board or a map, 102 KB for a
- *   preview and 37 KB for a join, which have a register there, 25 to 29 KB for a call on a track and 1 to 3 KB for the others.
+ *   were up to 14 KB for a decision of up to 32 items and 43 KB for one of more, 71 KB for a board or a map, 108 KB for a
+ *   preview and 37 KB for a join, which have a register there, up to 35 KB for a report to a track, 51 KB for a conviction there
+ *   and 65 KB for a summary, which have a shelf there, and up to 2 KB for the others.
  *   What a dynamic linker takes at a first call is not in these: bind names at the start (-Wl,-z,now).
  * - Threads: any number of them may call at once, as long as no two calls have memory in common that one of them may write. A
  *   register or a track that several threads use needs the caller's lock.
@@ -51,9 +52,9 @@ extern "C" {
 
 #define TL_VERSION_MAJOR 0
 #define TL_VERSION_MINOR 12
-#define TL_VERSION_PATCH 0
+#define TL_VERSION_PATCH 1
 #define TL_VERSION (TL_VERSION_MAJOR * 1000000 + TL_VERSION_MINOR * 1000 + TL_VERSION_PATCH)
-#define TL_VERSION_TEXT TL_VERSION_JOINED(TL_VERSION_MAJOR, TL_VERSION_MINOR, TL_VERSION_PATCH) /* "0.12.0" */
+#define TL_VERSION_TEXT TL_VERSION_JOINED(TL_VERSION_MAJOR, TL_VERSION_MINOR, TL_VERSION_PATCH) /* "0.12.1" */
 #define TL_VERSION_JOINED(major, minor, patch) TL_VERSION_QUOTED(major, minor, patch)
 #define TL_VERSION_QUOTED(major, minor, patch) #major "." #minor "." #patch
 

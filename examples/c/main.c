@@ -3,6 +3,7 @@
  * and a fix that waits on a shelf, called from C. */
 #include <inttypes.h>
 #include <stdio.h>
+#include <stdlib.h>
 #include <string.h>
 
 #include "toastlagoon.h"
@@ -10,10 +11,6 @@
 /* What the program chooses. The layouts, the limits and the answers have names in the header. */
 static const double VARIANCE = 100.0;
 enum { STEP = 2700, FIXES = 3, TIME = 1000, HEIGHT = 1500, MODEL = 5, SPEC = 3, TOO_LITTLE = 100 };
-
-static void put(uint8_t *at, int bytes, uint64_t value) {
-    for (int i = 0; i < bytes; i++) at[i] = (uint8_t)(value >> (8 * i));
-}
 
 static uint64_t get(const uint8_t *at, int bytes) {
     uint64_t value = 0;
@@ -27,28 +24,26 @@ static uint64_t bits_of(double x) {
     return bits;
 }
 
-static void put_double(uint8_t *at, double x) { put(at, TL_F64_SIZE, bits_of(x)); }
-
-/* The same variance on each axis, and no other terms. */
-static void put_variance(uint8_t r[TL_RECORD_SIZE], double variance) {
-    put_double(r + TL_RECORD_XX_AT, variance);
-    put_double(r + TL_RECORD_YY_AT, variance);
-    put_double(r + TL_RECORD_ZZ_AT, variance);
+/* A fix heard by the receivers 1 to `tags`, `lat` 1e-7 degree north of the equator, with the same variance on each axis; the pointers go to
+ * what stays. */
+static tl_fields fields_of(size_t tags, int32_t lat, double variance) {
+    static const uint8_t message[TL_SHORT_MESSAGE] = {0x8d};
+    static const uint64_t receivers[FIXES] = {1, 2, 3};
+    tl_fields fields = {TIME, lat, 0, true, HEIGHT, message, TL_SHORT_MESSAGE, receivers, tags, (1u << tags) - 1, NULL, 0, 0, {0}};
+    fields.covariance[0] = fields.covariance[3] = fields.covariance[5] = variance;
+    return fields;
 }
 
-/* A fix heard by the receivers 1 to `tags`, `lat` 1e-7 degree north of the equator, with a deviation of 10 m on each axis. */
+static void must(uint32_t answer) {
+    if (answer == TL_OK) return;
+    printf("refused: %s\n", tl_answer_name(answer));
+    exit(1);
+}
+
+/* The same with a deviation of 10 m on each axis. */
 static void write_record(uint8_t r[TL_RECORD_SIZE], int tags, int32_t lat) {
-    memset(r, 0, TL_RECORD_SIZE);
-    put(r + TL_RECORD_TIME_AT, 8, TIME);
-    put(r + TL_RECORD_LAT_AT, 4, (uint32_t)lat);
-    r[TL_RECORD_HAS_HEIGHT_AT] = 1;
-    put(r + TL_RECORD_HEIGHT_AT, 4, HEIGHT);
-    r[TL_RECORD_MESSAGE_LENGTH_AT] = TL_SHORT_MESSAGE;
-    r[TL_RECORD_MESSAGE_AT] = 0x8d;
-    r[TL_RECORD_TAG_COUNT_AT] = (uint8_t)tags;
-    put(r + TL_RECORD_USED_AT, 4, (1u << tags) - 1);
-    for (int i = 0; i < tags; i++) put(r + TL_RECORD_TAGS_AT + TL_TAG_SIZE * i, TL_TAG_SIZE, (uint64_t)i + 1);
-    put_variance(r, VARIANCE);
+    const tl_fields fields = fields_of((size_t)tags, lat, VARIANCE);
+    must(tl_record_of(&fields, r));
 }
 
 /* The same as an item of a decision: consistent, not preferred, unjudged, of no standing. */
@@ -144,7 +139,8 @@ static void decide(void) {
     show_decision("the first not consistent", items, sizeof items);
     /* One with a covariance of zeros refuses every larger one, and there is no chi-square. */
     items[TL_ITEM_CONSISTENT_AT] = 1;
-    put_variance(items + TL_ITEM_RECORD_AT, 0.0);
+    const tl_fields without = fields_of(1, 0, 0.0);
+    must(tl_record_of(&without, items + TL_ITEM_RECORD_AT));
     show_decision("the first without a covariance", items, sizeof items);
     show("decide half an item", tl_decide(items, TL_ITEM_SIZE / 2, answer));
     memset(items, 0, sizeof items);
@@ -208,8 +204,9 @@ static void map(void) {
     uint8_t r[TL_RECORD_SIZE];
     show_text("map of nothing", tl_register_map(memory, sizeof memory, out, sizeof out), out);
     puts("");
-    write_record(r, 2, STEP);
-    put(r + TL_RECORD_LON_AT, 4, (uint32_t)-5);
+    tl_fields fields = fields_of(2, STEP, VARIANCE);
+    fields.lon = -5;
+    must(tl_record_of(&fields, r));
     show("report to be shown", tl_register_report(memory, sizeof memory, 1, r, sizeof r));
     show_text("map", tl_register_map(memory, sizeof memory, out, sizeof out), out);
     puts("");
@@ -265,10 +262,12 @@ static void disputes(void) {
 static void waiting(void) {
     static uint8_t memory[TL_TRACK_SIZE], shelf[TL_SHELF_SIZE], out[TL_LISTING_SIZE];
     uint8_t r[TL_RECORD_SIZE], inputs[TL_INPUTS_SIZE] = {0};
-    write_record(r, 2, 0);
-    r[TL_RECORD_MODEL_COUNT_AT] = 1;
-    r[TL_RECORD_MODELS_AT] = MODEL;
-    put(r + TL_RECORD_SPEC_AT, 2, SPEC);
+    const uint8_t model = MODEL;
+    tl_fields fields = fields_of(2, 0, VARIANCE);
+    fields.models = &model;
+    fields.models_len = 1;
+    fields.spec = SPEC;
+    must(tl_record_of(&fields, r));
     show("track, a fix before its model", tl_track_report(memory, sizeof memory, shelf, sizeof shelf, 1, r, sizeof r));
     const uint8_t *place = shelf + TL_SHELF_PLACES_AT;
     printf("waiting: %d, for model %d, of engine %d\n", shelf[TL_SHELF_COUNT_AT], place[TL_WAITING_MODEL_AT], place[TL_WAITING_ENGINE_AT]);

@@ -39,10 +39,7 @@ static void summary(uint32_t engine, uint32_t model, uint8_t first) {
 
 static void report(uint32_t engine, int transmission, int32_t lat, uint8_t model, uint16_t spec) {
     uint8_t r[TL_RECORD_SIZE];
-    write_record(r, transmission, START + (uint64_t)transmission, lat);
-    r[TL_RECORD_MODEL_COUNT_AT] = 1;
-    r[TL_RECORD_MODELS_AT] = model;
-    put(r + TL_RECORD_SPEC_AT, 2, spec);
+    write_fix(r, transmission, START + (uint64_t)transmission, lat, 1, &model, spec);
     must(tl_register_report(memory, sizeof memory, engine, r, sizeof r));
 }
 

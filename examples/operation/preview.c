@@ -25,10 +25,7 @@ static void show(const char *what, const struct text *t) { printf("%s\n%.*s", wh
 
 static void report(uint32_t engine, uint64_t after, int32_t lat, int tags) {
     uint8_t r[TL_RECORD_SIZE];
-    write_record(r, 1, START + after, lat);
-    r[TL_RECORD_TAG_COUNT_AT] = (uint8_t)tags;
-    put(r + TL_RECORD_USED_AT, 4, (1u << tags) - 1);
-    for (int i = 0; i < tags; i++) put(r + TL_RECORD_TAGS_AT + TL_TAG_SIZE * i, TL_TAG_SIZE, 101 + (uint64_t)i);
+    write_fix(r, 1, START + after, lat, tags, NULL, 0);
     must(tl_register_report(memory, sizeof memory, engine, r, sizeof r));
 }
 

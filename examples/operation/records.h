@@ -1,4 +1,4 @@
-/* Records, written and read by the names of toastlagoon.h, for the programs of this folder. */
+/* Records, written by tl_record_of and read by the names of toastlagoon.h, for the programs of this folder. */
 #include <inttypes.h>
 #include <stdio.h>
 #include <stdlib.h>
@@ -8,41 +8,34 @@
 
 #define START UINT64_C(1731679200000000000)
 
-static inline void put(uint8_t *at, int bytes, uint64_t value) {
-    for (int i = 0; i < bytes; i++) at[i] = (uint8_t)(value >> (8 * i));
-}
-
 static inline uint64_t get(const uint8_t *at, int bytes) {
     uint64_t value = 0;
     for (int i = bytes; i-- > 0;) value = value << 8 | at[i];
     return value;
 }
 
-static inline void put_double(uint8_t *at, double x) {
-    uint64_t bits;
-    memcpy(&bits, &x, sizeof bits);
-    put(at, TL_F64_SIZE, bits);
-}
-
-/* A fix of a transmission (its number is in the message) heard by receiver 101, with a deviation of 10 m on each axis and no model. */
-static inline void write_record(uint8_t r[TL_RECORD_SIZE], int transmission, uint64_t time, int32_t lat) {
-    memset(r, 0, TL_RECORD_SIZE);
-    put(r + TL_RECORD_TIME_AT, 8, time);
-    put(r + TL_RECORD_LAT_AT, 4, (uint32_t)lat);
-    r[TL_RECORD_MESSAGE_LENGTH_AT] = TL_SHORT_MESSAGE;
-    put(r + TL_RECORD_MESSAGE_AT, 4, (uint64_t)transmission);
-    r[TL_RECORD_TAG_COUNT_AT] = 1;
-    put(r + TL_RECORD_USED_AT, 4, 1);
-    put(r + TL_RECORD_TAGS_AT, TL_TAG_SIZE, 101);
-    put_double(r + TL_RECORD_XX_AT, 100.0);
-    put_double(r + TL_RECORD_YY_AT, 100.0);
-    put_double(r + TL_RECORD_ZZ_AT, 100.0);
-}
-
 static inline void must(uint32_t answer) {
     if (answer == TL_OK) return;
     fprintf(stderr, "refused: %s\n", tl_answer_name(answer));
     exit(1);
+}
+
+/* A fix of a transmission (its number is in the message) heard by so many receivers from 101 on, with a deviation of 10 m on each axis, and
+ * the model that it cites, or null. */
+static inline void write_fix(uint8_t r[TL_RECORD_SIZE], int transmission, uint64_t time, int32_t lat, int receivers, const uint8_t *model,
+                             uint16_t spec) {
+    const uint8_t message[TL_SHORT_MESSAGE] = {(uint8_t)transmission, (uint8_t)(transmission >> 8)};
+    uint64_t tags[TL_MAX_TAGS];
+    for (int i = 0; i < receivers; i++) tags[i] = 101 + (uint64_t)i;
+    tl_fields fields = {.time = time, .lat = lat, .message = message, .message_len = sizeof message, .tags = tags,
+                        .tags_len = (size_t)receivers, .used = (1u << receivers) - 1, .models = model, .models_len = model != NULL,
+                        .spec = spec, .covariance = {100, 0, 0, 100, 0, 100}};
+    must(tl_record_of(&fields, r));
+}
+
+/* One heard by one receiver, with no model. */
+static inline void write_record(uint8_t r[TL_RECORD_SIZE], int transmission, uint64_t time, int32_t lat) {
+    write_fix(r, transmission, time, lat, 1, NULL, 0);
 }
 
 /* The i-th record that a register holds, with its signers behind it. */

@@ -29,10 +29,6 @@ static bool lost(uint32_t odds) {
     return (x >> 33) % odds == 0;
 }
 
-static void put(uint8_t *at, int bytes, uint64_t value) {
-    for (int i = 0; i < bytes; i++) at[i] = (uint8_t)(value >> (8 * i));
-}
-
 static uint32_t number(const uint8_t *at, int bytes) {
     uint32_t value = 0;
     for (int i = 0; i < bytes; i++) value |= (uint32_t)at[i] << (8 * i);
@@ -41,20 +37,18 @@ static uint32_t number(const uint8_t *at, int bytes) {
 
 /* The fix of a transmission by an engine, which has as many receivers as its number says. */
 static void report(uint32_t engine, int transmission) {
-    uint8_t r[TL_RECORD_SIZE] = {0};
-    put(r + TL_RECORD_TIME_AT, 8, START + (uint64_t)transmission * 10 * SECOND);
-    put(r + TL_RECORD_LAT_AT, 4, (uint64_t)(481370000 + 1800 * transmission));
-    put(r + TL_RECORD_LON_AT, 4, 115820000);
-    r[TL_RECORD_MESSAGE_LENGTH_AT] = TL_SHORT_MESSAGE;
-    r[TL_RECORD_MESSAGE_AT] = (uint8_t)transmission;
-    r[TL_RECORD_TAG_COUNT_AT] = (uint8_t)engine;
-    put(r + TL_RECORD_USED_AT, 4, (1u << engine) - 1);
-    for (uint32_t i = 0; i < engine; i++) put(r + TL_RECORD_TAGS_AT + 8 * i, 8, 101 + i);
+    uint8_t r[TL_RECORD_SIZE];
+    const uint8_t model = MODEL, message[TL_SHORT_MESSAGE] = {(uint8_t)transmission};
+    uint64_t tags[ENGINES];
+    for (uint32_t i = 0; i < engine; i++) tags[i] = 101 + i;
+    tl_fields fields = {.time = START + (uint64_t)transmission * 10 * SECOND, .lat = 481370000 + 1800 * transmission, .lon = 115820000,
+                        .message = message, .message_len = sizeof message, .tags = tags, .tags_len = engine, .used = (1u << engine) - 1};
     if (transmission % 4 == 0) {
-        r[TL_RECORD_MODEL_COUNT_AT] = 1;
-        r[TL_RECORD_MODELS_AT] = MODEL;
-        put(r + TL_RECORD_SPEC_AT, 2, 1);
+        fields.models = &model;
+        fields.models_len = 1;
+        fields.spec = 1;
     }
+    if (tl_record_of(&fields, r) != TL_OK) exit(1);
     for (int i = 0; i < ROOMS; i++)
         if (!lost(8)) tl_register_report(rooms[i], TL_REGISTER_SIZE, engine, r, sizeof r);
 }

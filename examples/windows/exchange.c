@@ -18,26 +18,25 @@ static uint8_t rooms[2][TL_REGISTER_SIZE];
 static uint8_t boards[2][TL_BOARD_SIZE];
 enum { NORTH, SOUTH, BOTH };
 
-static void put(uint8_t *at, int bytes, uint64_t value) {
-    for (int i = 0; i < bytes; i++) at[i] = (uint8_t)(value >> (8 * i));
-}
-
 /* The fix of a transmission, of which there are ten in four seconds, each with a message of its own. */
 static void report(int room, uint32_t engine, int transmission, uint8_t model) {
-    uint8_t r[TL_RECORD_SIZE] = {0};
-    put(r + TL_RECORD_TIME_AT, 8, START + (uint64_t)transmission * (2 * SECOND / 5));
-    put(r + TL_RECORD_LAT_AT, 4, (uint64_t)(481370000 + 1800 * transmission));
-    put(r + TL_RECORD_LON_AT, 4, 115820000);
-    r[TL_RECORD_MESSAGE_LENGTH_AT] = TL_SHORT_MESSAGE;
-    r[TL_RECORD_MESSAGE_AT] = (uint8_t)transmission;
-    r[TL_RECORD_TAG_COUNT_AT] = 1;
-    put(r + TL_RECORD_USED_AT, 4, 1);
-    put(r + TL_RECORD_TAGS_AT, 8, 101);
+    uint8_t r[TL_RECORD_SIZE];
+    const uint8_t message[TL_SHORT_MESSAGE] = {(uint8_t)transmission};
+    const uint64_t tag = 101;
+    tl_fields fields = {.time = START + (uint64_t)transmission * (2 * SECOND / 5),
+                        .lat = 481370000 + 1800 * transmission,
+                        .lon = 115820000,
+                        .message = message,
+                        .message_len = sizeof message,
+                        .tags = &tag,
+                        .tags_len = 1,
+                        .used = 1};
     if (model != NO_MODEL) {
-        r[TL_RECORD_MODEL_COUNT_AT] = 1;
-        r[TL_RECORD_MODELS_AT] = model;
-        put(r + TL_RECORD_SPEC_AT, 2, 1);
+        fields.models = &model;
+        fields.models_len = 1;
+        fields.spec = 1;
     }
+    if (tl_record_of(&fields, r) != TL_OK) exit(1);
     for (int i = 0; i < 2; i++)
         if (room == i || room == BOTH) tl_register_report(rooms[i], TL_REGISTER_SIZE, engine, r, sizeof r);
 }

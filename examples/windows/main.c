@@ -73,39 +73,29 @@ static uint64_t transmit_time(int transmission, int engine) {
     return START + (uint64_t)transmission * EVERY + SECOND / 10 + drawn(READING, 0, transmission, engine) % 2000;
 }
 
-static void put(uint8_t *at, int bytes, uint64_t value) {
-    for (int i = 0; i < bytes; i++) at[i] = (uint8_t)(value >> (8 * i));
-}
-
-static void put_double(uint8_t *at, double x) {
-    uint64_t bits;
-    memcpy(&bits, &x, sizeof bits);
-    put(at, TL_F64_SIZE, bits);
-}
-
 /* The aircraft flies north, 20 m each half second. The convicted engine puts it a tenth of a degree further, and cites no model. */
 static void write_record(uint8_t r[TL_RECORD_SIZE], int transmission, int engine) {
     const struct engine *by = &engines[engine];
-    memset(r, 0, TL_RECORD_SIZE);
-    put(r + TL_RECORD_TIME_AT, 8, transmit_time(transmission, engine));
-    put(r + TL_RECORD_LAT_AT, 4, (uint64_t)(481370000 + 1800 * transmission + 100 * engine + (engine == LIAR ? 1000000 : 0)));
-    put(r + TL_RECORD_LON_AT, 4, 115820000);
-    r[TL_RECORD_HAS_HEIGHT_AT] = 1;
-    put(r + TL_RECORD_HEIGHT_AT, 4, 312400);
-    r[TL_RECORD_MESSAGE_LENGTH_AT] = TL_SHORT_MESSAGE;
-    put(r + TL_RECORD_MESSAGE_AT, 4, 0xd06d3c8d);
-    put(r + TL_RECORD_MESSAGE_AT + 4, 3, (uint64_t)transmission);
-    r[TL_RECORD_TAG_COUNT_AT] = (uint8_t)by->tags;
-    put(r + TL_RECORD_USED_AT, 4, (1u << by->tags) - 1);
-    for (int i = 0; i < by->tags; i++) put(r + TL_RECORD_TAGS_AT + TL_TAG_SIZE * i, TL_TAG_SIZE, by->first_tag + (uint64_t)i);
+    const uint8_t model = MODEL, message[TL_SHORT_MESSAGE] = {0x8d, 0x3c, 0x6d, 0xd0, (uint8_t)transmission, (uint8_t)(transmission >> 8)};
+    uint64_t tags[TL_MAX_TAGS];
+    for (int i = 0; i < by->tags; i++) tags[i] = by->first_tag + (uint64_t)i;
+    tl_fields fields = {.time = transmit_time(transmission, engine),
+                        .lat = 481370000 + 1800 * transmission + 100 * engine + (engine == LIAR ? 1000000 : 0),
+                        .lon = 115820000,
+                        .has_height = true,
+                        .height = 312400,
+                        .message = message,
+                        .message_len = sizeof message,
+                        .tags = tags,
+                        .tags_len = (size_t)by->tags,
+                        .used = (1u << by->tags) - 1,
+                        .covariance = {100, 0, 0, 100, 0, 100}};
     if (engine != LIAR) {
-        r[TL_RECORD_MODEL_COUNT_AT] = 1;
-        r[TL_RECORD_MODELS_AT] = MODEL;
-        put(r + TL_RECORD_SPEC_AT, 2, SPEC);
+        fields.models = &model;
+        fields.models_len = 1;
+        fields.spec = SPEC;
     }
-    put_double(r + TL_RECORD_XX_AT, 100.0);
-    put_double(r + TL_RECORD_YY_AT, 100.0);
-    put_double(r + TL_RECORD_ZZ_AT, 100.0);
+    if (tl_record_of(&fields, r) != TL_OK) exit(1);
 }
 
 /* ---- what arrives in a room, and when */

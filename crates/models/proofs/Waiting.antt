@@ -1,12 +1,13 @@
 -- For which model a record waits: one that it cites and that has no summary, where there is one. A record that counts waits for none.
-use Rattle.std.proofs.Common.{ℕ, Bool, ◌≡◌, ◌≤◌, ◌<◌, ◌+◌, true, false, List, [], ◌∷◌, refl, sym, ◌∙◌, arith, Some, None, length, drop, get_or, add-one, drop-cons}
+use Rattle.std.proofs.Common.{ℕ, Bool, ◌≡◌, ◌≤◌, ◌<◌, ◌+◌, true, false, List, [], ◌∷◌, ◌||◌, refl, sym, ap, ◌∙◌, arith, Option, Some, None, length, drop, get_or, add-one, drop-cons}
+use mathlib.Core.Logic.{◌↔◌}
 use lib.ListN.{drop_of_length-le}
 use Rattle.std.specs.List.{find, list_any}
 use Rattle.lists.proofs.Bools.{by, and_left, and_right, neither_left, neither_right}
 use Rattle.record.specs.Fields.{models, spec}
 use Rattle.record.specs.Relations.{member}
-use Rattle.models.specs.Models.{State, missing, agreed, disputed, state_of, agreed_as, all_agreed}
-use Rattle.models.specs.Missing.{is_missing}
+use Rattle.models.specs.Models.{State, missing, agreed, disputed, state_of, agreed_as, all_agreed, counts}
+use Rattle.models.specs.Missing.{is_missing, first_missing}
 use Rattle.models.specs.Claims.{WaitsExactlyWhere}
 
 module _ (ps : List (List ℕ)) where

@@ -55,15 +55,15 @@ pub fn identity(
 // Writes the model inputs of a record, where it counts by these summaries.
 fn inputs_among(
     summaries: Summaries,
-    record: Record,
+    r: Record,
     out: &mut [u8; HASH_SIZE],
 ) -> Result<Known, Error>
-    ensures { after (known_number result) out.new ≡ inputs_among (summary_places summaries.entry) record.entry.bytes.now out.old }
+    ensures { after (known_number result) out.new ≡ inputs_among (summary_places summaries.entry) r.entry.bytes.now out.old }
 {
-    if first_missing(summaries, record).is_some() {
+    if first_missing(summaries, r).is_some() {
         return Ok(Known::Waiting);
     }
-    let Some(inputs) = cited_inputs(summaries, record) else {
+    let Some(inputs) = cited_inputs(summaries, r) else {
         return Err(Error::ModelDisputed);
     };
     *out = *inputs.bytes();

@@ -8,7 +8,7 @@ ghost use Rattle.toastlagoon_names.specs.Names as N;
 pub mod claims;
 
 // The version as one number: a million for each major number, a thousand for each minor one.
-const VERSION: u32 = 12_000;
+const VERSION: u32 = 12_001;
 
 /// The version of the library.
 pub fn version() -> u32
@@ -21,7 +21,7 @@ pub fn version() -> u32
 pub fn version_text() -> &'static [u8]
     ensures { result.now ≡ N.version_text }
 {
-    b"0.12.0"
+    b"0.12.1"
 }
 
 /// What an answer says, in words.

@@ -1,4 +1,4 @@
-use Rattle.std.proofs.Common.{sym, ◌∙◌, get_or, ◌≡◌, false}
+use Rattle.std.proofs.Common.{sym, ap, ◌∙◌, List, ℕ, get_or, ◌≡◌, false}
 use Rattle.record.specs.Fields.{models}
 use Rattle.models.specs.Models.{state_of}
 use Rattle.models.specs.Missing.{is_missing}

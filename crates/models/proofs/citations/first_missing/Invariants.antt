@@ -1,4 +1,4 @@
-use Rattle.std.proofs.Common.{◌≡◌, drop}
+use Rattle.std.proofs.Common.{◌≡◌, ℕ, drop}
 use Rattle.std.specs.List.{find}
 use Rattle.record.specs.Fields.{models}
 use Rattle.models.specs.Models.{state_of}

@@ -1,0 +1,223 @@
+"""Tests of the package toastlagoon: the worked sessions and the two rooms of examples/, and each call once. Needs only Python."""
+
+import struct
+import subprocess
+import sys
+import unittest
+from pathlib import Path
+
+import toastlagoon
+from toastlagoon import (Agreement, Answer, Claim, Covariance, Desk, Effect, Error, Fields, Item, Kind, Outcome, Record, Register, Track,
+                         agreement, blake2s256, decide, decide_any, horizontal_sigma, root)  # fmt: skip
+
+EXAMPLES = Path(__file__).resolve().parents[3] / "examples"
+STEP = 2700
+
+
+def fields(tags, lat, **more):
+    message = bytes([0x8D, 0, 0, 0, 0, 0, 0])
+    said = dict(time=1000, lat=lat, lon=0, height=1500, message=message, tags=tags, used=2 ** len(tags) - 1)
+    return Fields(**{**said, "covariance": Covariance.diagonal(100.0), **more})
+
+
+def record(tags, lat):
+    return Record(fields(range(1, tags + 1), lat))
+
+
+WAITING = Record(fields([1, 2], 0, models=[5], spec=3))
+
+
+class Sessions(unittest.TestCase):
+    def performed(self, register, o):
+        engine = int(o["engine"])
+        numbers = lambda key: [int(word) for word in o[key].split(",") if word != "none"]  # noqa: E731
+        if o["op"] == "summary":
+            register.summary(engine, int(o["model"]), int(o["spec"]), bytes.fromhex(o["inputs"]))
+        elif o["op"] == "convict":
+            register.convict(Desk.MANAGER, engine)
+        else:
+            height = None if o["height"] == "none" else int(o["height"])
+            covariance = Covariance(*struct.unpack(">6d", bytes.fromhex(o["cov"])))
+            said = dict(time=int(o["time"]), lat=int(o["lat"]), lon=int(o["lon"]), height=height, message=bytes.fromhex(o["message"]))
+            cited = dict(used=int(o["used"]), models=numbers("models"), spec=int(o["spec"]))
+            register.report(engine, Record(Fields(**said, **cited, tags=numbers("tags"), covariance=covariance)))
+
+    def test_worked_sessions(self):
+        for name in ("north", "south", "struck", "quiet", "worked"):
+            operations, register, printed = [], Register(), ""
+            for line in (EXAMPLES / f"session/{name}.session").read_text().splitlines():
+                key, value = line.split("=")
+                if key == "op":
+                    operations.append({})
+                operations[-1][key] = value
+            for operation in operations:
+                try:
+                    self.performed(register, operation)
+                    printed += "answer=0\n"
+                except Error as error:
+                    printed += f"answer={error.kind.value}\n"
+            printed += register.board(Desk.MANAGER) or "transmissions=0\n"
+            self.assertEqual(printed, (EXAMPLES / f"session/{name}.stdout").read_text(), name)
+
+    def test_two_rooms(self):
+        folder = EXAMPLES / "two_rooms"
+        path = {"PYTHONPATH": str(Path(toastlagoon.__file__).parents[1])}
+        ran = subprocess.run([sys.executable, folder / "two_rooms.py"], env=path, capture_output=True, text=True, check=True)
+        self.assertEqual(ran.stdout, (folder / "expected").read_text())
+
+
+class Calls(unittest.TestCase):
+    def refused(self, kind):
+        return Refused(self, kind)
+
+    def test_records(self):
+        said = fields((7, 9), -1, lon=-5, models=(5, 5), spec=3, height=None)
+        self.assertEqual(Record(said).fields(), said)
+        self.assertEqual(Record.from_bytes(Record(said).as_bytes()), Record(said))
+        for more in (
+            {"message": b""},
+            {"tags": (), "used": 0},
+            {"tags": (2, 1)},
+            {"used": 4},
+            {"models": (64,)},
+            {"models": (0,) * 5},
+        ):
+            with self.refused(Kind.MALFORMED_RECORD):
+                Record(Fields(**{**vars(fields((1, 2), 0)), **more}))
+        for content in (b"", bytes(288)):
+            with self.refused(Kind.MALFORMED_RECORD):
+                Record.from_bytes(content)
+
+    def test_numbers_are_not_cut_off(self):
+        wide = [{"time": 2**64}, {"time": -1}, {"lat": 2**31}, {"height": 2**31}, {"used": 2**32}, {"models": (256,)}, {"spec": 65536}]
+        for more in wide:
+            with self.assertRaises(OverflowError):
+                Record(Fields(**{**vars(fields((1, 2), 0)), **more}))
+        with self.assertRaises(OverflowError):
+            Register().report(2**32 + 1, record(1, 0))
+        with self.assertRaises(ValueError):
+            record(1, 0).identity(b"")
+
+    def test_registers(self):
+        register = Register()
+        register.report(4, record(2, STEP))
+        register.summary(4, 5, 3, bytes([9] * 32))
+        self.assertEqual(Register.from_bytes(register.as_bytes()), register)
+        self.assertEqual(Register.from_columns(register.to_columns()), register)
+        self.assertEqual([*register.records()], [(record(2, STEP), 1 << 4)])
+        self.assertEqual([*register.summaries()], [(4, 5, 3, bytes([9] * 32))])
+        copied = register.copy()
+        copied.report(5, record(2, STEP))
+        self.assertNotEqual(copied, register)
+        for content in (b"", bytes(37255)):
+            with self.refused(Kind.BAD_LENGTH):
+                Register.from_bytes(content)
+        with self.refused(Kind.BAD_LENGTH):
+            Register.from_columns(b"")
+        with self.refused(Kind.MALFORMED):
+            Register.from_bytes(b"\0" * 6 + b"\x61" + bytes(37249))
+
+    def test_desks_and_convictions(self):
+        register = Register()
+        register.report(4, record(2, STEP))
+        register.report(7, record(2, STEP))
+        with self.refused(Kind.ENGINE_OVER_31):
+            register.report(32, record(2, STEP))
+        with self.refused(Kind.NO_RIGHT):
+            register.preview(Desk.CREW, 4)
+        with self.refused(Kind.NO_RIGHT):
+            register.convict(Desk.ANALYST, 4)
+        previewed = register.preview(Desk.ANALYST, 4)
+        register.convict(Desk.MANAGER, 4)
+        self.assertEqual(register.board(Desk.MANAGER), previewed)
+        self.assertEqual(register.convicted, 1 << 4)
+        with self.assertRaises(Error) as caught:
+            register.report(4, record(2, STEP))
+        self.assertEqual((caught.exception.kind, str(caught.exception)), (Kind.ENGINE_CONVICTED, "engine convicted"))
+        line = "role=ranked time=1000 lat=2700 lon=0 height=2 weight=2 signers=00000080\n"
+        self.assertEqual(register.board(Desk.CREW), "transmission=1\n" + line)
+        self.assertEqual(Register().board(Desk.CREW), "")
+        self.assertIn("[0.0000000,0.0002700,1.500]", register.map())
+
+    def test_rooms_join(self):
+        north, south = Register(), Register()
+        north.report(1, record(1, 0))
+        south.report(2, record(1, 0))
+        south.convict(Desk.MANAGER, 3)
+        north.join(north.lacks(south))
+        south.join(north)
+        north.join(north)
+        self.assertEqual(north, south)
+        self.assertEqual(north.lacks(south), Register())
+
+    def test_withheld_records_say_why(self):
+        register = Register()
+        with self.refused(Kind.MODEL_MISSING):
+            register.inputs(WAITING)
+        register.summary(1, 5, 3, bytes(32))
+        self.assertNotEqual(WAITING.identity(register.inputs(WAITING)), WAITING.identity(bytes(32)))
+        register.summary(2, 5, 3, bytes([1] * 32))
+        with self.refused(Kind.MODEL_DISPUTED):
+            register.inputs(WAITING)
+        for model, inputs in ((64, bytes(32)), (5, b"")):
+            with self.refused(Kind.BAD_SUMMARY):
+                register.summary(1, model, 3, inputs)
+
+    def test_a_fix_waits_beside_a_track(self):
+        track = Track()
+        self.assertEqual(track.report(1, WAITING), Effect.WAITING)
+        self.assertEqual([*track.shelf.waiting()], [(5, 1, WAITING)])
+        again = Track.from_bytes(track.as_bytes(), track.shelf.as_bytes())
+        self.assertEqual((again.as_bytes(), again.shelf.as_bytes()), (track.as_bytes(), track.shelf.as_bytes()))
+        track.summary(2, 5, 3, bytes(32))
+        self.assertEqual([*track.shelf.waiting()], [])
+        self.assertEqual(track.report(1, WAITING), Effect.DUPLICATE)
+        self.assertIn("signers=00000002", track.listing())
+        self.assertEqual(track.contested, 0)
+        for shelf in (b"", bytes([1]) * 18561):
+            with self.refused(Kind.MALFORMED):
+                Track.from_bytes(track.as_bytes(), shelf)
+        track.convict(2)
+        self.assertEqual(track.convicted, 1 << 2)
+        with self.refused(Kind.ENGINE_OVER_31):
+            track.convict(32)
+
+    def test_decisions(self):
+        items = [Item(r, bytes(32), r.identity(bytes(32))) for r in (record(1, 0), record(2, STEP), record(3, 2 * STEP))]
+        answer = decide(items)
+        self.assertEqual((answer.ranked, answer.dominated, len(answer.refusals)), ((1,), (0,), 1))
+        refusal = answer.refusals[0]
+        self.assertEqual(refusal[:3], (2, 0, False))
+        self.assertGreater(refusal.chi2 or 0, 16.266)
+        self.assertEqual(decide_any(items[::-1]).ranked, (1,))
+        self.assertEqual(decide([]), Answer((), (), ()))
+        with self.refused(Kind.BAD_ITEMS):
+            decide(items[:1] * 2)
+
+    def test_measures(self):
+        self.assertEqual(blake2s256(b"abc").hex(), "508c5e8c327c14e2e1a72ba34eeb452f37458b209ed63a294d999b4c86675982")
+        self.assertEqual(blake2s256(b"").hex(), "69217a3079908094e11121d042354a7c1f55b6482ca1a51e1b250dfd1ed0eef9")
+        self.assertEqual((root(9.0), horizontal_sigma(Covariance())), (3.0, 0.0))
+        claim = lambda lat, variance: Claim(lat, 0, 1500, Covariance.diagonal(variance))  # noqa: E731
+        self.assertEqual(agreement(claim(0, 100.0), claim(STEP, 100.0)).outcome, Outcome.INSIDE)
+        self.assertEqual(agreement(claim(0, 100.0), claim(2 * STEP, 100.0)).outcome, Outcome.OUTSIDE)
+        self.assertEqual(agreement(claim(0, 0.0), claim(0, 100.0)), Agreement(Outcome.UNMEASURABLE, None, None))
+
+
+class Refused:
+    """A block that must be refused with this kind."""
+
+    def __init__(self, test, kind):
+        self.test, self.kind = test, kind
+
+    def __enter__(self):
+        return self
+
+    def __exit__(self, kind, error, trace):
+        self.test.assertIsInstance(error, Error)
+        self.test.assertEqual(error.kind, self.kind)
+        return True
+
+
+if __name__ == "__main__":
+    unittest.main()
