@@ -23,8 +23,8 @@
  * - The floating-point environment that a thread begins with: rounding to nearest, no flush to zero and no denormals as zero
  *   (MXCSR 1f80 but for its flags), no exception unmasked. Another changes chi-squares, and so which fixes are refused, and the
  *   result of tl_horizontal_sigma.
- * - Stack: 48 KB for tl_decide, tl_decide_any and tl_register_join, 112 KB for tl_board, tl_register_map and each function of a
- *   track, 144 KB for tl_register_preview, 4 KB for each other function (a KB is 1,024 bytes). bench/stack measures it; seen
+ * - Stack: 48 KB for tl_decide, tl_decide_any and tl_register_join, 112 KB for tl_board, tl_register_map, tl_register_fixes and each
+ *   function of a track, 144 KB for tl_register_preview, 4 KB for each other function (a KB is 1,024 bytes). bench/stack measures it; seen
  *   were up to 14 KB for a decision of up to 32 items and 43 KB for one of more, 71 KB for a board or a map, 108 KB for a
  *   preview and 37 KB for a join, which have a register there, up to 35 KB for a report to a track, 51 KB for a conviction there
  *   and 65 KB for a summary, which have a shelf there, and up to 2 KB for the others.
@@ -74,7 +74,7 @@ uint32_t tl_version(void);
 #define TL_MODEL_DISPUTED 7     /* a track's summaries of a cited model disagree, or are of another spec */
 #define TL_BAD_ITEMS 8          /* over 96 items, no whole number of items, a malformed item, or two of one identity */
 #define TL_BAD_SUMMARY 9        /* a model over 63, or inputs that are not of 32 bytes */
-#define TL_OUTPUT_TOO_SMALL 10  /* under TL_BOARD_SIZE bytes for a board or a preview, under TL_LISTING_SIZE for a listing */
+#define TL_OUTPUT_TOO_SMALL 10  /* under TL_BOARD_SIZE bytes for a board or a preview, TL_LISTING_SIZE for a listing, TL_FIXES_SIZE for fixes */
 #define TL_SHELF_FULL 13        /* the fix has to wait, and TL_MAX_WAITING wait already */
 #define TL_MAP_TOO_SMALL 14     /* under TL_MAP_SIZE bytes for a map */
 #define TL_UNKNOWN_DESK 15      /* the desk is none of TL_CREW, TL_ANALYST and TL_MANAGER; all 32 bits count */
@@ -94,8 +94,24 @@ uint32_t tl_version(void);
 #define TL_OUTSIDE 1      /* the chi-square is above the limit: they disagree */
 #define TL_UNMEASURABLE 2 /* there is no chi-square: they count as disagreeing */
 
+/* The outcome of tl_record_fault, and of nothing else: the first check that bytes fail, in the order in which a record's fields stand. */
+#define TL_FAULT_NONE 0            /* they are a record */
+#define TL_FAULT_LENGTH 1          /* not TL_RECORD_SIZE bytes */
+#define TL_FAULT_HEIGHT_FLAG 2     /* neither 0 nor 1 */
+#define TL_FAULT_HEIGHT_ROOM 3     /* no height, and its bytes are not zero */
+#define TL_FAULT_MESSAGE_LENGTH 4  /* neither TL_SHORT_MESSAGE nor TL_LONG_MESSAGE */
+#define TL_FAULT_MESSAGE_ROOM 5    /* bytes behind the message are not zero */
+#define TL_FAULT_NO_TAG 6
+#define TL_FAULT_TOO_MANY_TAGS 7   /* over TL_MAX_TAGS */
+#define TL_FAULT_USED_MASK 8       /* a bit at or above the number of tags */
+#define TL_FAULT_TAG_ORDER 9       /* not strictly ascending */
+#define TL_FAULT_TAG_ROOM 10       /* bytes behind the tags are not zero */
+#define TL_FAULT_TOO_MANY_MODELS 11 /* over TL_MAX_CITED */
+#define TL_FAULT_MODEL 12          /* over TL_MAX_MODEL */
+#define TL_FAULT_MODEL_ROOM 13     /* bytes behind the models are not zero */
+
 /* What an answer says, in words. Not for the outcomes of tl_agreement, and not for the lengths that tl_board, tl_register_preview,
- * tl_register_map and tl_track_listing return: a length can be any number but those of their refusals. The text is part of the
+ * tl_register_map, tl_register_fixes and tl_track_listing return: a length can be any number but those of their refusals. The text is part of the
  * program that includes this header, not of the library; tl_answer_text has the same words for languages that read no header. */
 static inline const char *tl_answer_name(uint32_t answer) {
     switch (answer) {
@@ -276,6 +292,24 @@ uint32_t tl_answer_text(uint32_t answer, uint8_t *out, size_t out_len);
 #define TL_REFUSALS_AT (TL_DOMINATED_AT + 1 + TL_MAX_ITEMS)
 #define TL_ANSWER_SIZE (TL_REFUSALS_AT + 1 + TL_MAX_ITEMS * TL_REFUSAL_SIZE) /* 1,347 */
 
+/* A fix of a board, as tl_register_fixes writes it: one for each line of the full board. Where there is no chi-square its bytes are
+ * zero: look at TL_SHOWN_MEASURED_AT before them. */
+#define TL_SHOWN_NUMBER_AT 0                                          /* u8, of its transmission, from 1 */
+#define TL_SHOWN_ROLE_AT (TL_SHOWN_NUMBER_AT + 1)                     /* u8, TL_RANKED, TL_DOMINATED or TL_REFUSED */
+#define TL_SHOWN_PLACE_AT (TL_SHOWN_ROLE_AT + 1)                      /* u8, of the record that represents it, in the register, from 0 */
+#define TL_SHOWN_AGAINST_AT (TL_SHOWN_PLACE_AT + 1)                   /* u8, the fix, by its index here, that it is refused against; else itself */
+#define TL_SHOWN_SIGNERS_AT (TL_SHOWN_AGAINST_AT + 1)                 /* u32, bit n for engine n */
+#define TL_SHOWN_IDENTITY_AT (TL_SHOWN_SIGNERS_AT + 4)
+#define TL_SHOWN_MEASURED_AT (TL_SHOWN_IDENTITY_AT + TL_IDENTITY_SIZE) /* u8, 1 if it is refused with a chi-square, else 0 */
+#define TL_SHOWN_CHI2_AT (TL_SHOWN_MEASURED_AT + 1)                   /* f64, between the two; zero where there is none */
+#define TL_SHOWN_SIZE (TL_SHOWN_CHI2_AT + TL_F64_SIZE)                /* 49 */
+#define TL_RANKED 0
+#define TL_DOMINATED 1
+#define TL_REFUSED 2
+
+/* The size of the output of tl_register_fixes: a board has at most TL_MAX_RECORDS fixes. */
+#define TL_FIXES_SIZE (TL_MAX_RECORDS * TL_SHOWN_SIZE)                /* 4,704 */
+
 /* The size of the output of a board, and of a listing: every one fits. */
 #define TL_BOARD_SIZE 16384
 #define TL_MIN_LENGTH 112     /* the least length of a full board or a preview that is not empty */
@@ -347,6 +381,9 @@ static inline uint32_t tl_record_of(const tl_fields *fields, uint8_t record[TL_R
                            fields->models_len == 0 ? no_models : fields->models, fields->models_len, fields->spec,
                            fields->covariance, record);
 }
+
+/* Why bytes are no record: returns TL_FAULT_NONE where they are one, or the number of the first check that they fail. */
+uint32_t tl_record_fault(const uint8_t *record, size_t record_len);
 
 /* Writes the identity of a record that has these model inputs, as a decision wants it of an item and a fix is known by it. Returns
  * TL_OK or TL_MALFORMED_RECORD. */
@@ -425,6 +462,12 @@ uint32_t tl_register_preview(uint32_t desk, const uint8_t *memory, size_t memory
  * refused call, stay as found. Every map fits TL_MAP_SIZE bytes. The register is only read. Registers that hold the same records,
  * signers and summaries have the same map. */
 uint32_t tl_register_map(const uint8_t *memory, size_t memory_len, uint8_t *out, size_t out_len);
+
+/* Writes the fixes of a register's board, TL_SHOWN_SIZE bytes for each line of the full board and in the order of the lines. Returns how
+ * many bytes were written, TL_SHOWN_SIZE for each fix: 0 where nothing is shown, else greater than every refusal's number; or the first
+ * that holds of TL_MALFORMED_REGISTER, TL_OUTPUT_TOO_SMALL (under TL_FIXES_SIZE bytes). Bytes past those, and in a refused call all,
+ * stay as found. The register is only read. */
+uint32_t tl_register_fixes(const uint8_t *memory, size_t memory_len, uint8_t *out, size_t out_len);
 
 /* Writes the bytes of a register, or any other TL_REGISTER_SIZE bytes, so that like bytes of its places are together, for an archive
  * that packs them: after the first TL_REGISTER_RECORDS_AT bytes, which are copied, comes the first byte of each of the 96 places (a

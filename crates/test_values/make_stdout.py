@@ -66,12 +66,43 @@ class Case:
     def line(self):
         if not self.is_record():
             zeros = bytes(32).hex()
-            return "answer=3 record=%s answer=3 inputs=%s answer=3 identity=%s\n" % (blake2s(bytes(RECORD)).hex(), zeros, zeros)
+            said = "answer=3 record=%s answer=3 inputs=%s answer=3 identity=%s" % (blake2s(bytes(RECORD)).hex(), zeros, zeros)
+            return said + faults(bytes(RECORD)) + "\n"
         answer, inputs = self.inputs()
         tags = struct.pack("<%dQ" % len(self.tags), *self.tags)
         chosen = blake2s(bytes([len(self.message)]) + self.message + bytes([len(self.tags)]) + tags)
         identity = blake2s(b"tally merge input set\0" + chosen + inputs)
-        return "answer=0 record=%s answer=%d inputs=%s answer=0 identity=%s\n" % (blake2s(self.record()).hex(), answer, inputs.hex(), identity.hex())
+        said = "answer=0 record=%s answer=%d inputs=%s answer=0 identity=%s" % (blake2s(self.record()).hex(), answer, inputs.hex(), identity.hex())
+        return said + faults(self.record()) + "\n"
+
+
+def fault(r):
+    """The number of the first check that bytes fail, by docs/REFERENCE.md, 'Values'; 0 where they are a record."""
+    if len(r) != 288:
+        return 1
+    flag, message, tags, models = r[16], r[21], r[36], r[233]
+    used = int.from_bytes(r[37:41], "little")
+    numbers = struct.unpack("<24Q", r[41:233])
+    checks = [
+        lambda: flag in (0, 1),
+        lambda: flag == 1 or not any(r[17:21]),
+        lambda: message in (7, 14),
+        lambda: not any(r[22 + message : 36]),
+        lambda: tags >= 1,
+        lambda: tags <= 24,
+        lambda: used >> tags == 0,
+        lambda: all(a < b for a, b in zip(numbers[:tags], numbers[1:tags])),
+        lambda: not any(numbers[tags:]),
+        lambda: models <= 4,
+        lambda: all(model <= 63 for model in r[234 : 234 + models]),
+        lambda: not any(r[234 + models : 238]),
+    ]
+    return next((number for number, check in enumerate(checks, 2) if not check()), 0)
+
+
+def faults(r):
+    turned = (r[:i] + bytes([255 - r[i]]) + r[i + 1 :] for i in range(len(r)))
+    return " fault=%d turned=%s" % (fault(r), "".join(chr(ord("a") + fault(one)) for one in turned))
 
 
 def fixed():

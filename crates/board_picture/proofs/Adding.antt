@@ -157,6 +157,7 @@ module _ (fs : List Fix) (old new : List Line) (qs : List Part) (w : Within fs o
     within-then rs r = record {
       in_order = w.in_order;
       known = a.known w.known;
+      against = a.against w.against;
       lie = λ p k. or (insert-in before q qs p (subst (Memᴰ p) r k)) (λ e. subst (Lies fs (with_fixes fs new)) (sym e) lies-this) (λ j. lies-other p j);
       all =
           let b = w.all in
@@ -168,7 +169,7 @@ module _ (fs : List Fix) (old new : List Line) (qs : List Part) (w : Within fs o
 -- ---- none
 
 pub none-yet : (fs : List Fix) → identities_ascend fs ≡ true → (ls : List Line) → ls ≡ [] → (qs : List Part) → qs ≡ [] → Within fs ls qs
-none-yet fs o ls e qs r = rw (e, r) (record { in_order = o; known = λ i d h. absurd (omega arith); lie = λ q m. absurd (Memᴰ.not-nil m); all = omega arith })
+none-yet fs o ls e qs r = rw (e, r) (record { in_order = o; known = λ i d h. absurd (omega arith); against = λ i d h. absurd (omega arith); lie = λ q m. absurd (Memᴰ.not-nil m); all = omega arith })
 
 -- ---- where a part lies; m are the parts as the code reads them
 

@@ -12,16 +12,17 @@ use Rattle.fix_lines.specs.declared.Standing.TheVariants.{Ranked, Dominated, Ref
 use Rattle.board_picture.specs.declared.line.Line.{Line}
 use Rattle.board_picture.specs.declared.part.Counts.{Counts}
 
--- a fix, and what became of it
+-- a fix, what became of it, and the fix against which it is refused: itself where it is not
 pub record ShownLine : Type 0 where
   pub fix : Fix
   pub standing : Standing
+  pub against : Fix
 
 abbrev pub line_of : Standing → Fix → ShownLine
-line_of s f = record { fix = f; standing = s }
+line_of s f = record { fix = f; standing = s; against = f }
 
 abbrev pub refused_line_of : RefusedFix Fix ChiSquare → ShownLine
-refused_line_of r = line_of (Refused r.chi2) r.item
+refused_line_of r = record { fix = r.item; standing = Refused r.chi2; against = r.against }
 
 -- the ranked in rank, then the dominated and the refused
 abbrev pub lines_of : Transmission → List ShownLine
@@ -61,11 +62,11 @@ first_of p = first_line p.lines
 
 -- the line of a refusal among fixes
 abbrev pub line_refused : List Fix → Refusal → ShownLine
-line_refused gs r = line_of (Refused r.chi2) (fix_at gs r.refused)
+line_refused gs r = record { fix = fix_at gs r.refused; standing = Refused r.chi2; against = fix_at gs r.kept }
 
 -- the line of one of these fixes
 abbrev pub line_in : List Fix → Line → ShownLine
-line_in fs l = line_of l.standing (fix_at fs l.fix)
+line_in fs l = record { fix = fix_at fs l.fix; standing = l.standing; against = fix_at fs l.against }
 
 abbrev pub with_fixes : List Fix → List Line → List ShownLine
 with_fixes fs ls = map (line_in fs) ls
@@ -74,6 +75,7 @@ with_fixes fs ls = map (line_in fs) ls
 pub record Appends (fs : List Fix) (old new : List Line) (ls : List ShownLine) : Type 0 where
   pub lines : with_fixes fs new ≡ with_fixes fs old ++ ls
   pub known : All (λ l. l.fix < length fs) old → All (λ l. l.fix < length fs) new
+  pub against : All (λ l. l.against < length fs) old → All (λ l. l.against < length fs) new
 
 -- they are those of a transmission, and this is how many are of each kind
 pub record Decides (m : Members) (old new : List Line) (n : Counts) : Type 0 where

@@ -40,5 +40,6 @@ pub record Lies (fs : List Fix) (ls : List ShownLine) (q : Part) : Type 0 where
 pub record Within (fs : List Fix) (lines : List Line) (qs : List Part) : Type 0 where
   pub in_order : identities_ascend fs ≡ true
   pub known : All (λ l. l.fix < length fs) lines
+  pub against : All (λ l. l.against < length fs) lines
   pub lie : (q : Part) → Memᴰ q qs → Lies fs (with_fixes fs lines) q
   pub all : length lines ≤ lines_in (map (part_in (with_fixes fs lines)) qs)

@@ -35,9 +35,11 @@ fn push_named(
     ensures { Appends transmission.now.fixes lines.old.items lines.new.items (map (λ i. line_of standing (fix_at (members_of transmission.now) i)) named.now) }
 {
     for i in named {
+        let fix = transmission.index(*i as usize);
         lines.push(Line {
-            fix: transmission.index(*i as usize),
+            fix,
             standing,
+            against: fix,
         });
     }
 }
@@ -46,12 +48,16 @@ fn push_named(
 fn push_refused(lines: &mut Lines, transmission: &Transmission<'_, '_>, refusals: &[Refusal])
     requires room { array_vec_len lines.old + length refusals.now ≤ MAX_FIXES }
     requires below { All (λ r. r.refused < length transmission.now.indices) refusals.now }
+    requires against { All (λ r. r.kept < length transmission.now.indices) refusals.now }
     ensures { Appends transmission.now.fixes lines.old.items lines.new.items (map (line_refused (members_of transmission.now)) refusals.now) }
 {
     for refusal in refusals {
+        let fix = transmission.index(refusal.refused as usize);
+        let against = transmission.index(refusal.kept as usize);
         lines.push(Line {
-            fix: transmission.index(refusal.refused as usize),
+            fix,
             standing: Standing::Refused(refusal.chi2),
+            against,
         });
     }
 }
@@ -114,9 +120,11 @@ pub fn push_lines(lines: &mut Lines, transmission: &Transmission<'_, '_>) -> Cou
     if transmission.len() > 1 {
         return push_least(lines, transmission);
     }
+    let fix = transmission.index(0);
     lines.push(Line {
-        fix: transmission.index(0),
+        fix,
         standing: Standing::Ranked,
+        against: fix,
     });
     Counts {
         ranked: 1,

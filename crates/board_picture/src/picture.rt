@@ -138,6 +138,7 @@ impl<'s, 'a> Picture<'s, 'a> {
         requires { k < length self.now.parts }
         ensures lines { with_fixes self.now.fixes result.now ≡ (part_at self.now.parts k).lines }
         ensures known { All (λ l. l.fix < length self.now.fixes) result.now }
+        ensures against { All (λ l. l.against < length self.now.fixes) result.now }
     {
         let part = &self.parts[k];
         let start = part.start as usize;
@@ -161,5 +162,13 @@ impl<'s, 'a> Picture<'s, 'a> {
         ensures { result.now ≡ fix_at self.now.fixes line.now.fix }
     {
         &self.fixes[line.fix as usize]
+    }
+
+    /// The fix against which that of a line is refused; itself where it is not.
+    pub fn against(&self, line: &Line) -> &'s Fix<'a>
+        requires { line.now.against < length self.now.fixes }
+        ensures { result.now ≡ fix_at self.now.fixes line.now.against }
+    {
+        &self.fixes[line.against as usize]
     }
 }

@@ -1,3 +1,4 @@
 mod Room
 mod Counted
 mod ReadBack
+mod Failing

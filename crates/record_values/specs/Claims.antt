@@ -6,6 +6,7 @@ use Rattle.record.specs.Formed.{well_formed}
 use Rattle.record.specs.Value.{value_of}
 use Rattle.models.specs.Models.{counts}
 use Rattle.register.specs.Memory as M
+use Rattle.record_values.specs.Faults.{fault_number}
 use Rattle.record_values.specs.Written.{write_record}
 use Rattle.record_values.specs.Known.{write_inputs}
 
@@ -18,3 +19,7 @@ abbrev pub HadWhereCounted : Type 0
 HadWhereCounted =
     (m r found : List ℕ) → M.well_formed m ≡ true → well_formed r ≡ true
     → ((write_inputs m r found).answer ≡ 0) ↔ (counts (M.decode m).summaries r ≡ true)
+
+-- bytes fail no check exactly where they are a record
+abbrev pub NoFaultExactlyWhen : Type 0
+NoFaultExactlyWhen = (r : List ℕ) → (fault_number r ≡ 0) ↔ (well_formed r ≡ true)

@@ -53,11 +53,7 @@ pub fn identity(
 }
 
 // Writes the model inputs of a record, where it counts by these summaries.
-fn inputs_among(
-    summaries: Summaries,
-    r: Record,
-    out: &mut [u8; HASH_SIZE],
-) -> Result<Known, Error>
+fn inputs_among(summaries: Summaries, r: Record, out: &mut [u8; HASH_SIZE]) -> Result<Known, Error>
     ensures { after (known_number result) out.new ≡ inputs_among (summary_places summaries.entry) r.entry.bytes.now out.old }
 {
     if first_missing(summaries, r).is_some() {

@@ -2,5 +2,6 @@
 #![tactic(auto)]
 
 pub mod claims;
+pub mod faults;
 pub mod known;
 pub mod written;

@@ -1,7 +1,7 @@
 //! Prints, of cases read from standard input, what they are answered when a record is made of them, and what the record is known by. The
 //! input is a register, and then one case after another: the parts that a record is to say, each in room for more than a record has. A
-//! line has the answer and the hash of what was written, what the register answers of its model inputs, with their bytes, and its identity
-//! of those. make_stdout.py works out the same with another BLAKE2s.
+//! line has the answer and the hash of what was written, what the register answers of its model inputs, with their bytes, its identity of
+//! those, and what is at fault with it where a byte is turned, for each byte in turn. make_stdout.py works out the same with another BLAKE2s.
 #![tactic(auto)]
 
 ghost use Rattle.std.specs.Prelude.{◌+◌, ◌*◌, ◌≤◌};
@@ -9,6 +9,7 @@ ghost use Rattle.std.specs.Prelude.{◌+◌, ◌*◌, ◌≤◌};
 use errors::answer_number;
 use octets::words::{i32_at, u16_at, u32_at, u64_at};
 use record::layout::{COVARIANCE_NUMBERS, RECORD_SIZE};
+use record_values::faults::{first_fault, found_number};
 use record_values::known::{identity, inputs, known_number};
 use record_values::written::{Said, write};
 use register::layout::REGISTER_SIZE;
@@ -80,6 +81,18 @@ fn show_known(rt: &impl Print, memory: &[u8], record: &[u8]) -> io::Result<()> {
     show_hash(rt, "identity", own)
 }
 
+// What is at fault with a record of which a byte is turned, for each byte in turn: a letter, `a` where it is a record still.
+fn show_faults(rt: &impl Print, record: &[u8; RECORD_SIZE]) -> io::Result<()> {
+    print!(rt; " fault={} turned=", found_number(first_fault(record)))?;
+    for i in 0..RECORD_SIZE {
+        let mut turned = *record;
+        turned[i] = !turned[i];
+        let letter = b'a' + found_number(first_fault(&turned)) as u8;
+        rt.write_all(&[letter])?;
+    }
+    Ok(())
+}
+
 // The record that is made of a case, and what it is known by.
 fn show(rt: &impl Print, memory: &[u8], said: &Said) -> io::Result<()> {
     let mut record = [0; RECORD_SIZE];
@@ -87,6 +100,7 @@ fn show(rt: &impl Print, memory: &[u8], said: &Said) -> io::Result<()> {
     print!(rt; "answer={answer}")?;
     show_hash(rt, "record", hashing::blake2s256(&record))?;
     show_known(rt, memory, &record)?;
+    show_faults(rt, &record)?;
     println!(rt;)
 }
 

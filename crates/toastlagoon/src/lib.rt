@@ -18,9 +18,11 @@ ghost use Rattle.register_columns.specs.Columns.{columns, uncolumns, rearrange};
 ghost use Rattle.board.specs.Board.{draw_board};
 ghost use Rattle.board.specs.Preview.{draw_preview};
 ghost use Rattle.board_map.specs.Map.{draw_map};
+ghost use Rattle.board_values.specs.Written.{write_fixes};
 ghost use Rattle.track_shelf.specs.Both.{on_both};
 ghost use Rattle.track.specs.Track.{track_report, track_summary, track_conviction};
 ghost use Rattle.track_listing.specs.Listing.{list_track};
+ghost use Rattle.record_values.specs.Faults.{fault_number};
 ghost use Rattle.record_values.specs.Written.{write_record};
 ghost use Rattle.record_values.specs.Known.{write_identity, write_inputs};
 ghost use Rattle.toastlagoon.specs.Border.{covariance_from, claim_from, agreement_out, value_from};
@@ -33,6 +35,7 @@ use errors::{Error, answer_number, value_or_number};
 use geometry::linalg::Covariance;
 use models::hashes::HASH_SIZE;
 use record::layout::{COVARIANCE_NUMBERS, RECORD_SIZE};
+use record_values::faults::found_number;
 use record_values::known::known_number;
 use record_values::written::Said;
 use track::reports::reported_number;
@@ -245,6 +248,15 @@ pub extern "C" fn tl_record_write(
     answer_number(record_values::written::write(&said, out))
 }
 
+/// Why bytes are no record: the number of the first check that they fail, in the order in which a record's fields stand, and 0 where they
+/// are one.
+#[unsafe(no_mangle)]
+pub extern "C" fn tl_record_fault(r: &[u8]) -> u32
+    ensures { result ≡ fault_number r.now }
+{
+    found_number(record_values::faults::first_fault(r))
+}
+
 /// Writes the identity of a record that has these model inputs into `out`. Answers 0, or 3 where the bytes are no record, and then nothing
 /// is written.
 #[unsafe(no_mangle)]
@@ -334,6 +346,15 @@ pub extern "C" fn tl_register_map(memory: &[u8], out: &mut [u8]) -> u32
     ensures { after result out.new ≡ draw_map memory.now out.old }
 {
     value_or_number(board_map::map(memory, out))
+}
+
+/// Writes the fixes of a register's board into `out`, 49 bytes for each line of the full board: 1 or 10, or how many bytes they have, which is 0
+/// or greater than every refusal's number. The register is only read.
+#[unsafe(no_mangle)]
+pub extern "C" fn tl_register_fixes(memory: &[u8], out: &mut [u8]) -> u32
+    ensures { after result out.new ≡ write_fixes memory.now out.old }
+{
+    value_or_number(board_values::fixes(memory, out))
 }
 
 /// Writes a register's bytes for an archive: those of its places with the first byte of each together, then the second, and so on. Answers 0,

@@ -40,10 +40,11 @@ fn main() -> std::io::Result<()> {
         [] => print(peer::session::session),
         ["crew"] => print(peer::session::crew_session),
         ["cases", folder] => write_cases(folder),
-        ["map"] => {
+        [text @ ("map" | "board")] => {
             let mut memory = Vec::new();
             std::io::stdin().read_to_end(&mut memory)?;
-            let text = Register::read(&memory).map_or("refused=1".to_string(), |register| peer::map::text(&register));
+            let write = if *text == "map" { peer::map::text } else { peer::board::text };
+            let text = Register::read(&memory).map_or("refused=1".to_string(), |register| write(&register));
             std::io::stdout().write_all(text.as_bytes())
         }
         ["monthly"] => {
@@ -52,7 +53,7 @@ fn main() -> std::io::Result<()> {
             std::io::stdout().write_all(monthly(&input).as_bytes())
         }
         _ => {
-            eprintln!("peer [crew]: a session on standard input, or: peer cases FOLDER, or: peer map, or: peer monthly");
+            eprintln!("peer [crew]: a session on standard input, or: peer cases FOLDER, or: peer map, or: peer board, or: peer monthly");
             std::process::exit(2)
         }
     }

@@ -15,7 +15,7 @@ loop-line-init c = sym (append-nil c.args.out.now)
 
 pub loop-line-preserved : goal.loop-line-preserved
 loop-line-preserved c =
-    let d : Line = record { fix = 0; standing = Ranked } in
+    let d : Line = record { fix = 0; standing = Ranked; against = 0 } in
     let l : Line = get_or c.args.lines.now c.loop-line.line-index d in
     append_more (λ x. line_text (line_in c.args.picture.now.fixes x)) c.args.lines.now c.loop-line.line-index d _ _ _ c.loop-line-test.true c.loop-line.invariant
     (c.push_line.ensures ∙ ap (λ (f : Fix). append c.loop-line.out (standing_line l.standing f.record_bytes f.signers)) (c.fix.view_is ∙ c.fix-fix.ensures))

@@ -12,6 +12,6 @@ returns-clause-decided c =
     let one : length (members_of m) ≡ 1 = omega (arith, n, c.len-2.ensures.value, c.if-len-gt1.false, c.len-2.ensures.some) in
     record {
       lines = alone m.fixes (members_of m) c.args.lines.now.items _ _ one c.push.ensures.items
-          (ap (line_of Ranked) (member-at m 0 _ (omega (arith, n, one)) c.index.ensures.value)) c.index.ensures.within;
+          (ap (line_of Ranked) (member-at m 0 _ (omega (arith, n, one)) c.index-fix.ensures.value)) c.index-fix.ensures.within c.index-fix.ensures.within;
       counts = alone-counts (members_of m) one;
     }

@@ -15,4 +15,4 @@ pub loop-i-preserved : goal.loop-i-preserved
 loop-i-preserved c =
     let m = c.args.transmission.now in
     one_more m.fixes (λ i. line_of c.args.standing (fix_at (members_of m) i)) c.args.lines.now.items _ _ c.args.named.now c.loop-i.i-index 0 _ c.loop-i-test.true c.loop-i.invariant c.push.ensures.items
-    (ap (line_of c.args.standing) (member-at m _ _ (c.requires.below c.loop-i.i-index 0 c.loop-i-test.true) c.index.ensures.value)) c.index.ensures.within
+    (ap (line_of c.args.standing) (member-at m _ _ (c.requires.below c.loop-i.i-index 0 c.loop-i-test.true) c.index-fix.ensures.value)) c.index-fix.ensures.within c.index-fix.ensures.within

@@ -22,7 +22,7 @@ loop-line-init c =
 
 pub loop-line-preserved : goal.loop-line-preserved
 loop-line-preserved c =
-    let d : Line = record { fix = 0; standing = Ranked } in
+    let d : Line = record { fix = 0; standing = Ranked; against = 0 } in
     let ls = c.lines-line-items.result.now in
     let i = c.loop-line.line-index in
     let room : length c.args.picture.now.fixes ≤ length c.loop-line.table = omega (arith, c.requires.few, c.loop-line.invariant.size) in

@@ -10,7 +10,7 @@ use Rattle.board_picture.proofs.picture.Picture.add.Goals as goal
 pub bounds-deref-start : goal.bounds-deref-start
 bounds-deref-start c =
     let same = c.requires.same ∙ sym (ap (λ (s : Shows). s.fixes) c.self.view_is) in
-    line-there c.self.inside.fixes.now _ _ _ c.self.invariant _ _ c.push_lines-counts.ensures.decided same c.push_lines-counts.ensures.some _ c.deref.ensures.0 _ c.len-start.ensures.value (record { fix = 0; standing = Ranked })
+    line-there c.self.inside.fixes.now _ _ _ c.self.invariant _ _ c.push_lines-counts.ensures.decided same c.push_lines-counts.ensures.some _ c.deref.ensures.0 _ c.len-start.ensures.value (record { fix = 0; standing = Ranked; against = 0 })
 
 pub bounds-fixes-first : goal.bounds-fixes-first
 bounds-fixes-first c =

@@ -1,0 +1,6 @@
+mod Walks
+mod Drawing
+mod Room
+mod Lent
+mod Lines
+mod Counted

@@ -1,0 +1,51 @@
+-- What is claimed of a board's fixes as values; src/claims.rt has a function whose contract each of these is.
+-- Source: docs/REFERENCE.md, 'Values'.
+use Rattle.std.specs.Prelude.{ℕ, suc, ◌*◌, ◌≤◌, ◌≡◌, true, List, [], ◌∷◌, ◌++◌, map, length}
+use Rattle.octets.specs.Bytes.{Bytes}
+use Rattle.arithmetic.specs.declared.standing.ChiSquare.{ChiSquare}
+use Rattle.decision_rule.specs.Outcome.{Refused as RefusedFix}
+use Rattle.fixes.specs.Fix.{Fix}
+use Rattle.fixes.specs.Shown.{Transmission}
+use Rattle.fix_lines.specs.declared.Standing.{Standing}
+use Rattle.fix_lines.specs.declared.Standing.TheVariants.{Ranked, Dominated, Refused}
+use Rattle.board_picture.specs.Picture.{picture, latest_of, max_shown}
+use Rattle.register.specs.Register.{Register}
+use Rattle.register.specs.Memory.{well_formed, decode}
+use Rattle.board_values.specs.Entries.{Entry, place_of, fixes_shown, entries_shown}
+use Rattle.board_values.specs.Written.{entry_size, fixes_in}
+
+abbrev pub entries : Register → List Entry
+entries s = entries_shown s.summaries s.records
+
+-- the transmissions of its board
+abbrev pub on_board : Register → List Transmission
+on_board s = latest_of (picture s.summaries s.records)
+
+-- what is said of each line of transmissions, the first of which has this number
+unfoldable pub line_by_line : {B : Type 0} → (ℕ → Transmission → List B) → ℕ → List Transmission → List B
+line_by_line say number [] = []
+line_by_line say number (t ∷ ts) = say number t ++ line_by_line say (suc number) ts
+
+-- of each fix
+abbrev pub of_fixes : {B : Type 0} → (Fix → B) → ℕ → Transmission → List B
+of_fixes h number t = map h (fixes_shown t)
+
+abbrev pub numbers : ℕ → Transmission → List ℕ
+numbers number t = map (λ (f : Fix). number) (fixes_shown t)
+
+abbrev pub standings : ℕ → Transmission → List Standing
+standings number t = map (λ (f : Fix). Ranked) t.ranked ++ (map (λ (f : Fix). Dominated) t.dominated ++ map (λ (r : RefusedFix Fix ChiSquare). Refused r.chi2) t.refused)
+
+-- an entry for each line of the board, in the order of the lines, with what the line says
+pub record EntriesAreLines : Type 0 where
+  pub numbered : (s : Register) → map (λ (e : Entry). e.number) (entries s) ≡ line_by_line numbers 1 (on_board s)
+  pub standing : (s : Register) → map (λ (e : Entry). e.standing) (entries s) ≡ line_by_line standings 1 (on_board s)
+  pub placed : (s : Register) → map (λ (e : Entry). e.place) (entries s) ≡ line_by_line (of_fixes (λ f. place_of s.records f.record_bytes)) 1 (on_board s)
+  pub signed : (s : Register) → map (λ (e : Entry). e.signers) (entries s) ≡ line_by_line (of_fixes (λ f. f.signers)) 1 (on_board s)
+  pub known : (s : Register) → map (λ (e : Entry). e.identity) (entries s) ≡ line_by_line (of_fixes (λ f. f.identity)) 1 (on_board s)
+
+-- how many there are, and that each has as many bytes
+pub record EntriesCounted : Type 0 where
+  pub most : (m : List ℕ) → Bytes m → well_formed m ≡ true → length (entries (decode m)) ≤ 96
+  pub transmissions : (s : Register) → length (on_board s) ≤ max_shown
+  pub size : (m : List ℕ) → Bytes m → well_formed m ≡ true → length (fixes_in (decode m)) ≡ length (entries (decode m)) * entry_size

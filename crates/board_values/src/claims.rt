@@ -1,0 +1,13 @@
+//! What is claimed of a board's fixes as values. Each function's contract is the claim; there is nothing to run.
+
+ghost use Rattle.board_values.specs.Claims.{EntriesAreLines, EntriesCounted};
+
+/// There is an entry for each line of the board, in the order of the lines, with what the line says.
+pub fn entries_are_lines()
+    ensures { EntriesAreLines }
+{}
+
+/// There are at most 96 entries, of at most 8 transmissions, and each has 49 bytes.
+pub fn entries_counted()
+    ensures { EntriesCounted }
+{}
