@@ -8,7 +8,8 @@ ghost use Rattle.register.specs.Memory.{well_formed};
 
 use errors::Error;
 use register::layout::REGISTER_SIZE;
-use rooms_arguments::{Instead, Wish};
+use rooms_arguments::{Instead, Orders, Wish};
+use rooms_orders::DEFAULT_SEED;
 use rooms_text::Refusal;
 use session_text::MAX_INPUT;
 use std::alloc::AllocError;
@@ -17,6 +18,7 @@ use std::rt::{Env, Files};
 use std::{env, fs, io};
 
 const HELP: &str = "usage: rooms [--join FILE] A B
+       rooms --orders N [--seed S] FILE
 
 Reads a room from each of the files A and B, a saved register or a session, and prints what the room
 A lacks that the room B holds, what B lacks that A holds, whether their registers are equal but for
@@ -24,6 +26,12 @@ the convicted set, whether their boards are, and the lines in which these differ
 docs/REFERENCE.md says. A file of 37256 bytes is a saved register, any other a session; - is standard
 input.
 
+With --orders it reads one session from FILE, and makes its calls in N random orders, 1 to 4294967295,
+each on a fresh register and on a fresh track with its shelf. It prints the seed and N, how many
+different boards and how many different listings of the track came out, and in how many orders the
+register refused a call as full; where that is 0, one board comes out.
+
+  --seed S      the orders follow from S, 0 to 18446744073709551615; without it S is 1
   --join FILE   write the register that holds what both hold to FILE
   --help        print this
   --version     print the version of the library
@@ -31,12 +39,12 @@ input.
 Standard error names the operations of a session that are not answered 0, and says why a file is
 refused, or why there is no joined register.
 
-Status: 0 the registers are equal but for the convicted set; 1 they are not; 2 a wrong call, a file
-that is refused, or a joined register that would not have room; 3 a file cannot be read or written,
-or the output not be written.
+Status: 0 the registers are equal but for the convicted set, or one board came out; 1 they are not, or
+more boards came out; 2 a wrong call, a file that is refused, or a joined register that would not have
+room; 3 a file cannot be read or written, or the output not be written.
 ";
 
-// The registers are not equal.
+// The registers are not equal, or more than one board came out.
 const NOT_EQUAL: u8 = 1;
 
 // A wrong call, or what is refused.
@@ -198,6 +206,79 @@ fn compare(
     Ok(if compared.equal { 0 } else { NOT_EQUAL })
 }
 
+// Makes the calls of a session in random orders, and prints what came out; answers the exit status.
+fn try_calls(
+    rt: &(impl Print + AllocGlobal),
+    input: &[u8],
+    count: u32,
+    seed: u64,
+) -> Result<u8, Stop> {
+    let mut calls = rooms_orders::calls_of(rt.alloc(), input)?;
+    let outcome = rooms_orders::try_orders(rt.alloc(), calls.as_mut_slice(), count, seed)?;
+    let boards = outcome.boards;
+    let listings = outcome.listings;
+    let full = outcome.full;
+    println!(rt; "seed={seed}")?;
+    println!(rt; "orders={count}")?;
+    println!(rt; "boards={boards}")?;
+    println!(rt; "listings={listings}")?;
+    println!(rt; "full={full}")?;
+    Ok(if outcome.boards == 1 { 0 } else { NOT_EQUAL })
+}
+
+// The same of the session in a file.
+fn try_file(
+    rt: &(impl Files + Input + Print + AllocGlobal),
+    errors: &impl Print,
+    name: &str,
+    count: u32,
+    seed: u64,
+) -> Result<u8, Stop> {
+    let mut input = input_buffer();
+    let n = match read_from(rt, name, &mut input) {
+        Ok(n) => n,
+        Err(error) => return Err(fail(errors, name, error)),
+    };
+    match session_text::check(&input[..n]) {
+        Ok(()) => {
+            tell(rt, errors, name, &input[..n], None)?;
+            try_calls(rt, &input[..n], count, seed)
+        }
+        Err(refusal) => {
+            tell(rt, errors, name, &input[..n], Some(refusal))?;
+            Ok(REFUSED)
+        }
+    }
+}
+
+// Tries a session in random orders, as a wish says; answers the exit status.
+fn try_orders(
+    rt: &(impl Files + Input + Print + AllocGlobal),
+    errors: &impl Print,
+    words: &[String],
+    wish: Orders,
+) -> Result<u8, Stop> {
+    let count = match word_at(words, wish.count).parse::<u32>() {
+        Ok(count) if count != 0 => count,
+        _ => return refuse_number(errors, word_at(words, wish.count)),
+    };
+    let seed = match wish.seed {
+        None => DEFAULT_SEED,
+        Some(index) => match word_at(words, index).parse::<u64>() {
+            Ok(seed) => seed,
+            Err(_) => return refuse_number(errors, word_at(words, index)),
+        },
+    };
+    try_file(rt, errors, word_at(words, wish.session), count, seed)
+}
+
+fn refuse_number(errors: &impl Print, word: &str) -> Result<u8, Stop> {
+    println!(errors;
+        "rooms: {word}: no number of orders, or no seed; --help says how it is called"
+    )?;
+    Ok(REFUSED)
+}
+
 // The words behind the program's name.
 fn words(rt: &(impl Env + AllocGlobal)) -> io::Result<Vec<String>> {
     let mut words = Vec::new(rt.alloc());
@@ -220,6 +301,9 @@ fn answer(
     errors: &impl Print,
 ) -> Result<u8, Stop> {
     let words = words(rt)?;
+    if let Some(wish) = rooms_arguments::orders_asked(&words) {
+        return try_orders(rt, errors, &words, wish);
+    }
     match rooms_arguments::asked(&words) {
         Ok(wish) => compare(rt, errors, &words, wish),
         Err(Instead::Help) => {

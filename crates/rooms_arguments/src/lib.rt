@@ -5,6 +5,10 @@ ghost use Rattle.std.specs.Prelude.{◌≡◌, map, string_bytes};
 ghost use Rattle.rooms_arguments.specs.Words as W;
 ghost use Rattle.rooms_arguments.specs.Calling as C;
 
+mod orders;
+
+pub use orders::{Orders, orders_asked};
+
 /// What is asked for in place of a comparison.
 #[derive(Clone, Copy)]
 pub enum Instead {

@@ -1,4 +1,4 @@
-use Rattle.std.proofs.Common.{◌≡◌, ◌∙◌, sym, refl, false, Err}
+use Rattle.std.proofs.Common.{◌≡◌, ◌∙◌, sym, refl, Err}
 use Rattle.rooms_arguments.specs.declared.Word.TheVariants as word
 use Rattle.rooms_arguments.specs.declared.Instead.TheVariants as instead
 use Rattle.rooms_arguments.specs.Words.{word_of}

@@ -1,0 +1,6 @@
+mod Rearranged
+mod Loops
+mod Performed
+mod Held
+mod Turns
+mod Written

@@ -1,0 +1,2 @@
+-- What a list of calls leaves in one order, and what is said of several orders.
+pub mod Tried
