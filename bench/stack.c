@@ -78,6 +78,8 @@ static void board(void) { tl_board(TL_MANAGER, memory, sizeof memory, out, sizeo
 
 static void map(void) { tl_register_map(memory, sizeof memory, out, sizeof out); }
 
+static void fixes(void) { tl_register_fixes(memory, sizeof memory, out, sizeof out); }
+
 /* Without engine 4 all records are still on the board, and without engine 3 every other one; the deeper call counts. */
 static void preview(void) {
     tl_register_preview(TL_MANAGER, memory, sizeof memory, 4, out, sizeof out);
@@ -257,6 +259,7 @@ int main(void) {
         write_register();
         line("board", "records", board);
         line("map", "records", map);
+        line("fixes", "records", fixes);
         line("preview", "records", preview);
     }
     row("columns of a register", columns);

@@ -16,12 +16,14 @@
 
 #include <algorithm>
 #include <array>
+#include <bit>
 #include <cstdint>
 #include <optional>
 #include <span>
 #include <string_view>
 #include <utility>
 #include <variant>
+#include <vector>
 
 #include "toastlagoon.h"
 
@@ -137,9 +139,11 @@ class Record {
     static Result<Record> from_bytes(std::span<const std::uint8_t, TL_RECORD_SIZE> bytes) {
         Record made;
         std::copy(bytes.begin(), bytes.end(), made.memory.begin());
-        if (const auto identity = made.identity(Hash{}); !identity) return identity.refusal();
+        if (fault(bytes) != TL_FAULT_NONE) return Refusal::malformed_record;
         return made;
     }
+    // Why bytes are no record: TL_FAULT_NONE where they are one.
+    static std::uint32_t fault(std::span<const std::uint8_t> bytes) { return tl_record_fault(start(bytes), bytes.size()); }
     std::span<const std::uint8_t, TL_RECORD_SIZE> bytes() const { return memory; }
     Result<Hash> identity(const Hash &inputs) const {
         Hash out;
@@ -152,6 +156,20 @@ class Record {
 
 // Who asks: the library believes it.
 enum class Desk : std::uint32_t { crew = TL_CREW, analyst = TL_ANALYST, manager = TL_MANAGER };
+
+// What is decided of a fix in its transmission.
+enum class Role : std::uint8_t { ranked = TL_RANKED, dominated = TL_DOMINATED, refused = TL_REFUSED };
+
+// A fix of a board: one for each line of the full board.
+struct Shown {
+    std::uint8_t transmission;         // its number, from 1
+    Role role;
+    std::uint8_t place;                // of the record that represents it, in the register
+    std::uint32_t signers;             // bit n for engine n
+    Hash identity;
+    std::optional<std::uint8_t> against;  // by its index on the board
+    std::optional<double> chi_square;
+};
 
 // Every report of one aircraft and one window of time. Two are equal where all of their bytes are.
 class Register {
@@ -210,6 +228,25 @@ class Register {
         return Map::written(TL_MIN_MAP_LENGTH, [&](std::uint8_t *out, std::size_t size) {
             return tl_register_map(memory.data(), memory.size(), out, size);
         });
+    }
+    // One for each line of the full board, in the order of the lines.
+    Result<std::vector<Shown>> fixes() const {
+        std::array<std::uint8_t, TL_FIXES_SIZE> out;
+        const std::uint32_t length = tl_register_fixes(memory.data(), memory.size(), out.data(), out.size());
+        if (length != 0 && length < TL_SHOWN_SIZE) return Refusal{length};
+        std::vector<Shown> shown;
+        for (std::size_t at = 0; at < length; at += TL_SHOWN_SIZE) {
+            const std::uint8_t *one = out.data() + at;
+            Shown fix{one[TL_SHOWN_NUMBER_AT], static_cast<Role>(one[TL_SHOWN_ROLE_AT]), one[TL_SHOWN_PLACE_AT], 0, {}, {}, {}};
+            std::uint64_t bits = 0;
+            for (int i = 0; i < TL_SIGNERS_SIZE; i++) fix.signers |= std::uint32_t{one[TL_SHOWN_SIGNERS_AT + i]} << (8 * i);
+            for (int i = 0; i < TL_F64_SIZE; i++) bits |= std::uint64_t{one[TL_SHOWN_CHI2_AT + i]} << (8 * i);
+            std::copy_n(one + TL_SHOWN_IDENTITY_AT, TL_IDENTITY_SIZE, fix.identity.begin());
+            if (fix.role == Role::refused) fix.against = one[TL_SHOWN_AGAINST_AT];
+            if (one[TL_SHOWN_MEASURED_AT] != 0) fix.chi_square = std::bit_cast<double>(bits);
+            shown.push_back(fix);
+        }
+        return shown;
     }
     bool operator==(const Register &) const = default;
 };

@@ -26,6 +26,8 @@ static void records() {
     CHECK(*tl::Record::from_bytes(good.bytes()) == good);
     CHECK(!tl::Record::from_bytes(std::array<std::uint8_t, TL_RECORD_SIZE>{}));
     CHECK(*good.identity(tl::Hash{}) != *good.identity(tl::Hash{1}));
+    CHECK(tl::Record::fault(good.bytes()) == TL_FAULT_NONE);
+    CHECK(tl::Record::fault({}) == TL_FAULT_LENGTH);
     CHECK(tl::blake2s256({})[0] == 0x69);
 }
 
@@ -36,6 +38,9 @@ static void registers() {
     CHECK(north.report(32, record(2700)) == tl::Refusal::engine_over_31);
     CHECK(north.convict(tl::Desk::analyst, 4) == tl::Refusal::no_right);
     CHECK(north.preview(tl::Desk::crew, 4).refusal() == tl::Refusal::no_right);
+    const auto fixes = north.fixes();
+    CHECK(fixes->size() == 1 && (*fixes)[0].role == tl::Role::ranked && (*fixes)[0].signers == 0x90);
+    CHECK(!(*fixes)[0].against && !(*fixes)[0].chi_square && (*fixes)[0].transmission == 1 && (*fixes)[0].place == 0);
     const auto previewed = north.preview(tl::Desk::analyst, 4);
     CHECK(!north.convict(tl::Desk::manager, 4));
     CHECK(north.board(tl::Desk::manager)->view() == previewed->view());

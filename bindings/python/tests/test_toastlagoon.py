@@ -7,8 +7,8 @@ import unittest
 from pathlib import Path
 
 import toastlagoon
-from toastlagoon import (Agreement, Answer, Claim, Covariance, Desk, Effect, Error, Fields, Item, Kind, Outcome, Record, Register, Track,
-                         agreement, blake2s256, decide, decide_any, horizontal_sigma, root)  # fmt: skip
+from toastlagoon import (Agreement, Answer, Claim, Covariance, Desk, Effect, Error, Fault, Fields, Item, Kind, Outcome, Record, Register,
+                         Role, Track, agreement, blake2s256, decide, decide_any, horizontal_sigma, root)  # fmt: skip
 
 EXAMPLES = Path(__file__).resolve().parents[3] / "examples"
 STEP = 2700
@@ -87,6 +87,34 @@ class Calls(unittest.TestCase):
         for content in (b"", bytes(288)):
             with self.refused(Kind.MALFORMED_RECORD):
                 Record.from_bytes(content)
+
+    def test_bytes_that_are_no_record_say_why(self):
+        good = record(2, 0).as_bytes()
+        self.assertIsNone(Fault.of(good))
+        self.assertEqual(Fault.of(good[1:]), Fault.LENGTH)
+        self.assertEqual(Fault.of(b""), Fault.LENGTH)
+        self.assertEqual(Fault.of(bytes(288)), Fault.MESSAGE_LENGTH)
+        self.assertEqual(Fault.of(good[:41] + b"\2" + good[42:]), Fault.TAG_ORDER)
+
+    def test_the_fixes_of_a_board_are_its_lines(self):
+        register = Register()
+        self.assertEqual(register.fixes(), [])
+        for tags, lat, engine in ((1, 0, 1), (2, STEP, 2), (3, 10000 * STEP, 3)):
+            register.report(engine, record(tags, lat))
+        fixes, records = register.fixes(), list(register.records())
+        lines = [line for line in register.board(Desk.MANAGER).splitlines() if line.startswith("role=")]
+        self.assertEqual(len(fixes), len(lines))
+        for fix, line in zip(fixes, lines):
+            held = records[fix.place].record
+            said = held.fields()
+            self.assertTrue(line.startswith(f"role={fix.role.name.lower()} time={said.time} lat={said.lat} lon={said.lon} "))
+            self.assertIn(f"signers={fix.signers:08x}", line)
+            self.assertEqual(fix.identity, held.identity(register.inputs(held)))
+            if fix.chi_square is not None:
+                self.assertTrue(line.endswith("chi2=" + struct.pack(">d", fix.chi_square).hex()))
+        refused = next(fix for fix in fixes if fix.role == Role.REFUSED)
+        tags = [len(records[place].record.fields().tags) for place in (fixes[refused.against].place, refused.place)]
+        self.assertLess(*tags)
 
     def test_numbers_are_not_cut_off(self):
         wide = [{"time": 2**64}, {"time": -1}, {"lat": 2**31}, {"height": 2**31}, {"used": 2**32}, {"models": (256,)}, {"spec": 65536}]

@@ -16,14 +16,14 @@ import ctypes
 import enum
 import struct
 from dataclasses import dataclass
-from typing import Callable, Iterator, NamedTuple, Optional, Sequence, Tuple, Union
+from typing import Callable, Iterator, List, NamedTuple, Optional, Sequence, Tuple, Union
 
 from . import _constants as tl
 from ._library import array, library, number, numbers, zeros
 
 __all__ = [
-    "Agreement", "Answer", "Claim", "Covariance", "Desk", "Effect", "Error", "Fields", "Held", "Item", "Kind", "Outcome", "Record",
-    "Refusal", "Register", "Shelf", "Summary", "Track", "Verdict", "Waiting", "agreement", "blake2s256", "decide", "decide_any",
+    "Agreement", "Answer", "Claim", "Covariance", "Desk", "Effect", "Error", "Fault", "Fields", "Held", "Item", "Kind", "Outcome", "Record",
+    "Refusal", "Register", "Role", "Shelf", "Shown", "Summary", "Track", "Verdict", "Waiting", "agreement", "blake2s256", "decide", "decide_any",
     "horizontal_sigma", "root", "version",
 ]  # fmt: skip
 
@@ -178,6 +178,30 @@ class Fields:
     """The spec of the models."""
 
 
+class Fault(enum.IntEnum):
+    """The first check that bytes fail which are no record, in the order in which a record's fields stand."""
+
+    LENGTH = tl.TL_FAULT_LENGTH
+    HEIGHT_FLAG = tl.TL_FAULT_HEIGHT_FLAG
+    HEIGHT_ROOM = tl.TL_FAULT_HEIGHT_ROOM
+    MESSAGE_LENGTH = tl.TL_FAULT_MESSAGE_LENGTH
+    MESSAGE_ROOM = tl.TL_FAULT_MESSAGE_ROOM
+    NO_TAG = tl.TL_FAULT_NO_TAG
+    TOO_MANY_TAGS = tl.TL_FAULT_TOO_MANY_TAGS
+    USED_MASK = tl.TL_FAULT_USED_MASK
+    TAG_ORDER = tl.TL_FAULT_TAG_ORDER
+    TAG_ROOM = tl.TL_FAULT_TAG_ROOM
+    TOO_MANY_MODELS = tl.TL_FAULT_TOO_MANY_MODELS
+    MODEL = tl.TL_FAULT_MODEL
+    MODEL_ROOM = tl.TL_FAULT_MODEL_ROOM
+
+    @classmethod
+    def of(cls, content: bytes) -> Optional["Fault"]:
+        """Why these bytes are no record; None where they are one."""
+        found = library.tl_record_fault(array(content), len(content))
+        return None if found == tl.TL_FAULT_NONE else cls(found)
+
+
 class Record:
     """A record: what an engine reports. Two are equal where their bytes are."""
 
@@ -206,10 +230,10 @@ class Record:
 
     @classmethod
     def from_bytes(cls, content: bytes) -> "Record":
-        """The record that these bytes are; Kind.MALFORMED_RECORD where they are none."""
-        record = cls._found(bytes(content))
-        record.identity(bytes(tl.TL_INPUTS_SIZE))
-        return record
+        """The record that these bytes are; Kind.MALFORMED_RECORD where they are none, and Fault.of says why."""
+        if Fault.of(content) is not None:
+            raise Error(tl.TL_MALFORMED_RECORD)
+        return cls._found(bytes(content))
 
     def as_bytes(self) -> bytes:
         """Its bytes."""
@@ -295,6 +319,48 @@ def _summary(engine: int, model: int, spec: int, inputs: bytes) -> Tuple[object,
     return _engine(engine), model, spec, array(inputs), len(inputs)
 
 
+class Role(enum.IntEnum):
+    """What is decided of a fix in its transmission."""
+
+    RANKED = tl.TL_RANKED
+    DOMINATED = tl.TL_DOMINATED
+    REFUSED = tl.TL_REFUSED
+
+
+class Shown(NamedTuple):
+    """A fix of a board: one for each line of the full board."""
+
+    transmission: int
+    """The number of its transmission, from 1."""
+    role: Role
+    """What is decided of it."""
+    place: int
+    """The record that represents it, by its place among Register.records."""
+    signers: int
+    """The engines that reported a record of its identity: bit n for engine n."""
+    identity: bytes
+    """Its identity."""
+    against: Optional[int]
+    """The fix that it is refused against, by its index on the board."""
+    chi_square: Optional[float]
+    """The chi-square between the two, where there is one."""
+
+
+def _shown(content: bytes) -> Shown:
+    role = Role(content[tl.TL_SHOWN_ROLE_AT])
+    (signers,) = struct.unpack_from("<I", content, tl.TL_SHOWN_SIGNERS_AT)
+    (chi_square,) = struct.unpack_from("<d", content, tl.TL_SHOWN_CHI2_AT)
+    return Shown(
+        transmission=content[tl.TL_SHOWN_NUMBER_AT],
+        role=role,
+        place=content[tl.TL_SHOWN_PLACE_AT],
+        signers=signers,
+        identity=content[tl.TL_SHOWN_IDENTITY_AT : tl.TL_SHOWN_IDENTITY_AT + tl.TL_IDENTITY_SIZE],
+        against=content[tl.TL_SHOWN_AGAINST_AT] if role == Role.REFUSED else None,
+        chi_square=chi_square if content[tl.TL_SHOWN_MEASURED_AT] else None,
+    )
+
+
 class Register:
     """Every report of one aircraft and one window of time. Two are equal where all of their bytes are."""
 
@@ -367,6 +433,14 @@ class Register:
         """The position to show of each transmission on the board, as GeoJSON in one line."""
         call = lambda out, size: library.tl_register_map(self._memory, len(self._memory), out, size)  # noqa: E731
         return _written(tl.TL_MAP_SIZE, tl.TL_MIN_MAP_LENGTH, call)
+
+    def fixes(self) -> List[Shown]:
+        """The fixes of the board as values: one for each line of the full board, in the order of the lines."""
+        out = zeros(tl.TL_FIXES_SIZE)
+        length = library.tl_register_fixes(self._memory, len(self._memory), out, len(out))
+        if length == tl.TL_MALFORMED_REGISTER:
+            raise Error(length)
+        return [_shown(bytes(out[at : at + tl.TL_SHOWN_SIZE])) for at in range(0, length, tl.TL_SHOWN_SIZE)]
 
     def inputs(self, record: Record) -> bytes:
         """The model inputs of a record by the summaries here. Kind.MODEL_MISSING and Kind.MODEL_DISPUTED say why one that is held is on

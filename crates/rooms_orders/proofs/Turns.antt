@@ -1,6 +1,6 @@
 -- Orders of a list of calls, one after another.
-use Rattle.std.proofs.Common.{◌≡◌, ◌∙◌, ap, ap₂, sym, refl, ℕ, ◌+◌, ◌<◌, ◌≤◌, Bool, true, false, not, if◌then◌else◌, cond, count_by, length, arith, subst}
-use Rattle.std.proofs.lemmas.List.Sums.{count_by-le-length, sum_by-cons}
+use Rattle.std.proofs.Common.{◌≡◌, ◌∙◌, ap, ap₂, sym, refl, ℕ, ◌+◌, ◌<◌, Bool, true, false, not, if◌then◌else◌, cond, count_by, length, arith, subst}
+use Rattle.std.proofs.lemmas.List.Sums.{sum_by-cons}
 use mathlib.Core.List.{List, [], ◌∷◌, map, Memᴰ, Permᴰ}
 use mathlib.Core.List.Permᴰ
 use Rattle.lists.proofs.Bools.{by}
@@ -74,9 +74,6 @@ start cs bs ls b l = record {
 }
 
 module _ (cs : List Call) (n : ℕ) (now : List Call) (boards listings : List (List ℕ)) (full : ℕ) (s : SoFar cs n now boards listings full) where
-  pub few : full ≤ n
-  few = let h = count_by-le-length is_refused_as_full s.orders in omega (arith, h, s.counted, s.as_many)
-
   pub turn : (ds : List Call) → Permᴰ now ds → (bs ls : List (List ℕ)) → bs ≡ with_text (board_after ds) boards → ls ≡ with_text (listing_after ds) listings
       → (f : ℕ) → f ≡ full + (if none_full fresh ds then 0 else 1) → SoFar cs (n + 1) ds bs ls f
   turn ds p bs ls b l f e =

@@ -1,6 +1,6 @@
 -- A list of calls in several orders, each on a fresh register and on a fresh track with its shelf: how many different boards and how many different listings come
 -- out, and in how many orders a call on the register is refused as full.
--- Source: docs/REFERENCE.md, 'Two rooms'.
+-- Source: docs/REFERENCE.md, 'Orders of a session'.
 use Rattle.std.specs.Prelude.{ℕ, Bool, ◌≡◌, not, length, count_by, Vec, if◌then◌else◌}
 use mathlib.Core.List.{List, [], ◌∷◌, ◌++◌, map, Memᴰ, Permᴰ}
 use Rattle.register.specs.Memory.{fresh, decode}

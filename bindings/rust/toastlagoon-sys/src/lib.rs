@@ -27,6 +27,7 @@ unsafe extern "C" {
         tags_len: usize, used: u32, models: *const u8, models_len: usize, spec: u16, covariance: *const [f64; 6],
         out: *mut [u8; TL_RECORD_SIZE]
     ) -> u32;
+    pub fn tl_record_fault(record: *const u8, record_len: usize) -> u32;
     pub fn tl_record_identity(
         record: *const u8, record_len: usize, inputs: *const [u8; TL_INPUTS_SIZE], out: *mut [u8; TL_IDENTITY_SIZE]
     ) -> u32;
@@ -49,6 +50,7 @@ unsafe extern "C" {
         desk: u32, memory: *const u8, memory_len: usize, engine: u32, out: *mut u8, out_len: usize
     ) -> u32;
     pub fn tl_register_map(memory: *const u8, memory_len: usize, out: *mut u8, out_len: usize) -> u32;
+    pub fn tl_register_fixes(memory: *const u8, memory_len: usize, out: *mut u8, out_len: usize) -> u32;
     pub fn tl_register_columns(input: *const u8, input_len: usize, out: *mut u8, out_len: usize) -> u32;
     pub fn tl_register_uncolumns(input: *const u8, input_len: usize, out: *mut u8, out_len: usize) -> u32;
     pub fn tl_track_report(

@@ -50,6 +50,68 @@ pub struct Fields<'a> {
     pub covariance: Covariance,
 }
 
+/// The first check that bytes fail which are no record, in the order in which a record's fields stand.
+#[derive(Clone, Copy, Debug, PartialEq, Eq, Hash)]
+#[non_exhaustive]
+pub enum Fault {
+    /// There are not as many as a record has.
+    Length,
+    /// The height's flag is neither 0 nor 1.
+    HeightFlag,
+    /// There is no height, and its bytes are not zero.
+    HeightRoom,
+    /// The message has neither 7 nor 14 bytes.
+    MessageLength,
+    /// Bytes behind the message are not zero.
+    MessageRoom,
+    /// There is no tag.
+    NoTag,
+    /// There are over 24 tags.
+    TooManyTags,
+    /// A tag that is not there was used.
+    UsedMask,
+    /// Tags do not ascend strictly.
+    TagOrder,
+    /// Bytes behind the tags are not zero.
+    TagRoom,
+    /// There are over 4 models.
+    TooManyModels,
+    /// A model is over 63.
+    Model,
+    /// Bytes behind the models are not zero.
+    ModelRoom,
+    /// A check that this version of the bindings does not know, by its number.
+    Other(u32),
+}
+
+/// Each fault, with its number.
+const FAULTS: [(u32, Fault); 13] = [
+    (sys::TL_FAULT_LENGTH, Fault::Length),
+    (sys::TL_FAULT_HEIGHT_FLAG, Fault::HeightFlag),
+    (sys::TL_FAULT_HEIGHT_ROOM, Fault::HeightRoom),
+    (sys::TL_FAULT_MESSAGE_LENGTH, Fault::MessageLength),
+    (sys::TL_FAULT_MESSAGE_ROOM, Fault::MessageRoom),
+    (sys::TL_FAULT_NO_TAG, Fault::NoTag),
+    (sys::TL_FAULT_TOO_MANY_TAGS, Fault::TooManyTags),
+    (sys::TL_FAULT_USED_MASK, Fault::UsedMask),
+    (sys::TL_FAULT_TAG_ORDER, Fault::TagOrder),
+    (sys::TL_FAULT_TAG_ROOM, Fault::TagRoom),
+    (sys::TL_FAULT_TOO_MANY_MODELS, Fault::TooManyModels),
+    (sys::TL_FAULT_MODEL, Fault::Model),
+    (sys::TL_FAULT_MODEL_ROOM, Fault::ModelRoom),
+];
+
+impl Fault {
+    /// Why these bytes are no record; none where they are one.
+    pub fn of(bytes: &[u8]) -> Option<Fault> {
+        // The bytes are read within their length.
+        match unsafe { sys::tl_record_fault(start(bytes), bytes.len()) } {
+            sys::TL_FAULT_NONE => None,
+            found => Some(FAULTS.iter().find(|(number, _)| *number == found).map_or(Fault::Other(found), |(_, fault)| *fault)),
+        }
+    }
+}
+
 /// A record: what an engine reports.
 #[derive(Clone, Debug, PartialEq, Eq, PartialOrd, Ord, Hash)]
 pub struct Record([u8; sys::TL_RECORD_SIZE]);
@@ -71,11 +133,12 @@ impl Record {
         done(answer).map(|()| record)
     }
 
-    /// The record that these bytes are, or [`Error::MalformedRecord`].
+    /// The record that these bytes are, or [`Error::MalformedRecord`]; [`Fault::of`] says why.
     pub fn from_bytes(bytes: &[u8]) -> Result<Record, Error> {
-        let bytes = bytes.try_into().map_err(|_| Error::MalformedRecord)?;
-        let record = Record(bytes);
-        record.identity(&[0; sys::TL_INPUTS_SIZE]).map(|_| record)
+        match Fault::of(bytes) {
+            None => Ok(Record::found(bytes, 0)),
+            Some(_) => Err(Error::MalformedRecord),
+        }
     }
 
     /// A record that the library put into memory.

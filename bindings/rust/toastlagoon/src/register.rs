@@ -1,6 +1,6 @@
 use toastlagoon_sys as sys;
 
-use crate::bytes::{part, u16_at, u32_at, zeros};
+use crate::bytes::{f64_at, part, u16_at, u32_at, zeros};
 use crate::error::{Error, done};
 use crate::record::{Hash, Record};
 use crate::text::{Board, Map, well_formed, written};
@@ -24,6 +24,54 @@ pub struct Held {
     pub record: Record,
     /// By which engines: bit n for engine n.
     pub signers: u32,
+}
+
+/// What is decided of a fix in its transmission.
+#[derive(Clone, Copy, Debug, PartialEq, Eq, Hash)]
+pub enum Role {
+    /// To show, the best first.
+    Ranked,
+    /// A larger fix repeats it.
+    Dominated,
+    /// A smaller fix disagrees with it.
+    Refused,
+}
+
+/// A fix of a board: one for each line of the full board.
+#[derive(Clone, Copy, Debug, PartialEq)]
+pub struct Shown {
+    /// The number of its transmission, from 1.
+    pub transmission: u8,
+    /// What is decided of it.
+    pub role: Role,
+    /// The record that represents it, by its place among [`Register::records`].
+    pub place: usize,
+    /// The engines that reported a record of its identity: bit n for engine n.
+    pub signers: u32,
+    /// Its identity.
+    pub identity: Hash,
+    /// The fix that it is refused against, by its index on the board.
+    pub against: Option<usize>,
+    /// The chi-square between the two, where there is one.
+    pub chi_square: Option<f64>,
+}
+
+fn shown_at(bytes: &[u8]) -> Shown {
+    let role = match u32::from(bytes[sys::TL_SHOWN_ROLE_AT]) {
+        sys::TL_RANKED => Role::Ranked,
+        sys::TL_DOMINATED => Role::Dominated,
+        _ => Role::Refused,
+    };
+    let refused = role == Role::Refused;
+    Shown {
+        transmission: bytes[sys::TL_SHOWN_NUMBER_AT],
+        role,
+        place: usize::from(bytes[sys::TL_SHOWN_PLACE_AT]),
+        signers: u32_at(bytes, sys::TL_SHOWN_SIGNERS_AT),
+        identity: part(bytes, sys::TL_SHOWN_IDENTITY_AT),
+        against: refused.then(|| usize::from(bytes[sys::TL_SHOWN_AGAINST_AT])),
+        chi_square: (bytes[sys::TL_SHOWN_MEASURED_AT] == 1).then(|| f64_at(bytes, sys::TL_SHOWN_CHI2_AT)),
+    }
 }
 
 /// What an engine says of a model.
@@ -145,6 +193,16 @@ impl Register {
         // As for a board.
         written(sys::TL_MAP_SIZE, least, |out, size| unsafe { sys::tl_register_map(self.0.as_ptr(), self.0.len(), out, size) })
             .map(Map)
+    }
+
+    /// The fixes of the board as values: one for each line of the full board, in the order of the lines.
+    pub fn fixes(&self) -> Vec<Shown> {
+        let mut out = vec![0; sys::TL_FIXES_SIZE];
+        // The register is read, and the output written, within their lengths. It is well-formed and the output large enough, so
+        // nothing is refused, and what is returned is a length.
+        let length = unsafe { sys::tl_register_fixes(self.0.as_ptr(), self.0.len(), out.as_mut_ptr(), out.len()) };
+        out.truncate(length as usize);
+        out.chunks_exact(sys::TL_SHOWN_SIZE).map(shown_at).collect()
     }
 
     /// The model inputs of a record by the summaries here. [`Error::ModelMissing`] or [`Error::ModelDisputed`] say why a record

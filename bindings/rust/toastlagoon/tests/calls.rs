@@ -2,8 +2,8 @@
 //! examples/c/expected, which a C program prints too.
 
 use toastlagoon::{
-    Agreement, Claim, Covariance, Desk, Effect, Error, Fields, Item, Record, Register, Track, Verdict, agreement, blake2s256,
-    decide, decide_any, horizontal_sigma, root, version,
+    Agreement, Claim, Covariance, Desk, Effect, Error, Fault, Fields, Item, Record, Register, Role, Track, Verdict, agreement,
+    blake2s256, decide, decide_any, horizontal_sigma, root, version,
 };
 
 const STEP: i32 = 2_700;
@@ -47,6 +47,49 @@ fn a_record_says_what_it_was_made_of() {
     assert_eq!((record.message(), record.models(), record.spec(), record.used()), (fields.message, fields.models, 3, 3));
     assert_eq!(record.covariance(), fields.covariance);
     assert_eq!(Record::from_bytes(record.as_bytes()), Ok(record));
+}
+
+#[test]
+fn bytes_that_are_no_record_say_why() {
+    let good = *record(2, 0).as_bytes();
+    assert_eq!(Fault::of(&good), None);
+    assert_eq!(Fault::of(&good[1..]), Some(Fault::Length));
+    assert_eq!(Fault::of(&[0; 288]), Some(Fault::MessageLength));
+    let mut swapped = good;
+    swapped[41] = 2;
+    assert_eq!(Fault::of(&swapped), Some(Fault::TagOrder));
+    assert_eq!(Record::from_bytes(&swapped), Err(Error::MalformedRecord));
+}
+
+#[test]
+fn the_fixes_of_a_board_are_its_lines() {
+    let mut register = Register::new();
+    assert_eq!(register.fixes(), []);
+    for (tags, lat, engine) in [(1, 0, 1), (2, 2_700, 2), (3, 27_000_000, 3)] {
+        register.report(engine, &record(tags, lat)).unwrap();
+    }
+    let fixes = register.fixes();
+    let board = register.board(Desk::Manager).unwrap();
+    let records: Vec<_> = register.records().collect();
+    let lines: Vec<_> = board.as_str().lines().filter(|line| line.starts_with("role=")).collect();
+    assert_eq!(fixes.len(), lines.len());
+    for (fix, line) in fixes.iter().zip(lines) {
+        let record = &records[fix.place].record;
+        let role = match fix.role {
+            Role::Ranked => "role=ranked",
+            Role::Dominated => "role=dominated",
+            Role::Refused => "role=refused",
+        };
+        assert!(line.starts_with(&format!("{role} time={} lat={} lon={} ", record.time(), record.lat(), record.lon())));
+        assert!(line.contains(&format!("signers={:08x}", fix.signers)));
+        assert_eq!(fix.identity, record.identity(&register.inputs(record).unwrap()).unwrap());
+        if let Some(chi_square) = fix.chi_square {
+            assert!(line.ends_with(&format!("chi2={:016x}", chi_square.to_bits())));
+        }
+    }
+    let refused = fixes.iter().find(|fix| fix.role == Role::Refused).unwrap();
+    let against = fixes[refused.against.unwrap()];
+    assert!(records[against.place].record.tags().count() < records[refused.place].record.tags().count());
 }
 
 #[test]
