@@ -352,11 +352,34 @@ fn map(what: &str, memory: &[u8]) {
     line(&format!("map, {what}"), "the peer", 1.0, true, &mut ours, &mut theirs);
 }
 
-/// Maps of registers whose records are one transmission, eight, or one each, and of none.
+/// The fixes of a board as values, beside the library's own board of the same register, and beside the peer's.
+fn fixes(what: &str, memory: &[u8]) {
+    if !binding::FIXES {
+        return println!("| fixes of a board, {what} | a board of the same register | not in the library | - | - | - |");
+    }
+    let room = peer::board::FIXES_ROOM;
+    let (mut a, mut b, mut board) = (vec![7u8; room], vec![7u8; room], vec![7u8; 16_384]);
+    assert!(binding::fixes(memory, &mut a) == peer::board::fixes(memory, &mut b) && a == b);
+    let mut ours = || {
+        black_box(binding::fixes(black_box(memory), &mut a));
+    };
+    let mut drawn = || {
+        black_box(binding::board(MANAGER, black_box(memory), &mut board));
+    };
+    let mut theirs = || {
+        black_box(peer::board::fixes(black_box(memory), &mut b));
+    };
+    line(&format!("fixes of a board, {what}"), "a board of the same register", 1.0, true, &mut ours, &mut drawn);
+    line(&format!("fixes of a board, {what}"), "the peer", 1.0, true, &mut ours, &mut theirs);
+}
+
+/// Maps, and fixes as values, of registers whose records are one transmission, eight, or one each; and a map of none.
 fn maps() {
     map("empty register", &vec![0u8; peer::register::SIZE]);
     for transmissions in [1, 8, 96] {
-        map(&format!("96 records in {transmissions} transmissions"), &reported(|i| grouped(transmissions, i), |_| 3));
+        let memory = reported(|i| grouped(transmissions, i), |_| 3);
+        map(&format!("96 records in {transmissions} transmissions"), &memory);
+        fixes(&format!("96 records in {transmissions} transmissions"), &memory);
     }
 }
 

@@ -83,6 +83,11 @@ unsafe extern "C" {
     fn tl_register_map(memory: *const u8, len: usize, out: *mut u8, out_len: usize) -> u32;
 }
 
+#[cfg(has_fixes)]
+unsafe extern "C" {
+    fn tl_register_fixes(memory: *const u8, len: usize, out: *mut u8, out_len: usize) -> u32;
+}
+
 #[cfg(has_preview)]
 unsafe extern "C" {
     fn tl_register_preview(desk: u32, memory: *const u8, len: usize, engine: u32, out: *mut u8, out_len: usize) -> u32;
@@ -110,6 +115,11 @@ pub mod register {
     #[cfg(has_map)]
     pub fn map(m: &[u8], out: &mut [u8]) -> usize {
         unsafe { super::tl_register_map(m.as_ptr(), m.len(), out.as_mut_ptr(), out.len()) as usize }
+    }
+
+    #[cfg(has_fixes)]
+    pub fn fixes(m: &[u8], out: &mut [u8]) -> usize {
+        unsafe { super::tl_register_fixes(m.as_ptr(), m.len(), out.as_mut_ptr(), out.len()) as usize }
     }
 
     #[cfg(has_preview)]
@@ -237,6 +247,17 @@ pub fn map(m: &[u8], out: &mut [u8]) -> usize {
     #[cfg(has_map)]
     return register::map(m, out);
     #[cfg(not(has_map))]
+    unreachable!("{} {}", m.len(), out.len())
+}
+
+/// A library that has it also has the register and the board.
+pub const FIXES: bool = cfg!(has_fixes);
+
+#[inline(always)]
+pub fn fixes(m: &[u8], out: &mut [u8]) -> usize {
+    #[cfg(has_fixes)]
+    return register::fixes(m, out);
+    #[cfg(not(has_fixes))]
     unreachable!("{} {}", m.len(), out.len())
 }
 

@@ -18,6 +18,7 @@ mod random;
 #[cfg(has_register)]
 mod registers;
 mod shelves;
+mod shown;
 #[cfg(has_register)]
 mod spans;
 mod tracks;

@@ -4,7 +4,7 @@
 use crate::binding::{self, register as ours};
 use crate::heights::{self, EDGES};
 use crate::random::Random;
-use crate::{maps, measured, previews, spans, tried};
+use crate::{maps, measured, previews, shown, spans, tried};
 use oracle::layout::{Mask, RECORD};
 use oracle::{Record, hex};
 use peer::register::{self as theirs, MANAGER, SIZE};
@@ -191,6 +191,15 @@ fn compare_maps(a: &[u8], b: &[u8], n: usize, counts: &mut Counts) -> Option<Str
     None
 }
 
+/// Both boards' fixes as values, where the library has them; the difference in words.
+fn compare_fixes(a: &[u8], b: &[u8], n: usize, counts: &mut Counts) -> Option<String> {
+    match shown::compare(a, b) {
+        Ok(kinds) => count(kinds, counts),
+        Err(words) => return Some(format!("after call {n}: {words}")),
+    }
+    None
+}
+
 /// A preview on both memories: what both answer, or the difference in words.
 fn preview(desk: u32, engine: u32, room: usize, a: &[u8], b: &[u8], counts: &mut Counts) -> Result<usize, String> {
     let (answer, kinds) = previews::compare(a, b, desk, engine, room)?;
@@ -248,6 +257,12 @@ fn run(size: usize, calls: &[Call], counts: &mut Counts) -> Option<String> {
         if binding::MAP
             && (n + 1 == calls.len() || back.is_some())
             && let Some(words) = compare_maps(&a, &b, n, counts)
+        {
+            return Some(words);
+        }
+        if binding::FIXES
+            && (n + 1 == calls.len() || back.is_some())
+            && let Some(words) = compare_fixes(&a, &b, n, counts)
         {
             return Some(words);
         }
@@ -319,6 +334,9 @@ pub fn compare(random: &mut Random, lists: u64) {
     }
     if binding::MAP {
         tried::all(maps::KINDS, came, lists);
+    }
+    if binding::FIXES {
+        tried::all(shown::KINDS, came, lists);
     }
     if binding::PREVIEW {
         tried::all(previews::kinds(), came, lists);

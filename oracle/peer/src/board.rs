@@ -7,7 +7,7 @@ use oracle::lines::{self, Said};
 use oracle::{Record, blake2s256};
 
 pub const ROOM: usize = 16_384;
-const SHOWN: usize = 8;
+const LATEST: usize = 8;
 /// How much the times of two that link may differ, in nanoseconds.
 pub const LINK_SPAN: u64 = 2_000_000_000;
 
@@ -153,7 +153,7 @@ fn latest(fixes: &[Fix]) -> Vec<(Vec<usize>, Decision)> {
         let first = &fixes[one[usize::from(d.ranked[0])]];
         (first.record.time, first.identity)
     });
-    decisions.split_off(decisions.len().saturating_sub(SHOWN))
+    decisions.split_off(decisions.len().saturating_sub(LATEST))
 }
 
 /// The first ranked fix of each of the latest transmissions, oldest first.
@@ -240,6 +240,49 @@ fn draw(desk: u32, register: &Register, out: &mut [u8]) -> usize {
     let text = if desk == CREW { crew_text(register) } else { text(register) };
     out[..text.len()].copy_from_slice(text.as_bytes());
     text.len()
+}
+
+/// The bytes of a fix of a board as a value: number, role, place and index refused against, signers, identity, whether there is a
+/// chi-square, and its bits.
+pub const SHOWN: usize = 4 + 4 + 32 + 1 + 8;
+pub const FIXES_ROOM: usize = 96 * SHOWN;
+
+/// The fixes of the board of a well-formed register as values, in the order of the lines.
+pub fn entries(register: &Register) -> Vec<u8> {
+    let fixes = representatives(register);
+    let mut out = Vec::new();
+    for (n, (one, d)) in latest(&fixes).iter().enumerate() {
+        let before = out.len() / SHOWN;
+        let refused: Vec<u8> = d.refusals.iter().map(|refusal| refusal.refused).collect();
+        let order = [&d.ranked[..], &d.dominated[..], &refused[..]].concat();
+        let index = |at: u8| before + order.iter().position(|&other| other == at).expect("a fix of the transmission");
+        let mut put = |role: u8, at: u8, against: u8, chi2: Option<u64>| {
+            let fix = &fixes[one[usize::from(at)]];
+            let place = register.records.iter().position(|(bytes, _)| *bytes == fix.bytes).expect("a held record");
+            out.extend_from_slice(&[(n + 1) as u8, role, place as u8, index(against) as u8]);
+            out.extend_from_slice(&fix.signers.to_le_bytes());
+            out.extend_from_slice(&fix.identity);
+            out.push(u8::from(chi2.is_some()));
+            out.extend_from_slice(&chi2.unwrap_or(0).to_le_bytes());
+        };
+        d.ranked.iter().for_each(|&at| put(0, at, at, None));
+        d.dominated.iter().for_each(|&at| put(1, at, at, None));
+        d.refusals.iter().for_each(|refusal| put(2, refusal.refused, refusal.kept, refusal.chi2));
+    }
+    out
+}
+
+/// These: 1, 10, or how many bytes were written.
+pub fn fixes(memory: &[u8], out: &mut [u8]) -> usize {
+    let Some(register) = Register::read(memory) else {
+        return 1;
+    };
+    if out.len() < FIXES_ROOM {
+        return 10;
+    }
+    let bytes = entries(&register);
+    out[..bytes.len()].copy_from_slice(&bytes);
+    bytes.len()
 }
 
 /// Board of a desk: 15, 1, 10, or the length of what was written.
