@@ -58,17 +58,21 @@ line-of-some h number (t ∷ ts) y m =
     (λ k. let r = map-from h (fixes_shown t) y k in (t, Memᴰ.head refl, r.0, r.1, r.2))
     (λ k. let r = line-of-some h (suc number) ts y k in (r.0, Memᴰ.tail r.1, r.2, r.3, r.4))
 
-of-a-fix : {B : Type 0} (h : Fix → B) (fs : List Fix) (y : B) → Memᴰ y (line_by_line (of_fixes h) 1 (latest_of (sort older_than (map shown (transmissions_of fs))))) → (f : Fix) × Memᴰ f fs × (y ≡ h f)
+-- whose fix a transmission on the board has
+pub fix-of : (fs : List Fix) (t : Transmission) (f : Fix) → Memᴰ t (latest_of (sort older_than (map shown (transmissions_of fs)))) → Memᴰ f (fixes_shown t) → Memᴰ f fs
 unfolding transmissions_of
-of-a-fix h fs y m =
+fix-of fs t f m k =
     let ts = map shown (transmissions_of fs) in
     let s = sort older_than ts in
-    let t = line-of-some h 1 (latest_of s) y m in
-    let c = map-from shown (transmissions_of fs) t.0 (perm-mem (Permᴰ.symm (sort-perm older_than ts)) (drop-in (length s - max_shown) s t.0 t.1)) in
-    let r = shown-of c.0 t.2 (subst (λ (u : Transmission). Memᴰ t.2 (fixes_shown u)) c.2 t.3) in
+    let c = map-from shown (transmissions_of fs) t (perm-mem (Permᴰ.symm (sort-perm older_than ts)) (drop-in (length s - max_shown) s t m)) in
+    let r = shown-of c.0 f (subst (λ (u : Transmission). Memᴰ f (fixes_shown u)) c.2 k) in
     let d = map-from (transmission_of fs) (filter (is_first fs) fs) c.0 c.1 in
-    let k = (filter-in (is_first fs) fs d.0 d.1).0 in
-    (t.2, reached fs (length fs) d.0 t.2 k (subst (λ (l : List Fix). Memᴰ t.2 l) d.2 r), t.4)
+    reached fs (length fs) d.0 f (filter-in (is_first fs) fs d.0 d.1).0 (subst (λ (l : List Fix). Memᴰ f l) d.2 r)
+
+of-a-fix : {B : Type 0} (h : Fix → B) (fs : List Fix) (y : B) → Memᴰ y (line_by_line (of_fixes h) 1 (latest_of (sort older_than (map shown (transmissions_of fs))))) → (f : Fix) × Memᴰ f fs × (y ≡ h f)
+of-a-fix h fs y m =
+    let t = line-of-some h 1 (latest_of (sort older_than (map shown (transmissions_of fs)))) y m in
+    (t.2, fix-of fs t.0 t.2 t.1 t.3, t.4)
 
 -- ---- how many bytes
 

@@ -1,6 +1,7 @@
 mod Walks
 mod Drawing
 mod Room
+mod Said
 mod Lent
 mod Lines
 mod Counted

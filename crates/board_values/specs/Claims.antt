@@ -1,6 +1,6 @@
 -- What is claimed of a board's fixes as values; src/claims.rt has a function whose contract each of these is.
 -- Source: docs/REFERENCE.md, 'Values'.
-use Rattle.std.specs.Prelude.{ℕ, suc, ◌*◌, ◌≤◌, ◌≡◌, true, List, [], ◌∷◌, ◌++◌, map, length}
+use Rattle.std.specs.Prelude.{ℕ, suc, ◌*◌, ◌≤◌, ◌≡◌, true, List, [], ◌∷◌, ◌++◌, map, length, get_or}
 use Rattle.octets.specs.Bytes.{Bytes}
 use Rattle.arithmetic.specs.declared.standing.ChiSquare.{ChiSquare}
 use Rattle.decision_rule.specs.Outcome.{Refused as RefusedFix}
@@ -8,6 +8,9 @@ use Rattle.fixes.specs.Fix.{Fix}
 use Rattle.fixes.specs.Shown.{Transmission}
 use Rattle.fix_lines.specs.declared.Standing.{Standing}
 use Rattle.fix_lines.specs.declared.Standing.TheVariants.{Ranked, Dominated, Refused}
+use Rattle.fix_lines.specs.Standings.{standing_line}
+use Rattle.fix_lines.specs.Text.{ranked_text, dominated_text, refused_text}
+use Rattle.board_fixes.specs.Fixes.{record_in}
 use Rattle.board_picture.specs.Picture.{picture, latest_of, max_shown}
 use Rattle.register.specs.Register.{Register}
 use Rattle.register.specs.Memory.{well_formed, decode}
@@ -49,3 +52,20 @@ pub record EntriesCounted : Type 0 where
   pub most : (m : List ℕ) → Bytes m → well_formed m ≡ true → length (entries (decode m)) ≤ 96
   pub transmissions : (s : Register) → length (on_board s) ≤ max_shown
   pub size : (m : List ℕ) → Bytes m → well_formed m ≡ true → length (fixes_in (decode m)) ≡ length (entries (decode m)) * entry_size
+
+-- the record at the place that an entry names
+abbrev pub record_named : List (List ℕ) → Entry → List ℕ
+record_named ps e = record_in (get_or ps e.place [])
+
+-- the line that an entry and that record say
+abbrev pub line_said : List (List ℕ) → Entry → List ℕ
+line_said ps e = standing_line e.standing (record_named ps e) e.signers
+
+-- the lines of a transmission on the full board, below its header
+abbrev pub lines_of : ℕ → Transmission → List (List ℕ)
+lines_of number t = map ranked_text t.ranked ++ (map dominated_text t.dominated ++ map refused_text t.refused)
+
+-- the place of an entry is that of the record that represents its fix, and so each line of the full board is what its entry and that record say
+pub record EntriesSayLines : Type 0 where
+  pub named : (s : Register) → map (record_named s.records) (entries s) ≡ line_by_line (of_fixes (λ f. f.record_bytes)) 1 (on_board s)
+  pub lines : (s : Register) → map (line_said s.records) (entries s) ≡ line_by_line lines_of 1 (on_board s)

@@ -1,6 +1,6 @@
 //! What is claimed of a board's fixes as values. Each function's contract is the claim; there is nothing to run.
 
-ghost use Rattle.board_values.specs.Claims.{EntriesAreLines, EntriesCounted};
+ghost use Rattle.board_values.specs.Claims.{EntriesAreLines, EntriesCounted, EntriesSayLines};
 
 /// There is an entry for each line of the board, in the order of the lines, with what the line says.
 pub fn entries_are_lines()
@@ -10,4 +10,9 @@ pub fn entries_are_lines()
 /// There are at most 96 entries, of at most 8 transmissions, and each has 49 bytes.
 pub fn entries_counted()
     ensures { EntriesCounted }
+{}
+
+/// Each line of the full board is what its entry and the record at the entry's place say.
+pub fn entries_say_lines()
+    ensures { EntriesSayLines }
 {}
