@@ -420,6 +420,54 @@ fn previews() {
     preview("full register, 64 of 256 summaries and all records go", &memory, 3);
 }
 
+/// The sessions of the program `test_sessions`, each behind its length.
+fn sessions_read() -> Vec<&'static [u8]> {
+    let (mut rest, mut all) = (&include_bytes!("../crates/test_sessions/stdin")[..], Vec::new());
+    while let Some((size, behind)) = rest.split_first_chunk() {
+        let (session, behind) = behind.split_at(u32::from_le_bytes(*size) as usize);
+        all.push(session);
+        rest = behind;
+    }
+    all
+}
+
+/// A whole session in one call on a register of zeros, and its board, beside the peer's.
+fn session(what: &str, input: &[u8]) {
+    if !binding::SESSION {
+        return println!("| session and board, {what} | the peer | not in the library | - | - | - |");
+    }
+    let (mut memory, mut out, mut board) = (vec![0u8; peer::register::SIZE], vec![7u8; 65_536], vec![7u8; 16_384]);
+    let mut perform = || {
+        memory.fill(0);
+        let length = binding::session(&mut memory, black_box(input), &mut out);
+        (length, binding::board(MANAGER, &memory, &mut board))
+    };
+    let (length, drawn) = perform();
+    let printed = peer::session::session(input);
+    let quiet = b"transmissions=0\n";
+    assert!([&out[..length], if drawn == 0 { quiet } else { &board[..drawn] }].concat() == printed.as_bytes());
+    let mut perform = || {
+        memory.fill(0);
+        black_box(binding::session(&mut memory, black_box(input), &mut out));
+        black_box(binding::board(MANAGER, &memory, &mut board));
+    };
+    let mut theirs = || {
+        black_box(peer::session::session(black_box(input)));
+    };
+    line(&format!("session and board, {what}"), "the peer", 1.0, true, &mut perform, &mut theirs);
+}
+
+/// Sessions of two reports, of 98, and of 3,276 convictions.
+fn sessions() {
+    let all = sessions_read();
+    let count = |input: &[u8], word: &[u8]| input.windows(word.len()).filter(|part| *part == word).count();
+    session("the worked one", all[0]);
+    let reports = all.iter().filter(|s| count(s, b"op=report") > 90).max_by_key(|s| s.len()).expect("a long session");
+    session("98 reports", reports);
+    let convictions = all.iter().filter(|s| count(s, b"op=convict") > 3000 && s.len() <= 65_536 && s.ends_with(b"\n"));
+    session("3,276 convictions", convictions.max_by_key(|s| s.len()).expect("a session of convictions"));
+}
+
 /// All but the track's.
 fn others(random: &mut Random) {
     // Of an identity; of the sets of a long message with 16 and with 24 tags; and of a long text.
@@ -439,6 +487,7 @@ fn others(random: &mut Random) {
     board("with a common tag, an hour apart", restarted);
     maps();
     previews();
+    sessions();
 }
 
 fn main() {

@@ -65,7 +65,7 @@ static void write_record(uint8_t r[TL_RECORD_SIZE], int i) {
 }
 
 static uint8_t items[TL_MAX_ITEMS * TL_ITEM_SIZE], answer[TL_ANSWER_SIZE];
-static uint8_t memory[TL_REGISTER_SIZE], out[TL_BOARD_SIZE];
+static uint8_t memory[TL_REGISTER_SIZE], joined[TL_REGISTER_SIZE], out[TL_BOARD_SIZE];
 static int count;
 
 static void nothing(void) {}
@@ -84,6 +84,27 @@ static void fixes(void) { tl_register_fixes(memory, sizeof memory, out, sizeof o
 static void preview(void) {
     tl_register_preview(TL_MANAGER, memory, sizeof memory, 4, out, sizeof out);
     tl_register_preview(TL_MANAGER, memory, sizeof memory, 3, out, sizeof out);
+}
+
+static uint8_t performed[TL_SESSION_SIZE], reason[TL_REASON_SIZE];
+
+/* An operation of each kind. */
+static const char session[] =
+    "op=summary\nengine=1\nmodel=5\nspec=3\ninputs=0000000000000000000000000000000000000000000000000000000000000000\n"
+    "op=report\nengine=3\ntime=1000\nlat=500000000\nlon=100000000\nheight=1500\nmessage=8d000000000000\n"
+    "tags=1,2,3,4,5,6,7,8,9,10,11,12,13,14,15,16,17,18,19,20,21,22,23,24\nused=3\nmodels=1,2,3,4\nspec=3\n"
+    "cov=000000000000000000000000000000000000000000000000000000000000000000000000000000000000000000000000\nop=convict\nengine=3\n";
+
+/* On as many records as the register holds, so that a report, a summary and a conviction move what is there. */
+static void perform(void) {
+    memcpy(joined, memory, sizeof joined);
+    if (tl_register_session(joined, sizeof joined, (const uint8_t *)session, sizeof session - 1, performed, sizeof performed) != 27) exit(1);
+}
+
+/* A line without its line feed, of which the most bytes are shown. */
+static void say_why(void) {
+    static uint8_t bad[200];
+    if (tl_session_reason(bad, sizeof bad, reason) == 0) exit(1);
 }
 
 static uint8_t turned[TL_REGISTER_SIZE];
@@ -109,8 +130,6 @@ static void record_identity(void) { tl_record_identity(made, sizeof made, model_
 static void register_inputs(void) {
     tl_register_inputs(memory, sizeof memory, memory + TL_REGISTER_RECORDS_AT, TL_RECORD_SIZE, model_inputs);
 }
-
-static uint8_t joined[TL_REGISTER_SIZE];
 
 static void join_registers(void) {
     memcpy(joined, memory, sizeof joined);
@@ -267,6 +286,8 @@ int main(void) {
     row("a record of what it says", record_write);
     row("identity of a record", record_identity);
     row("model inputs of a record, 96 records", register_inputs);
+    row("session of each kind of operation, 96 records", perform);
+    row("reason of a session", say_why);
     row("join of two registers, 96 records", join_registers);
     row("what a register lacks, 96 records", lacks);
     write_track();

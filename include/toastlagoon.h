@@ -52,9 +52,9 @@ extern "C" {
 
 #define TL_VERSION_MAJOR 0
 #define TL_VERSION_MINOR 12
-#define TL_VERSION_PATCH 1
+#define TL_VERSION_PATCH 2
 #define TL_VERSION (TL_VERSION_MAJOR * 1000000 + TL_VERSION_MINOR * 1000 + TL_VERSION_PATCH)
-#define TL_VERSION_TEXT TL_VERSION_JOINED(TL_VERSION_MAJOR, TL_VERSION_MINOR, TL_VERSION_PATCH) /* "0.12.1" */
+#define TL_VERSION_TEXT TL_VERSION_JOINED(TL_VERSION_MAJOR, TL_VERSION_MINOR, TL_VERSION_PATCH) /* "0.12.2" */
 #define TL_VERSION_JOINED(major, minor, patch) TL_VERSION_QUOTED(major, minor, patch)
 #define TL_VERSION_QUOTED(major, minor, patch) #major "." #minor "." #patch
 
@@ -74,7 +74,10 @@ uint32_t tl_version(void);
 #define TL_MODEL_DISPUTED 7     /* a track's summaries of a cited model disagree, or are of another spec */
 #define TL_BAD_ITEMS 8          /* over 96 items, no whole number of items, a malformed item, or two of one identity */
 #define TL_BAD_SUMMARY 9        /* a model over 63, or inputs that are not of 32 bytes */
-#define TL_OUTPUT_TOO_SMALL 10  /* under TL_BOARD_SIZE bytes for a board or a preview, TL_LISTING_SIZE for a listing, TL_FIXES_SIZE for fixes */
+#define TL_OUTPUT_TOO_SMALL 10  /* under TL_BOARD_SIZE bytes for a board or a preview, TL_LISTING_SIZE for a listing, TL_FIXES_SIZE for fixes,
+                                   TL_SESSION_SIZE for a session's answers */
+#define TL_BAD_LINE 11          /* a line of a session is not the one that is due; tl_session_reason says which */
+#define TL_SESSION_TOO_LONG 12  /* over TL_MAX_SESSION bytes */
 #define TL_SHELF_FULL 13        /* the fix has to wait, and TL_MAX_WAITING wait already */
 #define TL_MAP_TOO_SMALL 14     /* under TL_MAP_SIZE bytes for a map */
 #define TL_UNKNOWN_DESK 15      /* the desk is none of TL_CREW, TL_ANALYST and TL_MANAGER; all 32 bits count */
@@ -111,8 +114,9 @@ uint32_t tl_version(void);
 #define TL_FAULT_MODEL_ROOM 13     /* bytes behind the models are not zero */
 
 /* What an answer says, in words. Not for the outcomes of tl_agreement, and not for the lengths that tl_board, tl_register_preview,
- * tl_register_map, tl_register_fixes and tl_track_listing return: a length can be any number but those of their refusals. The text is part of the
- * program that includes this header, not of the library; tl_answer_text has the same words for languages that read no header. */
+ * tl_register_map, tl_register_fixes, tl_register_session, tl_session_reason and tl_track_listing return: a length can be any number
+ * but those of their refusals. The text is part of the program that includes this header, not of the library; tl_answer_text has the
+ * same words for languages that read no header. */
 static inline const char *tl_answer_name(uint32_t answer) {
     switch (answer) {
     case TL_OK: return "done";
@@ -125,6 +129,8 @@ static inline const char *tl_answer_name(uint32_t answer) {
     case TL_BAD_ITEMS: return "bad items";
     case TL_BAD_SUMMARY: return "bad summary";
     case TL_OUTPUT_TOO_SMALL: return "output too small";
+    case TL_BAD_LINE: return "session with a bad line";
+    case TL_SESSION_TOO_LONG: return "session too long";
     case TL_SHELF_FULL: return "shelf full";
     case TL_MAP_TOO_SMALL: return "output too small for a map";
     case TL_UNKNOWN_DESK: return "unknown desk";
@@ -167,6 +173,7 @@ uint32_t tl_answer_text(uint32_t answer, uint8_t *out, size_t out_len);
 #define TL_MAX_STANDING 5      /* fixes that stand in a transmission of a track */
 #define TL_MAX_REFUSED 4       /* refused fixes that a transmission of a track keeps */
 #define TL_MAX_WAITING 64      /* fixes that wait beside a track */
+#define TL_MAX_SESSION 65536   /* bytes of a session */
 
 /* ---- layouts
  *
@@ -321,6 +328,11 @@ uint32_t tl_answer_text(uint32_t answer, uint8_t *out, size_t out_len);
 #define TL_MIN_MAP_LENGTH 42   /* the least length of a map: of no points */
 #define TL_MAX_MAP_LENGTH 1473 /* the greatest: of 8 points, with everything at its widest */
 
+/* The sizes of the outputs of a session: of the answers, each of which is shorter than its operation, and of a reason. */
+#define TL_SESSION_SIZE TL_MAX_SESSION
+#define TL_ANSWER_LINE_SIZE 9 /* of the line of each answer, `answer=N` with N of one digit and a line feed */
+#define TL_REASON_SIZE 512
+
 /* ---- functions */
 
 /* The BLAKE2s-256 hash (RFC 7693, no key) of any bytes. Returns TL_OK. */
@@ -468,6 +480,20 @@ uint32_t tl_register_map(const uint8_t *memory, size_t memory_len, uint8_t *out,
  * that holds of TL_MALFORMED_REGISTER, TL_OUTPUT_TOO_SMALL (under TL_FIXES_SIZE bytes). Bytes past those, and in a refused call all,
  * stay as found. The register is only read. */
 uint32_t tl_register_fixes(const uint8_t *memory, size_t memory_len, uint8_t *out, size_t out_len);
+
+/* Performs the operations of a session, a text of lines (docs/REFERENCE.md, 'Session'), on a register, as a manager does: the same
+ * calls as tl_register_report, tl_register_summary and tl_register_conviction, from the first to the last. Writes a line `answer=N`
+ * with a line feed for each operation to the start of out, and returns the length of these: TL_ANSWER_LINE_SIZE for each. An
+ * operation that the register refuses has its answer there, and the next ones are performed all the same. Or returns the first that
+ * holds of TL_MALFORMED_REGISTER, TL_SESSION_TOO_LONG, TL_BAD_LINE, TL_OUTPUT_TOO_SMALL (under TL_SESSION_SIZE bytes): then no
+ * operation is performed. No length is one of these numbers. Bytes past the length, and all bytes of a refused call, stay as found. On a
+ * register of zeros, these lines and then the board at TL_MANAGER, or `transmissions=0` and a line feed where it is empty, are what
+ * the program session prints. */
+uint32_t tl_register_session(uint8_t *memory, size_t memory_len, const uint8_t *input, size_t input_len, uint8_t *out, size_t out_len);
+
+/* Writes why a session is refused to the start of out, a sentence that ends with a line feed, and returns its length; 0 where the
+ * session is not refused. It says of the first bad line its number, what is due there and what was found. Bytes past it stay as found. */
+uint32_t tl_session_reason(const uint8_t *input, size_t input_len, uint8_t out[TL_REASON_SIZE]);
 
 /* Writes the bytes of a register, or any other TL_REGISTER_SIZE bytes, so that like bytes of its places are together, for an archive
  * that packs them: after the first TL_REGISTER_RECORDS_AT bytes, which are copied, comes the first byte of each of the 96 places (a

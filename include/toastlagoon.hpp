@@ -20,6 +20,7 @@
 #include <cstdint>
 #include <optional>
 #include <span>
+#include <string>
 #include <string_view>
 #include <utility>
 #include <variant>
@@ -39,6 +40,8 @@ enum class Refusal : std::uint32_t {
     model_disputed = TL_MODEL_DISPUTED,
     bad_items = TL_BAD_ITEMS,
     bad_summary = TL_BAD_SUMMARY,
+    bad_line = TL_BAD_LINE,
+    session_too_long = TL_SESSION_TOO_LONG,
     shelf_full = TL_SHELF_FULL,
     unknown_desk = TL_UNKNOWN_DESK,
     no_right = TL_NO_RIGHT,
@@ -171,6 +174,18 @@ struct Shown {
     std::optional<double> chi_square;
 };
 
+// The bytes of a text, as the library takes them.
+inline std::span<const std::uint8_t> bytes_of(std::string_view text) {
+    return {reinterpret_cast<const std::uint8_t *>(text.data()), text.size()};
+}
+
+// Why a session is refused, in a sentence that ends with a line feed; no byte where it is not refused.
+inline std::string session_reason(std::string_view session) {
+    std::array<std::uint8_t, TL_REASON_SIZE> out;
+    const std::uint32_t length = tl_session_reason(start(bytes_of(session)), session.size(), out.data());
+    return {out.begin(), out.begin() + length};
+}
+
 // Every report of one aircraft and one window of time. Two are equal where all of their bytes are.
 class Register {
     std::array<std::uint8_t, TL_REGISTER_SIZE> memory{};
@@ -213,6 +228,18 @@ class Register {
             tl_register_inputs(memory.data(), memory.size(), record.memory.data(), record.memory.size(), out.data());
         if (answer != TL_OK) return Refusal{answer};
         return out;
+    }
+    // Performs the operations of a session, as a manager: the answer of each, TL_OK or why the register refused it. session_reason says why a
+    // session is refused.
+    Result<std::vector<std::uint32_t>> perform(std::string_view session) {
+        std::vector<std::uint8_t> out(TL_SESSION_SIZE);
+        const std::uint32_t length = tl_register_session(memory.data(), memory.size(), start(bytes_of(session)), session.size(), out.data(),
+                                                         out.size());
+        if (length % TL_ANSWER_LINE_SIZE != 0) return Refusal{length};
+        std::vector<std::uint32_t> answers;
+        // The digit of a line stands before its line feed.
+        for (std::size_t at = 0; at < length; at += TL_ANSWER_LINE_SIZE) answers.push_back(std::uint32_t{out[at + TL_ANSWER_LINE_SIZE - 2]} - '0');
+        return answers;
     }
     Result<Board> board(Desk desk) const {
         return Board::written(TL_MIN_CREW_LENGTH, [&](std::uint8_t *out, std::size_t size) {

@@ -59,6 +59,17 @@ static void registers() {
     CHECK(*south.lacks(north) == tl::Register{});
 }
 
+static void sessions() {
+    static tl::Register window;
+    CHECK(window.perform("op=convict\nengine=7\nop=convict\nengine=32\n")->at(1) == TL_ENGINE_OVER_31);
+    CHECK(window.report(7, record(0)) == tl::Refusal::engine_convicted);
+    CHECK(window.perform("")->empty());
+    CHECK(window.perform("op=convict\nengine=7").refusal() == tl::Refusal::bad_line);
+    CHECK(window.perform(std::string(TL_MAX_SESSION + 1, ' ')).refusal() == tl::Refusal::session_too_long);
+    CHECK(tl::session_reason("").empty());
+    CHECK(tl::session_reason("\n") == "line 1: op= is due, then summary, convict or report, then a line feed; found ''\n");
+}
+
 static void models() {
     static tl::Register window;
     const std::uint8_t cited[] = {5};
@@ -89,6 +100,7 @@ static void tracks() {
 int main() {
     records();
     registers();
+    sessions();
     models();
     tracks();
 }

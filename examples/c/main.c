@@ -1,6 +1,6 @@
 /* The sizes of the layouts, a hash, the three outcomes of an agreement, decisions over three fixes of one transmission, also in another order,
- * reports into a register, a conviction that is shown first, a map, a register turned for an archive, the same three fixes in two orders into tracks,
- * and a fix that waits on a shelf, called from C. */
+ * reports into a register, a conviction that is shown first, a map, a register turned for an archive, sessions, the same three fixes in two orders
+ * into tracks, and a fix that waits on a shelf, called from C. */
 #include <inttypes.h>
 #include <stdio.h>
 #include <stdlib.h>
@@ -230,6 +230,27 @@ static void archive(void) {
     show("columns of too little", tl_register_columns(memory, sizeof memory - 1, columns, sizeof columns));
 }
 
+static void show_session(uint8_t memory[TL_REGISTER_SIZE], const char *session) {
+    static uint8_t answers[TL_SESSION_SIZE];
+    uint8_t reason[TL_REASON_SIZE];
+    const uint8_t *input = (const uint8_t *)session;
+    uint32_t returned = tl_register_session(memory, TL_REGISTER_SIZE, input, strlen(session), answers, sizeof answers);
+    if (returned % TL_ANSWER_LINE_SIZE == 0) {
+        show_text("session, answers", returned, answers);
+    } else {
+        show("session", returned);
+        show_text("reason", tl_session_reason(input, strlen(session), reason), reason);
+    }
+}
+
+/* Operations as lines, in one call. Of a session with a bad line nothing is performed, and there is a reason. */
+static void sessions(void) {
+    static uint8_t memory[TL_REGISTER_SIZE];
+    show_session(memory, "op=convict\nengine=7\nop=convict\nengine=32\n");
+    show_session(memory, "op=convict\nengine=8\nop=convict\nengine=08\n");
+    printf("convicted %08" PRIx64 "\n", get(memory + TL_REGISTER_CONVICTED_AT, 4));
+}
+
 /* Fix i has i + 1 receivers and lies i steps north: the first disagrees with the third, and the second with none. */
 static void track(const int order[FIXES]) {
     static uint8_t memory[TL_TRACK_SIZE], shelf[TL_SHELF_SIZE], out[TL_LISTING_SIZE];
@@ -303,6 +324,7 @@ int main(void) {
     reports();
     map();
     archive();
+    sessions();
     track(smallest_first);
     track(largest_first);
     disputes();

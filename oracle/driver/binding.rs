@@ -88,6 +88,11 @@ unsafe extern "C" {
     fn tl_register_fixes(memory: *const u8, len: usize, out: *mut u8, out_len: usize) -> u32;
 }
 
+#[cfg(has_session)]
+unsafe extern "C" {
+    fn tl_register_session(memory: *mut u8, len: usize, input: *const u8, input_len: usize, out: *mut u8, out_len: usize) -> u32;
+}
+
 #[cfg(has_preview)]
 unsafe extern "C" {
     fn tl_register_preview(desk: u32, memory: *const u8, len: usize, engine: u32, out: *mut u8, out_len: usize) -> u32;
@@ -120,6 +125,11 @@ pub mod register {
     #[cfg(has_fixes)]
     pub fn fixes(m: &[u8], out: &mut [u8]) -> usize {
         unsafe { super::tl_register_fixes(m.as_ptr(), m.len(), out.as_mut_ptr(), out.len()) as usize }
+    }
+
+    #[cfg(has_session)]
+    pub fn session(m: &mut [u8], input: &[u8], out: &mut [u8]) -> usize {
+        unsafe { super::tl_register_session(m.as_mut_ptr(), m.len(), input.as_ptr(), input.len(), out.as_mut_ptr(), out.len()) as usize }
     }
 
     #[cfg(has_preview)]
@@ -259,6 +269,17 @@ pub fn fixes(m: &[u8], out: &mut [u8]) -> usize {
     return register::fixes(m, out);
     #[cfg(not(has_fixes))]
     unreachable!("{} {}", m.len(), out.len())
+}
+
+/// A library that has it also has the register and the board.
+pub const SESSION: bool = cfg!(has_session);
+
+#[inline(always)]
+pub fn session(m: &mut [u8], input: &[u8], out: &mut [u8]) -> usize {
+    #[cfg(has_session)]
+    return register::session(m, input, out);
+    #[cfg(not(has_session))]
+    unreachable!("{} {} {}", m.len(), input.len(), out.len())
 }
 
 /// Of a conviction. A library that has it also has the register and the board.

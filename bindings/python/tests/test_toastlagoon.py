@@ -8,7 +8,8 @@ from pathlib import Path
 
 import toastlagoon
 from toastlagoon import (Agreement, Answer, Claim, Covariance, Desk, Effect, Error, Fault, Fields, Item, Kind, Outcome, Record, Register,
-                         Role, Track, agreement, blake2s256, decide, decide_any, horizontal_sigma, root)  # fmt: skip
+                         Role, Track, agreement, blake2s256, decide, decide_any, horizontal_sigma, root,
+                         session_reason)  # fmt: skip
 
 EXAMPLES = Path(__file__).resolve().parents[3] / "examples"
 STEP = 2700
@@ -44,8 +45,9 @@ class Sessions(unittest.TestCase):
 
     def test_worked_sessions(self):
         for name in ("north", "south", "struck", "quiet", "worked"):
-            operations, register, printed = [], Register(), ""
-            for line in (EXAMPLES / f"session/{name}.session").read_text().splitlines():
+            operations, register, answers = [], Register(), []
+            session = (EXAMPLES / f"session/{name}.session").read_text()
+            for line in session.splitlines():
                 key, value = line.split("=")
                 if key == "op":
                     operations.append({})
@@ -53,9 +55,13 @@ class Sessions(unittest.TestCase):
             for operation in operations:
                 try:
                     self.performed(register, operation)
-                    printed += "answer=0\n"
+                    answers.append(None)
                 except Error as error:
-                    printed += f"answer={error.kind.value}\n"
+                    answers.append(error.kind)
+            whole = Register()
+            self.assertEqual(whole.perform(session), answers, name)
+            self.assertEqual(whole, register, name)
+            printed = "".join(f"answer={kind.value if kind else 0}\n" for kind in answers)
             printed += register.board(Desk.MANAGER) or "transmissions=0\n"
             self.assertEqual(printed, (EXAMPLES / f"session/{name}.stdout").read_text(), name)
 
@@ -166,6 +172,19 @@ class Calls(unittest.TestCase):
         self.assertEqual(register.board(Desk.CREW), "transmission=1\n" + line)
         self.assertEqual(Register().board(Desk.CREW), "")
         self.assertIn("[0.0000000,0.0002700,1.500]", register.map())
+
+    def test_sessions(self):
+        register = Register()
+        for session, kind in (("op=convict\nengine=7\nop=convict\nengine=07\n", Kind.BAD_LINE), (bytes(65537), Kind.SESSION_TOO_LONG)):
+            with self.refused(kind):
+                register.perform(session)
+        self.assertEqual(register, Register())
+        self.assertEqual(register.perform("op=convict\nengine=7\nop=convict\nengine=32\n"), [None, Kind.ENGINE_OVER_31])
+        self.assertEqual(register.convicted, 1 << 7)
+        self.assertEqual(register.perform(b""), [])
+        self.assertIsNone(session_reason(""))
+        reason = session_reason("\n")
+        self.assertEqual(reason, "line 1: op= is due, then summary, convict or report, then a line feed; found ''\n")
 
     def test_rooms_join(self):
         north, south = Register(), Register()

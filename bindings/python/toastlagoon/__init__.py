@@ -24,7 +24,7 @@ from ._library import array, library, number, numbers, zeros
 __all__ = [
     "Agreement", "Answer", "Claim", "Covariance", "Desk", "Effect", "Error", "Fault", "Fields", "Held", "Item", "Kind", "Outcome", "Record",
     "Refusal", "Register", "Role", "Shelf", "Shown", "Summary", "Track", "Verdict", "Waiting", "agreement", "blake2s256", "decide", "decide_any",
-    "horizontal_sigma", "root", "version",
+    "horizontal_sigma", "root", "session_reason", "version",
 ]  # fmt: skip
 
 
@@ -39,6 +39,8 @@ class Kind(enum.IntEnum):
     MODEL_DISPUTED = tl.TL_MODEL_DISPUTED
     BAD_ITEMS = tl.TL_BAD_ITEMS
     BAD_SUMMARY = tl.TL_BAD_SUMMARY
+    BAD_LINE = tl.TL_BAD_LINE
+    SESSION_TOO_LONG = tl.TL_SESSION_TOO_LONG
     SHELF_FULL = tl.TL_SHELF_FULL
     NO_RIGHT = tl.TL_NO_RIGHT
     BAD_LENGTH = tl.TL_BAD_LENGTH
@@ -361,6 +363,17 @@ def _shown(content: bytes) -> Shown:
     )
 
 
+def _session(session: Union[str, bytes]) -> bytes:
+    return session.encode() if isinstance(session, str) else session
+
+
+def session_reason(session: Union[str, bytes]) -> Optional[str]:
+    """Why a session is refused, in a sentence that ends with a line feed; None where it is not refused."""
+    content, out = _session(session), zeros(tl.TL_REASON_SIZE)
+    length = library.tl_session_reason(array(content), len(content), out)
+    return bytes(out[:length]).decode("ascii") or None
+
+
 class Register:
     """Every report of one aircraft and one window of time. Two are equal where all of their bytes are."""
 
@@ -406,6 +419,17 @@ class Register:
     def convict(self, desk: Desk, engine: int) -> None:
         """Convicts an engine: removes all that it reported, before and after. A manager alone may."""
         _done(library.tl_register_conviction(Desk(desk), self._memory, len(self._memory), _engine(engine)))
+
+    def perform(self, session: Union[str, bytes]) -> List[Optional[Kind]]:
+        """Performs the operations of a session, a text of lines, as a manager: for each why it was refused, or None where it is done. Raises
+        Kind.SESSION_TOO_LONG or Kind.BAD_LINE where the session is refused: then none is performed, and session_reason says why."""
+        content, out = _session(session), zeros(tl.TL_SESSION_SIZE)
+        length = library.tl_register_session(self._memory, len(self._memory), array(content), len(content), out, len(out))
+        if length % tl.TL_ANSWER_LINE_SIZE:
+            raise Error(length)
+        # The digit of a line stands before its line feed.
+        answers = [int(chr(digit)) for digit in out[tl.TL_ANSWER_LINE_SIZE - 2 : length : tl.TL_ANSWER_LINE_SIZE]]
+        return [None if answer == tl.TL_OK else Kind(answer) for answer in answers]
 
     def join(self, other: "Register") -> None:
         """Joins what another register of the same aircraft and window holds. Kind.FULL where both together hold too much."""

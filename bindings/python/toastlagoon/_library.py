@@ -37,6 +37,8 @@ FUNCTIONS = {
     "tl_register_preview": (U32, U32, U8, LEN, U32, U8, LEN),
     "tl_register_map": (U32, U8, LEN, U8, LEN),
     "tl_register_fixes": (U32, U8, LEN, U8, LEN),
+    "tl_register_session": (U32, U8, LEN, U8, LEN, U8, LEN),
+    "tl_session_reason": (U32, U8, LEN, U8),
     "tl_register_columns": (U32, U8, LEN, U8, LEN),
     "tl_register_uncolumns": (U32, U8, LEN, U8, LEN),
     "tl_track_report": (U32, U8, LEN, U8, LEN, U32, U8, LEN),

@@ -1,5 +1,5 @@
 -- The answers of a session's calls, one by one, and that they are no longer than what was read.
-use Rattle.std.proofs.Common.{◌≡◌, ◌∙◌, sym, ap, true, ℕ, ◌*◌, ◌≤◌, List, [], ◌∷◌, length, Ok, Err, arith, length-append}
+use Rattle.std.proofs.Common.{◌≡◌, ◌∙◌, refl, sym, ap, true, ℕ, ◌*◌, ◌≤◌, List, [], ◌∷◌, length, Ok, Err, arith, length-append}
 use Rattle.std.specs.List.{list_all}
 use Rattle.lists.proofs.Bools.{and_left, and_right}
 use Rattle.text.specs.declared.Text.{Text}
@@ -17,17 +17,18 @@ use Rattle.session_text.specs.Output.{answer_line, answers}
 use Rattle.session_text.proofs.Digits.{by_manager, answer_width, answer-digit, answer-width}
 use Rattle.session_text.proofs.Managed.{calls-managed}
 
-answers-short : (m : List ℕ) (cs : List Call) → list_all by_manager cs ≡ true → length (answers m cs) ≤ answer_width * length cs
+-- each answer of a manager's calls takes a line of one width
+pub answers-wide : (m : List ℕ) (cs : List Call) → list_all by_manager cs ≡ true → length (answers m cs) ≡ answer_width * length cs
 unfolding answers
-answers-short m [] h = omega arith
-answers-short m (c ∷ cs) h =
-    let more = answers-short (called c m).left cs (and_right (by_manager c) (list_all by_manager cs) h) in
+answers-wide m [] h = refl
+answers-wide m (c ∷ cs) h =
+    let more = answers-wide (called c m).left cs (and_right (by_manager c) (list_all by_manager cs) h) in
     let line = answer-width (called c m).answer (answer-digit c m (and_left (by_manager c) (list_all by_manager cs) h)) in
-    simp length-append (omega arith)
+    simp length-append (omega (arith, more, line))
 
 -- a line of an answer is shorter than the shortest operation
 pub answers-fit : (m s : List ℕ) → length (answers m (calls_from (at_start s))) ≤ length s
-answers-fit m s = let a = answers-short m (calls_from (at_start s)) (calls-managed (length s) (at_start s)) in let b = calls-short (length s) (at_start s) in omega arith
+answers-fit m s = let a = answers-wide m (calls_from (at_start s)) (calls-managed (length s) (at_start s)) in let b = calls-short (length s) (at_start s) in omega arith
 
 -- the text and the register after what is left of a session are those of the whole
 pub record Answered (whole : Text) (end : List ℕ) (m : List ℕ) (text : Text) (s : At) : Type 0 where

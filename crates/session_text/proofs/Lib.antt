@@ -6,4 +6,5 @@ pub mod Cases
 pub mod Quiet
 pub mod Refused
 pub mod There
+pub mod Performing
 pub mod Worked

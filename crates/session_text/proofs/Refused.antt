@@ -26,6 +26,14 @@ reason-some s r e = go (calls_of s) e
     go (Ok cs) e = cc
     go (Err q) e = ap (reason_text s) (let z : q ≡ r = cc in z)
 
+pub reason-none : (s : List ℕ) → None ≡ result_err (calls_of s) → reason_of s ≡ []
+unfolding reason_of
+reason-none s e = go (calls_of s) e
+  where
+    go : (m : Result (List Call) Refusal) → None ≡ result_err m → reason_by s m ≡ []
+    go (Ok cs) e = refl
+    go (Err q) e = cc
+
 -- ---- how long a reason is
 
 line-short : (d : Due) → length (line_text d) ≤ 128

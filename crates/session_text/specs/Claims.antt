@@ -1,15 +1,19 @@
 -- What is claimed of what a session prints, and of the reason why it is refused. The contracts of src/claims.rt name it; the proofs are in proofs/Quiet,
--- proofs/Refused and proofs/There. That the line which is due where a session is refused is the bad one is claimed of the grammar (session_lines specs/Claims).
+-- proofs/Performing, proofs/Refused and proofs/There. That the line which is due where a session is refused is the bad one is claimed of the grammar (session_lines specs/Claims).
 -- Source: docs/REFERENCE.md, 'Session'.
-use Rattle.std.specs.Prelude.{ℕ, ◌-◌, ◌≤◌, ◌<◌, ◌≡◌, true, List, [], ◌++◌, ltb, eqb, length, get_or, Ok, Err}
+use Rattle.std.specs.Prelude.{ℕ, ◌*◌, ◌-◌, ◌≤◌, ◌<◌, ◌≡◌, true, List, [], ◌++◌, ltb, eqb, length, take, get_or, Ok, Err}
 use Rattle.octets.specs.Bytes.{Bytes}
 use Rattle.register.specs.Memory.{well_formed, decode, fresh}
 use Rattle.register.specs.Calls.{Call, runs}
-use Rattle.board.specs.Board.{board_in}
+use Rattle.desks.specs.declared.Desk.TheVariants.{Manager}
+use Rattle.desks.specs.Desks.{number_of}
+use Rattle.fix_lines.specs.Text.{board_size}
+use Rattle.board.specs.Board.{board_in, draw_board}
 use Rattle.session_lines.specs.declared.lines.BadLine.{BadLine}
 use Rattle.session_lines.specs.Session.{session_of}
 use Rattle.session_lines.specs.Claims.{pass_line}
-use Rattle.session_text.specs.Output.{max_input, answers, no_transmissions, output_of}
+use Rattle.session_text.specs.Output.{max_input, calls_of, answers, no_transmissions, printed, output_of}
+use Rattle.session_text.specs.Performed.{answers_size, perform_session}
 use Rattle.session_text.specs.Found.{behind_lines}
 use Rattle.session_text.specs.Reasons.{bad_line_reason, reason_of}
 
@@ -40,6 +44,21 @@ BoardAsItIs = (s : List ℕ) (cs : List Call) → length s ≤ max_input → ses
 -- and none is this line, so that what is printed shows which of the two it was
 abbrev pub NoBoardIsTheLine : Type 0
 NoBoardIsTheLine = (m : List ℕ) → Bytes m → well_formed m ≡ true → board_in (decode m) ≡ no_transmissions → ⊥
+
+-- ---- what is performed on a register
+
+-- the line of each answer has nine bytes, so that no length is 1, 10, 11 or 12
+abbrev pub NineBytesEach : Type 0
+NineBytesEach = (s m out : List ℕ) (cs : List Call) → well_formed m ≡ true → calls_of s ≡ Ok cs → answers_size ≤ length out
+    → (perform_session s m out).answer ≡ 9 * length cs
+
+-- what the program prints of a session that is not refused is what performing it on a fresh register writes, and then what a manager's board of that register
+-- writes, or the line where that is nothing
+abbrev pub PrintedAsPerformed : Type 0
+PrintedAsPerformed = (s out drawn : List ℕ) (cs : List Call) → calls_of s ≡ Ok cs → answers_size ≤ length out → board_size ≤ length drawn
+    → let p = perform_session s fresh out in
+    let b = draw_board (number_of Manager) p.left.0 drawn in
+    output_of s ≡ take p.answer p.left.1 ++ printed (take b.answer b.left)
 
 -- ---- the reason of a refusal
 

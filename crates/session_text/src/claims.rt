@@ -1,6 +1,6 @@
-//! What is claimed of what a session prints, and of the reason why it is refused: each function's contract is the theorem.
+//! What is claimed of what a session prints and leaves, and of the reason why it is refused: each function's contract is the theorem.
 
-ghost use Rattle.session_text.specs.Claims.{NeverSilent, EmptyIsQuiet, OnlyEmptyIsQuiet, LineWithoutBoard, BoardAsItIs, NoBoardIsTheLine, ReasonWhereRefused, NamesTheBadLine, ShownIsBad};
+ghost use Rattle.session_text.specs.Claims.{NeverSilent, EmptyIsQuiet, OnlyEmptyIsQuiet, LineWithoutBoard, BoardAsItIs, NoBoardIsTheLine, NineBytesEach, PrintedAsPerformed, ReasonWhereRefused, NamesTheBadLine, ShownIsBad};
 ghost use Rattle.session_text.specs.Worked.{ReasonsWorked};
 
 /// Something is printed for every input; it is `transmissions=0` alone for the empty input and for no other.
@@ -15,6 +15,13 @@ pub fn the_board_or_the_line_comes_after_the_answers()
     ensures without_board { LineWithoutBoard }
     ensures board_as_it_is { BoardAsItIs }
     ensures no_board_is_the_line { NoBoardIsTheLine }
+{}
+
+/// Each answer of a session that is performed has nine bytes; and what the program prints is what performing the session on a fresh register
+/// writes, and then the board of that register, or the line in its place.
+pub fn what_is_printed_is_performed()
+    ensures nine_bytes { NineBytesEach }
+    ensures printed { PrintedAsPerformed }
 {}
 
 /// There is a reason exactly where a session is refused, and it says which line is the first bad one and what is due there.

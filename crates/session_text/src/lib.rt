@@ -24,10 +24,12 @@ use text::Text;
 
 pub mod claims;
 mod found;
+mod performed;
 mod reasons;
 mod refusals;
 
 pub use found::from_line;
+pub use performed::{ANSWERS_SIZE, Unperformed, perform_on, performed_number, reason};
 pub use reasons::REASON_SIZE;
 pub use refusals::{Refusal, check};
 

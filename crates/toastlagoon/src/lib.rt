@@ -19,6 +19,7 @@ ghost use Rattle.board.specs.Board.{draw_board};
 ghost use Rattle.board.specs.Preview.{draw_preview};
 ghost use Rattle.board_map.specs.Map.{draw_map};
 ghost use Rattle.board_values.specs.Written.{write_fixes};
+ghost use Rattle.session_text.specs.Performed.{perform_session, write_reason};
 ghost use Rattle.track_shelf.specs.Both.{on_both};
 ghost use Rattle.track.specs.Track.{track_report, track_summary, track_conviction};
 ghost use Rattle.track_listing.specs.Listing.{list_track};
@@ -38,6 +39,7 @@ use record::layout::{COVARIANCE_NUMBERS, RECORD_SIZE};
 use record_values::faults::found_number;
 use record_values::known::known_number;
 use record_values::written::Said;
+use session_text::{REASON_SIZE, performed_number};
 use track::reports::reported_number;
 
 // The answers for how a larger fix stands to a smaller one.
@@ -355,6 +357,23 @@ pub extern "C" fn tl_register_fixes(memory: &[u8], out: &mut [u8]) -> u32
     ensures { after result out.new ≡ write_fixes memory.now out.old }
 {
     value_or_number(board_values::fixes(memory, out))
+}
+
+/// Performs a session on a register, as a manager, and writes the answers of its operations, a line for each, to the start of `out`: 1, 12, 11 or 10,
+/// or the length of the answers, which is none of these numbers. A refused session leaves the register and the output.
+#[unsafe(no_mangle)]
+pub extern "C" fn tl_register_session(memory: &mut [u8], input: &[u8], out: &mut [u8]) -> u32
+    ensures { after result (memory.new, out.new) ≡ perform_session input.now memory.old out.old }
+{
+    performed_number(session_text::perform_on(memory, input, out))
+}
+
+/// Why a session is refused, in a sentence at the start of `out`, and the length of the sentence, which is 0 where the session is not refused.
+#[unsafe(no_mangle)]
+pub extern "C" fn tl_session_reason(input: &[u8], out: &mut [u8; REASON_SIZE]) -> u32
+    ensures { after result out.new ≡ write_reason input.now out.old }
+{
+    session_text::reason(input, out)
 }
 
 /// Writes a register's bytes for an archive: those of its places with the first byte of each together, then the second, and so on. Answers 0,

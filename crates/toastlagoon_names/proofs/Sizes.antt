@@ -13,10 +13,11 @@ within n =
     either (n == 0) _ _ (omega arith, omega arith) (either (n == 1) _ _ (omega arith, omega arith) (either (n == 2) _ _ (omega arith, omega arith)
     (either (n == 3) _ _ (omega arith, omega arith) (either (n == 4) _ _ (omega arith, omega arith) (either (n == 5) _ _ (omega arith, omega arith)
     (either (n == 7) _ _ (omega arith, omega arith) (either (n == 8) _ _ (omega arith, omega arith)
-    (either (n == 9) _ _ (omega arith, omega arith) (either (n == 10) _ _ (omega arith, omega arith) (either (n == 13) _ _ (omega arith, omega arith) (either (n == 14) _ _ (omega arith, omega arith) (either (n == 15) _ _ (omega arith, omega arith) (either (n == 16) _ _ (omega arith, omega arith)
+    (either (n == 9) _ _ (omega arith, omega arith) (either (n == 10) _ _ (omega arith, omega arith)
+    (either (n == 11) _ _ (omega arith, omega arith) (either (n == 12) _ _ (omega arith, omega arith) (either (n == 13) _ _ (omega arith, omega arith) (either (n == 14) _ _ (omega arith, omega arith) (either (n == 15) _ _ (omega arith, omega arith) (either (n == 16) _ _ (omega arith, omega arith)
     (either (n == 17) _ _ (omega arith, omega arith) (either (n == 20) _ _ (omega arith, omega arith)
     (either (n == 21) _ _ (omega arith, omega arith) (either (n == 22) _ _ (omega arith, omega arith) (either (n == 23) _ _ (omega arith, omega arith)
-    (either (n == 24) _ _ (omega arith, omega arith) (omega arith, omega arith))))))))))))))))))))
+    (either (n == 24) _ _ (omega arith, omega arith) (omega arith, omega arith))))))))))))))))))))))
 
 pub names-fit : NamesFit
 names-fit n = (within n).1

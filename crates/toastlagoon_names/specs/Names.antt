@@ -12,7 +12,7 @@ abbrev pub minor : ℕ
 minor = 12
 
 abbrev pub patch : ℕ
-patch = 1
+patch = 2
 
 -- as one number, which grows with the version
 abbrev pub version_number : ℕ
@@ -37,6 +37,8 @@ name_of n =
     else if n == 8 then codes "bad items"
     else if n == 9 then codes "bad summary"
     else if n == 10 then codes "output too small"
+    else if n == 11 then codes "session with a bad line"
+    else if n == 12 then codes "session too long"
     else if n == 13 then codes "shelf full"
     else if n == 14 then codes "output too small for a map"
     else if n == 15 then codes "unknown desk"

@@ -8,7 +8,7 @@ ghost use Rattle.toastlagoon_names.specs.Names as N;
 pub mod claims;
 
 // The version as one number: a million for each major number, a thousand for each minor one.
-const VERSION: u32 = 12_001;
+const VERSION: u32 = 12_002;
 
 /// The version of the library.
 pub fn version() -> u32
@@ -21,7 +21,7 @@ pub fn version() -> u32
 pub fn version_text() -> &'static [u8]
     ensures { result.now ≡ N.version_text }
 {
-    b"0.12.1"
+    b"0.12.2"
 }
 
 /// What an answer says, in words.
@@ -39,6 +39,8 @@ pub fn name(answer: u32) -> &'static [u8]
         8 => b"bad items",
         9 => b"bad summary",
         10 => b"output too small",
+        11 => b"session with a bad line",
+        12 => b"session too long",
         13 => b"shelf full",
         14 => b"output too small for a map",
         15 => b"unknown desk",

@@ -51,6 +51,10 @@ unsafe extern "C" {
     ) -> u32;
     pub fn tl_register_map(memory: *const u8, memory_len: usize, out: *mut u8, out_len: usize) -> u32;
     pub fn tl_register_fixes(memory: *const u8, memory_len: usize, out: *mut u8, out_len: usize) -> u32;
+    pub fn tl_register_session(
+        memory: *mut u8, memory_len: usize, input: *const u8, input_len: usize, out: *mut u8, out_len: usize
+    ) -> u32;
+    pub fn tl_session_reason(input: *const u8, input_len: usize, out: *mut [u8; TL_REASON_SIZE]) -> u32;
     pub fn tl_register_columns(input: *const u8, input_len: usize, out: *mut u8, out_len: usize) -> u32;
     pub fn tl_register_uncolumns(input: *const u8, input_len: usize, out: *mut u8, out_len: usize) -> u32;
     pub fn tl_track_report(

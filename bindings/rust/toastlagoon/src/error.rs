@@ -22,6 +22,10 @@ pub enum Error {
     BadItems,
     /// The model is over 63.
     BadSummary,
+    /// A line of a session is not the one that is due; [`crate::session_reason`] says which.
+    BadLine,
+    /// The session has over 65,536 bytes.
+    SessionTooLong,
     /// As many fixes wait beside the track as may.
     ShelfFull,
     /// The desk may not do this.
@@ -37,7 +41,7 @@ pub enum Error {
 use Error::*;
 
 /// Each answer that a call of these bindings can be refused with.
-const NUMBERS: [(u32, Error); 12] = [
+const NUMBERS: [(u32, Error); 14] = [
     (sys::TL_MALFORMED_REGISTER, Malformed),
     (sys::TL_ENGINE_OVER_31, EngineOver31),
     (sys::TL_MALFORMED_RECORD, MalformedRecord),
@@ -46,6 +50,8 @@ const NUMBERS: [(u32, Error); 12] = [
     (sys::TL_MODEL_DISPUTED, ModelDisputed),
     (sys::TL_BAD_ITEMS, BadItems),
     (sys::TL_BAD_SUMMARY, BadSummary),
+    (sys::TL_BAD_LINE, BadLine),
+    (sys::TL_SESSION_TOO_LONG, SessionTooLong),
     (sys::TL_SHELF_FULL, ShelfFull),
     (sys::TL_NO_RIGHT, NoRight),
     (sys::TL_BAD_LENGTH, BadLength),

@@ -36,6 +36,6 @@ pub use decision::{Answer, Item, Refusal, Verdict, decide, decide_any};
 pub use error::Error;
 pub use measure::{Agreement, Claim, agreement, blake2s256, horizontal_sigma, root, version};
 pub use record::{Covariance, Fault, Fields, Hash, Record};
-pub use register::{Desk, Held, Register, Role, Shown, Summary};
+pub use register::{Desk, Held, Register, Role, Shown, Summary, session_reason};
 pub use text::{Board, Listing, Map};
 pub use track::{Effect, Shelf, Track, Waiting};

@@ -96,6 +96,15 @@ pub(crate) fn summary_at(bytes: &[u8], at: usize) -> Summary {
     }
 }
 
+/// Why a session is refused, in a sentence that ends with a line feed; `None` where it is not refused.
+pub fn session_reason(session: impl AsRef<[u8]>) -> Option<String> {
+    let session = session.as_ref();
+    let mut out = [0; sys::TL_REASON_SIZE];
+    // The session is read within its length, and at most the whole of `out` is written.
+    let length = unsafe { sys::tl_session_reason(crate::bytes::start(session), session.len(), &mut out) } as usize;
+    (length != 0).then(|| String::from_utf8_lossy(&out[..length]).into_owned())
+}
+
 /// Every report of one aircraft and one window of time. Two are equal where all of their bytes are.
 #[derive(Clone, Debug, PartialEq, Eq)]
 pub struct Register(Box<[u8; sys::TL_REGISTER_SIZE]>);
@@ -147,6 +156,25 @@ impl Register {
     pub fn convict(&mut self, desk: Desk, engine: u32) -> Result<(), Error> {
         // The register is written within its length.
         done(unsafe { sys::tl_register_conviction(desk as u32, self.0.as_mut_ptr(), self.0.len(), engine) })
+    }
+
+    /// Performs the operations of a session, a text of lines, as a manager: the answer of each, in their order. Where the session is refused,
+    /// none is performed, and [`session_reason`] says why.
+    pub fn perform(&mut self, session: impl AsRef<[u8]>) -> Result<Vec<Result<(), Error>>, Error> {
+        let session = session.as_ref();
+        let mut out = vec![0; sys::TL_SESSION_SIZE];
+        // The session is read, and the register and the output written, within their lengths; the borrows keep them apart.
+        let returned = unsafe {
+            let (memory, input) = (&mut self.0, crate::bytes::start(session));
+            sys::tl_register_session(memory.as_mut_ptr(), memory.len(), input, session.len(), out.as_mut_ptr(), out.len())
+        };
+        let length = returned as usize;
+        if length % sys::TL_ANSWER_LINE_SIZE != 0 {
+            return Err(Error::of(returned));
+        }
+        // The digit of a line stands before its line feed.
+        let digit = |line: &[u8]| u32::from(line[sys::TL_ANSWER_LINE_SIZE - 2] - b'0');
+        Ok(out[..length].chunks_exact(sys::TL_ANSWER_LINE_SIZE).map(|line| done(digit(line))).collect())
     }
 
     /// Joins what another register of the same aircraft and window holds. [`Error::Full`] where both together hold too much.

@@ -4,7 +4,7 @@ use std::collections::BTreeMap;
 use std::fmt::Write;
 use std::fs;
 
-use toastlagoon::{Covariance, Desk, Error, Fields, Record, Register};
+use toastlagoon::{Covariance, Desk, Error, Fields, Record, Register, session_reason};
 
 const SESSIONS: [&str; 5] = ["north", "south", "struck", "quiet", "worked"];
 
@@ -62,10 +62,15 @@ fn printed(session: &str) -> String {
         }
         operations.last_mut().unwrap().insert(key, value);
     }
-    let (mut register, mut text) = (Register::new(), String::new());
-    for operation in &operations {
-        let answer = perform(&mut register, operation).map_or_else(Error::number, |()| 0);
-        writeln!(text, "answer={answer}").unwrap();
+    let mut register = Register::new();
+    let answers: Vec<_> = operations.iter().map(|operation| perform(&mut register, operation)).collect();
+    // The library performs the whole session in one call, and leaves the same register.
+    let mut whole = Register::new();
+    assert_eq!(whole.perform(session).unwrap(), answers);
+    assert_eq!(whole, register);
+    let mut text = String::new();
+    for answer in answers {
+        writeln!(text, "answer={}", answer.map_or_else(Error::number, |()| 0)).unwrap();
     }
     let board = register.board(Desk::Manager).unwrap();
     text + if board.is_empty() { "transmissions=0\n" } else { board.as_str() }
@@ -78,4 +83,22 @@ fn worked_sessions() {
         let read = |ending| fs::read_to_string(format!("{folder}/{name}.{ending}")).unwrap();
         assert_eq!(printed(&read("session")), read("stdout"), "{name}");
     }
+}
+
+#[test]
+fn refused_sessions() {
+    let mut register = Register::new();
+    assert_eq!(register.perform("op=convict\nengine=7\nop=convict\nengine=07\n"), Err(Error::BadLine));
+    assert_eq!(register.perform(vec![b'o'; 65537]), Err(Error::SessionTooLong));
+    assert_eq!(register, Register::new());
+    assert_eq!(register.perform("op=convict\nengine=7\nop=convict\nengine=32\n"), Ok(vec![Ok(()), Err(Error::EngineOver31)]));
+    assert_eq!(register.convicted(), 1 << 7);
+    assert_eq!(register.perform(""), Ok(vec![]));
+    assert_eq!(session_reason(""), None);
+    let reason = session_reason("op=convict\r\n").unwrap();
+    assert_eq!(
+        reason,
+        "line 1: op= is due, then summary, convict or report, then a line feed; \
+         found 'op=convict\\x0d', with a carriage return before the line feed\n"
+    );
 }
