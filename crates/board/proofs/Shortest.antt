@@ -102,7 +102,7 @@ drop-in (suc n) x [] m = m
 drop-in (suc n) x (y ∷ l) m = Memᴰ.tail (drop-in n x l m)
 
 -- what is shown of the transmissions of fixes has a ranked fix
-all-ranked : (fs : List Fix) (t : Transmission) → Memᴰ t (latest_of (sort older_than (map shown (transmissions_of fs)))) → 0 < length t.ranked
+pub all-ranked : (fs : List Fix) (t : Transmission) → Memᴰ t (latest_of (sort older_than (map shown (transmissions_of fs)))) → 0 < length t.ranked
 all-ranked fs t m =
     let s = sort older_than (map shown (transmissions_of fs)) in
     let k = perm-mem (Permᴰ.symm (sort-perm older_than (map shown (transmissions_of fs)))) (drop-in (length s - max_shown) t s m) in

@@ -5,3 +5,4 @@ mod Said
 mod Lent
 mod Lines
 mod Counted
+mod Headers

@@ -18,7 +18,7 @@ use Rattle.fix_lines.specs.Standings.{standing_line}
 use Rattle.board_fixes.specs.Fixes.{record_in, fix_of_place, unite, enter, enter_all, fixes_of}
 use Rattle.board_picture.specs.Picture.{picture}
 use Rattle.register.specs.Register.{Register}
-use Rattle.board_values.specs.Entries.{place_of, fixes_shown, entries_shown}
+use Rattle.board_values.specs.Entries.{place_of, fixes_shown, entries_of, entries_shown}
 use Rattle.board_values.specs.Claims.{entries, on_board, line_by_line, of_fixes, record_named, line_said, lines_of, EntriesSayLines}
 use Rattle.board_values.proofs.Counted.{fix-of}
 use Rattle.board_values.proofs.Lines.{each-of, each-from, of-fixes}
@@ -118,6 +118,11 @@ module _ (s : Register) where
       (ap₂ (λ x y. x ++ y)
       (same-on _ _ t.dominated (λ f k. ap (λ (r : List ℕ). standing_line Dominated r f.signers) (is f (Memᴰ.append_right t.ranked (Memᴰ.append_left (map item t.refused) k)))))
       (same-on _ _ t.refused (λ r k. ap (λ (x : List ℕ). standing_line (Refused r.chi2) x r.item.signers) (is r.item (Memᴰ.append_right t.ranked (Memᴰ.append_right t.dominated (Memᴰ.map item k)))))))
+
+  -- of one transmission
+  pub lines-said : (number before : ℕ) (t : Transmission) → Memᴰ t (on_board s) → map (line_said s.records) (entries_of s.records number before t) ≡ lines_of number t
+  unfolding said
+  lines-said number before t m = each-of (line_said s.records) s.records number before t ∙ said-is number t m
 
   pub lines : map (line_said s.records) (entries s) ≡ line_by_line lines_of 1 (on_board s)
   unfolding entries_shown said

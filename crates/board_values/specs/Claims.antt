@@ -1,7 +1,8 @@
 -- What is claimed of a board's fixes as values; src/claims.rt has a function whose contract each of these is.
 -- Source: docs/REFERENCE.md, 'Values'.
-use Rattle.std.specs.Prelude.{ℕ, suc, ◌*◌, ◌≤◌, ◌≡◌, true, List, [], ◌∷◌, ◌++◌, map, length, get_or}
+use Rattle.std.specs.Prelude.{ℕ, suc, ◌*◌, ◌≤◌, ◌≡◌, true, max, List, [], ◌∷◌, ◌++◌, map, filter, flat_map, length, get_or, eqb}
 use Rattle.octets.specs.Bytes.{Bytes}
+use Rattle.lists.specs.Lists.{count_from}
 use Rattle.arithmetic.specs.declared.standing.ChiSquare.{ChiSquare}
 use Rattle.decision_rule.specs.Outcome.{Refused as RefusedFix}
 use Rattle.fixes.specs.Fix.{Fix}
@@ -9,13 +10,15 @@ use Rattle.fixes.specs.Shown.{Transmission}
 use Rattle.fix_lines.specs.declared.Standing.{Standing}
 use Rattle.fix_lines.specs.declared.Standing.TheVariants.{Ranked, Dominated, Refused}
 use Rattle.fix_lines.specs.Standings.{standing_line}
+use Rattle.fix_lines.specs.Lines.{header}
 use Rattle.fix_lines.specs.Text.{ranked_text, dominated_text, refused_text}
 use Rattle.board_fixes.specs.Fixes.{record_in}
 use Rattle.board_picture.specs.Picture.{picture, latest_of, max_shown}
+use Rattle.board.specs.Board.{board_in}
 use Rattle.register.specs.Register.{Register}
 use Rattle.register.specs.Memory.{well_formed, decode}
 use Rattle.board_values.specs.Entries.{Entry, place_of, fixes_shown, entries_shown}
-use Rattle.board_values.specs.Written.{entry_size, fixes_in}
+use Rattle.board_values.specs.Written.{entry_size, role_number, fixes_in}
 
 abbrev pub entries : Register → List Entry
 entries s = entries_shown s.summaries s.records
@@ -60,6 +63,31 @@ record_named ps e = record_in (get_or ps e.place [])
 -- the line that an entry and that record say
 abbrev pub line_said : List (List ℕ) → Entry → List ℕ
 line_said ps e = standing_line e.standing (record_named ps e) e.signers
+
+-- the entries of the transmission with this number
+abbrev pub entries_numbered : ℕ → List Entry → List Entry
+entries_numbered number es = filter (λ (e : Entry). eqb e.number number) es
+
+-- how many entries have this role
+abbrev pub with_role : ℕ → List Entry → ℕ
+with_role role es = length (filter (λ (e : Entry). eqb (role_number e.standing) role) es)
+
+-- the text of a transmission of which these are the entries: a header with its number and how many are ranked, dominated and refused, then a line for each
+abbrev pub transmission_said : List (List ℕ) → ℕ → List Entry → List ℕ
+transmission_said ps number es = header number (with_role 0 es) (with_role 1 es) (with_role 2 es) ++ flat_map (line_said ps) es
+
+-- the greatest number of a transmission that entries have; 0 where there is no entry
+unfoldable pub greatest_number : List Entry → ℕ
+greatest_number [] = 0
+greatest_number (e ∷ es) = max e.number (greatest_number es)
+
+-- the text of a board of which these are the entries: the transmissions from 1 to the greatest number
+abbrev pub board_said : List (List ℕ) → List Entry → List ℕ
+board_said ps es = flat_map (λ number. transmission_said ps number (entries_numbered number es)) (count_from 1 (greatest_number es))
+
+-- the full board of every register, its headers too, is what its entries and its records say
+abbrev pub EntriesSayBoard : Type 0
+EntriesSayBoard = (s : Register) → board_in s ≡ board_said s.records (entries s)
 
 -- the lines of a transmission on the full board, below its header
 abbrev pub lines_of : ℕ → Transmission → List (List ℕ)

@@ -1,6 +1,6 @@
 //! What is claimed of a board's fixes as values. Each function's contract is the claim; there is nothing to run.
 
-ghost use Rattle.board_values.specs.Claims.{EntriesAreLines, EntriesCounted, EntriesSayLines};
+ghost use Rattle.board_values.specs.Claims.{EntriesAreLines, EntriesCounted, EntriesSayLines, EntriesSayBoard};
 
 /// There is an entry for each line of the board, in the order of the lines, with what the line says.
 pub fn entries_are_lines()
@@ -15,4 +15,10 @@ pub fn entries_counted()
 /// Each line of the full board is what its entry and the record at the entry's place say.
 pub fn entries_say_lines()
     ensures { EntriesSayLines }
+{}
+
+/// The full board, its headers too, is what the entries and the register's records say: a header has the number of its transmission, and how many
+/// entries of that number are ranked, dominated and refused.
+pub fn entries_say_board()
+    ensures { EntriesSayBoard }
 {}
