@@ -1,5 +1,6 @@
 pub mod Numbers
 pub mod Comparison
+pub mod Alike
 pub mod Lookup
 pub mod Zeros
 pub mod Moves

@@ -4,15 +4,34 @@ ghost use Rattle.std.specs.Prelude.{◌≡◌, ◌++◌, ◌+◌, ◌-◌, ◌�
 ghost use Rattle.octets.specs.Runs.{all_zero};
 ghost use Rattle.octets.specs.Put.{Put};
 
-/// Whether every byte is zero. Looks at all of them, without a branch for each.
+use std::simd::u8x64;
+
+// How many bytes are looked at together.
+const BLOCK: usize = 64;
+
+// Whether every byte from a place on is zero. Looks at all of them, without a branch for each.
+fn is_zero_from(s: &[u8], at: usize) -> bool
+    ensures { result ≡ all_zero (drop at s.now) }
+{
+    let mut any = 0;
+    for i in at..s.len() {
+        any |= s[i];
+    }
+    any == 0
+}
+
+/// Whether every byte is zero. Looks at all of them, block by block, without a branch for each.
 pub fn is_zero(s: &[u8]) -> bool
     ensures { result ≡ all_zero s.now }
 {
-    let mut any = 0;
-    for byte in s {
-        any |= *byte;
+    let n = s.len();
+    let mut any = u8x64::splat(0);
+    let mut i = 0;
+    while BLOCK <= n - i {
+        any = any | u8x64::from_slice(&s[i..]);
+        i += BLOCK;
     }
-    any == 0
+    is_zero_from(s, i) && any.simd_ne(u8x64::splat(0)).to_bitmask() == 0
 }
 
 /// Sets every byte to zero.

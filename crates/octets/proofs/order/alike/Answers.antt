@@ -1,13 +1,12 @@
-use mathlib.Core.Path.{sym, ◌∙◌}
-use native.Mathlib.Omega.{arith}
-use Rattle.octets.proofs.Numbers.{all-bytes}
-use Rattle.octets.proofs.Comparison.{take-word}
+use Rattle.std.proofs.Common.{arith}
+use Rattle.octets.proofs.Alike.{part-whole, part-ends}
 use Rattle.octets.proofs.order.alike.Goals as goal
 
-pub loop-i-preserved : goal.loop-i-preserved
-loop-i-preserved c =
-    let s = c.args in
-    let p = all-bytes s.a.now (λ i. (c.type_inv.a i).fits) in
-    let q = all-bytes s.b.now (λ i. (c.type_inv.b i).fits) in
-    let w = sym c.u64_at.ensures ∙ c.if-u64_at.false ∙ c.u64_at-in-loop-i.ensures in
-    (omega arith, c.loop-i.invariant.1, c.loop-i.invariant.2, take-word 8 c.loop-i.i s.a.now s.b.now p q (omega arith) (omega arith) c.loop-i.invariant.3 w)
+pub returns-then-first-lt-LANES : goal.returns-then-first-lt-LANES
+returns-then-first-lt-LANES c =
+    let e = c.alike_lanes-first.ensures in
+    omega (arith, e, part-ends 16 0 c.args.a.now c.args.b.now (omega arith) (omega (arith, e, c.if-first-lt-LANES.true)))
+
+pub alike_behind-requires : goal.alike_behind-requires
+alike_behind-requires c =
+    part-whole 16 0 c.args.a.now c.args.b.now (omega arith) (omega (arith, c.alike_lanes-first.ensures, c.if-first-lt-LANES.false))

@@ -1,28 +1,26 @@
-use Prim.Native.Nat.{ℕ, ◌+◌, ◌≤◌, ◌<◌}
-use mathlib.Core.Path.{◌≡◌, sym, ◌∙◌}
-use mathlib.Core.Bool.{◌&&◌}
-use mathlib.Core.List.{List}
-use native.Mathlib.Omega.{arith}
-use native.Mathlib.Numerals.{add-one}
-use lib.Dec.{eqb}
+use Rattle.std.proofs.Common.{◌≡◌, ◌+◌, ◌≤◌, length, take, drop, ℕ, List, arith, sym, ap, ◌∙◌, length-drop, length-take-le, drop-drop}
+use mathlib.Core.Bool.{Bool, ◌&&◌}
 use lib.Bits.{bit_or}
-use lib.ListN.{length, get_or, drop, drop_of_length-le}
-use lib.Seq.{drop-cons}
+use lib.Lanes.{zip2}
 use Rattle.octets.specs.Runs.{all_zero}
-use Rattle.octets.proofs.Zeros.{or-zero}
+use Rattle.octets.proofs.Zeros.{run-zero, zeros-parted, lanes-or-zero, lanes-zero}
 use Rattle.octets.proofs.runs.is_zero.Goals as goal
 
--- one byte more joins what was seen
-turn : (s : List ℕ) (i any : ℕ) → i < length s → (eqb any 0 && all_zero (drop i s)) ≡ (eqb (bit_or any (get_or s i 0)) 0 && all_zero (drop (i + 1) s))
-unfolding all_zero
-turn s i any h = rw (add-one, drop-cons s i 0 h) (grind (arith, or-zero any (get_or s i 0)))
+pub loop-i-init : goal.loop-i-init
+loop-i-init c = (omega arith, ap (λ (b : Bool). b && all_zero c.args.s.now) (sym (run-zero 64)))
 
-past : (s : List ℕ) (i any : ℕ) → length s ≤ i → (eqb any 0 && all_zero (drop i s)) ≡ eqb any 0
-unfolding all_zero
-past s i any h = rw (drop_of_length-le s h) (grind arith)
+-- a block more joins what was seen
+turn : (s v : List ℕ) (i : ℕ) → length v ≡ 64 → i + 64 ≤ length s → (all_zero v && all_zero (drop i s)) ≡ (all_zero (zip2 bit_or v (take 64 (drop i s))) && all_zero (drop (i + 64) s))
+turn s v i l h =
+    let k : length (take 64 (drop i s)) ≡ 64 = length-take-le 64 (drop i s) (rw length-drop (omega arith)) in
+    grind (arith, zeros-parted 64 (drop i s), drop-drop 64 i s, lanes-or-zero v (take 64 (drop i s)))
 
-pub loop-byte-preserved : goal.loop-byte-preserved
-loop-byte-preserved c = c.loop-byte.invariant ∙ turn c.args.s.now c.loop-byte.byte-index c.loop-byte.any (omega arith)
+pub loop-i-preserved : goal.loop-i-preserved
+loop-i-preserved c =
+    let l = c.loop-i in
+    (omega arith, l.invariant.1 ∙ turn c.args.s.now l.any l.i l.auto.any.0 (omega arith))
 
-pub returns : goal.returns
-returns c = sym (c.loop-byte.invariant ∙ past c.args.s.now c.loop-byte.byte-index c.loop-byte.any c.loop-byte-test.false)
+pub returns-then-is_zero_from : goal.returns-then-is_zero_from
+returns-then-is_zero_from c =
+    let l = c.loop-i in
+    lanes-zero 64 l.any l.auto.any.0 (omega arith) ∙ grind (arith, l.invariant.1, c.is_zero_from.ensures, c.if-is_zero_from.true)
