@@ -1,4 +1,6 @@
 pub mod Merging
+pub mod Rises
+pub mod Same
 pub mod Parts
 pub mod Laws
 pub mod Whole

@@ -10,3 +10,4 @@ pub mod Added
 pub mod Before
 pub mod Carried
 pub mod Claims
+pub mod Rises
