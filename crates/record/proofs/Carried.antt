@@ -1,21 +1,20 @@
 -- A record of the layout before, widened: what is read in it, that it is a record, and that two stand as they did.
-use Rattle.std.proofs.Common.{◌≡◌, ◌∙◌, sym, ap, ap₂, refl, subst, ℕ, zero, suc, ◌+◌, ◌*◌, ◌^◌, ◌-◌, ◌≤◌, ◌<◌, ◌++◌, Bool, true, false, cond, ◌&&◌, ◌||◌, append_assoc, List, [], ◌∷◌, length, take, drop, replicate, get_or, arith, ltb, leb, eqb, length-append}
+use Rattle.std.proofs.Common.{◌≡◌, ◌∙◌, sym, ap, ap₂, refl, ℕ, zero, suc, ◌+◌, ◌*◌, ◌^◌, ◌-◌, ◌≤◌, ◌<◌, ◌++◌, Bool, true, false, cond, ◌&&◌, append_assoc, List, [], ◌∷◌, length, take, drop, replicate, arith, ltb, leb, eqb, length-append}
 use Rattle.std.proofs.lemmas.List.{drop-drop, drop-take, take-append-le, drop-append-le, take-append-drop, length-take-le, length-drop, length-replicate}
 use Rattle.std.proofs.lemmas.List.Folds.{list_all-append}
 use Rattle.std.proofs.Math.Seq.{drop-append-add, take-append-add, take-append_seam, take-length}
-use Rattle.lists.proofs.Bools.{by, and_both, and_left, and_right}
-use Rattle.octets.specs.Words.{word, word_at, signed_of}
+use Rattle.lists.proofs.Bools.{and_both}
+use Rattle.octets.specs.Words.{word}
 use Rattle.octets.specs.Masks.{bit_count}
 use Rattle.octets.specs.Order.{is_before}
 use Rattle.octets.specs.Runs.{all_zero}
 use Rattle.octets.proofs.Numbers.{word-append, word-one}
 use Rattle.octets.proofs.Lookup.{count_ones}
 use Rattle.octets.proofs.Zeros.{run-zero}
-use Rattle.octets.proofs.Comparison.{before-drop}
 use Rattle.record.specs.Layout as L
 use Rattle.record.specs.Fields as F
-use Rattle.record.specs.Formed.{ascends, all_up_to, height_formed, message_formed, tags_formed, models_formed, well_formed}
-use Rattle.record.specs.Value.{Value, value_of}
+use Rattle.record.specs.Formed.{ascends, height_formed, message_formed, models_formed, well_formed}
+use Rattle.record.specs.Value.{value_of}
 use Rattle.record.specs.Before as B
 use Rattle.record.specs.Carried.{CarriedOver}
 use Rattle.record.proofs.Parts.{all_five}

@@ -1,8 +1,8 @@
 -- Whether bytes are a record is said by its first 238: a record of which these are those of another is one where the other is.
 use Prim.Native.Nat.{ℕ, zero, suc, ◌+◌, ◌-◌, ◌*◌, ◌≤◌, ◌<◌}
 use mathlib.Core.Path.{◌≡◌, refl, sym, ap, ap₂, ◌∙◌}
-use mathlib.Core.Bool.{Bool, true, ◌&&◌}
-use mathlib.Core.List.{List, [], ◌∷◌}
+use mathlib.Core.Bool.{true}
+use mathlib.Core.List.{List, ◌∷◌}
 use native.Mathlib.Omega.{arith}
 use lib.ListN.{length, get_or, take, drop}
 use lib.Seq.{take-take}
@@ -10,7 +10,7 @@ use Rattle.std.proofs.lemmas.List.{drop-take}
 use Rattle.std.proofs.Common.{get_or-take}
 use Rattle.octets.specs.Words.{word}
 use Rattle.record.specs.Layout as L
-use Rattle.record.specs.Fields.{byte_at, tag_at, tags_from, message_length, tag_count, model_count}
+use Rattle.record.specs.Fields.{tags_from, message_length, tag_count, model_count}
 use Rattle.record.specs.Formed.{well_formed, height_formed, message_formed, tags_formed, models_formed}
 use Rattle.record.proofs.Parts.{Formed, formed, message-fits}
 

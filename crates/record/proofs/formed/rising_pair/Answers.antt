@@ -1,4 +1,4 @@
-use Rattle.std.proofs.Common.{◌≡◌, ◌+◌, ◌*◌, ◌%◌, ◌^◌, ℕ, Bool, nat_lt, refl, arith}
+use Rattle.std.proofs.Common.{◌≡◌, ◌+◌, ◌*◌, ◌%◌, ◌^◌, Bool, refl, arith}
 use mathlib.Core.Bool.{cond}
 use lib.Lanes.{top}
 use Rattle.lists.proofs.Bools.{by}
