@@ -19,7 +19,7 @@ fn summary_formed(s: Summary, convicted: Signers) -> bool
     let Some(engine) = Engine::new(s.bytes[layout::ENGINE_AT] as u32) else {
         return false;
     };
-    s.model() <= record::layout::MAX_MODEL && !convicted.contains(engine)
+    (s.model() <= record::layout::MAX_MODEL) & !convicted.contains(engine)
 }
 
 // Whether all of these summaries are.

@@ -1,5 +1,5 @@
 -- A walk that tests the places of a table one by one, for every test and width: i of n places have passed, and the next begins at a byte.
-use Rattle.std.proofs.Common.{ℕ, zero, suc, ◌+◌, ◌*◌, ◌-◌, ◌≤◌, ◌<◌, ◌≡◌, refl, sym, ap, ap₂, ◌∙◌, Bool, true, false, not, ◌&&◌, List, [], ◌∷◌, arith, take, drop, take-take}
+use Rattle.std.proofs.Common.{ℕ, ◌+◌, ◌*◌, ◌-◌, ◌≤◌, ◌<◌, ◌≡◌, refl, sym, ◌∙◌, Bool, true, false, not, ◌&&◌, List, [], ◌∷◌, arith, take, drop, take-take}
 use Rattle.std.specs.List.{list_all}
 use Rattle.tables.specs.Places.{places}
 use Rattle.tables.proofs.Walks.{step-at, all-next, all_end}
@@ -31,12 +31,6 @@ begin-lent k w at t h =
     let e : at + k - at ≡ k = omega arith in
     let f : at + w - at ≡ w = omega arith in
     rw (e, f) (sym (take-take k w (drop at t) h))
-
--- a test of the first w bytes of places of w bytes is the test of the places
-pub whole-places : (test : List ℕ → Bool) (w n : ℕ) (t : List ℕ) → list_all (λ p. test (take w p)) (places w n t) ≡ list_all test (places w n t)
-unfolding places
-whole-places test w zero t = refl
-whole-places test w (suc n) t = ap₂ (λ (a b : Bool). a && b) (ap test (take-take w w t (omega arith))) (whole-places test w n (drop w t))
 
 -- places that pass a test pass a weaker one
 pub all-weaken : (a b : List ℕ → Bool) → ((p : List ℕ) → a p ≡ true → b p ≡ true) → (ps : List (List ℕ)) → list_all a ps ≡ true → list_all b ps ≡ true
