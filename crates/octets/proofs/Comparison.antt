@@ -1,12 +1,11 @@
 -- Byte order is a strict order, and two strings neither of which comes before the other are equal. Then what a comparison goes by: bytes from a place
 -- on, and words of several bytes.
-use Prim.Native.Nat.{ℕ, zero, suc}
-use mathlib.Core.Path.{◌≡◌, refl, ap}
+use Prim.Native.Nat.{ℕ}
+use mathlib.Core.Path.{◌≡◌, refl}
 use mathlib.Core.Bool.{true, false}
 use mathlib.Core.Logic.{◌⊎◌, inl, inr}
 use mathlib.Core.List.{List, [], ◌∷◌}
 use native.Mathlib.Omega.{arith}
-use lib.ListN.{length, take, drop}
 use Rattle.octets.specs.Order.{is_before, same}
 use Rattle.octets.specs.Lesser.{lesser_of}
 use Rattle.lists.proofs.Bools.{by}
@@ -67,13 +66,3 @@ lesser-comm a b = grind (arith, before-asym a b, before_same a b)
 
 pub not_same : (a b : List ℕ) → (a ≡ b → ⊥) → same a b ≡ false
 not_same a b f = grind (arith, same-eq a b)
-
--- ---- bytes alike at the front decide nothing
-
-pub before-drop : (i : ℕ) (a b : List ℕ) → take i a ≡ take i b → is_before a b ≡ is_before (drop i a) (drop i b)
-unfolding is_before
-before-drop zero a b e = refl
-before-drop (suc i) [] [] e = refl
-before-drop (suc i) [] (y ∷ b) e = absurd (omega (arith, ap length e))
-before-drop (suc i) (x ∷ a) [] e = absurd (omega (arith, ap length e))
-before-drop (suc i) (x ∷ a) (y ∷ b) e = grind (arith, before-drop i a b)
