@@ -17,6 +17,17 @@ use track_shelf::both::Both;
 use track_shelf::parts;
 use track_shelf::view::Shelf;
 
+// Leaves those of the fixes that wait that other engines reported. Its tables are no part of a call with an empty shelf.
+#[inline(never)]
+fn leave_others(shelf: &mut [u8], engine: Engine)
+    requires { Sound shelf.old }
+    ensures { shelf.new ≡ encode_shelf (filter (λ w. not (is_reported_by engine w)) (decode_shelf shelf.old)) }
+{
+    let copy = track_shelf::copy_of(shelf);
+    let left = parts::of_others(&Shelf::of(&copy).fixes(), engine);
+    track_shelf::write(shelf, left.as_slice());
+}
+
 // Throws out the fixes that an engine reported and that wait.
 fn throw_out(shelf: &mut [u8], engine: Engine)
     requires { Sound shelf.old }
@@ -25,9 +36,7 @@ fn throw_out(shelf: &mut [u8], engine: Engine)
     if Shelf::of(shelf).len() == 0 {
         return;
     }
-    let copy = track_shelf::copy_of(shelf);
-    let left = parts::of_others(&Shelf::of(&copy).fixes(), engine);
-    track_shelf::write(shelf, left.as_slice());
+    leave_others(shelf, engine);
 }
 
 /// Convicts an engine. A repeated conviction checks the fixes again too.
