@@ -3,9 +3,9 @@ use Rattle.std.specs.Prelude.{ℕ, Result, Ok, Err}
 use Rattle.errors.specs.declared.Error.{Error}
 use Rattle.errors.specs.declared.Error.TheVariants.{Malformed, NoEngine, NoRecord, Convicted, Full, ModelDisputed, NoSummary, SmallOutput, ShelfFull, SmallMap, UnknownDesk, NoRight, OtherLength}
 
--- 1: the memory is no register or track. 2: no engine has the number. 3: the bytes are no record. 4: the engine is convicted. 5: full.
--- 7: a model is disputed. 9: no summary. 10: the output is too small. 13: the shelf is full. 14: the output is too small for a map. 15: no desk has the number. 16: the desk has no right. 17: another length
--- than a register's.
+-- 1: a memory is no register, no track, or no shelf of that track. 2: no engine has the number. 3: the bytes are no record.
+-- 4: the engine is convicted. 5: full. 7: a model is disputed. 9: no summary. 10: the output is too small. 13: the shelf is full.
+-- 14: the output is too small for a map. 15: no desk has the number. 16: the desk has no right. 17: another length than a register's.
 abbrev pub error_number : Error → ℕ
 error_number Malformed = 1
 error_number NoEngine = 2

@@ -7,7 +7,7 @@ ghost use Rattle.errors.specs.Errors.{error_number, answer_number, value_or_numb
 /// Why a call on a register or a track is not done (docs/REFERENCE.md, 'Answers').
 #[derive(Clone, Copy)]
 pub enum Error {
-    /// The memory is no register, or no track.
+    /// A memory is no register, no track, or no shelf of that track.
     Malformed,
     /// No engine has this number.
     NoEngine,
