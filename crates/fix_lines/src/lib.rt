@@ -59,8 +59,8 @@ fn push_longitude(out: &mut Text, report: Record)
     out.push_field(" lon=", &report.longitude());
 }
 
-// When and where.
-fn push_where_when(out: &mut Text, report: Record)
+/// When and where a fix is.
+pub fn push_where_when(out: &mut Text, report: Record)
     ensures { out.new ≡ append out.old (L.where_when report.entry.bytes.now) }
 {
     push_time(out, report);

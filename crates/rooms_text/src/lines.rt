@@ -2,11 +2,9 @@
 
 ghost use Rattle.std.specs.Prelude.{◌≡◌, ◌≤◌, ◌++◌, length, flat_map, OnOk};
 ghost use Rattle.octets.specs.Ascii.{ascii};
-ghost use Rattle.text.specs.Numbers.{decimal, signed_decimal, hex};
+ghost use Rattle.text.specs.Numbers.{decimal, hex};
 ghost use Rattle.text.specs.Texts.{append};
 ghost use Rattle.models.specs.Summary.{engine_of, model_of, spec_of};
-ghost use Rattle.record.specs.Fields as F;
-ghost use Rattle.fix_lines.specs.Lines.{where_when};
 ghost use Rattle.rooms_text.specs.Lines as L;
 
 use models::layout::ENGINE_AT;
@@ -151,43 +149,13 @@ impl<'a> Append for LackingSummary<'a> {
     }
 }
 
-#[tactic(auto, unfolding(octets::specs::Ascii::ascii))]
-fn push_time(out: &mut Text, report: Record)
-    ensures { out.new ≡ append out.old (ascii " time=" ++ decimal (F.time report.entry.bytes.now)) }
-{
-    out.push_field(" time=", &report.time());
-}
-
-#[tactic(auto, unfolding(octets::specs::Ascii::ascii))]
-fn push_latitude(out: &mut Text, report: Record)
-    ensures { out.new ≡ append out.old (ascii " lat=" ++ signed_decimal (F.latitude report.entry.bytes.now)) }
-{
-    out.push_field(" lat=", &report.latitude());
-}
-
-#[tactic(auto, unfolding(octets::specs::Ascii::ascii))]
-fn push_longitude(out: &mut Text, report: Record)
-    ensures { out.new ≡ append out.old (ascii " lon=" ++ signed_decimal (F.longitude report.entry.bytes.now)) }
-{
-    out.push_field(" lon=", &report.longitude());
-}
-
-// When and where.
-fn push_where_when(out: &mut Text, report: Record)
-    ensures { out.new ≡ append out.old (where_when report.entry.bytes.now) }
-{
-    push_time(out, report);
-    push_latitude(out, report);
-    push_longitude(out, report);
-}
-
 #[tactic(auto, unfolding(crate::specs::Lines::report_line, octets::specs::Ascii::ascii))]
 fn push_report(out: &mut Text, room: Room, report: Record, engine: u8)
     ensures { out.new ≡ append out.old (L.report_line room report.entry.bytes.now engine) }
 {
     push_head(out, room, "report");
     push_engine(out, engine);
-    push_where_when(out, report);
+    fix_lines::push_where_when(out, report);
     out.push_str("\n");
 }
 
