@@ -1,12 +1,14 @@
-//! What the programs read and print: so many bytes, or as many as are left; buffers to read into; and a hash in hex.
+//! What the programs read and print: their words; so many bytes of a file or of standard input, or as many as are left; buffers to read
+//! into; and a hash in hex.
 #![tactic(auto)]
 
 ghost use Rattle.std.specs.Prelude.{◌≡◌, ◌<◌, length, take, replicate, IfOk, IfSome};
 ghost use Rattle.std.specs.Io.{ReadsAtMost};
 ghost use Rattle.std.specs.Io.KnownBytes.{Consumes, IsAtEnd};
 
-use std::io;
 use std::io::Read;
+use std::rt::{Env, Files};
+use std::{env, fs, io};
 
 /// 4,096 zeros. Lending the array as a slice needs the length.
 pub fn buffer() -> [u8; 4096]
@@ -22,6 +24,26 @@ pub fn large_buffer() -> [u8; 65536]
     ensures zeros { result ≡ replicate 65536 0 }
 {
     [0; 65536]
+}
+
+/// The words behind the program's name.
+pub fn words(rt: &(impl Env + AllocGlobal)) -> io::Result<Vec<String>> {
+    let mut words = Vec::new(rt.alloc());
+    for word in env::args(rt)?.skip(1) {
+        words.push(word)?;
+    }
+    Ok(words)
+}
+
+/// Reads the file of this name, or standard input where it is `-`, until buf is full or there is no more, and answers how many bytes it
+/// put at the start of buf.
+pub fn read_from(rt: &(impl Files + Input), name: &str, buf: &mut [u8]) -> io::Result<usize>
+    ensures { ReadsAtMost result buf.new }
+{
+    if name == "-" {
+        return read_full(rt, buf);
+    }
+    fill(&mut fs::open(rt, name)?, buf)
 }
 
 /// Reads standard input until buf is full or the input ends, and answers how many bytes it put at

@@ -2,14 +2,12 @@
 //! more than a register has is enough to know that there are more.
 #![tactic(auto)]
 
-ghost use Rattle.std.specs.Io.{ReadsAtMost};
-
 use monthly_numbers::TEXT_SIZE;
 use register::layout::REGISTER_SIZE;
 use session_arguments::{Instead, Wish};
+use std::io;
 use std::process::ExitCode;
 use std::rt::{Env, Files};
-use std::{env, fs, io};
 
 const HELP: &str = "usage: monthly [FILE]
 
@@ -43,16 +41,6 @@ fn output_buffer() -> [u8; TEXT_SIZE] {
     [0; TEXT_SIZE]
 }
 
-// Reads the file of this name, or standard input where it is `-`; answers how many bytes came.
-fn read_from(rt: &(impl Files + Input), name: &str, input: &mut [u8]) -> io::Result<usize>
-    ensures { ReadsAtMost result input.new }
-{
-    if name == "-" {
-        return console::read_full(rt, input);
-    }
-    console::fill(&mut fs::open(rt, name)?, input)
-}
-
 // Says why the bytes of this file are no register.
 fn explain(errors: &impl Print, name: &str, len: usize) -> io::Result<()> {
     if len > REGISTER_SIZE {
@@ -79,22 +67,13 @@ fn conduct(rt: &impl Print, errors: &impl Print, name: &str, input: &[u8]) -> io
 // The numbers of the register that a file holds, or standard input.
 fn numbers(rt: &(impl Files + Input + Print), errors: &impl Print, name: &str) -> io::Result<u8> {
     let mut input = input_buffer();
-    match read_from(rt, name, &mut input) {
+    match console::read_from(rt, name, &mut input) {
         Ok(n) => conduct(rt, errors, name, &input[..n]),
         Err(error) => {
             println!(errors; "monthly: {name}: {error}")?;
             Ok(FAILED)
         }
     }
-}
-
-// The words behind the program's name.
-fn words(rt: &(impl Env + AllocGlobal)) -> io::Result<Vec<String>> {
-    let mut words = Vec::new(rt.alloc());
-    for word in env::args(rt)?.skip(1) {
-        words.push(word)?;
-    }
-    Ok(words)
 }
 
 // The file that a wish names.
@@ -124,7 +103,7 @@ fn answer(
     rt: &(impl Env + Files + Input + Print + AllocGlobal),
     errors: &impl Print,
 ) -> io::Result<u8> {
-    let words = words(rt)?;
+    let words = console::words(rt)?;
     match session_arguments::asked(&words) {
         Ok(wish) if wish.strict => refuse(errors, "--strict"),
         Ok(wish) => numbers(rt, errors, name_of(wish, &words)),

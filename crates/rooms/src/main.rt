@@ -3,7 +3,6 @@
 #![tactic(auto)]
 
 ghost use Rattle.std.specs.Prelude.{◌≡◌, true, OnOk};
-ghost use Rattle.std.specs.Io.{ReadsAtMost};
 ghost use Rattle.register.specs.Memory.{well_formed};
 
 use errors::Error;
@@ -15,7 +14,7 @@ use session_text::MAX_INPUT;
 use std::alloc::AllocError;
 use std::process::ExitCode;
 use std::rt::{Env, Files};
-use std::{env, fs, io};
+use std::{fs, io};
 
 const HELP: &str = "usage: rooms [--join FILE] A B
        rooms --orders N [--seed S] FILE
@@ -81,16 +80,6 @@ fn register_buffer() -> [u8; REGISTER_SIZE] {
     [0; REGISTER_SIZE]
 }
 
-// Reads the file of this name, or standard input where it is `-`; answers how many bytes came.
-fn read_from(rt: &(impl Files + Input), name: &str, input: &mut [u8]) -> io::Result<usize>
-    ensures { ReadsAtMost result input.new }
-{
-    if name == "-" {
-        return console::read_full(rt, input);
-    }
-    console::fill(&mut fs::open(rt, name)?, input)
-}
-
 // Says of a session which of its operations are not answered 0, or why it is refused.
 fn tell(
     rt: &impl AllocGlobal,
@@ -153,7 +142,7 @@ fn load(
     ensures { OnOk result (well_formed memory.new ≡ true) }
 {
     let mut input = input_buffer();
-    match read_from(rt, name, &mut input) {
+    match console::read_from(rt, name, &mut input) {
         Ok(n) => take(rt, errors, name, &input[..n], memory),
         Err(error) => Err(fail(errors, name, error)),
     }
@@ -235,7 +224,7 @@ fn try_file(
     seed: u64,
 ) -> Result<u8, Stop> {
     let mut input = input_buffer();
-    let n = match read_from(rt, name, &mut input) {
+    let n = match console::read_from(rt, name, &mut input) {
         Ok(n) => n,
         Err(error) => return Err(fail(errors, name, error)),
     };
@@ -279,15 +268,6 @@ fn refuse_number(errors: &impl Print, word: &str) -> Result<u8, Stop> {
     Ok(REFUSED)
 }
 
-// The words behind the program's name.
-fn words(rt: &(impl Env + AllocGlobal)) -> io::Result<Vec<String>> {
-    let mut words = Vec::new(rt.alloc());
-    for word in env::args(rt)?.skip(1) {
-        words.push(word)?;
-    }
-    Ok(words)
-}
-
 fn refuse(errors: &impl Print, word: &str) -> Result<u8, Stop> {
     println!(errors;
         "rooms: {word}: no option, or one file too many; --help says how it is called"
@@ -300,7 +280,7 @@ fn answer(
     rt: &(impl Env + Files + Input + Print + AllocGlobal),
     errors: &impl Print,
 ) -> Result<u8, Stop> {
-    let words = words(rt)?;
+    let words = console::words(rt)?;
     if let Some(wish) = rooms_arguments::orders_asked(&words) {
         return try_orders(rt, errors, &words, wish);
     }

@@ -2,13 +2,11 @@
 //! than is read is enough to know that there are more.
 #![tactic(auto)]
 
-ghost use Rattle.std.specs.Io.{ReadsAtMost};
-
 use session_arguments::{Instead, Wish};
 use session_text::{MAX_INPUT, OUTPUT_SIZE};
+use std::io;
 use std::process::ExitCode;
 use std::rt::{Env, Files};
-use std::{env, fs, io};
 
 const HELP: &str = "usage: session [--strict] [FILE]
 
@@ -39,16 +37,6 @@ fn output_buffer() -> [u8; OUTPUT_SIZE] {
     [0; OUTPUT_SIZE]
 }
 
-// Reads the file of this name, or standard input where it is `-`; answers how many bytes came.
-fn read_from(rt: &(impl Files + Input), name: &str, input: &mut [u8]) -> io::Result<usize>
-    ensures { ReadsAtMost result input.new }
-{
-    if name == "-" {
-        return console::read_full(rt, input);
-    }
-    console::fill(&mut fs::open(rt, name)?, input)
-}
-
 // Prints what a session prints and says what there is to say of it; answers the exit status.
 fn conduct(
     rt: &(impl Print + AllocGlobal),
@@ -75,22 +63,13 @@ fn session(
     strict: bool,
 ) -> io::Result<u8> {
     let mut input = input_buffer();
-    match read_from(rt, name, &mut input) {
+    match console::read_from(rt, name, &mut input) {
         Ok(n) => conduct(rt, errors, &input[..n], strict),
         Err(error) => {
             println!(errors; "session: {name}: {error}")?;
             Ok(FAILED)
         }
     }
-}
-
-// The words behind the program's name.
-fn words(rt: &(impl Env + AllocGlobal)) -> io::Result<Vec<String>> {
-    let mut words = Vec::new(rt.alloc());
-    for word in env::args(rt)?.skip(1) {
-        words.push(word)?;
-    }
-    Ok(words)
 }
 
 // The file that a wish names.
@@ -115,7 +94,7 @@ fn answer(
     rt: &(impl Env + Files + Input + Print + AllocGlobal),
     errors: &impl Print,
 ) -> io::Result<u8> {
-    let words = words(rt)?;
+    let words = console::words(rt)?;
     match session_arguments::asked(&words) {
         Ok(wish) => session(rt, errors, name_of(wish, &words), wish.strict),
         Err(Instead::Help) => {
