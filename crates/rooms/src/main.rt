@@ -269,6 +269,12 @@ fn refuse_number(errors: &impl Print, word: &str) -> Result<u8, Stop> {
 }
 
 fn refuse(errors: &impl Print, word: &str) -> Result<u8, Stop> {
+    if word == "--orders" {
+        println!(errors;
+            "rooms: behind --orders come a number, --seed and a seed or neither, and one file; --help says more"
+        )?;
+        return Ok(REFUSED);
+    }
     println!(errors;
         "rooms: {word}: no option, or one file too many; --help says how it is called"
     )?;
