@@ -12,6 +12,7 @@ mod heights;
 mod random;
 mod tracks;
 
+use binding::value;
 use oracle::decide::{SIZE, candidates};
 use oracle::layout::{CONSISTENT_AT, IDENTITY_AT, MAX_TAGS, Mask, RECORD, STANDING_AT};
 use oracle::{Claim, Record};
@@ -373,6 +374,57 @@ fn fixes(what: &str, memory: &[u8]) {
     line(&format!("fixes of a board, {what}"), "the peer", 1.0, true, &mut ours, &mut theirs);
 }
 
+/// A record as a value, beside the peer; and its model inputs by a full register, beside a memcmp of that too.
+fn values() {
+    if !binding::VALUES {
+        return println!("| records as values | the peer | not in the library | - | - | - |");
+    }
+    let (memory, held, inputs) = full_register(false);
+    let said = Record::read(&held).expect("a held record");
+    let (mut a, mut b) = ([0u8; RECORD], [0u8; RECORD]);
+    let mut ours = || {
+        black_box(value::write(black_box(&said), 0, &mut a));
+    };
+    let mut theirs = || {
+        black_box(peer::values::write(black_box(&said), &mut b));
+    };
+    line("record written, 24 tags", "the peer", 1.0, true, &mut ours, &mut theirs);
+    let mut ours = || {
+        black_box(value::fault(black_box(&held)));
+    };
+    let mut theirs = || {
+        black_box(peer::values::fault(black_box(&held)));
+    };
+    line("fault of a record, 24 tags: none", "the peer", 1.0, true, &mut ours, &mut theirs);
+    let (mut a, mut b) = ([0u8; 32], [0u8; 32]);
+    let mut ours = || {
+        black_box(value::identity(black_box(&held), &inputs, &mut a));
+    };
+    let mut theirs = || {
+        black_box(peer::values::identity_of(black_box(&held), &inputs, &mut b));
+    };
+    line("identity of a record, 24 tags", "the peer", 1.0, true, &mut ours, &mut theirs);
+    model_inputs(&memory, &held);
+}
+
+fn model_inputs(memory: &[u8], held: &[u8]) {
+    let copy = memory.to_vec();
+    let (mut a, mut b) = ([0u8; 32], [0u8; 32]);
+    let mut ours = || {
+        black_box(value::inputs(black_box(memory), black_box(held), &mut a));
+    };
+    let mut theirs = || {
+        black_box(peer::values::inputs_of(black_box(memory), black_box(held), &mut b));
+    };
+    let mut compared = || {
+        let (a, b) = (black_box(memory), black_box(&copy));
+        black_box(unsafe { memcmp(a.as_ptr(), b.as_ptr(), a.len()) });
+    };
+    let name = "model inputs of a record, full register";
+    line(name, "memcmp of 37,256 bytes", 1.0, true, &mut ours, &mut compared);
+    line(name, "the peer", 1.0, true, &mut ours, &mut theirs);
+}
+
 /// Maps, and fixes as values, of registers whose records are one transmission, eight, or one each; and a map of none.
 fn maps() {
     map("empty register", &vec![0u8; peer::register::SIZE]);
@@ -486,6 +538,7 @@ fn others(random: &mut Random) {
     }
     board("with a common tag, an hour apart", restarted);
     maps();
+    values();
     previews();
     sessions();
 }

@@ -11,7 +11,8 @@ if [ -f "$library" ]; then
         if nm "$library" 2>/dev/null | grep -q " T $name\$"; then library_flags="$library_flags --cfg has_$name"; fi
     done
     # A symbol, and what is there where the library has it.
-    for pair in tl_register_report:register tl_board:board tl_register_preview:preview tl_register_map:map tl_register_fixes:fixes tl_register_session:session tl_track_report:track; do
+    for pair in tl_register_report:register tl_board:board tl_register_preview:preview tl_register_map:map tl_register_fixes:fixes tl_record_write:values \
+        tl_register_session:session tl_track_report:track; do
         if nm "$library" 2>/dev/null | grep -q " T ${pair%:*}\$"; then library_flags="$library_flags --cfg has_${pair#*:}"; fi
     done
     library_flags="$library_flags -C link-arg=$library"

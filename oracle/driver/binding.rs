@@ -93,6 +93,30 @@ unsafe extern "C" {
     fn tl_register_session(memory: *mut u8, len: usize, input: *const u8, input_len: usize, out: *mut u8, out_len: usize) -> u32;
 }
 
+#[cfg(has_values)]
+unsafe extern "C" {
+    fn tl_record_write(
+        time: u64,
+        lat: i32,
+        lon: i32,
+        has_height: bool,
+        height: i32,
+        message: *const u8,
+        message_len: usize,
+        tags: *const u64,
+        tags_len: usize,
+        used: u32,
+        models: *const u8,
+        models_len: usize,
+        spec: u16,
+        covariance: *const f64,
+        out: *mut u8,
+    ) -> u32;
+    fn tl_record_fault(record: *const u8, len: usize) -> u32;
+    fn tl_record_identity(record: *const u8, len: usize, inputs: *const u8, out: *mut u8) -> u32;
+    fn tl_register_inputs(memory: *const u8, len: usize, record: *const u8, record_len: usize, out: *mut u8) -> u32;
+}
+
 #[cfg(has_preview)]
 unsafe extern "C" {
     fn tl_register_preview(desk: u32, memory: *const u8, len: usize, engine: u32, out: *mut u8, out_len: usize) -> u32;
@@ -280,6 +304,78 @@ pub fn session(m: &mut [u8], input: &[u8], out: &mut [u8]) -> usize {
     return register::session(m, input, out);
     #[cfg(not(has_session))]
     unreachable!("{} {} {}", m.len(), input.len(), out.len())
+}
+
+/// Records as values. A library that has them also has the register.
+pub const VALUES: bool = cfg!(has_values);
+
+#[cfg(has_values)]
+pub mod value {
+    use oracle::Record;
+    use oracle::layout::RECORD;
+
+    /// What is passed as the height where the record has none must make no difference.
+    #[inline(always)]
+    pub fn write(said: &Record, no_height: i32, out: &mut [u8; RECORD]) -> u32 {
+        let (message, tags, models) = (&said.message, &said.tags, &said.models);
+        let (has_height, height) = (said.height.is_some(), said.height.unwrap_or(no_height));
+        unsafe {
+            super::tl_record_write(
+                said.time,
+                said.lat,
+                said.lon,
+                has_height,
+                height,
+                message.as_ptr(),
+                message.len(),
+                tags.as_ptr(),
+                tags.len(),
+                said.used,
+                models.as_ptr(),
+                models.len(),
+                said.spec,
+                said.covariance.as_ptr(),
+                out.as_mut_ptr(),
+            )
+        }
+    }
+
+    #[inline(always)]
+    pub fn fault(record: &[u8]) -> u32 {
+        unsafe { super::tl_record_fault(record.as_ptr(), record.len()) }
+    }
+
+    #[inline(always)]
+    pub fn identity(record: &[u8], inputs: &[u8; 32], out: &mut [u8; 32]) -> u32 {
+        unsafe { super::tl_record_identity(record.as_ptr(), record.len(), inputs.as_ptr(), out.as_mut_ptr()) }
+    }
+
+    #[inline(always)]
+    pub fn inputs(m: &[u8], record: &[u8], out: &mut [u8; 32]) -> u32 {
+        unsafe { super::tl_register_inputs(m.as_ptr(), m.len(), record.as_ptr(), record.len(), out.as_mut_ptr()) }
+    }
+}
+
+#[cfg(not(has_values))]
+pub mod value {
+    use oracle::Record;
+    use oracle::layout::RECORD;
+
+    pub fn write(said: &Record, no_height: i32, out: &mut [u8; RECORD]) -> u32 {
+        unreachable!("{} {no_height} {}", said.time, out.len())
+    }
+
+    pub fn fault(record: &[u8]) -> u32 {
+        unreachable!("{}", record.len())
+    }
+
+    pub fn identity(record: &[u8], inputs: &[u8; 32], out: &mut [u8; 32]) -> u32 {
+        unreachable!("{} {} {}", record.len(), inputs.len(), out.len())
+    }
+
+    pub fn inputs(m: &[u8], record: &[u8], out: &mut [u8; 32]) -> u32 {
+        unreachable!("{} {} {}", m.len(), record.len(), out.len())
+    }
 }
 
 /// Of a conviction. A library that has it also has the register and the board.

@@ -23,6 +23,8 @@ mod shown;
 mod spans;
 mod tracks;
 mod tried;
+#[cfg(has_register)]
+mod values;
 
 use oracle::decide::{Decision, SIZE};
 use oracle::measured::{Outcome, outcome};
@@ -293,7 +295,10 @@ fn main() {
     lent::compare(&mut random, tracks / 5);
     shelves::compare(&mut random, shelves);
     #[cfg(has_register)]
-    registers::compare(&mut random, calls);
+    {
+        registers::compare(&mut random, calls);
+        values::compare(&mut random, calls);
+    }
     #[cfg(not(has_register))]
     println!("register: not in the library ({calls} lists of calls left out)");
     println!("no difference");

@@ -4,7 +4,7 @@
 use crate::binding::{self, register as ours};
 use crate::heights::{self, EDGES};
 use crate::random::Random;
-use crate::{maps, measured, previews, shown, spans, tried};
+use crate::{maps, measured, previews, shown, spans, tried, values};
 use oracle::layout::{Mask, RECORD};
 use oracle::{Record, hex};
 use peer::register::{self as theirs, MANAGER, SIZE};
@@ -200,6 +200,20 @@ fn compare_fixes(a: &[u8], b: &[u8], n: usize, counts: &mut Counts) -> Option<St
     None
 }
 
+/// Model inputs of a few of a list's records by both, where the library has them; the difference in words.
+fn compare_inputs(a: &[u8], b: &[u8], n: usize, calls: &[Call], counts: &mut Counts) -> Option<String> {
+    for call in &calls[n.saturating_sub(8)..=n] {
+        let Call::Report { record, .. } = call else {
+            continue;
+        };
+        match values::inputs(a, b, record) {
+            Ok(kind) => count([kind], counts),
+            Err(words) => return Some(format!("after call {n}: {words}")),
+        }
+    }
+    None
+}
+
 /// A preview on both memories: what both answer, or the difference in words.
 fn preview(desk: u32, engine: u32, room: usize, a: &[u8], b: &[u8], counts: &mut Counts) -> Result<usize, String> {
     let (answer, kinds) = previews::compare(a, b, desk, engine, room)?;
@@ -263,6 +277,12 @@ fn run(size: usize, calls: &[Call], counts: &mut Counts) -> Option<String> {
         if binding::FIXES
             && (n + 1 == calls.len() || back.is_some())
             && let Some(words) = compare_fixes(&a, &b, n, counts)
+        {
+            return Some(words);
+        }
+        if binding::VALUES
+            && (n + 1 == calls.len() || back.is_some())
+            && let Some(words) = compare_inputs(&a, &b, n, calls, counts)
         {
             return Some(words);
         }
@@ -337,6 +357,9 @@ pub fn compare(random: &mut Random, lists: u64) {
     }
     if binding::FIXES {
         tried::all(shown::KINDS, came, lists);
+    }
+    if binding::VALUES {
+        tried::all(values::INPUTS_KINDS, came, lists);
     }
     if binding::PREVIEW {
         tried::all(previews::kinds(), came, lists);

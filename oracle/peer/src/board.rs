@@ -30,7 +30,7 @@ fn agreed(register: &Register, model: u8) -> Option<&[u8]> {
 }
 
 /// What the model inputs of a record are the hash of, if it counts.
-fn cited(register: &Register, record: &Record) -> Option<Vec<u8>> {
+pub(crate) fn cited(register: &Register, record: &Record) -> Option<Vec<u8>> {
     let mut bytes = b"tally pair model cited inputs\0".to_vec();
     for &model in &record.models {
         let (spec, inputs) = agreed(register, model)?.split_at(2);
@@ -42,7 +42,7 @@ fn cited(register: &Register, record: &Record) -> Option<Vec<u8>> {
     Some(bytes)
 }
 
-fn identity(record: &Record, inputs: &[u8; 32]) -> [u8; 32] {
+pub(crate) fn identity(record: &Record, inputs: &[u8; 32]) -> [u8; 32] {
     let mut set = vec![record.message.len() as u8];
     set.extend_from_slice(&record.message);
     set.push(record.tags.len() as u8);
