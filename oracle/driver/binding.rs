@@ -153,7 +153,9 @@ pub mod register {
 
     #[cfg(has_session)]
     pub fn session(m: &mut [u8], input: &[u8], out: &mut [u8]) -> usize {
-        unsafe { super::tl_register_session(m.as_mut_ptr(), m.len(), input.as_ptr(), input.len(), out.as_mut_ptr(), out.len()) as usize }
+        unsafe {
+            super::tl_register_session(m.as_mut_ptr(), m.len(), input.as_ptr(), input.len(), out.as_mut_ptr(), out.len()) as usize
+        }
     }
 
     #[cfg(has_preview)]
