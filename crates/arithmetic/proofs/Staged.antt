@@ -10,7 +10,7 @@ use Rattle.geometry.specs.Geodesy.{to_ecef}
 use Rattle.geometry.specs.Linalg.{minus_each, rows_below, columns, cholesky_of, forwards, forward, backwards, backward, solve_of, sum_to}
 use Rattle.arithmetic.specs.Agree.{limit_of, geodetic_of, matrix_of, sum_under, length_under, chi_square_of, difference_of, agreement_under, agreement_of}
 use Rattle.geometry.specs.Factors.{factor_of, factor_of_two, factor_of_three, flat_length, full_length}
-use Rattle.arithmetic.specs.Stages.{measured_of, enu_of, parts_of, judged_of, compared_of}
+use Rattle.arithmetic.specs.Stages.{measured_of, enu_of, placed_of, judged_of, compared_of}
 use Rattle.geometry.specs.declared.geodesy.Vec3.{Vec3}
 use Rattle.geometry.specs.declared.linalg.Factor.{Factor}
 use Rattle.geometry.specs.declared.linalg.Factor.TheVariants.{Flat, Full}
@@ -75,11 +75,11 @@ measured-is false c v = ap (λ (l : Option (List Float)). agreement_under (limit
 
 -- ---- the two stages
 
-pub judged-is : (a b : Claimed) → judged_of (parts_of a) (to_ecef (geodetic_of b)) (is_some b.height) ≡ agreement_of a b
-unfolding judged_of parts_of enu_of agreement_of difference_of
+pub judged-is : (a b : Claimed) → judged_of (placed_of a) (factor_of a.covariance) (to_ecef (geodetic_of b)) (is_some b.height) ≡ agreement_of a b
+unfolding judged_of placed_of enu_of agreement_of difference_of
 judged-is a b = rw (← measured-is)
 
--- a comparison of two prepared fixes is the agreement of their claims
-pub staged : (smaller larger : Claimed) → compared_of (parts_of smaller) (parts_of larger) ≡ agreement_of smaller larger
-unfolding parts_of
+-- a comparison of two placed fixes by the smaller one's factor is the agreement of their claims
+pub staged : (smaller larger : Claimed) → compared_of (placed_of smaller) (factor_of smaller.covariance) (placed_of larger) ≡ agreement_of smaller larger
+unfolding placed_of
 staged smaller larger = judged-is smaller larger

@@ -6,14 +6,15 @@ ghost use Rattle.std.specs.Prelude.{◌≡◌};
 ghost use Rattle.arithmetic.specs.Agree.{agreement_of, agrees_of, chi_square_in, sigma_of};
 ghost use Rattle.arithmetic.specs.Bits.{stored_bits, stored_chi_square};
 ghost use Rattle.arithmetic.specs.declared.standing.Claimed.{Claimed as Claim};
-ghost use Rattle.arithmetic.specs.Stages.{parts_of, compared_of};
+ghost use Rattle.arithmetic.specs.Stages.{placed_of, compared_of};
+ghost use Rattle.geometry.specs.Factors.{factor_of};
 
 pub mod claims;
 mod stages;
 pub mod standing;
 
-use geometry::linalg::Covariance;
-use standing::{Agreement, ChiSquare, Claimed, Prepared};
+use geometry::linalg::{Covariance, Factor};
+use standing::{Agreement, ChiSquare, Claimed, Placed};
 
 /// How a larger fix stands to a smaller one.
 pub fn agreement(smaller: Claimed, larger: Claimed) -> Agreement
@@ -21,8 +22,9 @@ pub fn agreement(smaller: Claimed, larger: Claimed) -> Agreement
 {
     // The larger fix's place waits for nothing of the smaller's factor, whose roots wait for one another: it is worked out first.
     let to = geometry::geodesy::to_ecef(stages::geodetic(larger));
-    let from = prepare(smaller);
-    stages::judged(&from, to, larger.height.is_some())
+    let from = place(smaller);
+    let factor = geometry::linalg::cholesky(smaller.covariance);
+    stages::judged(&from, &factor, to, larger.height.is_some())
 }
 
 /// Whether that is agreement: what is unmeasurable disagrees.
@@ -78,23 +80,24 @@ pub fn horizontal_sigma_m(c: Covariance) -> f64
     floats::root(0.0)
 }
 
-/// What a fix's agreement with any other needs of it alone.
-pub fn prepare(claim: Claimed) -> Prepared
-    ensures { result ≡ parts_of claim }
+/// What a fix's agreement with any other needs of it alone, but for the factor of the smaller one's covariance.
+#[inline(always)]
+pub fn place(claim: Claimed) -> Placed
+    ensures { result ≡ placed_of claim }
 {
     let position = stages::geodetic(claim);
-    Prepared {
+    Placed {
         ecef: geometry::geodesy::to_ecef(position),
         basis: geometry::geodesy::enu_basis(position),
-        factor: geometry::linalg::cholesky(claim.covariance),
         has_height: claim.height.is_some(),
     }
 }
 
-/// The agreement of two prepared fixes, with no root and no sine or cosine: that of the claims that they were prepared from.
-pub fn compare(smaller: &Prepared, larger: &Prepared) -> Agreement
-    ensures compared { result ≡ compared_of smaller.now larger.now }
-    ensures agreement { (a b : Claim) → smaller.now ≡ parts_of a → larger.now ≡ parts_of b → result ≡ agreement_of a b }
+/// The agreement of two placed fixes, of which the smaller one's covariance has this factor or none, with no root and no sine or cosine: that
+/// of the claims that they were placed by.
+pub fn compare(smaller: &Placed, factor: &Option<Factor>, larger: &Placed) -> Agreement
+    ensures compared { result ≡ compared_of smaller.now factor.now larger.now }
+    ensures agreement { (a b : Claim) → smaller.now ≡ placed_of a → factor.now ≡ factor_of a.covariance → larger.now ≡ placed_of b → result ≡ agreement_of a b }
 {
-    stages::judged(smaller, larger.ecef, larger.has_height)
+    stages::judged(smaller, factor, larger.ecef, larger.has_height)
 }

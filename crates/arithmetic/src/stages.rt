@@ -1,4 +1,4 @@
-//! What depends on one fix alone, and the comparison of two prepared fixes.
+//! What depends on one fix alone, and the comparison of two placed fixes.
 
 ghost use Rattle.std.specs.Prelude.{◌≡◌, true, false, Some};
 ghost use Rattle.std.specs.Float.Ieee.Scale.{finite};
@@ -6,7 +6,7 @@ ghost use Rattle.arithmetic.specs.Agree.{metres_of, geodetic_of, finitely, agree
 ghost use Rattle.geometry.specs.declared.linalg.Factor.TheVariants.{Flat, Full};
 ghost use Rattle.arithmetic.specs.Stages.{enu_of, with_limit, measured_of, judged_of};
 
-use crate::standing::{Agreement, Claimed, Measure, Prepared};
+use crate::standing::{Agreement, Claimed, Measure, Placed};
 use geometry::geodesy::{Basis, Geodetic, Vec3};
 use geometry::linalg::{Factor, ThirdRow, TwoRows};
 
@@ -101,11 +101,11 @@ fn measured(three: bool, f: Factor, v: Vec3) -> Agreement
     }
 }
 
-/// How a larger fix at `to`, with a height or without, stands to a prepared one.
-pub fn judged(from: &Prepared, to: Vec3, high: bool) -> Agreement
-    ensures { result ≡ judged_of from.now to high }
+/// How a larger fix at `to`, with a height or without, stands to a smaller one with this factor.
+pub fn judged(from: &Placed, factor: &Option<Factor>, to: Vec3, high: bool) -> Agreement
+    ensures { result ≡ judged_of from.now factor.now to high }
 {
-    let Some(factor) = from.factor else {
+    let Some(factor) = *factor else {
         return Agreement::Unmeasurable;
     };
     let d = geometry::geodesy::sub(to, from.ecef);

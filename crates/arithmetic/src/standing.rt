@@ -1,7 +1,7 @@
 //! What a fix claims, and how another stands to it.
 
 use geometry::geodesy::{Basis, Vec3};
-use geometry::linalg::{Covariance, Factor};
+use geometry::linalg::Covariance;
 
 /// What a fix claims: 1e-7 degree, millimetres above the ellipsoid where it states a height, and how sure.
 #[derive(Clone, Copy)]
@@ -12,13 +12,12 @@ pub struct Claimed {
     pub covariance: Covariance,
 }
 
-/// What depends on one fix alone, worked out once and compared with many: its position, its directions, the factor of its covariance, if
-/// there is one, and whether it has a height.
+/// What depends on one fix alone, whether it is the smaller of two or the larger: its position, its directions, and whether it has a height.
+/// What only a smaller one is compared by, the factor of its covariance, stands apart.
 #[derive(Clone, Copy)]
-pub struct Prepared {
+pub struct Placed {
     pub ecef: Vec3,
     pub basis: Basis,
-    pub factor: Option<Factor>,
     pub has_height: bool,
 }
 

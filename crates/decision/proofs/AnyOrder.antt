@@ -1,9 +1,9 @@
 -- Items decided in ascending identity get one decision, whatever the order in which they were given, and no other than that of the order given.
-use mathlib.Core.Path.{◌≡◌, refl, sym, ap, ap₂, ◌∙◌, subst}
+use mathlib.Core.Path.{◌≡◌, refl, sym, ap, ap₂, ◌∙◌}
 use mathlib.Core.Bool.{false}
 use mathlib.Core.List.Memᴰ
 use mathlib.Core.List.Permᴰ
-use mathlib.Core.List.{List, [], ◌∷◌, ◌++◌, map, Memᴰ, Permᴰ}
+use mathlib.Core.List.{List, [], ◌∷◌, ◌++◌, map, Memᴰ}
 use Prim.Native.Nat.{ℕ, ◌<◌}
 use Rattle.lists.specs.Lists.{up_to}
 use Rattle.lists.proofs.Lists.{up_in, sort-in, sort-map}
@@ -16,7 +16,7 @@ use Rattle.decision_rule.specs.Outcome.{Refused, Outcome}
 use Rattle.decision_rule.specs.Related.{item_relations}
 use Rattle.decision.specs.Answer.{is_bad}
 use Rattle.decision.specs.Sorted.{by_identity, sorted_outcome}
-use Rattle.decision.specs.Claims.{listed_in, item_count, item_at, Reordered, by_identities, OneDecision, NoOtherDecision}
+use Rattle.decision.specs.Claims.{listed_in, item_count, Reordered, by_identities, OneDecision, NoOtherDecision}
 use Rattle.decision.proofs.Carried.{carried, carried_outcome}
 use Rattle.decision.proofs.Laws.{Named, opponent, successor, listed-once, refused-names, dominated-ascend, refused-ascend}
 use Rattle.decision.proofs.Decided.{alike, lower}

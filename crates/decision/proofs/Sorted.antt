@@ -1,7 +1,6 @@
 -- What is decided of the items in ascending identity is what is decided of them as they were given, with the dominated and the refusals in ascending identity:
 -- so the code sorts two lists.
-use Rattle.std.proofs.Common.{◌≡◌, ℕ, ◌/◌, ◌+◌, ◌<◌, Bool, true, false, refl, sym, ap, ◌∙◌, arith, subst, length}
-use mathlib.Core.List.Permᴰ
+use Rattle.std.proofs.Common.{◌≡◌, ℕ, ◌/◌, Bool, true, false, refl, arith, subst, length}
 use mathlib.Core.List.{List, [], ◌∷◌, map, Memᴰ, Permᴰ}
 use lib.Dec.{ltb, eqb}
 use borrow.Author.Tests.{ltb-false, eqb-true, eqb-false, lt-ltb, le-ltb}
@@ -13,7 +12,6 @@ use Rattle.std.proofs.lemmas.Cmp.{nat_list_cmp_total}
 use Rattle.std.proofs.lemmas.List.MinMax.{ranks_by}
 use Rattle.lists.proofs.Bools.{by}
 use Rattle.octets.specs.Order.{is_before}
-use Rattle.octets.proofs.Comparison.{before-trans, before-irrefl}
 use Rattle.lists.specs.Lists.{up_to, Ascending}
 use Rattle.lists.proofs.Lists.{sort-perm, sort-in}
 use Rattle.lists.proofs.Orders.{perm-map}
@@ -21,8 +19,6 @@ use Rattle.lists.proofs.Sorting.{Strict, strict-sub, sort-ascends, ascending-map
 use Rattle.lists.proofs.Standard.{sorted_is}
 use Rattle.decision_items.specs.Layout.{item_size}
 use Rattle.decision_items.specs.Items.{item_identity, lower_at, ahead_at}
-use Rattle.decision_rule.specs.Standing.{decide}
-use Rattle.decision_rule.specs.Outcome.{Refused}
 use Rattle.decision_rule.specs.Related.{item_relations}
 use Rattle.decision.specs.declared.Refusal.{Refusal}
 use Rattle.decision.specs.Answer.{is_bad, outcome, refusal}
@@ -30,7 +26,6 @@ use Rattle.decision.specs.Sorted.{by_identity, sorted_outcome}
 use Rattle.decision.proofs.Laws.{same-ranked, same-dominated, same-refused, dominated-ascend, refused-ascend}
 use Rattle.decision.proofs.Passed.{good-items}
 use Rattle.decision.proofs.Sound.{by-identity, by_rank, items-apart}
-use Rattle.arithmetic.specs.declared.standing.ChiSquare.{ChiSquare}
 
 -- std's order of bytes is ours
 pub std-order : (a b : List ℕ) → is_lt (slice_cmp nat_cmp a b) ≡ is_before a b

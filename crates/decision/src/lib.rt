@@ -4,7 +4,7 @@
 //! with smaller tables and lists, each in a frame of its own.
 #![tactic(auto)]
 
-ghost use Rattle.std.specs.Prelude.{◌≡◌, ℕ, false, [], ◌+◌, ◌*◌, ◌≤◌, ◌<◌, length};
+ghost use Rattle.std.specs.Prelude.{◌≡◌, ℕ, false, [], ◌+◌, ◌*◌, ◌≤◌, ◌<◌, length, replicate, None};
 ghost use Rattle.lists.specs.Lists.{up_to};
 ghost use Rattle.decision_items.specs.Layout.{item_size, max_items};
 ghost use Rattle.decision.specs.Answer.{outcome, decided_arrays};
@@ -19,7 +19,7 @@ use arrayvec::ArrayVec;
 use decision_items::Item;
 use decision_items::layout::{ITEM_SIZE, MAX_ITEMS};
 use decision_rule::listed::Listed;
-use decision_rule::row::Row;
+use decision_rule::row::{KnownFactor, Row};
 use decision_rule::settled::Settled;
 
 pub mod claims;
@@ -109,14 +109,21 @@ fn read<'a, F: Fn(usize) -> Item<'a>>(items: &mut [Item<'a>], item: F)
     }
 }
 
-// What is decided of items, in lent rows: one for each.
-fn decide_items<const N: usize>(items: &[Item<'_>], rows: &mut [Row]) -> Decision<N>
+// What is decided of items, in lent rows, one for each, and a lent table with room for a factor of each, of which none is known yet.
+fn decide_items<const N: usize>(
+    items: &[Item<'_>],
+    rows: &mut [Row],
+    factors: &mut [KnownFactor],
+) -> Decision<N>
     requires few { length items.now ≤ max_items }
     requires room { length items.now ≤ N }
     requires rows_len { length rows.old ≡ length items.now }
+    requires factors_len { length items.now ≤ length factors.old }
+    requires none_known { factors.old ≡ replicate (length factors.old) None }
     ensures { Says result (among items.now) }
 {
-    decision_of(&Settled::of(Listed::of(items), rows))
+    let factors = &mut factors[..items.len()];
+    decision_of(&Settled::of(Listed::of(items), rows, factors))
 }
 
 /// What is decided of at most `LEAST` items, each of which is given by its place.
@@ -128,21 +135,49 @@ pub fn decide_least<'a, F: Fn(usize) -> Item<'a>>(n: usize, item: F) -> Decision
 {
     let mut items = [item(0); LEAST];
     let mut rows = [Row::empty(); LEAST];
+    let mut factors = [None; LEAST];
     read(&mut items[..n], item);
-    decide_items(&items[..n], &mut rows[..n])
+    decide_items(&items[..n], &mut rows[..n], &mut factors)
 }
 
-/// What is decided of at most `FEW` items, each of which is given by its place.
+// In the smallest tables, where the lists have room for few.
 #[inline(never)]
-pub fn decide_few<'a, F: Fn(usize) -> Item<'a>>(n: usize, item: F) -> Decision<FEW>
+fn decide_fewest<'a, F: Fn(usize) -> Item<'a>>(n: usize, item: F) -> Decision<FEW>
+    requires n_bound { (0 < n) × (n ≤ LEAST) }
+    requires given { (i : ℕ) → i < n → F.pre item i }
+    ensures { DecidesEach (F.post item) n result }
+{
+    let mut items = [item(0); LEAST];
+    let mut rows = [Row::empty(); LEAST];
+    let mut factors = [None; LEAST];
+    read(&mut items[..n], item);
+    decide_items(&items[..n], &mut rows[..n], &mut factors)
+}
+
+// In tables with room for few.
+#[inline(never)]
+fn decide_more<'a, F: Fn(usize) -> Item<'a>>(n: usize, item: F) -> Decision<FEW>
     requires n_bound { (0 < n) × (n ≤ FEW) }
     requires given { (i : ℕ) → i < n → F.pre item i }
     ensures { DecidesEach (F.post item) n result }
 {
     let mut items = [item(0); FEW];
     let mut rows = [Row::empty(); FEW];
+    let mut factors = [None; FEW];
     read(&mut items[..n], item);
-    decide_items(&items[..n], &mut rows[..n])
+    decide_items(&items[..n], &mut rows[..n], &mut factors)
+}
+
+/// What is decided of at most `FEW` items, each of which is given by its place.
+pub fn decide_few<'a, F: Fn(usize) -> Item<'a>>(n: usize, item: F) -> Decision<FEW>
+    requires n_bound { (0 < n) × (n ≤ FEW) }
+    requires given { (i : ℕ) → i < n → F.pre item i }
+    ensures { DecidesEach (F.post item) n result }
+{
+    if n <= LEAST {
+        return decide_fewest(n, item);
+    }
+    decide_more(n, item)
 }
 
 /// What is decided of at most `SOME` items, each of which is given by its place.
@@ -154,8 +189,9 @@ pub fn decide_some<'a, F: Fn(usize) -> Item<'a>>(n: usize, item: F) -> Decision<
 {
     let mut items = [item(0); SOME];
     let mut rows = [Row::empty(); SOME];
+    let mut factors = [None; SOME];
     read(&mut items[..n], item);
-    decide_items(&items[..n], &mut rows[..n])
+    decide_items(&items[..n], &mut rows[..n], &mut factors)
 }
 
 // In small tables, where the lists have room for all.
@@ -167,8 +203,9 @@ fn decide_small<'a, F: Fn(usize) -> Item<'a>>(n: usize, item: F) -> Decision<MAX
 {
     let mut items = [item(0); FEW];
     let mut rows = [Row::empty(); FEW];
+    let mut factors = [None; FEW];
     read(&mut items[..n], item);
-    decide_items(&items[..n], &mut rows[..n])
+    decide_items(&items[..n], &mut rows[..n], &mut factors)
 }
 
 // In tables with room for all.
@@ -180,8 +217,9 @@ fn decide_many<'a, F: Fn(usize) -> Item<'a>>(n: usize, item: F) -> Decision<MAX_
 {
     let mut items = [item(0); MAX_ITEMS];
     let mut rows = [Row::empty(); MAX_ITEMS];
+    let mut factors = [None; MAX_ITEMS];
     read(&mut items[..n], item);
-    decide_items(&items[..n], &mut rows[..n])
+    decide_items(&items[..n], &mut rows[..n], &mut factors)
 }
 
 /// What is decided of items, each of which is given by its place.

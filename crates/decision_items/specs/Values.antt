@@ -1,8 +1,10 @@
 -- No claim rests on these definitions: they say how two items relate as values, and which item in a string of bytes a value is.
-use Rattle.std.specs.Prelude.{◌≡◌, ℕ, ◌*◌, ◌≤◌, ◌<◌, Bool, false, true, cond, not, ◌&&◌, List, length}
+use Rattle.std.specs.Prelude.{◌≡◌, ℕ, ◌*◌, ◌≤◌, ◌<◌, Bool, false, true, cond, not, ◌&&◌, List, length, Option}
 use Rattle.octets.specs.Order.{is_before}
 use Rattle.record.specs.Relations.{subset}
 use Rattle.record.specs.Formed.{well_formed}
+use Rattle.geometry.specs.Factors.{factor_of}
+use Rattle.geometry.specs.declared.linalg.Factor.{Factor}
 use Rattle.arithmetic.specs.Agree.{agreement_of, agrees_of}
 use Rattle.arithmetic.specs.declared.standing.Agreement.{Agreement}
 use Rattle.decision_items.specs.Layout.{max_items, item_size}
@@ -13,6 +15,10 @@ use Rattle.decision_items.specs.declared.item.Item.{Item}
 
 abbrev pub is_subset : Item → Item → Bool
 is_subset x y = subset x.report.bytes.now y.report.bytes.now
+
+-- the factor of its covariance, if there is one
+abbrev pub factor : Item → Option Factor
+factor x = factor_of (claim_of x.report.bytes.now).covariance
 
 -- x against its subset y
 abbrev pub agreement : Item → Item → Agreement

@@ -15,7 +15,8 @@ fn number(r: Record, k: usize) -> f64
     floats::of_bits(r.covariance_bits(k))
 }
 
-fn covariance(r: Record) -> Covariance
+/// How sure a record is.
+pub fn covariance(r: Record) -> Covariance
     ensures { result ≡ C.covariance_of r.entry.bytes.now }
 {
     Covariance {

@@ -3,7 +3,7 @@
 ghost use Rattle.std.specs.Prelude.{◌≡◌, ◌+◌, ◌≤◌, true, take, drop, length};
 ghost use Rattle.octets.specs.Order.{same};
 ghost use Rattle.record.specs.Formed.{well_formed};
-ghost use Rattle.arithmetic.specs.Stages.{parts_of};
+ghost use Rattle.arithmetic.specs.Stages.{placed_of};
 ghost use Rattle.arithmetic.specs.Agree.{chi_square_in};
 ghost use Rattle.decision_items.specs.Layout.{hash_size};
 ghost use Rattle.decision_items.specs.Claimed.{claim_of};
@@ -14,19 +14,21 @@ use crate::layout::{
     CONSISTENT_AT, HASH_SIZE, IDENTITY_AT, INPUTS_AT, ITEM_SIZE, PREFERRED_AT, STANDING_AT,
     VERIFIED_AT,
 };
-use arithmetic::standing::{Agreement, ChiSquare, Prepared};
+use arithmetic::standing::{Agreement, ChiSquare, Placed};
+use geometry::linalg::Factor;
 use record::Record;
 
 /// A record with its model inputs and its identity, and what a decision goes by besides. What its comparison with others needs
-/// of its claim is worked out once, so that the comparison of two takes no root and no sine or cosine.
+/// of its claim is worked out once, so that the comparison of two takes no sine or cosine. The factor of its covariance, which takes
+/// three roots, is worked out only where it is asked for (`factor`): an item that is no other's subset is compared without one.
 #[derive(Clone, Copy)]
 pub struct Item<'a> {
     pub report: Record<'a>,
     pub inputs: &'a [u8; HASH_SIZE],
     pub identity: &'a [u8; HASH_SIZE],
     pub candidate: Candidate,
-    prepared: Prepared,
-    ghost is_prepared: { prepared ≡ parts_of (claim_of report.bytes.now) },
+    placed: Placed,
+    ghost is_placed: { placed ≡ placed_of (claim_of report.bytes.now) },
 }
 
 // The 32 bytes from a place on.
@@ -66,13 +68,13 @@ impl<'a> Item<'a> {
         ensures identity { result.identity.now ≡ identity.now }
         ensures candidate { result.candidate ≡ candidate }
     {
-        let prepared = arithmetic::prepare(crate::claimed::claimed(report));
+        let placed = arithmetic::place(crate::claimed::claimed(report));
         Item {
             report,
             inputs,
             identity,
             candidate,
-            prepared,
+            placed,
         }
     }
 
@@ -94,25 +96,36 @@ impl<'a> Item<'a> {
         self.report.is_subset_of(other.report)
     }
 
-    // How it compares with its subset.
-    fn compare(&self, subset: &Item<'_>) -> Agreement
+    /// The factor of its covariance, if there is one: what its supersets are compared with it by.
+    #[inline(never)]
+    pub fn factor(&self) -> Option<Factor>
+        ensures { result ≡ V.factor self.now }
+    {
+        geometry::linalg::cholesky(crate::claimed::covariance(self.report))
+    }
+
+    // How it compares with its subset, whose factor this is.
+    fn compare(&self, subset: &Item<'_>, factor: &Option<Factor>) -> Agreement
+        requires { factor.now ≡ V.factor subset.now }
         ensures { result ≡ V.agreement self.now subset.now }
     {
-        arithmetic::compare(&subset.prepared, &self.prepared)
+        arithmetic::compare(&subset.placed, factor, &self.placed)
     }
 
-    /// Whether it disagrees with its subset.
-    pub fn is_apart_from(&self, subset: &Item<'_>) -> bool
+    /// Whether it disagrees with its subset, whose factor this is.
+    pub fn is_apart_from(&self, subset: &Item<'_>, factor: &Option<Factor>) -> bool
+        requires { factor.now ≡ V.factor subset.now }
         ensures { result ≡ V.is_apart self.now subset.now }
     {
-        !arithmetic::agrees(self.compare(subset))
+        !arithmetic::agrees(self.compare(subset, factor))
     }
 
-    /// The chi-square of it against its subset.
-    pub fn chi_square(&self, subset: &Item<'_>) -> ChiSquare
+    /// The chi-square of it against its subset, whose factor this is.
+    pub fn chi_square(&self, subset: &Item<'_>, factor: &Option<Factor>) -> ChiSquare
+        requires { factor.now ≡ V.factor subset.now }
         ensures { result ≡ chi_square_in (V.agreement self.now subset.now) }
     {
-        arithmetic::chi_square(self.compare(subset))
+        arithmetic::chi_square(self.compare(subset, factor))
     }
 
     /// Whether it is verified, and passed.

@@ -1,19 +1,24 @@
 //! Items, each two of them compared once.
 
-ghost use Rattle.std.specs.Prelude.{◌≡◌, length, ◌<◌, IfSome};
+ghost use Rattle.std.specs.Prelude.{◌≡◌, length, replicate, ◌<◌, None, IfSome};
 ghost use Rattle.decision_rule.specs.Rows.{Rows};
+ghost use Rattle.decision_rule.specs.Factors.{Factors};
 
 use crate::listed::Listed;
 use crate::places::Places;
-use crate::row::Row;
+use crate::row::{KnownFactor, Row};
+use arithmetic::standing::ChiSquare;
 
 // Compares each two of the items.
-fn fill(listed: Listed<'_>, rows: &mut [Row])
-    requires { length rows.old ≡ length listed.items.now }
-    ensures { (length rows.new ≡ length rows.old) × Rows listed.entry.items.now (length rows.new) rows.new }
+fn fill(listed: Listed<'_>, rows: &mut [Row], factors: &mut [KnownFactor])
+    requires rows_len { length rows.old ≡ length listed.items.now }
+    requires factors_len { length factors.old ≡ length listed.items.now }
+    requires known { Factors listed.items.now factors.old }
+    ensures rows { (length rows.new ≡ length rows.old) × Rows listed.entry.items.now (length rows.new) rows.new }
+    ensures factors { Factors listed.entry.items.now factors.new }
 {
     for i in 0..rows.len() {
-        rows[i] = listed.row(i);
+        rows[i] = listed.row(factors, i);
     }
 }
 
@@ -22,22 +27,31 @@ fn fill(listed: Listed<'_>, rows: &mut [Row])
 pub struct Compared<'a> {
     pub listed: Listed<'a>,
     pub rows: &'a [Row],
+    factors: &'a [KnownFactor],
     ghost all: { length rows.now ≡ length listed.items.now },
     ghost known: { Rows listed.items.now (length listed.items.now) rows.now },
+    ghost all_factors: { length factors.now ≡ length listed.items.now },
+    ghost known_factors: { Factors listed.items.now factors.now },
 }
 
 impl<'a> Compared<'a> {
     ghost use Rattle.decision_rule.specs.Rows as R;
+    ghost use Rattle.decision_rule.specs.Listed as L;
     ghost use Rattle.decision_rule.specs.Places.{set_of};
     ghost use Rattle.decision_rule.specs.Phases.{compared_items as items_of};
 
-    /// Compares each two of the items, in lent rows: one for each.
-    pub fn of(listed: Listed<'a>, rows: &'a mut [Row]) -> Self
-        requires { length rows.old ≡ length listed.items.now }
+    /// Compares each two of the items, in lent rows and a lent table of factors: one of each for each item. No factor is known before.
+    pub fn of(listed: Listed<'a>, rows: &'a mut [Row], factors: &'a mut [KnownFactor]) -> Self
+        requires rows_len { length rows.old ≡ length listed.items.now }
+        requires none_known { factors.old ≡ replicate (length listed.items.now) None }
         ensures { result.listed.items.now ≡ listed.entry.items.now }
     {
-        fill(listed, rows);
-        Compared { listed, rows }
+        fill(listed, rows, factors);
+        Compared {
+            listed,
+            rows,
+            factors,
+        }
     }
 
     fn row(&self, i: usize) -> Row
@@ -171,6 +185,14 @@ impl<'a> Compared<'a> {
     {
         let row = self.row(i);
         row.disagreeing.without(superseded)
+    }
+
+    /// The chi-square of item i against its subset j.
+    pub fn chi_square(&self, i: usize, j: usize) -> ChiSquare
+        requires { (i < length (items_of self.now)) × (j < length (items_of self.now)) }
+        ensures { result ≡ (L.relations (items_of self.now)).chi_square i j }
+    {
+        self.listed.chi_square(i, j, self.factors[j])
     }
 
     /// Of those that take the place of item i the lowest identity.

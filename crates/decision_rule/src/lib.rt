@@ -5,6 +5,7 @@
 
 pub mod compared;
 pub mod listed;
+mod pairs;
 pub mod places;
 pub mod row;
 pub mod settled;

@@ -1,11 +1,12 @@
 //! Items by their places in a list.
 
-ghost use Rattle.std.specs.Prelude.{◌≡◌, ◌&&◌, true, length, ◌≤◌, ◌<◌, IfSome};
+ghost use Rattle.std.specs.Prelude.{◌≡◌, ◌&&◌, true, length, ◌≤◌, ◌<◌, Some, IfSome, slice_get};
+ghost use Rattle.decision_items.specs.declared.item.Item.{Item};
 ghost use Rattle.decision_items.specs.Layout.{max_items};
-ghost use Rattle.decision_items.specs.Values as V;
 
+use crate::pairs;
 use crate::places::Places;
-use crate::row::Row;
+use crate::row::{KnownFactor, Row};
 use arithmetic::standing::ChiSquare;
 use decision_items::Item;
 
@@ -16,23 +17,12 @@ pub struct Listed<'a> {
     ghost few: { length items.now ≤ max_items },
 }
 
-// Whether an item disagrees with its subset, if that is consistent.
-#[tactic(auto, unfolding(decision_items::specs::Values::disagrees))]
-fn disagrees(item: &Item<'_>, subset: &Item<'_>) -> bool
-    requires { V.is_subset subset.now item.now ≡ true }
-    ensures { result ≡ V.disagrees item.now subset.now }
-{
-    if !subset.candidate.consistent {
-        return false;
-    }
-    item.is_apart_from(subset)
-}
-
 impl<'a> Listed<'a> {
     ghost use Rattle.decision_rule.specs.Rows as R;
     ghost use Rattle.decision_rule.specs.Listed as L;
     ghost use Rattle.decision_rule.specs.First as F;
     ghost use Rattle.decision_rule.specs.Places.{has_place, set_of};
+    ghost use Rattle.decision_rule.specs.Factors.{IsKnown, Factors};
 
     /// The items of a list.
     pub fn of(items: &'a [Item<'a>]) -> Listed<'a>
@@ -61,14 +51,19 @@ impl<'a> Listed<'a> {
         item.ranks_before(other)
     }
 
-    /// The chi-square of item i against its subset j.
-    pub fn chi_square(&self, i: usize, j: usize) -> ChiSquare
-        requires { (i < length self.now.items.now) × (j < length self.now.items.now) }
+    /// The chi-square of item i against its subset j, of whose factor this is known.
+    pub fn chi_square(&self, i: usize, j: usize, known: KnownFactor) -> ChiSquare
+        requires i_below { i < length self.now.items.now }
+        requires j_below { j < length self.now.items.now }
+        requires known { (x : Item) → slice_get self.now.items.now j ≡ Some x → IsKnown x known }
         ensures { result ≡ (L.relations self.now.items.now).chi_square i j }
     {
         let item = &self.items[i];
         let subset = &self.items[j];
-        item.chi_square(subset)
+        match known {
+            Some(factor) => item.chi_square(subset, &factor),
+            None => item.chi_square(subset, &subset.factor()),
+        }
     }
 
     // The lower identity of best, if there is one, and item j.
@@ -124,10 +119,13 @@ impl<'a> Listed<'a> {
         some
     }
 
-    /// How item i stands to each other.
-    pub fn row(&self, i: usize) -> Row
-        requires { i < length self.now.items.now }
-        ensures { result ≡ R.row self.now.items.now i (length self.now.items.now) }
+    /// How item i stands to each other. The factors that it is the first to ask for are put into the table.
+    pub fn row(&self, factors: &mut [KnownFactor], i: usize) -> Row
+        requires i_below { i < length self.now.items.now }
+        requires factors_len { length factors.old ≡ length self.now.items.now }
+        requires known { Factors self.now.items.now factors.old }
+        ensures row { result ≡ R.row self.now.items.now i (length self.now.items.now) }
+        ensures known { Factors self.now.items.now factors.new }
     {
         let item = &self.items[i];
         let mut row = Row::empty();
@@ -137,7 +135,7 @@ impl<'a> Listed<'a> {
                 continue;
             }
             row.subsets.insert(j);
-            if !disagrees(item, subset) {
+            if !pairs::disagrees(item, subset, &mut factors[j]) {
                 continue;
             }
             row.disagreeing.insert(j);

@@ -24,11 +24,10 @@ impl Places {
     }
 
     pub fn insert(&mut self, i: usize)
-        ensures { i < 96 → self.new.word ≡ bit_or self.old.word (2 ^ i) }
+        requires { i < 96 }
+        ensures { self.new.word ≡ bit_or self.old.word (2 ^ i) }
     {
-        if i < 96 {
-            self.word |= 1u128 << i;
-        }
+        self.word |= 1u128 << i;
     }
 
     /// Whether place 0 is one of them; then each other is a place lower.

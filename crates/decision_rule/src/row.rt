@@ -1,8 +1,12 @@
-//! What is known of an item and each other.
+//! What is known of an item alone, and of it and each other.
 
 ghost use Rattle.std.specs.Prelude.{◌≡◌};
 
 use crate::places::Places;
+use geometry::linalg::Factor;
+
+/// What is known of the factor of an item's covariance: nothing yet, or what it is, if there is one.
+pub type KnownFactor = Option<Option<Factor>>;
 
 /// How an item stands to each other.
 #[derive(Clone, Copy)]

@@ -1,12 +1,12 @@
 //! Items of which all is settled: who is refused, and against whom, who is dominated, and who is ranked.
 
-ghost use Rattle.std.specs.Prelude.{◌≡◌, ◌<◌, length, IfSome};
+ghost use Rattle.std.specs.Prelude.{◌≡◌, ◌<◌, length, replicate, None, IfSome};
 ghost use Rattle.decision_rule.specs.Rows as R;
 
 use crate::compared::Compared;
 use crate::listed::Listed;
 use crate::places::Places;
-use crate::row::Row;
+use crate::row::{KnownFactor, Row};
 use arithmetic::standing::ChiSquare;
 
 /// Compared items, and which of them supersede, are superseded, refused or covered.
@@ -27,12 +27,13 @@ impl<'a> Settled<'a> {
     ghost use Rattle.decision_rule.specs.Listed as L;
     ghost use Rattle.decision_rule.specs.Phases.{items_of};
 
-    /// Settles items, in lent rows: one for each.
-    pub fn of(listed: Listed<'a>, rows: &'a mut [Row]) -> Self
-        requires { length rows.old ≡ length listed.items.now }
+    /// Settles items, in lent rows and a lent table of factors: one of each for each item. No factor is known before.
+    pub fn of(listed: Listed<'a>, rows: &'a mut [Row], factors: &'a mut [KnownFactor]) -> Self
+        requires rows_len { length rows.old ≡ length listed.items.now }
+        requires none_known { factors.old ≡ replicate (length listed.items.now) None }
         ensures { items_of result ≡ listed.entry.items.now }
     {
-        let compared = Compared::of(listed, rows);
+        let compared = Compared::of(listed, rows, factors);
         let superseding = compared.superseding();
         let superseded = compared.superseded(superseding);
         let refused = compared.refused(superseding, superseded);
@@ -129,6 +130,6 @@ impl<'a> Settled<'a> {
         requires { (i < length (items_of self.now)) × (j < length (items_of self.now)) }
         ensures { result ≡ (L.relations (items_of self.now)).chi_square i j }
     {
-        self.compared.listed.chi_square(i, j)
+        self.compared.chi_square(i, j)
     }
 }

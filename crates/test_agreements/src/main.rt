@@ -282,7 +282,12 @@ fn show_agrees(rt: &impl Print, a: Agreement) -> io::Result<()> {
 }
 
 fn staged(smaller: Claimed, larger: Claimed) -> Agreement {
-    arithmetic::compare(&arithmetic::prepare(smaller), &arithmetic::prepare(larger))
+    let factor = geometry::linalg::cholesky(smaller.covariance);
+    arithmetic::compare(
+        &arithmetic::place(smaller),
+        &factor,
+        &arithmetic::place(larger),
+    )
 }
 
 fn show_pair(rt: &impl Print, smaller: Claimed, larger: Claimed) -> io::Result<()> {

@@ -1,4 +1,4 @@
-use Rattle.std.proofs.Common.{sym, ◌∙◌, arith}
+use Rattle.std.proofs.Common.{sym, ◌∙◌}
 use Rattle.decision_rule.specs.Rows as R
 use Rattle.decision_rule.proofs.Sets.{set-none, hit, miss}
 use Rattle.decision_rule.proofs.compared.Compared.refused.Goals as goal
@@ -10,4 +10,4 @@ pub loop-i-preserved-then-not-is_refused : goal.loop-i-preserved-then-not-is_ref
 loop-i-preserved-then-not-is_refused c = miss (R.is_refused c.args.self.now.listed.items.now) c.loop-i.i c.loop-i.invariant c.is_refused.ensures c.if-not-is_refused.true
 
 pub loop-i-preserved : goal.loop-i-preserved
-loop-i-preserved c = c.insert.ensures (omega arith) ∙ hit (R.is_refused c.args.self.now.listed.items.now) c.loop-i.i c.loop-i.invariant c.is_refused.ensures c.if-not-is_refused.false
+loop-i-preserved c = c.insert.ensures ∙ hit (R.is_refused c.args.self.now.listed.items.now) c.loop-i.i c.loop-i.invariant c.is_refused.ensures c.if-not-is_refused.false

@@ -43,7 +43,7 @@ loop-j-preserved c =
     record {
       left = c.shift.ensures.1 ∙ shifted c.args.superseding.word j c.loop-j.invariant.left;
       some =
-          c.insert.ensures (omega arith)
+          c.insert.ensures
           ∙ hit (R.replaces xs c.args.i) j c.loop-j.invariant.some refl
           (both (c.shift.ensures.0 ∙ asked-first (R.supersedes xs) (length xs) j c.requires.1 (omega arith) c.loop-j.invariant.left) c.if-not-shift.false
           (c.contains.ensures ∙ asked ((relations xs).disagrees j) (length xs) c.args.i (ap (λ w. w.disagreeing.word) c.row-row.ensures) c.requires.0 (omega arith))

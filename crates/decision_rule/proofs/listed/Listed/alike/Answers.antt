@@ -1,4 +1,4 @@
-use Rattle.std.proofs.Common.{sym, ◌∙◌, arith, refl, ◌&&◌, false}
+use Rattle.std.proofs.Common.{sym, ◌∙◌, refl, ◌&&◌, false}
 use Rattle.octets.specs.Order.{same}
 use Rattle.decision_rule.specs.Listed as L
 use Rattle.decision_rule.specs.Places.{has_place}
@@ -41,7 +41,7 @@ loop-j-preserved c =
     record {
       left = c.shift.ensures.1 ∙ shifted c.args.of.word j c.loop-j.invariant.left;
       some =
-          c.insert.ensures (omega arith)
+          c.insert.ensures
           ∙ hit (λ j. has_place c.args.of.word j && L.have_same_inputs l j c.args.i) j c.loop-j.invariant.some refl
           (both (c.shift.ensures.0 ∙ first-of c.args.of.word j c.loop-j.invariant.left) c.if-not-shift.false (c.has_inputs_of.ensures ∙ two-at false (λ x y. same x.inputs.now y.inputs.now) l j c.args.i c.index-self-j.result c.index-self-i.result c.loop-j-test.true c.requires) c.if-not-has_inputs_of.false);
     }

@@ -1,6 +1,6 @@
 use Rattle.std.proofs.Common.{refl, arith}
 use Rattle.decision.proofs.Holding.{each-one, in-front, decides}
-use Rattle.decision.proofs.decide_few.Goals as goal
+use Rattle.decision.proofs.decide_more.Goals as goal
 
 pub read-requires : goal.read-requires
 read-requires g c κs = (
