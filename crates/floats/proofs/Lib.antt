@@ -1,7 +1,6 @@
 pub mod Square
 pub mod Leading
 pub mod Middle
-pub mod Karatsuba
 pub mod Near
 pub mod Pattern
 pub mod Positives

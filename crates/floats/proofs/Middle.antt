@@ -36,17 +36,8 @@ by-eighth s Ordering.gt h k e = (omega (arith, k tt), omega (arith, k tt))
 pub near : (s : ℕ) → (8 * closest s 8 ≤ s + 4) × (s ≤ 8 * closest s 8 + 4)
 near s = by-eighth s (compare (s % 8 * 2) 8) (leb→le (s % 8 * 2) 8) (nleb→lt (s % 8 * 2) 8) (eqb→eq (s % 8 * 2) 8)
 
--- and where there is no tie: the whole part of a half more
-by-half : (s : ℕ) (o : Ordering) → (s % 8 ≡ 4 → ⊥) → (T (is_le o) → s % 8 * 2 ≤ 8) → (T (not (is_le o)) → 8 < s % 8 * 2) → (T (compare_is_eq o) → s % 8 * 2 ≡ 8) → nearest (s / 8) o ≡ (s + 4) / 8
-by-half s Ordering.lt n h k e = omega (arith, h tt)
-by-half s Ordering.eq n h k e = absurd (n (omega (arith, e tt)))
-by-half s Ordering.gt n h k e = omega (arith, k tt)
-
-pub closest-half : (s : ℕ) → (s % 8 ≡ 4 → ⊥) → closest s 8 ≡ (s + 4) / 8
-closest-half s n = by-half s (compare (s % 8 * 2) 8) n (leb→le (s % 8 * 2) 8) (nleb→lt (s % 8 * 2) 8) (eqb→eq (s % 8 * 2) 8)
-
 -- ---- the root of n lies strictly between the two middles: an n that 8 divides is the square of neither
-middle-sq : (j : ℕ) → (4 * j + 2) * (4 * j + 2) ≡ 16 * (j * j) + 16 * j + 4
+pub middle-sq : (j : ℕ) → (4 * j + 2) * (4 * j + 2) ≡ 16 * (j * j) + 16 * j + 4
 middle-sq j = simp (mul-add, add-mul, mul_assoc, mul_left_comm j 4 j) (omega arith)
 
 module _ (n q k : ℕ) (w : Whole n q) (eights : n % 8 ≡ 0) (k-is : k ≡ closest (sticky n q) 8) where

@@ -1,11 +1,11 @@
 -- The digits that are kept of a root are nearer to it than any other number of at most 53 digits, shifted. In whole numbers, with squares in the place of roots.
-use Rattle.std.proofs.Common.{◌≡◌, ℕ, suc, ◌+◌, ◌-◌, ◌*◌, ◌%◌, ◌^◌, ◌<◌, ◌≤◌, ◌⊎◌, sym, refl, ap, ◌∙◌, subst, inl, inr, le_trans, le_of_eq, lt_of_lt_of_le, le_of_suc-le-suc, le-add_right, lt_of_le_of_lt, le_of_lt, lt_irrefl, mul-le-mul_right, mul_assoc, add-mul, lt_of_mul-lt-mul_right, eq-or-lt_of_le, mul-le-mul_left, mul-lt-mul_of_pos_right, mul-pos, one-mul, pow-suc, lt_of_not-le, add-one, arith, lit<, lit≤, pow_pos, pow_mono, pow-add}
+use Rattle.std.proofs.Common.{◌≡◌, ℕ, suc, ◌+◌, ◌-◌, ◌*◌, ◌%◌, ◌^◌, ◌<◌, ◌≤◌, ◌⊎◌, sym, refl, ap, ◌∙◌, subst, inl, inr, le_trans, le_of_eq, lt_of_lt_of_le, le_of_suc-le-suc, le-add_right, lt_of_le_of_lt, le_of_lt, lt_irrefl, mul-le-mul_right, mul_assoc, add-mul, le_antisymm, lt_of_mul-lt-mul_right, eq-or-lt_of_le, mul-le-mul_left, mul-lt-mul_of_pos_right, mul-pos, one-mul, pow-suc, lt_of_not-le, add-one, arith, lit<, lit≤, pow_pos, pow_mono, pow-add}
 use native.Mathlib.Nat.{mul-mul-mul_comm}
 use native.Mathlib.Decide.{dec_le}
 use lib.Ieee.Nearest.{closest}
 use Rattle.floats.specs.Root.{isqrt, sticky, digits_of}
-use Rattle.floats.proofs.Square.{sq-le, sq-lt}
-use Rattle.floats.proofs.Middle.{Whole, isqrt-whole, near, under-upper, over-lower}
+use Rattle.floats.proofs.Square.{sq-le, sq-lt, next-sq}
+use Rattle.floats.proofs.Middle.{Whole, isqrt-whole, middle-sq, near, under-upper, over-lower}
 
 -- ---- what a format of 53 digits has next to k * 2 ^ e
 split : (n d e : ℕ) → e ≤ d → n * 2 ^ d ≡ n * 2 ^ (d - e) * 2 ^ e
@@ -103,6 +103,28 @@ module _ (m : ℕ) (lo : 2 ^ 52 ≤ m) (hi : m < 2 ^ 54) where
   -- at the least k the root is no less than what is kept of it
   least : k ≡ 2 ^ 52 → 4 * k * (4 * k) ≤ n
   least e = rw e (le_trans (sq-le (2 ^ 54) q q-from) whole.low)
+
+  -- ---- and no other number is the nearest to the root of n / 16
+  module _ (r : ℕ) where
+    no_more : r * r < m * 2 ^ 52 + r → r ≤ k
+    unfolding n
+    no_more h = le_of_suc-le-suc (lt_of_not-le (λ (l : suc k ≤ r).
+        let j : r ≡ r - 1 + 1 = omega arith in
+        let s : r * r ≡ (r - 1) * (r - 1) + 2 * (r - 1) + 1 = ap (λ (z : ℕ). z * z) j ∙ next-sq (r - 1) in
+        let to : k ≤ r - 1 = omega arith in
+        absurd (omega (arith, h, s, upper, middle-sq k, sq-le k (r - 1) to))))
+
+    no_less : m * 2 ^ 52 ≤ r * r + r → k ≤ r
+    unfolding n
+    no_less h = le_of_suc-le-suc (lt_of_not-le (λ (l : suc r ≤ k).
+        let j : k ≡ k - 1 + 1 = omega arith in
+        let to : r ≤ k - 1 = omega arith in
+        absurd (omega (arith, h, lower (k - 1) j, middle-sq (k - 1), sq-le r (k - 1) to))))
+
+    pub only-nearest : r * r < m * 2 ^ 52 + r → m * 2 ^ 52 ≤ r * r + r → (r ≡ closest (digits_of m) 8) × (r ≤ 2 ^ 53)
+    only-nearest below above =
+        let e : r ≡ k = le_antisymm (no_more below) (no_less above) in
+        (e ∙ k-is, le_trans (le_of_eq e) k-to)
 
   -- ---- with the unit w: the root is that of n * w * w, r is 2 * k * w, and y any value with at most 53 digits
   module _ (t : ℕ) (a d : ℕ) (short : a < 2 ^ 53) where

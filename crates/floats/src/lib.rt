@@ -7,6 +7,9 @@ ghost use Rattle.std.specs.Float.Ieee.Nearest.{closest};
 ghost use Rattle.floats.specs.Root as Root;
 
 pub mod claims;
+mod table;
+
+use table::INVERSES;
 
 // The weight of a pattern's sign, the pattern of the infinity, the one that is written for a NaN, and the weight of the exponent's
 // field.
@@ -43,95 +46,72 @@ fn product(a: u64, b: u64) -> u64 {
     (a % 0x1_0000_0000) * (b % 0x1_0000_0000)
 }
 
-// About 2 ^ 58 / √m, and not above it, for an m from 2 ^ 52 and below 2 ^ 54. With t for m / 2 ^ 54, of which 16 binary places are
-// taken: the polynomial of the fourth degree nearest to 1 / 2√t, within 0.0022 of it, and a turn of Newton's iteration.
-// Nothing rests on how near this and the next two are: they save turns of the loops in `not_above` and `whole_root`, and a division.
-fn inverse(m: u64) -> u64 {
-    let t = m / 0x40_0000_0000;
-    let t2 = product(t, t) / 0x1_0000;
-    let even = 114_623 + product(480_303 + product(124_664, t2) / 0x1_0000, t2) / 0x1_0000;
-    let odd = product(294_407 + product(392_345, t2) / 0x1_0000, t) / 0x1_0000;
-    let y = std::num::wrapping_sub_u64(even, odd);
-    let square = product(product(y, y) / 2, m / 0x40_0000) / 0x1_0000_0000;
-    product(y, std::num::wrapping_sub_u64(0x5fff_fff0, square)) / 0x4000
+// Below 2 ^ 58 / √m by less than a 40,000th part of it, for an m from 2 ^ 52 and below 2 ^ 54: on the line between two numbers of the table.
+// Nothing rests on how near this and `guess` are: they save turns of the loops in `not_above` and `nearest`.
+fn inverse(m: u64) -> u64
+    requires { (2 ^ 52 ≤ m) × (m < 2 ^ 54) }
+{
+    let i = (m / 0x4000_0000_0000 - 64) as usize;
+    let y = INVERSES[i] as u64;
+    let fall = std::num::wrapping_sub_u64(y, INVERSES[i + 1] as u64);
+    std::num::wrapping_sub_u64(y, product(fall, m / 0x4000) / 0x1_0000_0000)
 }
 
-// About 2√m, and not above it, for y about 2 ^ 58 / √m: their product, and what the square of that leaves times y.
+// About √m * 2 ^ 26, for y a little below 2 ^ 58 / √m. What a root lacks is half of what its square leaves, over the root: so y times m, a
+// little below the root, gives a root of 32 digits, and that gives one of 53. The second time y is too far off, and takes a turn of Newton's
+// iteration, which waits for neither root. All of them are from below, so that nothing that is left over is negative.
 fn guess(m: u64, y: u64) -> u64 {
-    let s = product(m / 0x40_0000, y) / 0x8_0000_0000;
-    let rest = std::num::wrapping_sub_u64(m, product(s, s) / 4);
-    s + product(rest / 0x400, y) / 0x1_0000_0000_0000
+    let h = m / 0x40_0000;
+    let square = product(product(y, y) / 0x1_0000_0000, h);
+    let off = std::num::wrapping_sub_u64(0x4000_0000_0000_0000, square);
+    let nearer = y % 0x1_0000_0000 + product(off / 0x1_0000, y) / 0x8000_0000_0000;
+    let wide = m % 0x40_0000_0000_0000 * 0x400;
+    let first = product(y, h) / 0x8000_0000;
+    let rest = std::num::wrapping_sub_u64(wide, product(first, first));
+    let root = first + product(rest / 0x4_0000, y) / 0x4000_0000_0000;
+    let left = std::num::wrapping_sub_u64(wide, product(root, root));
+    let lower = product(left / 4, nearer) / 0x100_0000_0000;
+    root * 0x20_0000 + (lower + 1) / 2
 }
 
-// About n * 2 ^ 27 / d, for y about 2 ^ 60 / d: a turn of Newton's iteration for the inverse, and its product with n.
-fn ratio(n: u64, d: u64, y: u64) -> u64 {
-    let off = std::num::wrapping_sub_u64(0x1000_0000_0000_0000, product(d, y));
-    let nearer = y % 0x1_0000_0000 + product(off / 0x1_0000, y) / 0x1000_0000_0000 + 1;
-    product(n, nearer) / 0x2_0000_0000
-}
-
-// The first number from guess down whose square is within n.
-fn not_above(n: u64, guess: u64) -> u64
-    requires { guess < 2 ^ 28 }
-    ensures { (result * result ≤ n) × (result < 2 ^ 28) }
+// The first number from guess down that is not above the nearest one to the root of n.
+fn not_above(n: u128, guess: u64) -> u64
+    requires { (0 < n) × (n < 2 ^ 106) × (guess < 2 ^ 54) }
+    ensures { (result * result < n + result) × (result < 2 ^ 54) }
 {
-    let mut s = guess;
-    while s * s > n {
-        s -= 1;
+    let mut r = guess;
+    while r as u128 * r as u128 >= n + r as u128 {
+        r -= 1;
     }
-    s
+    r
 }
 
-// The whole part of the root of n, whatever the guess is.
-fn whole_root(n: u64, guess: u64) -> u64
-    requires { n < 2 ^ 56 }
-    ensures { (result * result ≤ n) × (n ≤ result * result + 2 * result) × (result < 2 ^ 28) }
+// The root of n to the nearest whole number, whatever the guess is. The square of a middle between two numbers is no whole number, so there
+// is no tie: n is above r * r - r, the whole part of the square of the middle below r, and at most r * r + r.
+fn nearest(n: u128, guess: u64) -> u64
+    requires { (0 < n) × (n < 2 ^ 106) }
+    ensures { (result * result < n + result) × (n ≤ result * result + result) }
 {
-    let mut s = not_above(n, guess % 0x1000_0000);
-    while n - s * s > 2 * s {
-        s += 1;
+    let mut r = not_above(n, guess % 0x40_0000_0000_0000);
+    while r as u128 * r as u128 + (r as u128) < n {
+        r += 1;
     }
-    s
+    r
 }
 
-// The whole part of n / d, whatever the guess is. A division takes longer than to see that the guess is right.
-fn quotient(n: u64, d: u64, guess: u64) -> u64
-    requires { (0 < d) × (d < 2 ^ 32) }
-    ensures { (result * d ≤ n) × (n < result * d + d) }
-{
-    let q = guess % 0x1_0000_0000;
-    if q * d <= n {
-        if n - q * d < d {
-            return q;
-        }
-    }
-    n / d
-}
-
-// The root of m * 2 ^ 52 to the nearest whole number. Zimmermann's step goes from the root s of 4 * m, and what that leaves, to
-// the root of 4 * m * 2 ^ 54, which has 27 binary digits more: they are the quotient, or one less where its square is more than is
-// left. Two of the digits are then rounded off, and are never half way.
+// The root of m * 2 ^ 52 to the nearest whole number.
 fn rounded(m: u64) -> u64
     requires { (2 ^ 52 ≤ m) × (m < 2 ^ 54) }
     ensures { (result ≡ closest (Root.digits_of m) 8) × (result ≤ 2 ^ 53) }
 {
-    let y = inverse(m);
-    let s = whole_root(m * 4, guess(m, y));
-    let rest = m * 4 - s * s;
-    let left = rest * 0x800_0000;
-    let lower = quotient(left, s * 2, ratio(rest, s * 2, y));
-    let longer = s * 0x800_0000 + lower;
-    if (left - lower * (s * 2)) * 0x800_0000 < lower * lower {
-        return (longer + 1) / 4;
-    }
-    (longer + 2) / 4
+    nearest(m as u128 * FIELD as u128, guess(m, inverse(m)))
 }
 
 fn root_of(m: u64, e: u64) -> f64
     requires { (2 ^ 52 ≤ m) × (m < 2 ^ 53) × (32 ≤ e) × (e < 4000) }
     ensures { result ≡ Root.root_of m e }
 {
-    of_bits((e / 2 - 16) * FIELD + rounded(m * (1 + e % 2)))
+    f64::from_bits((e / 2 - 16) * FIELD + rounded(m * (1 + e % 2)))
 }
 
 // The leading digit of a normal, which the pattern leaves out, stands in the 53rd place: no zeros are counted, and nothing is shifted.

@@ -1,8 +1,8 @@
 use Rattle.std.proofs.Common.{◌^◌, ◌<◌}
 use Rattle.floats.proofs.not_above.Given as goal
 
-abbrev pub invariant-loop-s : goal.invariant-loop-s
-invariant-loop-s l = l.s < 2 ^ 28
+abbrev pub invariant-loop-r : goal.invariant-loop-r
+invariant-loop-r l = l.r < 2 ^ 54
 
-abbrev pub decreases-loop-s : goal.decreases-loop-s
-decreases-loop-s l = l.s
+abbrev pub decreases-loop-r : goal.decreases-loop-r
+decreases-loop-r l = l.r
