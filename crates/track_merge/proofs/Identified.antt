@@ -32,7 +32,8 @@ use Rattle.track_transmission.proofs.Encoding.{Valid, valid-in}
 use Rattle.track_normalize.specs.Normal.{sign_first}
 use Rattle.track_normalize.specs.Joining.{upholds, sign_refused, sign_in}
 use Rattle.track_merge.proofs.Counting.{first-at}
-use Rattle.track_merge.proofs.Signing.{no_refused, resigned, sign-standing, sign-refused, sign-first-at, sign-refused-at}
+use Rattle.track_transmission.proofs.Signing.{no_refused, resigned, sign-standing, sign-refused}
+use Rattle.track_merge.proofs.Signing.{sign-first-at, sign-refused-at}
 
 pub held-fix : (b : List ℕ) (k : ℕ) → k < held_count b → get_or (held_in (transmission_in b)) k no_fix ≡ fix_in (get_or (held_places b) k [])
 held-fix b k h = ap (λ (l : List Fix). get_or l k no_fix) (sym (held-are b)) ∙ S.get_or-map fix_in (held_places b) k [] no_fix (rw (held-length b) h)

@@ -1,6 +1,5 @@
 pub mod Counting
 pub mod Single
-pub mod Putting
 pub mod Signing
 pub mod Identified
 pub mod Written
