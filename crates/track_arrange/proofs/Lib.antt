@@ -4,3 +4,4 @@ pub mod Entering
 pub mod Placing
 pub mod Values
 pub mod Claimed
+pub mod Ascending

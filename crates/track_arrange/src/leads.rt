@@ -1,16 +1,18 @@
 //! The order of transmissions, by the fixes that are kept of them.
 
-ghost use Rattle.std.specs.Prelude.{◌≡◌, [], ◌≤◌, ◌<◌, length, map, position};
+ghost use Rattle.std.specs.Prelude.{◌≡◌, [], ◌≤◌, ◌<◌, IsTrue, length, map, position};
 ghost use Rattle.arrayvec.specs.ArrayVec.{array_vec_len};
 ghost use Rattle.fixes.specs.Ages.{time_of, older};
-ghost use Rattle.lists.specs.Lists.{last_of};
+ghost use Rattle.lists.specs.Lists.{up_to, last_of};
 ghost use Rattle.track_arrange.specs.Arranged.{max_transmissions};
+ghost use Rattle.track_arrange.specs.Claims.{InOrder};
 ghost use Rattle.track_arrange.specs.Leads.{before, put_behind, put_all_behind, leads_from, order_of, place_of};
 
 use crate::{Blocks, MAX_LEADS, MAX_TRANSMISSIONS};
 use arrayvec::ArrayVec;
 use models::hashes::Identity;
 use std::marker::Model;
+use track_transmission::block::Block;
 use track_transmission::fix::HeldFix;
 
 /// A transmission by its place, and the fix that is kept of it.
@@ -153,12 +155,54 @@ fn places_of(leads: &[Lead<'_>]) -> Order
     places
 }
 
-/// The order of transmissions, by their places: that of the latest eight that have a fix.
-pub fn order(blocks: &Blocks<'_>) -> Order
+// Whether each of transmissions has a fix, which is later than those before it. Then they are in order.
+pub(crate) fn ascend(blocks: &[Block<'_>]) -> bool
+    ensures { IsTrue result → InOrder blocks.now }
+{
+    let mut latest = 0;
+    for block in blocks {
+        let Some(kept) = block.kept() else {
+            return false;
+        };
+        let time = kept.report.time();
+        if time <= latest {
+            return false;
+        }
+        latest = time;
+    }
+    true
+}
+
+// The places of the latest eight of so many transmissions that are in order.
+fn latest_places(n: usize) -> Order
+    requires { n ≤ MAX_LEADS }
+    ensures { result.items ≡ last_of max_transmissions (up_to n) }
+{
+    let first = n.saturating_sub(MAX_TRANSMISSIONS);
+    let mut places = Order::new();
+    for i in 0..n - first {
+        places.push(first + i);
+    }
+    places
+}
+
+// The order of transmissions that are in any, by their places.
+#[inline(never)]
+fn order_of_any(blocks: &Blocks<'_>) -> Order
     ensures { result.items ≡ order_of blocks.now.items }
 {
     let mut leads = Leads::new();
     enter_all(&mut leads, blocks);
     forget_oldest(&mut leads);
     places_of(&leads)
+}
+
+/// The order of transmissions, by their places: that of the latest eight that have a fix.
+pub fn order(blocks: &Blocks<'_>) -> Order
+    ensures { result.items ≡ order_of blocks.now.items }
+{
+    if ascend(blocks) {
+        return latest_places(blocks.len());
+    }
+    order_of_any(blocks)
 }

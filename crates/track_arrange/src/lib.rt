@@ -206,7 +206,11 @@ pub fn arrange(t: &mut [u8], n: usize) -> usize
     ensures filled { Filled t.new result }
     ensures held { B.held result t.new ≡ arranged (B.held n t.old) }
 {
-    let order = leads::order(&blocks(t, n));
+    let all = blocks(t, n);
+    if leads::ascend(&all) {
+        return n;
+    }
+    let order = leads::order(&all);
     settle(t, n, &[], &order)
 }
 

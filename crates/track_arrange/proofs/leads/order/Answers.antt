@@ -1,11 +1,11 @@
-use mathlib.Core.Path.{ap, ◌∙◌}
-use mathlib.Core.List.{map}
-use Rattle.lists.specs.Lists.{last_of}
+use mathlib.Core.Path.{ap, ◌∙◌, subst}
+use Rattle.lists.specs.Lists.{up_to, last_of}
 use Rattle.track_arrange.specs.Arranged.{max_transmissions}
-use Rattle.track_arrange.specs.Leads.{place_of}
-use Rattle.track_arrange.proofs.Entering.{entered-all}
+use Rattle.track_arrange.specs.Claims.{InOrder}
+use Rattle.track_arrange.proofs.Ascending.{order-ascending}
 use Rattle.track_arrange.proofs.leads.order.Goals as goal
 
-pub returns : goal.returns
-returns c =
-    c.places_of.ensures ∙ ap (map place_of) (c.deref.ensures.0 ∙ c.forget_oldest.ensures ∙ ap (last_of max_transmissions) (c.enter_all.ensures ∙ entered-all c.args.blocks.now.items))
+pub returns-then-ascend : goal.returns-then-ascend
+returns-then-ascend c =
+    c.latest_places.ensures ∙ ap (λ n. last_of max_transmissions (up_to n)) c.len.ensures.value
+    ∙ order-ascending c.args.blocks.now.items (subst InOrder c.deref.ensures.0 (c.ascend.ensures c.if-ascend.true))
