@@ -1,5 +1,6 @@
 pub mod Standing
 pub mod Decided
+pub mod Alone
 pub mod Settled
 pub mod Renewing
 pub mod Changing

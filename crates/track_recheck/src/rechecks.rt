@@ -1,6 +1,6 @@
 //! Which fixes a track's summaries still bear out, and those that they do not taken out.
 
-ghost use Rattle.std.specs.Prelude.{◌≡◌, true, IsTrue, map};
+ghost use Rattle.std.specs.Prelude.{◌≡◌, true, IsTrue, IfSome, map};
 ghost use Rattle.std.specs.List.{filter, list_any};
 ghost use Rattle.models.specs.Answers.{summary_places};
 ghost use Rattle.track_transmission.specs.Held.{held_in};
@@ -56,6 +56,16 @@ fn any_stale(track: &View<'_>) -> bool
     blocks.iter().any(|block| has_stale(summaries, block))
 }
 
+/// The fix of a transmission that has no other, where it is one: then nothing is decided, and no identity is needed.
+pub(crate) fn only_fix<'a>(block: &Block<'a>) -> Option<HeldFix<'a>>
+    ensures { IfSome result (λ f. block.now ≡ S.alone f) }
+{
+    if block.fix_count() == 1 && block.refused_count() == 0 {
+        return Some(block.fix(0));
+    }
+    None
+}
+
 // Gathers the fixes of a transmission that stand.
 fn gather_standing<'a>(left: &mut Gathered<'a>, block: &Block<'a>, summaries: Summaries)
     ensures { left.new.items ≡ distinct (filter (T.stands (summary_places summaries.entry)) (held_in block.now)) }
@@ -81,7 +91,7 @@ fn decide_standing(b: &mut [u8; TRANSMISSION_SIZE], summaries: Summaries)
     write_left(&left, b);
 }
 
-// The same. Where the transmission is settled and all its fixes stand, it is only read.
+// The same. One fix alone stays or goes, and a transmission that is settled and whose fixes all stand is only read.
 fn renew(b: &mut [u8], summaries: Summaries, settled: bool)
     requires steady { Steady b.old }
     requires settled { IsTrue settled → Settled (transmission_in b.old) }
@@ -89,15 +99,24 @@ fn renew(b: &mut [u8], summaries: Summaries, settled: bool)
     ensures held { transmission_in b.new ≡ T.standing (summary_places summaries.entry) (transmission_in b.old) }
 {
     let b = b.as_mut_array().unwrap();
+    let block = Block::of(b);
+    if let Some(fix) = only_fix(&block) {
+        if stands(summaries, &fix) {
+            return;
+        }
+        octets::runs::clear(b);
+        return;
+    }
     if settled {
-        if !has_stale(summaries, &Block::of(b)) {
+        if !has_stale(summaries, &block) {
             return;
         }
     }
     decide_standing(b, summaries);
 }
 
-// Decides the first n transmissions of a table again, without the fixes that do not stand.
+// Decides the first n transmissions of a table again, without the fixes that do not stand. Its tables are no part of a call where all stand.
+#[inline(never)]
 fn renew_all(t: &mut [u8], n: usize, summaries: Summaries, settled: bool)
     requires filled { Filled t.old n }
     requires settled { IsTrue settled → S.AllSettled (B.held n t.old) }

@@ -16,7 +16,7 @@ ghost use Rattle.track_memory.specs.Memory.{well_formed, decode, encode};
 ghost use Rattle.track_recheck.specs.Recheck.{recheck, unsigned, without_engine, strike_engine};
 ghost use Rattle.track_recheck.specs.Steps as S;
 
-use crate::rechecks::recheck_settled;
+use crate::rechecks::{only_fix, recheck_settled};
 use engines::{Engine, Signers};
 use models::strikes::strike_summaries;
 use octets::words::{put_u16, put_u32, u16_at, u32_at};
@@ -25,7 +25,7 @@ use track_normalize::blocks::write_left;
 use track_normalize::gathering::{Gathered, gather};
 use track_transmission::block::Block;
 use track_transmission::fix::HeldFix;
-use track_transmission::layout::TRANSMISSION_SIZE;
+use track_transmission::layout::{FIXES_AT, SIGNERS_AT, TRANSMISSION_SIZE};
 
 // Takes an engine's signature off a fix.
 fn unsign(fix: &mut HeldFix<'_>, engine: Engine)
@@ -55,18 +55,39 @@ fn gather_without<'a>(left: &mut Gathered<'a>, block: &Block<'a>, engine: Engine
     }
 }
 
-// Decides a transmission again, in its bytes, without an engine, and tells whether it is settled then.
-fn strike_fixes(b: &mut [u8], engine: Engine) -> bool
+// Decides a transmission again, in its bytes, without an engine, and tells whether it is settled then. Its tables are no part of a call that
+// decides none.
+#[inline(never)]
+fn decide_without(b: &mut [u8; TRANSMISSION_SIZE], engine: Engine) -> bool
     requires { Sound b.old }
     ensures steady { Steady b.new }
     ensures held { transmission_in b.new ≡ without_engine engine (transmission_in b.old) }
     ensures settled { IsTrue result → Settled (transmission_in b.new) }
 {
-    let b = b.as_mut_array().unwrap();
     let was = *b;
     let mut left = Gathered::new();
     gather_without(&mut left, &Block::of(&was), engine);
     write_left(&left, b)
+}
+
+// The same. Of one fix alone only the signers change, or it goes.
+fn strike_fixes(b: &mut [u8], engine: Engine) -> bool
+    requires { Steady b.old }
+    ensures steady { Steady b.new }
+    ensures held { transmission_in b.new ≡ without_engine engine (transmission_in b.old) }
+    ensures settled { IsTrue result → Settled (transmission_in b.new) }
+{
+    let b = b.as_mut_array().unwrap();
+    let Some(fix) = only_fix(&Block::of(b)) else {
+        return decide_without(b, engine);
+    };
+    let left = fix.signers.without(engine);
+    if left.is_empty() {
+        octets::runs::clear(b);
+        return true;
+    }
+    put_u32(b, FIXES_AT + SIGNERS_AT, left.mask());
+    true
 }
 
 // Decides the first n transmissions of a table again, without an engine, and tells whether all are settled then.

@@ -1,9 +1,12 @@
-use Rattle.std.proofs.Common.{sym, ap, ◌∙◌}
+use Rattle.std.proofs.Common.{ℕ, List, replicate, length, sym, ap, ◌∙◌}
 use mathlib.Core.Path.{subst}
+use Rattle.octets.specs.Bytes.{Bytes}
+use Rattle.octets.proofs.Numbers.{all-bytes}
 use Rattle.models.specs.Answers.{summary_places}
 use Rattle.track_transmission.specs.Bytes.{transmission_in}
 use Rattle.track_transmission.specs.Parts.{Steady}
 use Rattle.track_recheck.specs.Recheck.{has_stale, standing}
+use Rattle.track_recheck.proofs.Alone.{one-stays, one-goes}
 use Rattle.track_recheck.proofs.Settled.{left-alone}
 use Rattle.track_recheck.proofs.rechecks.renew.Goals as goal
 
@@ -11,8 +14,28 @@ pub returns-then-not-has_stale : goal.returns-then-not-has_stale
 returns-then-not-has_stale c =
     let ss = summary_places c.args.summaries in
     let same = (rw c.unwrap-b.ensures at c.as_mut_array.ensures.cases).same in
-    let none = sym (c.has_stale.ensures ∙ ap (has_stale ss) (c.of.ensures ∙ ap transmission_in same)) ∙ c.if-not-has_stale.true in
+    let none = sym (c.has_stale.ensures ∙ ap (has_stale ss) (c.of-block.ensures ∙ ap transmission_in same)) ∙ c.if-not-has_stale.true in
     record { steady = subst Steady (sym same) c.requires.steady; held = ap transmission_in same ∙ left-alone ss (transmission_in c.args.b.now) (c.requires.settled c.if-settled.true) none }
+
+pub returns-then-stands : goal.returns-then-stands
+returns-then-stands c =
+    let ss = summary_places c.args.summaries in
+    let same = (rw c.unwrap-b.ensures at c.as_mut_array.ensures.cases).same in
+    let y : Bytes c.args.b.now = all-bytes c.args.b.now (λ i. (c.slice_known-1.given i).fits) in
+    let alone = sym (c.of-block.ensures ∙ ap transmission_in same) ∙ c.in-Some.ensures in
+    record {
+      steady = subst Steady (sym same) c.requires.steady;
+      held = ap transmission_in same ∙ one-stays c.args.b.now y c.requires.steady c.in-Some.fix alone ss (sym c.stands.ensures ∙ c.if-stands.true);
+    }
+
+pub returns-in-Some : goal.returns-in-Some
+returns-in-Some c =
+    let ss = summary_places c.args.summaries in
+    let same = (rw c.unwrap-b.ensures at c.as_mut_array.ensures.cases).same in
+    let y : Bytes c.args.b.now = all-bytes c.args.b.now (λ i. (c.slice_known-1.given i).fits) in
+    let alone = sym (c.of-block.ensures ∙ ap transmission_in same) ∙ c.in-Some.ensures in
+    let d = one-goes c.args.b.now y c.requires.steady c.in-Some.fix alone ss (sym c.stands.ensures ∙ c.if-stands.false) c.clear.new.s (c.clear.ensures ∙ ap (λ (l : List ℕ). replicate (length l) 0) same) in
+    record { steady = d.steady; held = d.held }
 
 pub returns-clause-held : goal.returns-clause-held
 returns-clause-held c =

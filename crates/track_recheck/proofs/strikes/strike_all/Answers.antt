@@ -13,7 +13,7 @@ pub loop-i-init : goal.loop-i-init
 loop-i-init c = record { renewed = renewed-none _ c.args.n c.args.t.now c.requires; settled = λ h j l. absurd (omega (arith, l)) }
 
 pub strike_fixes-one-requires : goal.strike_fixes-one-requires
-strike_fixes-one-requires c = (next-steady c.loop-i.invariant.renewed c.loop-i-test.true).sound
+strike_fixes-one-requires c = next-steady c.loop-i.invariant.renewed c.loop-i-test.true
 
 pub loop-i-preserved : goal.loop-i-preserved
 loop-i-preserved c =

@@ -1,31 +1,51 @@
-use Rattle.std.proofs.Common.{◌+◌, length, refl, sym, ap, ◌∙◌}
+use Rattle.std.proofs.Common.{ℕ, ◌+◌, List, replicate, length, sym, ap, ◌∙◌}
 use mathlib.Core.Path.{subst}
-use mathlib.Core.List.{map}
-use Rattle.std.specs.List.{filter}
+use lib.Dec.{eqb}
+use Rattle.octets.specs.Bytes.{Bytes}
+use Rattle.octets.specs.Masks.{without_bit}
+use Rattle.octets.specs.Writes.{put_word}
 use Rattle.octets.proofs.Numbers.{all-bytes}
-use Rattle.track_transmission.specs.Held.{HeldTransmission, held_in}
-use Rattle.track_transmission.specs.Bytes.{transmission_in, transmission_bytes}
-use Rattle.track_normalize.specs.Normal.{distinct, normalized}
-use Rattle.track_normalize.specs.Deciding.{normalized_distinct}
-use Rattle.track_normalize.specs.Taking.{Settled}
-use Rattle.track_normalize.specs.Signed.{is_signed}
-use Rattle.track_normalize.proofs.Gathered.{kept_distinct}
-use Rattle.track_normalize.proofs.Settled.{settled-all}
-use Rattle.track_recheck.specs.Recheck.{unsigned}
-use Rattle.track_recheck.proofs.Decided.{without-decided}
+use Rattle.fixes.specs.Fix.{Fix}
+use Rattle.track_transmission.specs.Layout.{fixes_at, signers_at}
+use Rattle.track_transmission.specs.Bytes.{transmission_in}
+use Rattle.track_transmission.specs.Parts.{Sound}
+use Rattle.track_recheck.specs.Recheck.{without_engine}
+use Rattle.track_recheck.proofs.Alone.{signed-left, unsigned-left}
 use Rattle.track_recheck.proofs.strikes.strike_fixes.Goals as goal
+
+pub decide_without-requires : goal.decide_without-requires
+decide_without-requires c =
+    let same = (rw c.unwrap-b.ensures at c.as_mut_array.ensures.cases).same in
+    subst Sound (sym same) c.requires.sound
+
+pub returns-in_default : goal.returns-in_default
+returns-in_default c =
+    let same = (rw c.unwrap-b.ensures at c.as_mut_array.ensures.cases).same in
+    record {
+      steady = c.decide_without.ensures.steady;
+      held = c.decide_without.ensures.held ∙ ap (λ b. without_engine c.args.engine (transmission_in b)) same;
+      settled = c.decide_without.ensures.settled;
+    }
+
+pub returns-then-is_empty : goal.returns-then-is_empty
+returns-then-is_empty c =
+    let same = (rw c.unwrap-b.ensures at c.as_mut_array.ensures.cases).same in
+    let y : Bytes c.args.b.now = all-bytes c.args.b.now (λ i. (c.slice_known-1.given i).fits) in
+    let alone = sym (c.of.ensures ∙ ap transmission_in same) ∙ c.in-Some.ensures in
+    let left = c.without-left.ensures ∙ ap (λ (x : Fix). without_bit x.signers c.args.engine) c.fix.view_is in
+    let r =
+    unsigned-left c.args.b.now y c.requires c.in-Some.fix alone c.args.engine c.without-left.result left (sym c.is_empty.ensures ∙ c.if-is_empty.true) c.clear.new.s
+    (c.clear.ensures ∙ ap (λ (l : List ℕ). replicate (length l) 0) same) in
+    record { steady = r.steady; held = r.held; settled = λ _. r.settled }
 
 pub returns : goal.returns
 returns c =
-    let left = λ (t : HeldTransmission). filter is_signed (map (unsigned c.args.engine) (held_in t)) in
     let same = (rw c.unwrap-b.ensures at c.as_mut_array.ensures.cases).same in
-    let gathered = c.gather_without.ensures ∙ ap (λ t. distinct (left t)) (c.of.ensures ∙ ap transmission_in same) in
-    let again = ap normalized_distinct gathered ∙ kept_distinct (left (transmission_in c.args.b.now)) in
-    let d = without-decided c.args.b.now (all-bytes c.args.b.now (λ i. (c.slice_known-1.given i).fits)) c.requires c.args.engine c.write_left.new.b (c.write_left.ensures.left ∙ ap transmission_bytes again) in
-    record {
-      steady = d.steady;
-      held = d.held;
-      settled = λ h. subst Settled (sym d.held)
-          (settled-all (normalized (left (transmission_in c.args.b.now))) (left (transmission_in c.args.b.now)) refl
-          (ap (λ (t : HeldTransmission). length t.fixes + length t.refused) (sym again) ∙ c.write_left.ensures.all h ∙ ap length gathered));
-    }
+    let y : Bytes c.args.b.now = all-bytes c.args.b.now (λ i. (c.slice_known-1.given i).fits) in
+    let alone = sym (c.of.ensures ∙ ap transmission_in same) ∙ c.in-Some.ensures in
+    let left = c.without-left.ensures ∙ ap (λ (x : Fix). without_bit x.signers c.args.engine) c.fix.view_is in
+    let r =
+    signed-left c.args.b.now y c.requires c.in-Some.fix alone c.args.engine c.mask.result (c.mask.ensures ∙ left)
+    (ap (λ (n : ℕ). eqb n 0) c.mask.ensures ∙ sym c.is_empty.ensures ∙ c.if-is_empty.false) c.put_u32.new.s
+    (c.put_u32.ensures ∙ ap (put_word 4 (fixes_at + signers_at) c.mask.result) same) in
+    record { steady = r.steady; held = r.held; settled = λ _. r.settled }
