@@ -1,8 +1,13 @@
 //! An engine struck from a track: its signatures and its summaries.
 
-ghost use Rattle.std.specs.Prelude.{◌≡◌, true, IsTrue, map, ◌≤◌, ◌<◌, length, set};
+ghost use Rattle.std.specs.Prelude.{◌≡◌, true, IsTrue, map, ◌*◌, ◌≤◌, ◌<◌, length, drop, set};
 ghost use Rattle.std.specs.List.{filter};
+ghost use Rattle.octets.specs.Runs.{all_zero};
 ghost use Rattle.octets.specs.Writes.{put_word};
+ghost use Rattle.tables.specs.Places.{places, keep_places};
+ghost use Rattle.tables.specs.Strikes.{Struck};
+ghost use Rattle.models.specs.Summary.{summary_size};
+ghost use Rattle.models.specs.Summaries.{is_of_another, no_value};
 ghost use Rattle.track_transmission.specs.Held.{held_in};
 ghost use Rattle.track_transmission.specs.Bytes.{transmission_in};
 ghost use Rattle.track_transmission.specs.Parts.{Sound, Steady};
@@ -18,6 +23,7 @@ ghost use Rattle.track_recheck.specs.Steps as S;
 
 use crate::rechecks::{only_fix, recheck_settled};
 use engines::{Engine, Signers};
+use models::layout::SUMMARY_SIZE;
 use models::strikes::strike_summaries;
 use octets::words::{put_u16, put_u32, u16_at, u32_at};
 use track_memory::layout;
@@ -116,6 +122,16 @@ fn put_header(head: &mut [u8], convicted: Signers, summaries: u16, transmissions
     head[layout::TRANSMISSION_COUNT_AT] = transmissions;
 }
 
+// Takes an engine's summaries out of a table of n, and returns how many are left. What is behind the n is zero, and is not written.
+fn strike_table(t: &mut [u8], n: usize, engine: Engine) -> usize
+    requires fits { n * summary_size ≤ length t.old }
+    requires zeros { all_zero (drop (n * summary_size) t.old) ≡ true }
+    ensures { Struck summary_size (keep_places summary_size (is_of_another engine) no_value (places summary_size n t.old)) t.old result t.new }
+{
+    let (used, _) = t.split_at_mut(n * SUMMARY_SIZE);
+    strike_summaries(used, n, engine)
+}
+
 // Strikes an engine from a track, and tells whether all transmissions are settled then.
 fn strike(memory: &mut [u8], engine: Engine) -> bool
     requires { well_formed memory.old ≡ true }
@@ -129,7 +145,7 @@ fn strike(memory: &mut [u8], engine: Engine) -> bool
     let count = head[layout::TRANSMISSION_COUNT_AT] as usize;
     let settled = strike_all(transmissions, count, engine);
     let left = track_arrange::arrange(transmissions, count);
-    let summaries = strike_summaries(&mut head[layout::SUMMARIES_AT..], n, engine);
+    let summaries = strike_table(&mut head[layout::SUMMARIES_AT..], n, engine);
     put_header(head, convicted.with(engine), summaries as u16, left as u8);
     settled
 }

@@ -12,7 +12,7 @@ use Rattle.track_recheck.specs.Steps.{AllSettled}
 use Rattle.track_recheck.proofs.Heads.{convicted-read, summaries-read, count-read, table-read, head-rewritten, with-table}
 use Rattle.track_recheck.proofs.Rechecked.{transmissions-there}
 use Rattle.track_recheck.proofs.Settled.{settled-left}
-use Rattle.track_recheck.proofs.Stricken.{summaries-left, struck}
+use Rattle.track_recheck.proofs.Stricken.{summaries-left, summaries-behind, struck}
 use Rattle.track_recheck.proofs.strikes.strike.Goals as goal
 
 pub split_at_mut-head-requires : goal.split_at_mut-head-requires
@@ -24,8 +24,8 @@ strike_all-settled-requires c =
     let y : Bytes m = all-bytes m (search rules) in
     rw (c.split_at_mut-head.ensures.back, count-read m c.split_at_mut-head.result.0.now c.split_at_mut-head.ensures.front) (filled m (opened m c.requires) y)
 
-pub strike_summaries-summaries-requires : goal.strike_summaries-summaries-requires
-strike_summaries-summaries-requires c =
+pub strike_table-summaries-requires-clause-fits : goal.strike_table-summaries-requires-clause-fits
+strike_table-summaries-requires-clause-fits c =
     let m = c.args.memory.now in
     let o = opened m c.requires in
     let h = c.split_at_mut-head.result.0.now in
@@ -33,12 +33,19 @@ strike_summaries-summaries-requires c =
     let n = c.u16_at-n.ensures ∙ summaries-read m h e in
     rw (table-read m h e, summary-bytes-length m o) (omega (arith, o.few_summaries, n))
 
+pub strike_table-summaries-requires-clause-zeros : goal.strike_table-summaries-requires-clause-zeros
+strike_table-summaries-requires-clause-zeros c =
+    let m = c.args.memory.now in
+    let h = c.split_at_mut-head.result.0.now in
+    let e = c.split_at_mut-head.ensures.front in
+    rw (table-read m h e, c.u16_at-n.ensures ∙ summaries-read m h e) (summaries-behind m (opened m c.requires))
+
 pub overflow_cast-summaries : goal.overflow_cast-summaries
 overflow_cast-summaries c =
     let m = c.args.memory.now in
     let h = c.split_at_mut-head.result.0.now in
     let e = c.split_at_mut-head.ensures.front in
-    let z = c.strike_summaries-summaries in
+    let z = c.strike_table-summaries in
     let l = summaries-left m (opened m c.requires) c.args.engine _ (c.u16_at-n.ensures ∙ summaries-read m h e) _ (table-read m h e) z.result z.new.t z.ensures in
     omega (arith, l)
 
@@ -53,7 +60,7 @@ returns-clause-left c =
     let i = c.args.engine in
     let h = c.split_at_mut-head.result.0.now in
     let e = c.split_at_mut-head.ensures.front in
-    let z = c.strike_summaries-summaries in
+    let z = c.strike_table-summaries in
     let u = c.arrange-left in
     let ts = transmissions-there m _ _ (count-read m h e) c.split_at_mut-head.ensures.back in
     let n = c.u16_at-n.ensures ∙ summaries-read m h e in
