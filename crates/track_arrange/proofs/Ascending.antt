@@ -9,16 +9,19 @@ use native.Mathlib.Nat.{add-zero, zero-add}
 use native.Mathlib.Numerals.{add-one}
 use lib.ListN.{length, get_or, take, drop, length-map}
 use lib.Seq.{take-suc, take_all}
+use lib.Dec.{eqb}
+use borrow.Author.Tests.{eqb-true}
 use Rattle.std.specs.Prelude.{Option, Some, None, slice_get}
-use Rattle.lists.specs.Lists.{count_from, up_to, last_of}
-use Rattle.lists.proofs.Bools.{or}
+use Rattle.lists.specs.Lists.{count_from, up_to, last_of, sort}
+use Rattle.std.specs.List.{list_all}
+use Rattle.lists.proofs.Bools.{or, and_left, and_right}
 use Rattle.lists.proofs.Lists.{count-length}
 use Rattle.fixes.specs.Fix.{Fix}
 use Rattle.fixes.specs.Ages.{time_of, older, older_first}
 use Rattle.track_transmission.specs.Held.{HeldTransmission}
 use Rattle.track_arrange.specs.Arranged.{max_transmissions, is_nonempty, has_fix, older_than}
 use Rattle.track_arrange.specs.Claims.{InOrder, none, next}
-use Rattle.track_arrange.specs.Leads.{kept_of, before, place_of, lead_of, leads_from, order_of}
+use Rattle.track_arrange.specs.Leads.{kept_of, before, place_of, lead_of, leads_from, order_of, is_empty}
 use Rattle.track_arrange.specs.declared.leads.Lead.{Lead}
 use Rattle.track_arrange.proofs.Stable as S
 use Rattle.track_arrange.proofs.Stable.{Ordered, sort-same}
@@ -151,3 +154,19 @@ pub last-counted : (n : ℕ) → count_from (n - max_transmissions) (n - (n - ma
 last-counted n =
     let j = n - max_transmissions in
     sym (ap (λ (m : ℕ). drop (m - max_transmissions) (up_to n)) (count-length 0 n) ∙ dropped j 0 n ∙ ap (λ (m : ℕ). count_from m (n - j)) (zero-add j))
+
+-- ---- transmissions without a fix have no order
+
+none-leads : (k : ℕ) (ts : List HeldTransmission) → list_all is_empty ts ≡ true → leads_from k ts ≡ []
+unfolding leads_from
+none-leads k [] h = refl
+none-leads k (t ∷ ts) h =
+    ap (λ (l : List Lead). lead_of k (kept_of t) ++ l) (none-leads (suc k) ts (and_right (is_empty t) (list_all is_empty ts) h)) ∙ go t.fixes (and_left (is_empty t) (list_all is_empty ts) h)
+  where
+    go : (fs : List Fix) → eqb (length fs) 0 ≡ true → lead_of k (slice_get fs 0) ++ [] ≡ []
+    go [] e = refl
+    go (f ∷ fs) e = absurd (let z = eqb-true (length (f ∷ fs)) 0 e in omega (arith, z))
+
+pub none-ordered : (ts : List HeldTransmission) → list_all is_empty ts ≡ true → [] ≡ order_of ts
+unfolding sort
+none-ordered ts h = sym (ap (λ (l : List Lead). map place_of (last_of max_transmissions (sort before l))) (none-leads 0 ts h))

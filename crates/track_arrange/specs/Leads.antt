@@ -1,5 +1,5 @@
 -- No claim rests on these definitions: they say how the code orders transmissions, by their places and the fixes that are kept of them.
-use Rattle.std.specs.Prelude.{ℕ, suc, Bool, cond, Option, Some, None, slice_get}
+use Rattle.std.specs.Prelude.{ℕ, suc, Bool, cond, eqb, length, Option, Some, None, slice_get}
 use mathlib.Core.List.{List, [], ◌∷◌, ◌++◌, map}
 use Rattle.lists.specs.Lists.{sort, last_of}
 use Rattle.fixes.specs.Fix.{Fix}
@@ -26,6 +26,10 @@ module _ {A : Type 0} (before : A → A → Bool) where
 -- the fix that is kept of a transmission, where it has one
 abbrev pub kept_of : HeldTransmission → Option Fix
 kept_of t = slice_get t.fixes 0
+
+-- a transmission without one
+abbrev pub is_empty : HeldTransmission → Bool
+is_empty t = eqb (length t.fixes) 0
 
 abbrev pub before : Lead → Lead → Bool
 before a b = older a.kept b.kept

@@ -1,12 +1,13 @@
 //! The order of transmissions, by the fixes that are kept of them.
 
 ghost use Rattle.std.specs.Prelude.{◌≡◌, [], ◌≤◌, ◌<◌, IsTrue, length, map, position};
+ghost use Rattle.std.specs.List.{list_all};
 ghost use Rattle.arrayvec.specs.ArrayVec.{array_vec_len};
 ghost use Rattle.fixes.specs.Ages.{time_of, older};
 ghost use Rattle.lists.specs.Lists.{up_to, last_of};
 ghost use Rattle.track_arrange.specs.Arranged.{max_transmissions};
 ghost use Rattle.track_arrange.specs.Claims.{InOrder};
-ghost use Rattle.track_arrange.specs.Leads.{before, put_behind, put_all_behind, leads_from, order_of, place_of};
+ghost use Rattle.track_arrange.specs.Leads.{before, put_behind, put_all_behind, leads_from, order_of, place_of, is_empty};
 
 use crate::{Blocks, MAX_LEADS, MAX_TRANSMISSIONS};
 use arrayvec::ArrayVec;
@@ -173,6 +174,13 @@ pub(crate) fn ascend(blocks: &[Block<'_>]) -> bool
     true
 }
 
+// Whether none of transmissions has a fix.
+fn are_empty(blocks: &[Block<'_>]) -> bool
+    ensures { result ≡ list_all is_empty blocks.now }
+{
+    blocks.iter().all(|block| block.fix_count() == 0)
+}
+
 // The places of the latest eight of so many transmissions that are in order.
 fn latest_places(n: usize) -> Order
     requires { n ≤ MAX_LEADS }
@@ -201,8 +209,12 @@ fn order_of_any(blocks: &Blocks<'_>) -> Order
 pub fn order(blocks: &Blocks<'_>) -> Order
     ensures { result.items ≡ order_of blocks.now.items }
 {
-    if ascend(blocks) {
-        return latest_places(blocks.len());
+    let all = blocks.as_slice();
+    if ascend(all) {
+        return latest_places(all.len());
+    }
+    if are_empty(all) {
+        return Order::new();
     }
     order_of_any(blocks)
 }
