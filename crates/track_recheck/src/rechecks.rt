@@ -1,8 +1,10 @@
 //! Which fixes a track's summaries still bear out, and those that they do not taken out.
 
-ghost use Rattle.std.specs.Prelude.{◌≡◌, true, IsTrue, IfSome, map};
+ghost use Rattle.std.specs.Prelude.{◌≡◌, true, IsTrue, IfSome, map, replicate};
 ghost use Rattle.std.specs.List.{filter, list_any};
 ghost use Rattle.models.specs.Answers.{summary_places};
+ghost use Rattle.fixes.specs.Fix.{Fix};
+ghost use Rattle.track_transmission.specs.Layout.{transmission_size};
 ghost use Rattle.track_transmission.specs.Held.{held_in};
 ghost use Rattle.track_transmission.specs.Bytes.{transmission_in};
 ghost use Rattle.track_transmission.specs.Parts.{Sound, Steady};
@@ -23,7 +25,7 @@ use track_normalize::blocks::write_left;
 use track_normalize::gathering::{Gathered, gather};
 use track_transmission::block::Block;
 use track_transmission::fix::HeldFix;
-use track_transmission::layout::TRANSMISSION_SIZE;
+use track_transmission::layout::{FIX_SIZE, FIXES_AT, TRANSMISSION_SIZE};
 
 // Whether the models of a fix still say what it was checked under.
 fn stands(summaries: Summaries, fix: &HeldFix<'_>) -> bool
@@ -66,6 +68,16 @@ pub(crate) fn only_fix<'a>(block: &Block<'a>) -> Option<HeldFix<'a>>
     None
 }
 
+/// Lets go of the one fix of a transmission, in its bytes, which are zero behind it already.
+pub(crate) fn clear_only(b: &mut [u8; TRANSMISSION_SIZE])
+    requires steady { Steady b.old }
+    requires only { (f : Fix) × (transmission_in b.old ≡ S.alone f) }
+    ensures { b.new ≡ replicate transmission_size 0 }
+{
+    let (used, _) = b.split_at_mut(FIXES_AT + FIX_SIZE);
+    octets::runs::clear(used);
+}
+
 // Gathers the fixes of a transmission that stand.
 fn gather_standing<'a>(left: &mut Gathered<'a>, block: &Block<'a>, summaries: Summaries)
     ensures { left.new.items ≡ distinct (filter (T.stands (summary_places summaries.entry)) (held_in block.now)) }
@@ -104,7 +116,7 @@ fn renew(b: &mut [u8], summaries: Summaries, settled: bool)
         if stands(summaries, &fix) {
             return;
         }
-        octets::runs::clear(b);
+        clear_only(b);
         return;
     }
     if settled {

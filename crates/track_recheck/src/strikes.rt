@@ -21,7 +21,7 @@ ghost use Rattle.track_memory.specs.Memory.{well_formed, decode, encode};
 ghost use Rattle.track_recheck.specs.Recheck.{recheck, unsigned, without_engine, strike_engine};
 ghost use Rattle.track_recheck.specs.Steps as S;
 
-use crate::rechecks::{only_fix, recheck_settled};
+use crate::rechecks::{clear_only, only_fix, recheck_settled};
 use engines::{Engine, Signers};
 use models::layout::SUMMARY_SIZE;
 use models::strikes::strike_summaries;
@@ -89,7 +89,7 @@ fn strike_fixes(b: &mut [u8], engine: Engine) -> bool
     };
     let left = fix.signers.without(engine);
     if left.is_empty() {
-        octets::runs::clear(b);
+        clear_only(b);
         return true;
     }
     put_u32(b, FIXES_AT + SIGNERS_AT, left.mask());

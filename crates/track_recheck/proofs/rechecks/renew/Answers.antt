@@ -1,4 +1,4 @@
-use Rattle.std.proofs.Common.{ℕ, List, replicate, length, sym, ap, ◌∙◌}
+use Rattle.std.proofs.Common.{sym, ap, ◌∙◌}
 use mathlib.Core.Path.{subst}
 use Rattle.octets.specs.Bytes.{Bytes}
 use Rattle.octets.proofs.Numbers.{all-bytes}
@@ -28,13 +28,21 @@ returns-then-stands c =
       held = ap transmission_in same ∙ one-stays c.args.b.now y c.requires.steady c.in-Some.fix alone ss (sym c.stands.ensures ∙ c.if-stands.true);
     }
 
+pub clear_only-requires-clause-steady : goal.clear_only-requires-clause-steady
+clear_only-requires-clause-steady c =
+    let same = (rw c.unwrap-b.ensures at c.as_mut_array.ensures.cases).same in
+    subst Steady (sym same) c.requires.steady
+
+pub clear_only-requires-clause-only : goal.clear_only-requires-clause-only
+clear_only-requires-clause-only c = (c.in-Some.fix, sym c.of-block.ensures ∙ c.in-Some.ensures)
+
 pub returns-in-Some : goal.returns-in-Some
 returns-in-Some c =
     let ss = summary_places c.args.summaries in
     let same = (rw c.unwrap-b.ensures at c.as_mut_array.ensures.cases).same in
     let y : Bytes c.args.b.now = all-bytes c.args.b.now (λ i. (c.slice_known-1.given i).fits) in
     let alone = sym (c.of-block.ensures ∙ ap transmission_in same) ∙ c.in-Some.ensures in
-    let d = one-goes c.args.b.now y c.requires.steady c.in-Some.fix alone ss (sym c.stands.ensures ∙ c.if-stands.false) c.clear.new.s (c.clear.ensures ∙ ap (λ (l : List ℕ). replicate (length l) 0) same) in
+    let d = one-goes c.args.b.now y c.requires.steady c.in-Some.fix alone ss (sym c.stands.ensures ∙ c.if-stands.false) c.clear_only.new.b c.clear_only.ensures in
     record { steady = d.steady; held = d.held }
 
 pub returns-clause-held : goal.returns-clause-held
