@@ -22,7 +22,7 @@ use Rattle.register.proofs.Frames.{frame-is}
 use Rattle.register_join.specs.Join.{without_bits}
 use Rattle.register_join.specs.Lacks.{lacking_signers, lacking_records, is_lacking, lacking}
 use Rattle.register_join.specs.Merged.{signed_before, summary_before, header_of}
-use Rattle.register_join.proofs.SummaryTurns.{key-alone}
+use Rattle.register_join.proofs.LawfulKinds.{key-alone}
 
 -- ---- what a search finds
 

@@ -12,8 +12,8 @@ pub mod Lacked
 pub mod Delivered
 pub mod Walking
 pub mod Firsts
-pub mod RecordTurns
+pub mod Turns
 pub mod Filling
-pub mod SummaryTurns
+pub mod LawfulKinds
 pub mod Encoded
 pub mod LackTurns

@@ -19,6 +19,7 @@ pub mod parts;
 pub mod records;
 pub mod summaries;
 pub mod together;
+pub mod walk;
 
 /// Joins to a register what another holds: the convicted engines of both, and of both the summaries and the records, each with the signers
 /// that it has in either, without those of convicted engines. `other` is only read.

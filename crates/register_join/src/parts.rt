@@ -7,7 +7,8 @@ ghost use Rattle.tables.specs.Places.{ascending};
 ghost use Rattle.register.specs.Memory.{well_formed, decode, fresh};
 ghost use Rattle.models.specs.Limits.{max_summaries};
 ghost use Rattle.register.specs.Layout.{summaries_at, max_records, register_size};
-ghost use Rattle.register_join.specs.Merged.{header_of};
+ghost use Rattle.signed_records.specs.Signed.{place_size};
+ghost use Rattle.register_join.specs.Merged.{EachWide, header_of};
 ghost use Rattle.register_join.specs.Join.{without_bits};
 
 use engines::Signers;
@@ -35,6 +36,7 @@ pub fn summaries(m: &[u8]) -> &[[u8; SUMMARY_SIZE]]
     ensures places { result.now ≡ (decode m.now).summaries }
     ensures ascend { ascending summary_size result.now ≡ true }
     ensures few { length result.now ≤ max_summaries }
+    ensures wide { EachWide summary_size result.now }
 {
     let table = &m[SUMMARIES_AT..RECORDS_AT];
     places_of::<SUMMARY_SIZE>(table, u16_at(m, SUMMARY_COUNT_AT) as usize)
@@ -47,6 +49,7 @@ pub fn records(m: &[u8]) -> &[[u8; PLACE_SIZE]]
     ensures places { result.now ≡ (decode m.now).records }
     ensures ascend { ascending record_size result.now ≡ true }
     ensures few { length result.now ≤ max_records }
+    ensures wide { EachWide place_size result.now }
 {
     let table = m.split_at(RECORDS_AT).1;
     places_of::<PLACE_SIZE>(table, u16_at(m, RECORD_COUNT_AT) as usize)

@@ -5,10 +5,15 @@ ghost use Rattle.errors.specs.Errors.{answer_number};
 ghost use Rattle.register.specs.Memory.{well_formed, decode, encode, fresh};
 ghost use Rattle.register_join.specs.Join.{joined, overfull};
 
-use crate::{parts, records, summaries};
+use crate::parts;
+use crate::records::Records;
+use crate::summaries::Summaries;
+use crate::walk::unite;
 use errors::Error;
-use models::layout::SUMMARIES_SIZE;
-use register::layout::SUMMARIES_AT;
+use models::layout::{MAX_SUMMARIES, SUMMARIES_SIZE, SUMMARY_SIZE};
+use record::layout::RECORD_SIZE;
+use register::layout::{MAX_RECORDS, SUMMARIES_AT};
+use signed_records::PLACE_SIZE;
 
 /// Writes what two registers hold together into bytes that are all zero. `Full` where that is more than there is room for.
 pub fn write(mine: &[u8], theirs: &[u8], out: &mut [u8]) -> Result<(), Error>
@@ -22,14 +27,14 @@ pub fn write(mine: &[u8], theirs: &[u8], out: &mut [u8]) -> Result<(), Error>
     let their_convicted = parts::convicted(theirs);
     let (header, tables) = out.split_at_mut(SUMMARIES_AT);
     let (places, more) = tables.split_at_mut(SUMMARIES_SIZE);
-    let n = summaries::unite(
+    let n = unite::<Summaries, SUMMARY_SIZE, SUMMARY_SIZE, MAX_SUMMARIES>(
         parts::summaries(mine),
         their_convicted,
         parts::summaries(theirs),
         my_convicted,
         places,
     )?;
-    let k = records::unite(
+    let k = unite::<Records, PLACE_SIZE, RECORD_SIZE, MAX_RECORDS>(
         parts::records(mine),
         their_convicted,
         parts::records(theirs),

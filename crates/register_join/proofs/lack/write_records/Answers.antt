@@ -7,7 +7,7 @@ use Rattle.register_join.specs.Join.{without_bits}
 use Rattle.register_join.specs.Lacks.{lacking_records, lacking_signers}
 use Rattle.register_join.specs.Merged.{signed_before}
 use Rattle.register_join.proofs.Filling.{none-written, passed-by, next-inside, next-written, room-for-next, count-written, told-bytes}
-use Rattle.register_join.proofs.RecordTurns.{signed-wide, with-signers, without-signers}
+use Rattle.register_join.proofs.LawfulKinds.{signed-wide, with-signers, without-signers}
 use Rattle.register_join.proofs.LackTurns.{next-record, no-more-records, fewer-records}
 use Rattle.register_join.proofs.lack.write_records.Goals as goal
 use Rattle.register_join.proofs.lack.write_records.Goals.{After-without-signers}

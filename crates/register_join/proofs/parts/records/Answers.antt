@@ -1,8 +1,9 @@
 use Rattle.std.proofs.Common.{◌≡◌, ap₂, ◌∙◌, arith}
 use Rattle.tables.specs.Places.{places}
+use Rattle.tables.proofs.Tables.{wide_at}
 use Rattle.signed_records.specs.Signed.{place_size}
 use Rattle.register.specs.Memory.{decode, records_in}
-use Rattle.register.proofs.Opened.{opened, records-ascend, records-length}
+use Rattle.register.proofs.Opened.{opened, records-ascend, records-length, records-wide}
 use Rattle.register.proofs.Lent.{records-lie}
 use Rattle.register_join.proofs.parts.records.Goals as goal
 use Rattle.register_join.proofs.parts.records.Goals.{After-places_of}
@@ -22,3 +23,8 @@ returns-clause-ascend c = rw (told (goal.at.returns-clause-ascend c).After-place
 
 pub returns-clause-few : goal.returns-clause-few
 returns-clause-few c = let o = opened c.args.m.now c.requires in rw (told (goal.at.returns-clause-few c).After-places_of, records-length c.args.m.now o) o.few_records
+
+pub returns-clause-wide : goal.returns-clause-wide
+returns-clause-wide c =
+    let m = c.args.m.now in
+    rw (told (goal.at.returns-clause-wide c).After-places_of) (λ i h. wide_at place_size i (records_in m) (records-wide m (opened m c.requires)) h)

@@ -1,8 +1,9 @@
 use Rattle.std.proofs.Common.{ℕ, ◌≡◌, ap, ◌∙◌, arith}
 use Rattle.tables.specs.Places.{places}
+use Rattle.tables.proofs.Tables.{wide_at}
 use Rattle.models.specs.Summary.{summary_size}
 use Rattle.register.specs.Memory.{decode, summaries_in, summary_table}
-use Rattle.register.proofs.Opened.{opened, summaries-ascend, summaries-length}
+use Rattle.register.proofs.Opened.{opened, summaries-ascend, summaries-length, summaries-wide}
 use Rattle.register.proofs.Lent.{summaries-lie}
 use Rattle.register_join.proofs.parts.summaries.Goals as goal
 use Rattle.register_join.proofs.parts.summaries.Goals.{After-places_of}
@@ -22,3 +23,8 @@ returns-clause-ascend c = rw (told (goal.at.returns-clause-ascend c).After-place
 
 pub returns-clause-few : goal.returns-clause-few
 returns-clause-few c = let o = opened c.args.m.now c.requires in rw (told (goal.at.returns-clause-few c).After-places_of, summaries-length c.args.m.now o) o.few_summaries
+
+pub returns-clause-wide : goal.returns-clause-wide
+returns-clause-wide c =
+    let m = c.args.m.now in
+    rw (told (goal.at.returns-clause-wide c).After-places_of) (λ i h. wide_at summary_size i (summaries_in m) (summaries-wide m (opened m c.requires)) h)

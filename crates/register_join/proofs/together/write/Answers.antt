@@ -1,4 +1,4 @@
-use Rattle.std.proofs.Common.{rules, ◌≤◌, ◌≡◌, refl, ap, ap₂, ◌∙◌, ltb-false, length, take, drop}
+use Rattle.std.proofs.Common.{rules, arith, ◌≤◌, ◌≡◌, refl, ap, ap₂, ◌∙◌, ltb-false, length, take, drop}
 use Rattle.lists.proofs.Bools.{clash}
 use Rattle.errors.specs.Errors.{error_number, answer_number}
 use lib.Bits.{bit_or}
@@ -10,6 +10,7 @@ use Rattle.register.specs.Layout.{max_records, summaries_at, records_size}
 use Rattle.register.specs.Memory.{decode}
 use Rattle.register_join.specs.Merged.{records_together, summaries_together, counted_in}
 use Rattle.register_join.proofs.Encoded.{zero-front, zero-back, full-found, count-found, both_summaries, both_records, too-many-summaries, too-many-records, room-for-both, put-together, summaries-same, records-same}
+use Rattle.register_join.proofs.LawfulKinds.{lawful-records, lawful-summaries}
 use Rattle.register_join.proofs.together.write.Goals as goal
 use Rattle.register_join.proofs.together.write.Goals.{After-unite, After-unite-2}
 
@@ -32,11 +33,13 @@ of-records : (c : After-unite-2) → c.unite-2.result ≡ counted_in max_records
 of-records c =
     c.unite-2.ensures.answer ∙ ap (counted_in max_records) (records-are c)
 
-pub unite-requires-clause-zero : goal.unite-requires-clause-zero
-unite-requires-clause-zero c = c.split_at_mut-places.ensures.front ∙ ap (take summaries_size) (c.split_at_mut-header.ensures.back ∙ ap (drop summaries_at) c.requires.zero) ∙ zero-front summaries_at summaries_size records_size
+pub unite-requires : goal.unite-requires
+unite-requires c =
+    (omega arith, (lawful-summaries, (c.summaries.ensures.ascend, (c.summaries-2.ensures.ascend, (c.summaries.ensures.wide, (c.summaries-2.ensures.wide, c.split_at_mut-places.ensures.front ∙ ap (take summaries_size) (c.split_at_mut-header.ensures.back ∙ ap (drop summaries_at) c.requires.zero) ∙ zero-front summaries_at summaries_size records_size))))))
 
-pub unite-requires-2-clause-zero : goal.unite-requires-2-clause-zero
-unite-requires-2-clause-zero c = c.split_at_mut-places.ensures.back ∙ ap (drop summaries_size) (c.split_at_mut-header.ensures.back ∙ ap (drop summaries_at) c.requires.zero) ∙ zero-back summaries_at summaries_size records_size
+pub unite-requires-2 : goal.unite-requires-2
+unite-requires-2 c =
+    (omega arith, (lawful-records, (c.records.ensures.ascend, (c.records-2.ensures.ascend, (c.records.ensures.wide, (c.records-2.ensures.wide, c.split_at_mut-places.ensures.back ∙ ap (drop summaries_size) (c.split_at_mut-header.ensures.back ∙ ap (drop summaries_at) c.requires.zero) ∙ zero-back summaries_at summaries_size records_size))))))
 
 pub returns-in_err-n-clause-answer : goal.returns-in_err-n-clause-answer
 returns-in_err-n-clause-answer c =
