@@ -1,6 +1,6 @@
 //! A record made of what it says.
 
-ghost use Rattle.std.specs.Prelude.{◌≡◌, leb, length, is_some, IfSome, Some, None, cond};
+ghost use Rattle.std.specs.Prelude.{◌≡◌, length, Some, None, cond};
 ghost use Rattle.errors.specs.After.{after};
 ghost use Rattle.errors.specs.Errors.{answer_number};
 ghost use Rattle.record_values.specs.Written.{has_room, write_record};
@@ -43,33 +43,27 @@ impl<'a> Model for Said<'a> {
     ghost invariant = { λ s. length s.covariance.now ≡ 6 };
 }
 
-// The items, where there is room for them.
-fn within<T: Copy + Default, const N: usize>(items: &[T]) -> Option<ArrayVec<T, N>>
-    ensures room { is_some result ≡ leb (length items.now) N }
-    ensures items { IfSome result (λ l. l.items ≡ items.now) }
-{
-    let mut list = ArrayVec::<T, N>::new();
-    list.try_extend_from_slice(items).ok()?;
-    Some(list)
-}
-
 // What is said, where each list has room in a record.
 fn fields_of(said: &Said) -> Option<Fields>
     ensures fields { result ≡ cond (has_room said.now) (Some said.now) None }
     ensures six { length said.now.covariance ≡ 6 }
 {
-    Some(Fields {
+    let mut fields = Fields {
         time: said.time,
         latitude: said.latitude,
         longitude: said.longitude,
         height: said.height,
-        message: within(said.message)?,
-        tags: within(said.tags)?,
+        message: ArrayVec::new(),
+        tags: ArrayVec::new(),
         used: said.used,
-        models: within(said.models)?,
+        models: ArrayVec::new(),
         spec: said.spec,
         covariance: *said.covariance,
-    })
+    };
+    fields.message.try_extend_from_slice(said.message).ok()?;
+    fields.tags.try_extend_from_slice(said.tags).ok()?;
+    fields.models.try_extend_from_slice(said.models).ok()?;
+    Some(fields)
 }
 
 /// Writes the record that says this; `Error::NoRecord` where there is none, and then nothing is written.
