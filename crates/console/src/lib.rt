@@ -10,6 +10,8 @@ use std::io::Read;
 use std::rt::{Env, Files};
 use std::{env, fs, io};
 
+pub mod arguments;
+
 /// 4,096 zeros. Lending the array as a slice needs the length.
 pub fn buffer() -> [u8; 4096]
     ensures len { 4096 ≡ length result }

@@ -4,7 +4,7 @@
 
 use monthly_numbers::TEXT_SIZE;
 use register::layout::REGISTER_SIZE;
-use session_arguments::{Instead, Wish};
+use session_arguments::{Instead, name_of};
 use std::io;
 use std::process::ExitCode;
 use std::rt::{Env, Files};
@@ -73,14 +73,6 @@ fn numbers(rt: &(impl Files + Input + Print), errors: &impl Print, name: &str) -
             println!(errors; "monthly: {name}: {error}")?;
             Ok(FAILED)
         }
-    }
-}
-
-// The file that a wish names.
-fn name_of(wish: Wish, words: &[String]) -> &str {
-    match wish.file.and_then(|index| words.get(index)) {
-        Some(name) => name.as_str(),
-        None => "-",
     }
 }
 

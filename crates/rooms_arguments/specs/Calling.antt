@@ -1,7 +1,7 @@
 -- What the words of a call ask for, read from left to right: two files, and one for the joined register behind `--join` (docs/REFERENCE.md, 'Two rooms').
 use Rattle.std.specs.Prelude.{ℕ, ◌+◌, Bool, true, false, List, [], ◌∷◌, Option, Some, None, Result, Ok, Err, if◌then◌else◌, is_some}
-use Rattle.rooms_arguments.specs.declared.Word.{Word}
-use Rattle.rooms_arguments.specs.declared.Word.TheVariants as word
+use Rattle.console.specs.declared.arguments.Word.{Word}
+use Rattle.console.specs.declared.arguments.Word.TheVariants as word
 use Rattle.rooms_arguments.specs.declared.Taken.{Taken}
 use Rattle.rooms_arguments.specs.declared.Wish.{Wish}
 use Rattle.rooms_arguments.specs.declared.Instead.{Instead}
@@ -22,7 +22,7 @@ take_join k index =
 abbrev pub take_word : Taken → ℕ → Word → Result Taken Instead
 take_word k index word.Help = Err instead.Help
 take_word k index word.Version = Err instead.Version
-take_word k index word.Join = take_join k index
+take_word k index word.Own = take_join k index
 take_word k index word.File = take_file k index
 take_word k index word.Unknown = Err (instead.Wrong index)
 

@@ -2,8 +2,9 @@
 #![tactic(auto)]
 
 ghost use Rattle.std.specs.Prelude.{◌≡◌, map, string_bytes};
-ghost use Rattle.rooms_arguments.specs.Words as W;
 ghost use Rattle.rooms_arguments.specs.Calling as C;
+
+use console::arguments::{Word, word_of};
 
 mod orders;
 
@@ -41,34 +42,6 @@ struct Taken {
     joined: Option<usize>,
     // The next word names the file for the joined register.
     join_due: bool,
-}
-
-// What a word is.
-#[derive(Clone, Copy)]
-enum Word {
-    Help,
-    Version,
-    Join,
-    // A file's name, or `-`.
-    File,
-    // It begins as an option does, and is none.
-    Unknown,
-}
-
-fn word_of(word: &[u8]) -> Word
-    ensures { result ≡ W.word_of word.now }
-{
-    if word == b"--help".as_slice() {
-        Word::Help
-    } else if word == b"--version".as_slice() {
-        Word::Version
-    } else if word == b"--join".as_slice() {
-        Word::Join
-    } else if word == b"-".as_slice() || !word.starts_with(b"-") {
-        Word::File
-    } else {
-        Word::Unknown
-    }
 }
 
 // A file's name at an index.
@@ -121,10 +94,10 @@ fn take(taken: Taken, index: usize, word: &[u8]) -> Result<Taken, Instead>
             join_due: false,
         });
     }
-    match word_of(word) {
+    match word_of(b"--join", word) {
         Word::Help => Err(Instead::Help),
         Word::Version => Err(Instead::Version),
-        Word::Join => take_join(taken, index),
+        Word::Own => take_join(taken, index),
         Word::File => take_file(taken, index),
         Word::Unknown => Err(Instead::Wrong(index)),
     }

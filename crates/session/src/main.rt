@@ -2,7 +2,7 @@
 //! than is read is enough to know that there are more.
 #![tactic(auto)]
 
-use session_arguments::{Instead, Wish};
+use session_arguments::{Instead, name_of};
 use session_text::{MAX_INPUT, OUTPUT_SIZE};
 use std::io;
 use std::process::ExitCode;
@@ -69,14 +69,6 @@ fn session(
             println!(errors; "session: {name}: {error}")?;
             Ok(FAILED)
         }
-    }
-}
-
-// The file that a wish names.
-fn name_of(wish: Wish, words: &[String]) -> &str {
-    match wish.file.and_then(|index| words.get(index)) {
-        Some(name) => name.as_str(),
-        None => "-",
     }
 }
 

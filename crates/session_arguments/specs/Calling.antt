@@ -1,10 +1,11 @@
 -- What the words of a call ask for, read from left to right (docs/REFERENCE.md, 'Session').
-use Rattle.std.specs.Prelude.{ℕ, ◌+◌, true, false, List, [], ◌∷◌, Option, Some, None, Result, Ok, Err}
-use Rattle.session_arguments.specs.declared.Word.{Word}
-use Rattle.session_arguments.specs.declared.Word.TheVariants as word
+use Rattle.std.specs.Prelude.{ℕ, ◌+◌, true, false, List, [], ◌∷◌, Option, Some, None, Result, Ok, Err, codes}
+use Rattle.console.specs.declared.arguments.Word.{Word}
+use Rattle.console.specs.declared.arguments.Word.TheVariants as word
 use Rattle.session_arguments.specs.declared.Wish.{Wish}
 use Rattle.session_arguments.specs.declared.Instead.{Instead}
 use Rattle.session_arguments.specs.declared.Instead.TheVariants as instead
+use Rattle.console.specs.Words.{word_at}
 use Rattle.session_arguments.specs.Words.{word_of}
 
 -- a file, where none is named yet; one more is too many
@@ -16,7 +17,7 @@ take_file w index (Some before) = Err (instead.Wrong index)
 abbrev pub take : Wish → ℕ → Word → Result Wish Instead
 take w index word.Help = Err instead.Help
 take w index word.Version = Err instead.Version
-take w index word.Strict = Ok (record w { strict = true })
+take w index word.Own = Ok (record w { strict = true })
 take w index word.File = take_file w index w.file
 take w index word.Unknown = Err (instead.Wrong index)
 
@@ -32,3 +33,11 @@ taken w index (t ∷ ts) = and_then (take w index (word_of t)) (λ (v : Wish). t
 -- where no word is given, standard input is read, and not strictly
 abbrev pub asked_of : List (List ℕ) → Result Wish Instead
 asked_of words = taken (record { file = None; strict = false }) 0 words
+
+abbrev pub name_in : Option ℕ → List (List ℕ) → List ℕ
+name_in None words = codes "-"
+name_in (Some index) words = word_at words index
+
+-- the file that a wish names; standard input where it names none
+abbrev pub name_of : Wish → List (List ℕ) → List ℕ
+name_of w words = name_in w.file words

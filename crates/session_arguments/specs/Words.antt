@@ -1,17 +1,8 @@
--- What the words of a call are.
+-- What the words of a call are, to a program whose own option is `--strict`.
 -- Source: docs/REFERENCE.md, 'Session'.
-use Rattle.std.specs.Prelude.{ℕ, List, ◌||◌, not, if◌then◌else◌, codes}
-use Rattle.std.specs.Str.{bytes_eq}
-use Rattle.std.specs.List.{starts_with}
-use Rattle.std.specs.Prelude.{nat_eq}
-use Rattle.session_arguments.specs.declared.Word.{Word}
-use Rattle.session_arguments.specs.declared.Word.TheVariants as word
+use Rattle.std.specs.Prelude.{ℕ, List, codes}
+use Rattle.console.specs.declared.arguments.Word.{Word}
+use Rattle.console.specs.Words as W
 
--- a file's name does not begin with a minus; `-` alone is standard input
 abbrev pub word_of : List ℕ → Word
-word_of t =
-    if bytes_eq t (codes "--help") then word.Help
-    else if bytes_eq t (codes "--version") then word.Version
-    else if bytes_eq t (codes "--strict") then word.Strict
-    else if bytes_eq t (codes "-") || not (starts_with nat_eq t (codes "-")) then word.File
-    else word.Unknown
+word_of t = W.word_of (codes "--strict") t

@@ -5,6 +5,8 @@ ghost use Rattle.std.specs.Prelude.{◌≡◌, map, string_bytes};
 ghost use Rattle.session_arguments.specs.Words as W;
 ghost use Rattle.session_arguments.specs.Calling as C;
 
+use console::arguments::{Word, word_at, word_of};
+
 /// What is asked for in place of a session.
 #[derive(Clone, Copy)]
 pub enum Instead {
@@ -25,42 +27,14 @@ pub struct Wish {
     pub strict: bool,
 }
 
-// What a word is.
-#[derive(Clone, Copy)]
-enum Word {
-    Help,
-    Version,
-    Strict,
-    // A file's name, or `-`.
-    File,
-    // It begins as an option does, and is none.
-    Unknown,
-}
-
-fn word_of(word: &[u8]) -> Word
-    ensures { result ≡ W.word_of word.now }
-{
-    if word == b"--help".as_slice() {
-        Word::Help
-    } else if word == b"--version".as_slice() {
-        Word::Version
-    } else if word == b"--strict".as_slice() {
-        Word::Strict
-    } else if word == b"-".as_slice() || !word.starts_with(b"-") {
-        Word::File
-    } else {
-        Word::Unknown
-    }
-}
-
 // The wish after the word at an index, or what is asked for in its place.
 fn take(wish: Wish, index: usize, word: &[u8]) -> Result<Wish, Instead>
     ensures { result ≡ C.take wish index (W.word_of word.now) }
 {
-    match word_of(word) {
+    match word_of(b"--strict", word) {
         Word::Help => Err(Instead::Help),
         Word::Version => Err(Instead::Version),
-        Word::Strict => Ok(Wish {
+        Word::Own => Ok(Wish {
             file: wish.file,
             strict: true,
         }),
@@ -87,4 +61,14 @@ pub fn asked(words: &[String]) -> Result<Wish, Instead>
         wish = take(wish, index, word.as_bytes())?;
     }
     Ok(wish)
+}
+
+/// The file that a wish names: the word at its index, or `-`, standard input, where it names none.
+pub fn name_of(wish: Wish, words: &[String]) -> &str
+    ensures { result.now ≡ C.name_of wish (map string_bytes words.now) }
+{
+    match wish.file {
+        Some(index) => word_at(words, index),
+        None => "-",
+    }
 }

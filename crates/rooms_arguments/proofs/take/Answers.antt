@@ -1,5 +1,5 @@
 use Rattle.std.proofs.Common.{◌≡◌, ◌∙◌, sym, refl, Err}
-use Rattle.rooms_arguments.specs.declared.Word.TheVariants as word
+use Rattle.console.specs.declared.arguments.Word.TheVariants as word
 use Rattle.rooms_arguments.specs.declared.Instead.TheVariants as instead
 use Rattle.rooms_arguments.specs.Words.{word_of}
 use Rattle.rooms_arguments.specs.Calling as C
