@@ -5,6 +5,7 @@
 ghost use Rattle.std.specs.Prelude.{◌≡◌, true, OnOk};
 ghost use Rattle.register.specs.Memory.{well_formed};
 
+use console::arguments::word_at;
 use errors::Error;
 use register::layout::REGISTER_SIZE;
 use rooms_arguments::{Instead, Orders, Wish};
@@ -165,14 +166,6 @@ fn join(
     match fs::write(rt, name, memory.as_slice()) {
         Ok(()) => Ok(()),
         Err(error) => Err(fail(errors, name, error)),
-    }
-}
-
-// The word at an index.
-fn word_at(words: &[String], index: usize) -> &str {
-    match words.get(index) {
-        Some(word) => word.as_str(),
-        None => "-",
     }
 }
 
