@@ -1,16 +1,16 @@
 -- Laws of little-endian numbers, for every width: the round trips both ways, and a number in two parts.
 use Rattle.std.proofs.lemmas.Grind.{common_steps}
 use Prim.Native.Nat.{ℕ, zero, suc, ◌+◌, ◌*◌, ◌/◌, ◌%◌, ◌^◌, ◌≤◌, ◌<◌}
-use mathlib.Core.Path.{◌≡◌, refl, sym, ap, ◌∙◌}
-use mathlib.Core.List.{List, [], ◌∷◌, ◌++◌, append_assoc}
+use mathlib.Core.Path.{◌≡◌, refl, sym, ap, ◌∙◌, subst}
+use mathlib.Core.List.{List, [], ◌∷◌, ◌++◌}
 use native.Mathlib.Omega.{arith}
-use native.Mathlib.Nat.{pow-suc, pow-succ', suc-add, zero-add, mul_assoc, add_assoc, div-div-eq-div-mul}
-use native.Mathlib.Numerals.{add-one}
-use lib.Arith.{mod-mul}
-use lib.ListN.{length, get_or, set, take, drop, length-append, length-take, length-drop, take-append-drop}
-use lib.Seq.{sets-eq, take-add, drop-drop, drop-cons, take_at, drop_at, length-take-le}
+use native.Mathlib.Nat.{div-one, pow-suc, mul_assoc, div-div-eq-div-mul}
+use lib.ListN.{length, get_or, take, drop, length-append, length-take, length-drop, take-append-drop}
+use lib.Seq.{drop-drop, drop-cons, take_at, drop_at, length-take-le}
+use Rattle.std.specs.Int.{cast_signed, w16, w32, w64, to_le_bytes, from_le_bytes, byte_at, bytes_low_first}
+use Rattle.std.proofs.lemmas.Nat.{from_le_bytes-to_le_bytes_2, from_le_bytes-to_le_bytes_4, from_le_bytes-to_le_bytes_8}
 use Rattle.octets.specs.Bytes.{Bytes}
-use Rattle.octets.specs.Words.{word, word_bytes, word_at}
+use Rattle.octets.specs.Words.{word, word_bytes, word_at, signed_of}
 use Rattle.octets.specs.Writes.{put_word}
 
 -- a slice's elements are bytes, place by place
@@ -60,6 +60,51 @@ unfolding word
 word_lt [] h = omega arith
 word_lt (b ∷ s) h = let l = h.0 in omega (arith, word_lt s h.1, pow-suc 256 (length s))
 
+-- ---- numbers as std reads and writes their bytes
+
+byte-at : (i n : ℕ) → byte_at i n ≡ n / 256 ^ i % 256
+byte-at zero n = ap (λ (x : ℕ). x % 256) (sym (div-one n))
+byte-at (suc i) n = refl
+
+low_bytes : (k i n : ℕ) → bytes_low_first i k n ≡ word_bytes k (n / 256 ^ i)
+unfolding word_bytes
+low_bytes zero i n = refl
+low_bytes (suc k) i n =
+    let next : n / 256 ^ suc i ≡ n / 256 ^ i / 256 = ap (λ (x : ℕ). n / x) (pow-suc 256 i) ∙ sym (div-div-eq-div-mul n (256 ^ i) 256) in
+    ap (λ (b : ℕ). b ∷ bytes_low_first (suc i) k n) (byte-at i n) ∙ ap (λ (l : List ℕ). (n / 256 ^ i % 256) ∷ l) (low_bytes k (suc i) n ∙ ap (word_bytes k) next)
+
+bytes-of : (k n : ℕ) → bytes_low_first 0 k n ≡ word_bytes k n
+bytes-of k n = low_bytes k 0 n ∙ ap (word_bytes k) (div-one n)
+
+pub bytes-of-u16 : (n : ℕ) → to_le_bytes w16 n ≡ word_bytes 2 n
+bytes-of-u16 n = bytes-of 2 n
+
+pub bytes-of-u32 : (n : ℕ) → to_le_bytes w32 n ≡ word_bytes 4 n
+bytes-of-u32 n = bytes-of 4 n
+
+pub bytes-of-u64 : (n : ℕ) → to_le_bytes w64 n ≡ word_bytes 8 n
+bytes-of-u64 n = bytes-of 8 n
+
+-- what reads back each number that it is given as bytes reads a string as the number that it is
+read-of : (k : ℕ) (read : List ℕ → ℕ) (s : List ℕ) → Bytes s → length s ≡ k → ((n : ℕ) → n < 256 ^ k → read (word_bytes k n) ≡ n) → read s ≡ word s
+read-of k read s p q f =
+    let b : word_bytes k (word s) ≡ s = ap (λ (m : ℕ). word_bytes m (word s)) (sym q) ∙ bytes-of-word s p in
+    let l : word s < 256 ^ k = subst (λ (x : ℕ). word s < 256 ^ x) q (word_lt s p) in
+    ap read (sym b) ∙ f (word s) l
+
+pub number-of-u16 : (s : List ℕ) → Bytes s → length s ≡ 2 → from_le_bytes w16 s ≡ word s
+number-of-u16 s p q = read-of 2 (from_le_bytes w16) s p q (λ n h. ap (from_le_bytes w16) (sym (bytes-of-u16 n)) ∙ from_le_bytes-to_le_bytes_2 n h)
+
+pub number-of-u32 : (s : List ℕ) → Bytes s → length s ≡ 4 → from_le_bytes w32 s ≡ word s
+number-of-u32 s p q = read-of 4 (from_le_bytes w32) s p q (λ n h. ap (from_le_bytes w32) (sym (bytes-of-u32 n)) ∙ from_le_bytes-to_le_bytes_4 n h)
+
+pub number-of-u64 : (s : List ℕ) → Bytes s → length s ≡ 8 → from_le_bytes w64 s ≡ word s
+number-of-u64 s p q = read-of 8 (from_le_bytes w64) s p q (λ n h. ap (from_le_bytes w64) (sym (bytes-of-u64 n)) ∙ from_le_bytes-to_le_bytes_8 n h)
+
+-- and a signed number as std has it
+pub signed-is : (x : ℕ) → signed_of x ≡ cast_signed w32 x
+signed-is x = grind arith
+
 -- ---- a number in two parts, the lower first
 
 pub word-append : (s t : List ℕ) → word (s ++ t) ≡ word s + word t * 256 ^ length s
@@ -70,56 +115,10 @@ word-append (b ∷ s) t =
     let p : word t * 256 ^ suc (length s) ≡ word t * 256 ^ length s * 256 = ap (λ (x : ℕ). word t * x) (pow-suc 256 (length s)) ∙ sym (mul_assoc (word t) (256 ^ length s) 256) in
     omega arith
 
-pub word-halves : (m n at : ℕ) (s : List ℕ) → at + m ≤ length s → word_at (m + n) at s ≡ word_at m at s + word_at n (at + m) s * 256 ^ m
-word-halves m n at s h =
-    let l : length (take m (drop at s)) ≡ m = length-take-le m (drop at s) (rw length-drop (omega arith)) in
-    ap word (take-add m n (drop at s)) ∙ word-append (take m (drop at s)) (take n (drop m (drop at s))) ∙ rw (l, drop-drop m at s) refl
-
 -- one byte, as a number of one byte
 pub word-one : (at : ℕ) (s : List ℕ) → at < length s → word_at 1 at s ≡ get_or s at 0
 unfolding word
 word-one at s h = rw (drop-cons s at 0 h) (omega arith)
-
--- the bytes of a number in two parts
-pub bytes_halves : (m n x : ℕ) → word_bytes (m + n) x ≡ word_bytes m x ++ word_bytes n (x / 256 ^ m)
-unfolding word_bytes
-bytes_halves zero n x = let p : x / 1 ≡ x = omega arith in rw (zero-add n, p) refl
-bytes_halves (suc m) n x =
-    let p : x / 256 / 256 ^ m ≡ x / 256 ^ suc m = div-div-eq-div-mul x 256 (256 ^ m) ∙ ap (λ (d : ℕ). x / d) (sym (pow-succ' 256 m)) in
-    ap (λ (k : ℕ). word_bytes k x) (suc-add m n) ∙ ap (λ (l : List ℕ). x % 256 ∷ l) (bytes_halves m n (x / 256) ∙ ap (λ (y : ℕ). word_bytes m (x / 256) ++ word_bytes n y) p)
-
--- the lower bytes look at no more than they hold
-pub bytes_low : (m x : ℕ) → word_bytes m (x % 256 ^ m) ≡ word_bytes m x
-unfolding word_bytes
-bytes_low zero x = refl
-bytes_low (suc m) x =
-    let e : x % 256 ^ suc m ≡ x / 256 % 256 ^ m * 256 + x % 256 = ap (λ (d : ℕ). x % d) (pow-suc 256 m) ∙ mod-mul x {m = 256 ^ m} {c = 256} (pos-pow m) (omega arith) in
-    let p : x % 256 ^ suc m % 256 ≡ x % 256 = omega arith in
-    let q : x % 256 ^ suc m / 256 ≡ x / 256 % 256 ^ m = omega arith in
-    rw (p, q) (ap (λ (l : List ℕ). x % 256 ∷ l) (bytes_low m (x / 256)))
-  where
-    pos-pow : (m : ℕ) → 0 < 256 ^ m
-    pos-pow zero = omega arith
-    pos-pow (suc m) = omega (arith, pos-pow m, pow-suc 256 m)
-
--- a number written in two parts, the lower first
-pub put-halves : (m n at x : ℕ) (s : List ℕ) → at + m ≤ length s → put_word n (at + m) (x / 256 ^ m) (put_word m at (x % 256 ^ m) s) ≡ put_word (m + n) at x s
-put-halves m n at x s h =
-    let low = word_bytes m (x % 256 ^ m) in
-    let p = take at s ++ low in
-    let l : length p ≡ at + m = rw (length-append, length-take-le at s (omega arith), length-word-bytes m (x % 256 ^ m)) refl in
-    let e : put_word m at (x % 256 ^ m) s ≡ p ++ drop (at + m) s = sym (append_assoc (take at s) low (drop (at + m) s)) in
-    let d : drop (at + m + n) (p ++ drop (at + m) s) ≡ drop (at + (m + n)) s =
-    sym (drop-drop n (at + m) (p ++ drop (at + m) s)) ∙ ap (drop n) (drop_at p (drop (at + m) s) (at + m) l) ∙ drop-drop n (at + m) s ∙ ap (λ (k : ℕ). drop k s) (add_assoc at m n) in
-    rw (e, take_at p (drop (at + m) s) (at + m) l, d, bytes_low m x, bytes_halves m n x)
-    (append_assoc (take at s) (word_bytes m x) (word_bytes n (x / 256 ^ m) ++ drop (at + (m + n)) s) ∙ ap (λ (t : List ℕ). take at s ++ t) (sym (append_assoc (word_bytes m x) (word_bytes n (x / 256 ^ m)) (drop (at + (m + n)) s))))
-
--- two bytes stored one after the other
-pub put_two : (at x : ℕ) (s : List ℕ) → at + 2 ≤ length s → x < 256 ^ 2 → set (set s at (x % 256)) (at + 1) (x / 256) ≡ put_word 2 at x s
-unfolding word_bytes
-put_two at x s h b =
-    let e : x / 256 % 256 ≡ x / 256 = omega arith in
-    ap (λ (k : ℕ). set (set s at (x % 256)) k (x / 256)) (add-one at) ∙ sets-eq (x % 256 ∷ x / 256 ∷ []) s at h ∙ rw e (append_assoc (take at s) (x % 256 ∷ x / 256 ∷ []) (drop (at + 2) s))
 
 -- what is put at a place is read there
 pub put-read : (n at x : ℕ) (s : List ℕ) → at + n ≤ length s → x < 256 ^ n → word_at n at (put_word n at x s) ≡ x

@@ -4,7 +4,7 @@ ghost use Rattle.std.specs.Prelude.{◌≡◌, ◌++◌, ◌+◌, ◌-◌, ◌�
 ghost use Rattle.octets.specs.Runs.{all_zero};
 ghost use Rattle.octets.specs.Put.{Put};
 
-use std::simd::u8x64;
+use std::simd::{u8x64, u64x8};
 
 // How many bytes are looked at together.
 const BLOCK: usize = 64;
@@ -25,13 +25,13 @@ pub fn is_zero(s: &[u8]) -> bool
     ensures { result ≡ all_zero s.now }
 {
     let n = s.len();
-    let mut any = u8x64::splat(0);
+    let mut any = u64x8::splat(0);
     let mut i = 0;
     while BLOCK <= n - i {
-        any = any | u8x64::from_slice(&s[i..]);
+        any = any | u64x8::from_le_bytes(u8x64::from_slice(&s[i..]));
         i += BLOCK;
     }
-    is_zero_from(s, i) && any.simd_ne(u8x64::splat(0)).to_bitmask() == 0
+    is_zero_from(s, i) && any.simd_ne(u64x8::splat(0)).to_bitmask() == 0
 }
 
 /// Sets every byte to zero.

@@ -1,40 +1,15 @@
 -- Numbers as std writes their bytes are numbers in memory.
 use Rattle.std.proofs.lemmas.Grind.{common_steps, flat_map-append}
-use Rattle.std.proofs.Common.{◌≡◌, ◌∙◌, sym, ap, ap₂, refl, ℕ, zero, suc, ◌+◌, ◌*◌, ◌/◌, ◌%◌, ◌^◌, ◌-◌, ◌≤◌, ◌++◌, Option, Some, None, length-append, append-nil, List, [], ◌∷◌, length, take, drop, replicate, w16, w32, w64, arith, ℤ, div-one, pow-suc, drop_of_length-le}
+use Rattle.std.proofs.Common.{◌≡◌, ◌∙◌, ap, ap₂, refl, ℕ, zero, suc, ◌+◌, ◌*◌, ◌%◌, ◌-◌, ◌≤◌, ◌++◌, Option, Some, None, length-append, append-nil, List, [], ◌∷◌, length, take, drop, replicate, arith, ℤ, drop_of_length-le}
 use Rattle.std.proofs.lemmas.List.{drop-replicate, take_all, length-replicate}
 use Rattle.record.specs.Layout.{record_size, long_message, max_tags, max_models}
 use Rattle.octets.proofs.Numbers.{length-word-bytes}
 use Rattle.record.specs.Value.{Value}
 use Rattle.record.specs.Encoded.{unsigned_of, pad, words, height_bytes, message_bytes, place_bytes, sighting_bytes, cited_bytes, bytes_of}
-use Rattle.std.specs.Int.{to_le_bytes, byte_at, bytes_low_first}
-use native.Mathlib.Nat.{div-div-eq-div-mul}
 use Rattle.octets.specs.Words.{word_bytes}
 use Rattle.octets.specs.Bytes.{Bytes}
 use Rattle.octets.specs.Put.{Put}
 use Rattle.octets.proofs.Puts as Puts
-
-byte-at : (i n : ℕ) → byte_at i n ≡ n / 256 ^ i % 256
-byte-at zero n = ap (λ (x : ℕ). x % 256) (sym (div-one n))
-byte-at (suc i) n = refl
-
-low_bytes : (k i n : ℕ) → bytes_low_first i k n ≡ word_bytes k (n / 256 ^ i)
-unfolding word_bytes
-low_bytes zero i n = refl
-low_bytes (suc k) i n =
-    let next : n / 256 ^ suc i ≡ n / 256 ^ i / 256 = ap (λ (x : ℕ). n / x) (pow-suc 256 i) ∙ sym (div-div-eq-div-mul n (256 ^ i) 256) in
-    ap (λ (b : ℕ). b ∷ bytes_low_first (suc i) k n) (byte-at i n) ∙ ap (λ (l : List ℕ). (n / 256 ^ i % 256) ∷ l) (low_bytes k (suc i) n ∙ ap (word_bytes k) next)
-
-whole : (k n : ℕ) → bytes_low_first 0 k n ≡ word_bytes k n
-whole k n = low_bytes k 0 n ∙ ap (word_bytes k) (div-one n)
-
-pub bytes-of-u16 : (n : ℕ) → to_le_bytes w16 n ≡ word_bytes 2 n
-bytes-of-u16 n = whole 2 n
-
-pub bytes-of-u32 : (n : ℕ) → to_le_bytes w32 n ≡ word_bytes 4 n
-bytes-of-u32 n = whole 4 n
-
-pub bytes-of-u64 : (n : ℕ) → to_le_bytes w64 n ≡ word_bytes 8 n
-bytes-of-u64 n = whole 8 n
 
 -- the zeros behind so many of m
 pub zeros-behind : (m n : ℕ) → take (m - n) (drop {A = ℕ} n (replicate m 0)) ≡ replicate (m - n) 0

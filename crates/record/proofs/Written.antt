@@ -5,11 +5,8 @@ use Rattle.std.proofs.lemmas.Grind.{flat_map-append}
 use Rattle.std.proofs.Math.Seq.{drop-append_seam, take-append_seam}
 use lib.Seq.{drop-drop}
 use mir.Facts.{to_z-of_z, Fits-of_z}
-use mir.Val.{to_z}
-use Rattle.lists.proofs.Bools.{by}
-use lib.Dec.{ltb}
 use Rattle.octets.specs.Words.{word, word_bytes, word_at, signed_of}
-use Rattle.octets.proofs.Numbers.{length-word-bytes, word-of-bytes}
+use Rattle.octets.proofs.Numbers.{signed-is, length-word-bytes, word-of-bytes}
 use Rattle.record.specs.Layout as L
 use Rattle.record.specs.Fields as F
 use Rattle.record.specs.Value.{Value, value_of}
@@ -38,9 +35,6 @@ module _ (r b : List ℕ) (at n x : ℕ) (e : drop at r ≡ word_bytes n x ++ b)
 
   behind-number : drop (at + n) r ≡ b
   behind-number = ap (λ (k : ℕ). drop (at + k) r) (sym (length-word-bytes n x)) ∙ behind r (word_bytes n x) b at e
-
-signed-is : (x : ℕ) → signed_of x ≡ to_z w32 x
-signed-is x = let e : 0xffff_ffff - x ≡ 2 ^ 32 - suc x = omega arith in rw e (by (ltb x 0x8000_0000) (λ h. rw h refl) (λ h. rw h refl))
 
 signed-back : (z : ℤ) → FitsSigned w32 z → signed_of (unsigned_of z) ≡ z
 signed-back z h = signed-is (unsigned_of z) ∙ to_z-of_z {w = w32} {z = z} h

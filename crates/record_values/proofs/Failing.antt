@@ -1,5 +1,5 @@
 -- The first check that fails: of two lists, one behind the other; and none exactly where all hold, which are those of a record.
-use Rattle.std.proofs.Common.{◌≡◌, ◌∙◌, sym, ap, ap₂, refl, take, drop, ℕ, suc, ◌+◌, ◌++◌, ◌&&◌, Bool, true, false, List, [], ◌∷◌, length, ◌||◌, ◌*◌, ◌-◌, ◌^◌, cond, eqb, leb, ltb, Some, arith}
+use Rattle.std.proofs.Common.{◌≡◌, ◌∙◌, sym, ap, ap₂, refl, take, drop, ℕ, suc, ◌+◌, ◌++◌, ◌&&◌, Bool, true, false, List, [], ◌∷◌, length, ◌||◌, ◌*◌, ◌-◌, ◌^◌, cond, eqb, leb, ltb, arith}
 use Rattle.std.specs.List.{list_all}
 use Rattle.record.specs.Formed.{ascends, all_up_to, well_formed}
 use borrow.Author.Tests.{ne_eqb, eqb-true}

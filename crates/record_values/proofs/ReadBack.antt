@@ -3,8 +3,6 @@ use Rattle.std.proofs.lemmas.Grind.{flat_map-append}
 use Rattle.std.proofs.lemmas.List.{take-append-drop, replicate-append-replicate}
 use Rattle.std.proofs.lemmas.Int.{of_z-to_z}
 use Rattle.std.proofs.Math.Seq.{take-add, take-length}
-use mir.Val.{to_z}
-use lib.Dec.{ltb}
 use Rattle.std.proofs.Common.{◌≡◌, ◌∙◌, sym, ap, ap₂, refl, ℕ, zero, suc, ◌+◌, ◌*◌, ◌-◌, ◌^◌, ◌≤◌, ◌<◌, ◌++◌, Bool, true, List, [], ◌∷◌, length, take, drop, replicate, eqb, cond, drop-cons, arith, w32}
 use lib.Seq.{drop-drop}
 use lib.ListN.{length-take, length-drop}
@@ -12,7 +10,7 @@ use Rattle.lists.proofs.Bools.{by}
 use Rattle.octets.specs.Bytes.{Bytes}
 use Rattle.octets.specs.Runs.{all_zero}
 use Rattle.octets.specs.Words.{word_bytes, word_at, signed_of}
-use Rattle.octets.proofs.Numbers.{bytes-of-word, bytes_take, bytes_drop, word_lt}
+use Rattle.octets.proofs.Numbers.{signed-is, bytes-of-word, bytes_take, bytes_drop, word_lt}
 use Rattle.octets.proofs.Zeros.{zero-run}
 use Rattle.record.specs.Layout as L
 use Rattle.record.specs.Fields as F
@@ -23,9 +21,6 @@ use Rattle.record.proofs.Parts.{Formed, formed, message-fits, message-has}
 use Rattle.record.proofs.Whole.{tags-length}
 use Rattle.record_values.specs.Claims.{RecordsAreWritten}
 use borrow.Author.Tests.{eqb-true}
-
-signed-is : (x : ℕ) → signed_of x ≡ to_z w32 x
-signed-is x = let e : 0xffff_ffff - x ≡ 2 ^ 32 - suc x = omega arith in rw e (by (ltb x 0x8000_0000) (λ h. rw h refl) (λ h. rw h refl))
 
 -- what is behind a place, split in two
 split : (r l : List ℕ) (at n : ℕ) → l ≡ take n (drop at r) → l ++ drop (at + n) r ≡ drop at r

@@ -6,8 +6,7 @@ use lib.Seq.{drop-drop}
 use Rattle.session_lines.specs.Numbers as Val
 use Rattle.octets.specs.Words.{word_bytes, word_at}
 use Rattle.octets.specs.Bytes.{Bytes}
-use Rattle.octets.proofs.Numbers.{bytes_take, bytes_drop, bytes-of-word}
-use Rattle.record.proofs.Encoded.{bytes-of-u64}
+use Rattle.octets.proofs.Numbers.{bytes-of-u64, bytes_take, bytes_drop, bytes-of-word}
 
 below : (s : List ℕ) → Bytes s → (i : ℕ) → get_or s i 0 < 256
 below [] h i = omega arith

@@ -2,7 +2,7 @@ use Rattle.std.proofs.Common.{rules, ◌≡◌, ◌∙◌, ℕ, ap, sym, length,
 use Rattle.octets.specs.Words.{word_bytes}
 use Rattle.text.specs.Texts.{append}
 use Rattle.text.proofs.Appending.{append-then}
-use Rattle.record.proofs.Encoded.{bytes-of-u32}
+use Rattle.octets.proofs.Numbers.{bytes-of-u32}
 use Rattle.decision_items.specs.Layout.{hash_size}
 use Rattle.decision_bytes.specs.Answer.{chi_square_bytes}
 use Rattle.board_values.specs.Written.{role_number, entry_bytes}

@@ -2,7 +2,7 @@ use Rattle.std.proofs.Common.{[], ◌∷◌, ap, ◌∙◌}
 use Rattle.octets.specs.Words.{word_bytes}
 use Rattle.text.specs.Texts.{append}
 use Rattle.text.proofs.Appending.{append-then}
-use Rattle.record.proofs.Encoded.{bytes-of-u64}
+use Rattle.octets.proofs.Numbers.{bytes-of-u64}
 use Rattle.board_values.proofs.entries.push_measured.Goals as goal
 
 pub returns : goal.returns

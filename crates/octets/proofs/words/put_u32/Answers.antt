@@ -1,7 +1,9 @@
-use native.Mathlib.Omega.{arith}
-use Rattle.octets.proofs.Numbers.{put-halves}
+use Rattle.std.proofs.Common.{◌≡◌, ◌+◌, ◌-◌, ◌∙◌, refl, arith}
+use Rattle.std.proofs.lemmas.List.{drop-drop}
+use Rattle.octets.proofs.Numbers.{bytes-of-u32}
 use Rattle.octets.proofs.words.put_u32.Goals as goal
 
 pub returns : goal.returns
 returns c =
-    rw (c.put_u16-2.ensures, c.put_u16.ensures) (put-halves 2 2 c.args.at c.args.x c.args.s.now (omega arith))
+    let few : c.args.at + 4 - c.args.at ≡ 4 = omega arith in
+    rw (c.copy_from_slice.ensures.after, few, c.to_le_bytes.ensures ∙ bytes-of-u32 c.args.x, drop-drop) refl

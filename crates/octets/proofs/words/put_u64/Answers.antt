@@ -1,7 +1,9 @@
-use native.Mathlib.Omega.{arith}
-use Rattle.octets.proofs.Numbers.{put-halves}
+use Rattle.std.proofs.Common.{◌≡◌, ◌+◌, ◌-◌, ◌∙◌, refl, arith}
+use Rattle.std.proofs.lemmas.List.{drop-drop}
+use Rattle.octets.proofs.Numbers.{bytes-of-u64}
 use Rattle.octets.proofs.words.put_u64.Goals as goal
 
 pub returns : goal.returns
 returns c =
-    rw (c.put_u32-2.ensures, c.put_u32.ensures) (put-halves 4 4 c.args.at c.args.x c.args.s.now (omega arith))
+    let few : c.args.at + 8 - c.args.at ≡ 8 = omega arith in
+    rw (c.copy_from_slice.ensures.after, few, c.to_le_bytes.ensures ∙ bytes-of-u64 c.args.x, drop-drop) refl

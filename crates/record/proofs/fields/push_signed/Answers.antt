@@ -2,7 +2,7 @@ use Rattle.std.proofs.Common.{ap, ◌∙◌, w32, rules, to_z-of_z}
 use Rattle.std.specs.Int.{cast_unsigned}
 use Rattle.octets.specs.Words.{word_bytes}
 use Rattle.text.specs.Texts.{append}
-use Rattle.record.proofs.Encoded.{bytes-of-u32}
+use Rattle.octets.proofs.Numbers.{bytes-of-u32}
 use Rattle.record.proofs.fields.push_signed.Goals as goal
 
 pub returns : goal.returns

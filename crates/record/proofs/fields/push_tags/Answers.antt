@@ -5,7 +5,8 @@ use Rattle.text.specs.Texts.{append}
 use Rattle.text.proofs.Appending.{append-then}
 use Rattle.record.specs.Layout.{used_size, max_tags}
 use Rattle.record.specs.Encoded.{words}
-use Rattle.record.proofs.Encoded.{bytes-of-u32, zeros-behind}
+use Rattle.octets.proofs.Numbers.{bytes-of-u32}
+use Rattle.record.proofs.Encoded.{zeros-behind}
 use Rattle.record.proofs.fields.push_tags.Goals as goal
 
 pub returns-clause-text : goal.returns-clause-text

@@ -2,7 +2,7 @@ use Rattle.std.proofs.Common.{sym, ap, ◌∙◌}
 use Rattle.octets.specs.Words.{word_bytes}
 use Rattle.text.specs.Texts.{append}
 use Rattle.text.proofs.Appending.{append-nil, append_more}
-use Rattle.record.proofs.Encoded.{bytes-of-u64}
+use Rattle.octets.proofs.Numbers.{bytes-of-u64}
 use Rattle.record.proofs.fields.push_words.Goals as goal
 
 pub loop-value-init : goal.loop-value-init

@@ -1,5 +1,5 @@
-use Rattle.std.proofs.Common.{◌≡◌, ◌∙◌, ◌++◌, ap, sym}
-use Rattle.record_values.specs.Faults.{height_checks, message_checks, tag_checks, model_checks, first_failing}
+use Rattle.std.proofs.Common.{◌≡◌, ◌∙◌, ap, sym}
+use Rattle.record_values.specs.Faults.{tag_checks, model_checks, first_failing}
 use Rattle.record_values.specs.Numbers.{fault_number_of, found_number}
 use Rattle.record_values.proofs.Failing.{in-first, in-second, some-fault}
 use Rattle.record_values.proofs.faults.fault_behind.Goals as goal

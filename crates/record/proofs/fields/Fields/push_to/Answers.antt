@@ -3,7 +3,8 @@ use Rattle.octets.specs.Words.{word_bytes}
 use Rattle.text.specs.Texts.{append}
 use Rattle.text.proofs.Appending.{append-then}
 use Rattle.record.specs.Encoded.{unsigned_of, height_bytes, bytes_of}
-use Rattle.record.proofs.Encoded.{bytes-of-u16, bytes-of-u64, bytes-length}
+use Rattle.octets.proofs.Numbers.{bytes-of-u16, bytes-of-u64}
+use Rattle.record.proofs.Encoded.{bytes-length}
 use Rattle.record.proofs.fields.Fields.push_to.Goals as goal
 
 pub returns-clause-text : goal.returns-clause-text
