@@ -25,9 +25,9 @@
  *   result of tl_horizontal_sigma.
  * - Stack: 48 KB for tl_decide, tl_decide_any and tl_register_join, 112 KB for tl_board, tl_register_map, tl_register_fixes and
  *   each function of a track, 144 KB for tl_register_preview, 8 KB for tl_register_session, 4 KB for each other function (a KB is
- *   1,024 bytes). bench/stack measures it; seen were up to 14 KB for a decision of up to 32 items and 43 KB for one of more, 71 KB
- *   for a board or a map, 66 KB for the fixes of a board, 108 KB for a preview and 37 KB for a join, which have a register there, up
- *   to 35 KB for a report to a track or a conviction there and 65 KB for a summary, which have a shelf there, 4 KB for a session, and
+ *   1,024 bytes). bench/stack measures it; seen were up to 14 KB for a decision of up to 32 items and 44 KB for one of more, 68 KB
+ *   for a board, a map or the fixes of a board, 104 KB for a preview and 37 KB for a join, which have a register there, up to 17 KB
+ *   for a report to a track, 29 KB for a conviction there and 47 KB for a summary, which have a shelf there, 4 KB for a session, and
  *   up to 2 KB for the others.
  *   What a dynamic linker takes at a first call is not in these: bind names at the start (-Wl,-z,now).
  * - Threads: any number of them may call at once, as long as no two calls have memory in common that one of them may write. A
