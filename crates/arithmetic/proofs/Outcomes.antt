@@ -14,7 +14,8 @@ use lib.Ieee.Bits.{of_bits-to_bits, to_bits-lt}
 use Rattle.geometry.specs.Numbers.{◌⊗◌, from_decimal, not_above}
 use Rattle.geometry.specs.Linalg.{element, minus_each, rows_below, columns, cholesky_of, solve_of, sum_to}
 use Rattle.geometry.proofs.Comparing.{at-most-not-above}
-use Rattle.arithmetic.specs.Agree.{limit_of, rows_of, matrix_of, sum_under, finitely, length_under, chi_square_of, difference_of, three_of, agreement_under, agreement_of, agrees_of, chi_square_in, measure_in}
+use Rattle.arithmetic.specs.Agree.{limit_of, rows_of, matrix_of, sum_under, finitely, length_under, chi_square_of, difference_of, three_of, agreement_under, agreement_of, agrees_of, chi_square_in}
+use Rattle.arithmetic.specs.Answers.{measure_in}
 use Rattle.arithmetic.specs.Bits.{infinity, stored_bits, stored_chi_square}
 use Rattle.arithmetic.specs.Before.{length_before, chi_square_before, finite_or, agreement_before, agreed_before}
 use Rattle.arithmetic.specs.Claims.{factor_under, sum_with, NothingMeasured, refused, overflows, FiniteNumbers, InsideExactlyWhen, OutsideExactlyWhen, UnmeasurableExactlyWhen, ElseTheSum, UnmeasurableWasInfinite, NumbersAsBefore, AgreesAsBefore, BitsAsBefore, StoredReadBack}

@@ -5,7 +5,7 @@ use lib.Ieee.{Float, nan, lt, mul, of_int, round}
 use Rattle.floats.specs.Root.{root}
 use Rattle.floats.proofs.Ieee754.{root-zero}
 use Rattle.geometry.specs.Numbers.{◌⊕◌, ◌⊗◌, whole, from_decimal}
-use Rattle.arithmetic.specs.Agree.{sigma_of}
+use Rattle.arithmetic.specs.Answers.{sigma_of}
 use Rattle.geometry.specs.declared.linalg.Covariance.{Covariance}
 
 pub high-root : (c : Covariance) → lt (whole 0) (from_decimal 5 1 ⊗ (c.xx ⊕ c.yy)) ≡ true → root (from_decimal 5 1 ⊗ (c.xx ⊕ c.yy)) ≡ sigma_of c

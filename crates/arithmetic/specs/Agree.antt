@@ -1,5 +1,4 @@
--- Whether a larger fix lies within a smaller one's uncertainty: `standing::agreement`, `Agreement::agrees`, and the merge's
--- `horizontal_sigma_m`, operation by operation (docs/REFERENCE.md, 'Agreement and decision').
+-- Whether a larger fix lies within a smaller one's uncertainty: `standing::agreement` and `Agreement::agrees`, operation by operation (docs/REFERENCE.md, 'Agreement and decision').
 use Rattle.std.specs.Prelude.{ℕ, ◌-◌, Bool, true, false, cond, ◌&&◌, List, [], ◌∷◌, ℤ, pos, Float, Option, Some, None, is_some, unwrap_or}
 use Rattle.std.specs.Float.{binary64}
 use Rattle.std.specs.Float.Ieee.{of_int, le, lt}
@@ -102,20 +101,3 @@ unfoldable pub chi_square_in : Agreement → ChiSquare
 chi_square_in (Inside m) = Measured m.chi2
 chi_square_in (Outside m) = Measured m.chi2
 chi_square_in Unmeasurable = Unmeasured
-
--- the number of each outcome, as it is answered
-unfoldable pub agreement_number : Agreement → ℕ
-agreement_number (Inside m) = 0
-agreement_number (Outside m) = 1
-agreement_number Unmeasurable = 2
-
-unfoldable pub measure_in : Agreement → Option Measure
-measure_in (Inside m) = Some m
-measure_in (Outside m) = Some m
-measure_in Unmeasurable = None
-
--- (0.5 * (xx + yy)).max(0.0).sqrt(), where Rust's `max` drops a NaN
-unfoldable pub sigma_of : Covariance → Float
-sigma_of c =
-    let mean = from_decimal 5 1 ⊗ (c.xx ⊕ c.yy) in
-    root (cond (lt (whole 0) mean) mean (whole 0))

@@ -9,7 +9,8 @@ use Rattle.geometry.specs.Numbers.{◌⊕◌, ◌⊗◌, whole, from_decimal}
 use Rattle.geometry.specs.Formula.{formula_sincos}
 use Rattle.geometry.specs.Claims.{InI32}
 use Rattle.geometry.specs.Linalg.{cholesky_of}
-use Rattle.arithmetic.specs.Agree.{limit_of, geodetic_of, rows_of, matrix_of, sum_under, difference_of, three_of, agreement_under, agreement_of, agrees_of, chi_square_in, measure_in, sigma_of}
+use Rattle.arithmetic.specs.Agree.{limit_of, geodetic_of, rows_of, matrix_of, sum_under, difference_of, three_of, agreement_under, agreement_of, agrees_of, chi_square_in}
+use Rattle.arithmetic.specs.Answers.{measure_in, sigma_of}
 use Rattle.arithmetic.specs.Bits.{stored_bits, stored_chi_square}
 use Rattle.arithmetic.specs.Before.{agreement_before, agreed_before}
 use Rattle.geometry.specs.declared.linalg.Covariance.{Covariance}

@@ -3,7 +3,8 @@
 #![tactic(auto)]
 
 ghost use Rattle.std.specs.Prelude.{◌≡◌};
-ghost use Rattle.arithmetic.specs.Agree.{agreement_of, agrees_of, chi_square_in, sigma_of};
+ghost use Rattle.arithmetic.specs.Agree.{agreement_of, agrees_of, chi_square_in};
+ghost use Rattle.arithmetic.specs.Answers.{sigma_of};
 ghost use Rattle.arithmetic.specs.Bits.{stored_bits, stored_chi_square};
 ghost use Rattle.arithmetic.specs.declared.standing.Claimed.{Claimed as Claim};
 ghost use Rattle.arithmetic.specs.Stages.{placed_of, compared_of};

@@ -11,7 +11,8 @@ use Rattle.errors.specs.After.{After, after, write_text}
 use Rattle.desks.specs.declared.Desk.TheVariants.{Crew}
 use Rattle.desks.proofs.Rights.{each-number, at-no-desk}
 use Rattle.register.specs.Memory.{well_formed, decode}
-use Rattle.board.specs.Board.{board_of, crew_board_of, board_in, board_seen, draw_for, draw_board}
+use Rattle.board.specs.Board.{board_of, crew_board_of, board_seen, draw_for, draw_board}
+use Rattle.board.specs.Full.{board_in}
 use Rattle.board.specs.Crew.{CrewFollows, SameToCrews, BoardInOrder}
 
 pub crew-follows : CrewFollows

@@ -4,7 +4,8 @@ use mathlib.Core.Bool.{false≢true}
 use Rattle.errors.specs.After.{after}
 use Rattle.desks.specs.declared.Desk.{Desk}
 use Rattle.desks.specs.declared.Desk.TheVariants.{Crew, Analyst, Manager}
-use Rattle.desks.specs.Desks.{number_of, may_preview}
+use Rattle.desks.specs.Desks.{number_of}
+use Rattle.desks.specs.Previewing.{may_preview}
 use Rattle.board.specs.Board.{draw_for, draw_board}
 use Rattle.board.specs.Preview.{preview_of, draw_preview}
 

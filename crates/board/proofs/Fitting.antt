@@ -23,7 +23,8 @@ use Rattle.register.proofs.Kept.{decode-valid}
 use Rattle.desks.specs.declared.Desk.{Desk}
 use Rattle.desks.specs.declared.Desk.TheVariants.{Crew, Analyst, Manager}
 use Rattle.fix_lines.proofs.Crew.{crew-shorter}
-use Rattle.board.specs.Board.{board_of, crew_board_of, board_in, board_seen}
+use Rattle.board.specs.Board.{board_of, crew_board_of, board_seen}
+use Rattle.board.specs.Full.{board_in}
 use Rattle.board.specs.Claims.{greatest_refusal}
 use Rattle.board.specs.Latest.{latest_over}
 use Rattle.board.proofs.Standing.{standing}

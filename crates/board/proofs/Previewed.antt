@@ -24,11 +24,13 @@ use Rattle.register.proofs.Valid.{Valid, decode-encode, formed-encode}
 use Rattle.register.proofs.Whole.{last, decoded, same-summaries, same-records}
 use Rattle.desks.specs.declared.Desk.{Desk}
 use Rattle.desks.specs.declared.Desk.TheVariants.{Manager}
-use Rattle.desks.specs.Desks.{number_of, may_preview}
+use Rattle.desks.specs.Desks.{number_of}
+use Rattle.desks.specs.Previewing.{may_preview}
 use Rattle.desks.proofs.Rights.{each-number, at-no-desk}
-use Rattle.board.specs.Board.{board_of, board_for, board_in, board_seen, draw_for, draw_board}
-use Rattle.board.specs.Claims.{board_over}
+use Rattle.board.specs.Board.{board_of, board_for, board_seen, draw_for, draw_board}
 use Rattle.board.specs.Preview.{convict, preview_of, draw_preview}
+use Rattle.board.specs.Full.{board_in}
+use Rattle.board.specs.Claims.{board_over}
 use Rattle.board.specs.Previews.{RefusedInOrder, AnalystAsManager, ThenConvicted, ConvictedIsPresent, Idle, IdleIsPresent, then_convict, ConvictionAtTheEnd, PreviewsInBothRooms}
 use Rattle.board.proofs.Desks.{draw-by, preview-for, full-for}
 use Rattle.board.proofs.Fitting.{fits, no_refusal}

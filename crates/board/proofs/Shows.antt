@@ -10,7 +10,8 @@ use Rattle.record.specs.Fields.{tag_count}
 use Rattle.record.proofs.Laws.{subset-fewer}
 use Rattle.arithmetic.specs.Agree.{agrees_of}
 use Rattle.std.specs.List.{filter}
-use Rattle.lists.specs.Lists.{sort, Ascending}
+use Rattle.lists.specs.Lists.{sort}
+use Rattle.lists.specs.Ordered.{Ascending}
 use Rattle.lists.proofs.Lists.{filter-in, sort-perm, map-from}
 use Rattle.lists.proofs.Orders.{perm-mem}
 use Rattle.lists.proofs.Sorting as S

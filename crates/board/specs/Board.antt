@@ -24,10 +24,6 @@ board_for Crew ss ps = crew_board_of ss ps
 board_for Analyst ss ps = board_of ss ps
 board_for Manager ss ps = board_of ss ps
 
--- the board of a register: the convicted set has no part in it
-abbrev pub board_in : Register → List ℕ
-board_in s = board_of s.summaries s.records
-
 abbrev pub board_seen : Desk → Register → List ℕ
 board_seen desk s = board_for desk s.summaries s.records
 

@@ -3,13 +3,14 @@
 -- Source: docs/REFERENCE.md, 'Desks' and 'Text'.
 use Rattle.std.specs.Prelude.{ℕ, ◌≡◌, cond, not, List, map, ltb, eqb, length}
 use Rattle.fix_lines.specs.Text.{ranked_text, board_size}
-use Rattle.fix_lines.specs.Crew.{crew_part}
+use Rattle.fix_lines.specs.CrewFromFull.{crew_part}
 use Rattle.board_picture.specs.Picture.{picture, latest_of}
 use Rattle.errors.specs.After.{after, write_text}
 use Rattle.desks.specs.declared.Desk.TheVariants.{Crew}
 use Rattle.register.specs.Register.{Register}
 use Rattle.register.specs.Memory.{well_formed, decode}
-use Rattle.board.specs.Board.{board_in, board_seen, draw_board}
+use Rattle.board.specs.Board.{board_seen, draw_board}
+use Rattle.board.specs.Full.{board_in}
 
 -- the text of a crew's board is made of that of the full one, line by line
 abbrev pub CrewFollows : Type 0

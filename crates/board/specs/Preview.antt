@@ -2,7 +2,8 @@
 use Rattle.std.specs.Prelude.{ℕ, cond, List, eqb}
 use Rattle.errors.specs.After.{After, after}
 use Rattle.desks.specs.declared.Desk.TheVariants.{Manager}
-use Rattle.desks.specs.Desks.{number_of, may_preview, with_right}
+use Rattle.desks.specs.Desks.{number_of, with_right}
+use Rattle.desks.specs.Previewing.{may_preview}
 use Rattle.register.specs.Calls.{conviction, called}
 use Rattle.board.specs.Board.{draw_board}
 

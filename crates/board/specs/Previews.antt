@@ -7,7 +7,8 @@ use Rattle.models.specs.Summary.{summary_size}
 use Rattle.errors.specs.After.{after, write_text}
 use Rattle.desks.specs.declared.Desk.{Desk}
 use Rattle.desks.specs.declared.Desk.TheVariants.{Analyst, Manager}
-use Rattle.desks.specs.Desks.{number_of, may_preview}
+use Rattle.desks.specs.Desks.{number_of}
+use Rattle.desks.specs.Previewing.{may_preview}
 use Rattle.engines.specs.Limits.{max_engine}
 use Rattle.models.specs.Summaries.{is_of_another}
 use Rattle.fix_lines.specs.Text.{board_size}
@@ -15,9 +16,10 @@ use Rattle.register.specs.Register.{Register, strike_engine}
 use Rattle.register.specs.Memory.{well_formed, decode, fresh}
 use Rattle.register.specs.Calls.{Call, conviction, runs, none_full}
 use Rattle.register.specs.Claims.{signers_of, SameRemains}
-use Rattle.board.specs.Board.{board_in, draw_board}
-use Rattle.board.specs.Claims.{board_over, greatest_refusal}
+use Rattle.board.specs.Board.{draw_board}
 use Rattle.board.specs.Preview.{convict, draw_preview}
+use Rattle.board.specs.Full.{board_in}
+use Rattle.board.specs.Claims.{board_over, greatest_refusal}
 
 -- ---- on any memory
 

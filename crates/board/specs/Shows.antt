@@ -3,7 +3,7 @@
 -- Source: docs/REFERENCE.md, 'Register and board' and 'Any order of calls'.
 use Rattle.std.specs.Prelude.{◌≡◌, true}
 use mathlib.Core.List.{List, map, Memᴰ, Permᴰ}
-use Rattle.lists.specs.Lists.{Ascending}
+use Rattle.lists.specs.Ordered.{Ascending}
 use Rattle.decision.specs.Claims.{listed_in}
 use Rattle.fixes.specs.Fix.{Fix}
 use Rattle.board_fixes.specs.Fixes.{fixes_of}

@@ -7,7 +7,8 @@ use Rattle.octets.specs.Words.{word_bytes}
 use Rattle.record.specs.Worked.{record_with}
 use Rattle.decision.specs.Positions.{S, M, L}
 use Rattle.register.specs.Register.{Register, strike_engine}
-use Rattle.board.specs.Board.{board_of, crew_board_of, board_in}
+use Rattle.board.specs.Board.{board_of, crew_board_of}
+use Rattle.board.specs.Full.{board_in}
 
 -- a record in its slot, with its signers
 abbrev pub slot : List ℕ → ℕ → List ℕ

@@ -6,7 +6,8 @@ use Rattle.lists.proofs.Lists.{filter-in, filter-of, filter_same}
 use Rattle.lists.proofs.Bools.{and_left, and_right, and_both, same_test}
 use Rattle.fixes.specs.Fix.{Fix}
 use Rattle.fixes.specs.Ages.{time_of}
-use Rattle.board_transmissions.specs.Transmissions.{linked, Chain, here, more, transmission_of}
+use Rattle.board_transmissions.specs.Transmissions.{linked, transmission_of}
+use Rattle.board_transmissions.specs.Chains.{here, more, Chain}
 use Rattle.board_transmissions.specs.Bursts.{Pause, BurstsStayApart}
 use Rattle.board_transmissions.proofs.Reaching.{SelfLinked, chain-in, together, together-is, transmission-tested}
 use Rattle.board_transmissions.proofs.Fitness.{self-linked}

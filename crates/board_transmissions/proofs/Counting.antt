@@ -4,7 +4,7 @@ use mathlib.Core.Bool.{false≢true}
 use mathlib.Core.List.{Memᴰ, Permᴰ}
 use lib.ListN.{length-map}
 use Rattle.std.specs.List.{filter}
-use Rattle.lists.specs.Lists.{up_to}
+use Rattle.lists.specs.Ordered.{up_to}
 use Rattle.lists.proofs.Lists.{count-length, filter-in, filter-few, map-from}
 use Rattle.lists.proofs.Searches.{filter_range}
 use Rattle.lists.specs.Range.{first, filt}

@@ -9,7 +9,8 @@ use Rattle.lists.proofs.Bools.{by}
 use Rattle.fixes.specs.Fix.{Fix}
 use Rattle.fixes.specs.Items.{no_fix, fix_at}
 use Rattle.fixes.proofs.Indexed.{at_in}
-use Rattle.board_transmissions.specs.Transmissions.{Chain, transmission_of, leads, is_first, transmissions_of}
+use Rattle.board_transmissions.specs.Transmissions.{transmission_of, leads, is_first, transmissions_of}
+use Rattle.board_transmissions.specs.Chains.{Chain}
 use Rattle.board_transmissions.proofs.Reaching.{SelfLinked, together, together-is, transmission-tested}
 
 -- ---- a list and its places

@@ -9,7 +9,8 @@ use Rattle.board_fixes.specs.Slots.{max_fixes}
 use Rattle.fixes.specs.Fix.{Fix}
 use Rattle.fixes.specs.Items.{no_fix, fix_at, AllFormed, Apart}
 use Rattle.fixes.proofs.Indexed.{at_in}
-use Rattle.board_transmissions.specs.Transmissions.{Chain, here, is_first, transmissions_of}
+use Rattle.board_transmissions.specs.Transmissions.{is_first, transmissions_of}
+use Rattle.board_transmissions.specs.Chains.{here, Chain}
 use Rattle.board_transmissions.specs.Links.{link_at, has_label, fixes_labelled}
 use Rattle.board_transmissions.specs.Labels.{relabel}
 use Rattle.board_transmissions.specs.Walk.{no_marks, unmarked, visit}

@@ -6,7 +6,8 @@ use Rattle.octets.proofs.Comparison.{same_refl}
 use Rattle.std.specs.List.{filter}
 use Rattle.lists.proofs.Lists.{filter-in, filter-of, map-from}
 use Rattle.fixes.specs.Fix.{Fix}
-use Rattle.board_transmissions.specs.Transmissions.{Chain, here, transmission_of, leads, is_first, transmissions_of}
+use Rattle.board_transmissions.specs.Transmissions.{transmission_of, leads, is_first, transmissions_of}
+use Rattle.board_transmissions.specs.Chains.{here, Chain}
 use Rattle.board_transmissions.specs.Claims.{Partition}
 use Rattle.board_transmissions.proofs.Reaching.{SelfLinked, chain-in, chain-joined, chain-turned, transmission-is, same-transmission}
 

@@ -5,7 +5,8 @@ use mathlib.Core.List.{Memᴰ}
 use Rattle.lists.proofs.Bools.{by, or, same_test}
 use Rattle.std.specs.List.{filter, list_any}
 use Rattle.fixes.specs.Fix.{Fix}
-use Rattle.board_transmissions.specs.Transmissions.{linked, Chain, here, more, reach, transmission_of}
+use Rattle.board_transmissions.specs.Transmissions.{linked, reach, transmission_of}
+use Rattle.board_transmissions.specs.Chains.{here, more, Chain}
 use Rattle.lists.proofs.Lists.{any-in, any-of, filter-in, filter-of, filter_same}
 use Rattle.board_transmissions.proofs.Symmetry.{linked-turned}
 use Rattle.board_transmissions.proofs.Listing.{filter-no-wider, filter-all}

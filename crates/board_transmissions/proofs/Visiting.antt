@@ -5,7 +5,8 @@ use Rattle.lists.specs.Tables.{marked}
 use Rattle.fixes.specs.Fix.{Fix}
 use Rattle.fixes.specs.Items.{no_fix, fix_at, Apart}
 use Rattle.fixes.proofs.Indexed.{at_in, in-at}
-use Rattle.board_transmissions.specs.Transmissions.{linked, Chain, here, more}
+use Rattle.board_transmissions.specs.Transmissions.{linked}
+use Rattle.board_transmissions.specs.Chains.{here, more, Chain}
 use Rattle.board_transmissions.specs.Links.{link_at}
 use Rattle.board_transmissions.specs.Walk.{unmarked, each, visit}
 use Rattle.board_transmissions.proofs.Symmetry.{linked-turned}

@@ -4,7 +4,8 @@
 use Rattle.std.specs.Prelude.{◌≡◌, ◌↔◌}
 use mathlib.Core.List.{List, [], ◌∷◌, Memᴰ}
 use Rattle.fixes.specs.Fix.{Fix}
-use Rattle.board_transmissions.specs.Transmissions.{Chain, transmissions_of}
+use Rattle.board_transmissions.specs.Transmissions.{transmissions_of}
+use Rattle.board_transmissions.specs.Chains.{Chain}
 use Rattle.board_transmissions.specs.Positions.{one, two, both}
 
 pub record Partition (fs : List Fix) : Type 0 where

@@ -1,7 +1,7 @@
 -- Transmissions (docs/REFERENCE.md, 'Register and board'): two fixes link where message and at least one tag are common and their times differ by at most
 -- 2,000,000,000 nanoseconds; a transmission is everything that a chain of links reaches.
-use Rattle.std.specs.Prelude.{ℕ, zero, suc, ◌-◌, ◌≡◌, Bool, true, false, cond, ◌&&◌, ltb, leb, length}
-use mathlib.Core.List.{List, [], ◌∷◌, Memᴰ, map}
+use Rattle.std.specs.Prelude.{ℕ, zero, suc, ◌-◌, Bool, true, false, cond, ◌&&◌, ltb, leb, length}
+use mathlib.Core.List.{List, [], ◌∷◌, map}
 use Rattle.octets.specs.Order.{same}
 use Rattle.record.specs.Fields.{time}
 use Rattle.record.specs.Relations.{tied}
@@ -26,11 +26,6 @@ records_link a b = tied a b && near_in_time (time a) (time b)
 
 abbrev pub linked : Fix → Fix → Bool
 linked f g = records_link f.record_bytes g.record_bytes
-
--- a chain of links leads from a to a fix, through fixes of fs
-pub data Chain (fs : List Fix) (a : Fix) : Fix → Type 0 where
-  here : Memᴰ a fs → Chain fs a a
-  more : {f g : Fix} → Chain fs a f → Memᴰ g fs → linked g f ≡ true → Chain fs a g
 
 -- The fixes that a chain of n links leads to from a. A fix has a tag, so it links to itself: they are those of at most n links.
 unfoldable pub reach : List Fix → ℕ → Fix → List Fix

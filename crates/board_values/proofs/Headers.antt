@@ -6,7 +6,7 @@ use Rattle.std.specs.List.{filter}
 use Rattle.std.proofs.lemmas.List.{length-map}
 use Rattle.std.proofs.lemmas.List.Elements.{filter-append}
 use Rattle.std.proofs.lemmas.Grind.{flat_map-append}
-use Rattle.lists.specs.Lists.{count_from}
+use Rattle.lists.specs.Ordered.{count_from}
 use Rattle.arithmetic.specs.declared.standing.ChiSquare.{ChiSquare}
 use Rattle.decision_rule.specs.Outcome.{Refused as RefusedFix}
 use Rattle.fixes.specs.Fix.{Fix}

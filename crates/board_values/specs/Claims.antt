@@ -2,7 +2,7 @@
 -- Source: docs/REFERENCE.md, 'Values'.
 use Rattle.std.specs.Prelude.{ℕ, suc, ◌*◌, ◌≤◌, ◌≡◌, true, max, List, [], ◌∷◌, ◌++◌, map, filter, flat_map, length, get_or, eqb}
 use Rattle.octets.specs.Bytes.{Bytes}
-use Rattle.lists.specs.Lists.{count_from}
+use Rattle.lists.specs.Ordered.{count_from}
 use Rattle.arithmetic.specs.declared.standing.ChiSquare.{ChiSquare}
 use Rattle.decision_rule.specs.Outcome.{Refused as RefusedFix}
 use Rattle.fixes.specs.Fix.{Fix}
@@ -14,7 +14,7 @@ use Rattle.fix_lines.specs.Lines.{header}
 use Rattle.fix_lines.specs.Text.{ranked_text, dominated_text, refused_text}
 use Rattle.board_fixes.specs.Fixes.{record_in}
 use Rattle.board_picture.specs.Picture.{picture, latest_of, max_shown}
-use Rattle.board.specs.Board.{board_in}
+use Rattle.board.specs.Full.{board_in}
 use Rattle.register.specs.Register.{Register}
 use Rattle.register.specs.Memory.{well_formed, decode}
 use Rattle.board_values.specs.Entries.{Entry, place_of, fixes_shown, entries_shown}

@@ -7,7 +7,8 @@ use mathlib.Core.List.{List, [], ◌∷◌, ◌++◌, map, Permᴰ}
 use Prim.Native.Nat.{ℕ, zero, suc, ◌+◌, ◌*◌, ◌/◌, ◌≤◌}
 use native.Mathlib.Omega.{arith}
 use lib.ListN.{length, length-append, length-map}
-use Rattle.lists.specs.Lists.{count_from, up_to, insert, sort}
+use Rattle.lists.specs.Lists.{insert, sort}
+use Rattle.lists.specs.Ordered.{count_from, up_to}
 use Rattle.lists.proofs.Lists.{count-length, up_in}
 use Rattle.lists.proofs.Orders.{perm-length, perm-mem}
 use Rattle.decision_items.specs.Layout.{item_size}

@@ -2,7 +2,7 @@
 use Rattle.std.proofs.Common.{◌≡◌, ℕ, ◌*◌, ◌≤◌, false, refl, sym, ap, ◌∙◌, length}
 use Rattle.std.specs.Prelude.{Some, not, true}
 use mathlib.Core.List.{List, [], map}
-use Rattle.lists.specs.Lists.{up_to}
+use Rattle.lists.specs.Ordered.{up_to}
 use Rattle.lists.proofs.Bools.{not-false-t}
 use Rattle.decision_items.specs.Layout.{item_size}
 use Rattle.decision.specs.declared.Decision.{Decision}

@@ -6,7 +6,7 @@ use mathlib.Core.List.Permᴰ
 use mathlib.Core.List.{List, [], map, Memᴰ, Permᴰ}
 use Prim.Native.Nat.{ℕ, zero, suc, ◌<◌}
 use native.Mathlib.Omega.{arith}
-use Rattle.lists.specs.Lists.{up_to}
+use Rattle.lists.specs.Ordered.{up_to}
 use Rattle.lists.proofs.Lists.{up_in, up_of}
 use Rattle.lists.proofs.Orders.{perm-mem}
 use Rattle.lists.proofs.Sorting.{Strict, strict-sub, sort-ascends}

@@ -6,7 +6,8 @@ use Prim.Native.Nat.{ℕ, ◌+◌, ◌≤◌}
 use native.Mathlib.Omega.{arith}
 use Rattle.std.specs.List.{filter}
 use Rattle.lists.proofs.Bools.{by}
-use Rattle.lists.specs.Lists.{foremost, count_from, up_to}
+use Rattle.lists.specs.Lists.{foremost}
+use Rattle.lists.specs.Ordered.{count_from, up_to}
 use Rattle.lists.proofs.Searches.{flat-more}
 use Rattle.std.specs.Prelude.{Option, None, Some, is_some, unwrap_or}
 use Rattle.decision_rule.specs.Outcome as O

@@ -14,7 +14,7 @@ use Rattle.tables.proofs.Walks.{place_of}
 use Rattle.tables.proofs.Tables.{length-places}
 use Rattle.record.specs.Formed.{well_formed}
 use Rattle.lists.proofs.Bools.{by}
-use Rattle.lists.specs.Lists.{up_to}
+use Rattle.lists.specs.Ordered.{up_to}
 use Rattle.lists.proofs.Lists.{up_in}
 use Rattle.decision_items.specs.Layout.{item_size}
 use Rattle.decision_items.proofs.Reading.{read-alone, same-alone}

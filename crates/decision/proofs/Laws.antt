@@ -13,7 +13,8 @@ use lib.Dec.{leb}
 use borrow.Author.Tests.{leb-true, leb-false}
 use Rattle.std.specs.List.{filter, list_any}
 use Rattle.lists.proofs.Bools.{clash, no_true, and_both, and_left, and_right, not_t, not_f, by, or}
-use Rattle.lists.specs.Lists.{foremost, Ascending}
+use Rattle.lists.specs.Lists.{foremost}
+use Rattle.lists.specs.Ordered.{Ascending}
 use Rattle.lists.proofs.Orders.{perm-mem}
 use Rattle.lists.proofs.Lists.{any-in, any-of, any-perm, any_same, filter-in, filter-of, filter-some, filter_same, filter-perm, sort-perm, foremost-in, flat_in, flat-same, flat-perm}
 use Rattle.lists.proofs.Sorting.{Strict, strict-sub, foremost-perm, sort-same, ascending-filter, ascending-flat}

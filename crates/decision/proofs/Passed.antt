@@ -9,7 +9,7 @@ use lib.ListN.{length}
 use borrow.Author.Tests.{eqb-true, ltb-false}
 use Rattle.std.specs.List.{list_any}
 use Rattle.lists.proofs.Bools.{not-false-t, neither_left, neither_right}
-use Rattle.lists.specs.Lists.{up_to}
+use Rattle.lists.specs.Ordered.{up_to}
 use Rattle.lists.proofs.Lists.{any-no, up_of}
 use Rattle.record.specs.Formed.{well_formed}
 use Rattle.decision_items.specs.Layout.{max_items, item_size}

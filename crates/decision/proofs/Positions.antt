@@ -16,7 +16,8 @@ use Rattle.octets.specs.Order.{same, is_before}
 use Rattle.octets.specs.Masks.{bit_count}
 use Rattle.octets.specs.Runs.{all_zero}
 use Rattle.record.specs.Relations.{subset, all_in, member}
-use Rattle.lists.specs.Lists.{insert, sort, foremost, count_from}
+use Rattle.lists.specs.Lists.{insert, sort, foremost}
+use Rattle.lists.specs.Ordered.{count_from}
 use Rattle.decision_items.specs.Items.{disagrees_at, within_at, subset_at, agreement_at, ahead_at, ahead_by_standing, ahead_by_weight}
 use Rattle.decision_items.specs.Claimed.{claim_of}
 use Rattle.decision_rule.specs.Standing.{supersedes, is_superseded, is_contested, is_refused, is_covered, refusal_of, decide}

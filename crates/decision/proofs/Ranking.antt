@@ -3,7 +3,8 @@ use Rattle.std.proofs.Common.{◌≡◌, ℕ, zero, suc, ◌+◌, ◌-◌, ◌�
 use mathlib.Core.List.{List, [], ◌∷◌, Memᴰ}
 use Rattle.std.specs.List as L
 use Rattle.std.specs.List.{prefix_len, filter}
-use Rattle.lists.specs.Lists.{insert, sort, count_from}
+use Rattle.lists.specs.Lists.{insert, sort}
+use Rattle.lists.specs.Ordered.{count_from}
 use Rattle.lists.proofs.Bools.{by}
 use Rattle.lists.proofs.Lists.{filter-in, filter-few, count-in, count-length, sort-in, sort-perm}
 use Rattle.lists.proofs.Orders.{perm-length}

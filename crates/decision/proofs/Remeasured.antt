@@ -4,8 +4,9 @@ use mathlib.Core.Bool.{Bool, not, ◌&&◌}
 use mathlib.Core.List.{List, [], ◌∷◌, map}
 use Prim.Native.Nat.{ℕ, ◌/◌}
 use lib.ListN.{length}
-use Rattle.lists.specs.Lists.{up_to}
-use Rattle.arithmetic.specs.Agree.{agreement_of, chi_square_in, measure_in}
+use Rattle.lists.specs.Ordered.{up_to}
+use Rattle.arithmetic.specs.Agree.{agreement_of, chi_square_in}
+use Rattle.arithmetic.specs.Answers.{measure_in}
 use Rattle.arithmetic.specs.Before.{agreement_before}
 use Rattle.arithmetic.proofs.Outcomes.{agrees-as-before, numbers-as-before, unmeasurable-was-infinite}
 use Rattle.arithmetic.specs.declared.standing.Claimed.{Claimed}

@@ -12,7 +12,7 @@ use Rattle.std.proofs.lemmas.Cmp.{nat_list_cmp_total}
 use Rattle.std.proofs.lemmas.List.MinMax.{ranks_by}
 use Rattle.lists.proofs.Bools.{by}
 use Rattle.octets.specs.Order.{is_before}
-use Rattle.lists.specs.Lists.{up_to, Ascending}
+use Rattle.lists.specs.Ordered.{up_to, Ascending}
 use Rattle.lists.proofs.Lists.{sort-perm, sort-in}
 use Rattle.lists.proofs.Orders.{perm-map}
 use Rattle.lists.proofs.Sorting.{Strict, strict-sub, sort-ascends, ascending-map}

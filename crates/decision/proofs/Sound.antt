@@ -16,7 +16,7 @@ use Rattle.record.specs.Formed.{well_formed}
 use Rattle.record.proofs.Laws.{subset-fewer}
 use Rattle.std.specs.List.{filter, list_any}
 use Rattle.lists.proofs.Bools.{by, or, and_left, and_right, not_t, neither_right}
-use Rattle.lists.specs.Lists.{count_from, up_to}
+use Rattle.lists.specs.Ordered.{count_from, up_to}
 use Rattle.lists.proofs.Lists.{any-no, count-in, up_in, up_of}
 use Rattle.lists.proofs.Sorting.{Strict, Apart, single, also, apart-filter}
 use Rattle.arithmetic.specs.Agree.{agrees_of}

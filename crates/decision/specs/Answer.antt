@@ -2,7 +2,7 @@
 -- else 0 with what is decided, in arrays with counts whose unused places are fixed.
 use Rattle.std.specs.Prelude.{Bool, false, not, cond, ◌||◌, List, [], ◌++◌, map, ℕ, ◌-◌, ◌*◌, ◌/◌, ◌%◌, ltb, eqb, length, replicate}
 use Rattle.std.specs.List.{list_any}
-use Rattle.lists.specs.Lists.{up_to}
+use Rattle.lists.specs.Ordered.{up_to}
 use Rattle.record.specs.Formed.{well_formed}
 use Rattle.decision_items.specs.Layout.{max_items, item_size}
 use Rattle.decision_items.specs.Items.{item_record, same_identity}

@@ -3,7 +3,7 @@
 -- Source: docs/REFERENCE.md, 'Decision', and standing.rs of sky-commons/tally.
 use Rattle.std.specs.Prelude.{◌≡◌, Bool, false, not, ◌&&◌, List, map, ℕ, ◌/◌, Float, length}
 use Rattle.std.specs.Float.{inf}
-use Rattle.lists.specs.Lists.{up_to}
+use Rattle.lists.specs.Ordered.{up_to}
 use Rattle.arithmetic.specs.Before.{agreement_before, agreed_before}
 use Rattle.arithmetic.specs.declared.standing.Measure.{Measure}
 use Rattle.arithmetic.specs.declared.standing.ChiSquare.{ChiSquare}

@@ -3,7 +3,7 @@
 -- Source: docs/REFERENCE.md, 'Decision'.
 use Rattle.std.specs.Prelude.{◌≡◌, true, false, ℕ, ◌*◌, ◌/◌, ◌<◌, length, take, drop}
 use mathlib.Core.List.{List, [], ◌∷◌, ◌++◌, map, Memᴰ, Permᴰ}
-use Rattle.lists.specs.Lists.{Ascending, up_to}
+use Rattle.lists.specs.Ordered.{Ascending, up_to}
 use Rattle.arithmetic.specs.Agree.{agreement_of, agrees_of, chi_square_in}
 use Rattle.decision_items.specs.Layout.{item_size}
 use Rattle.decision_items.specs.Items.{item_identity, item_consistent, subset_at, agreement_at, outstands_at, lower_at, ahead_at, item_verified, is_passed}

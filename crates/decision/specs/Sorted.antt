@@ -1,7 +1,8 @@
 -- What is decided of the items in ascending identity, with their indices as they were given: so no list of it follows the order in which they were given.
 -- Source: docs/REFERENCE.md, 'Decision'.
 use Rattle.std.specs.Prelude.{cond, List, ℕ, ◌/◌, length}
-use Rattle.lists.specs.Lists.{sort, up_to}
+use Rattle.lists.specs.Lists.{sort}
+use Rattle.lists.specs.Ordered.{up_to}
 use Rattle.arithmetic.specs.declared.standing.ChiSquare.{ChiSquare}
 use Rattle.decision_items.specs.Layout.{item_size}
 use Rattle.decision_items.specs.Items.{lower_at}

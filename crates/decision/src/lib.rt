@@ -5,7 +5,7 @@
 #![tactic(auto)]
 
 ghost use Rattle.std.specs.Prelude.{◌≡◌, ℕ, false, [], ◌+◌, ◌*◌, ◌≤◌, ◌<◌, length, replicate, None};
-ghost use Rattle.lists.specs.Lists.{up_to};
+ghost use Rattle.lists.specs.Ordered.{up_to};
 ghost use Rattle.decision_items.specs.Layout.{item_size, max_items};
 ghost use Rattle.decision.specs.Answer.{outcome, decided_arrays};
 ghost use Rattle.decision.specs.Sorted.{sorted_outcome};

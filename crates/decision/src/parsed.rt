@@ -3,7 +3,7 @@
 
 ghost use Rattle.std.specs.Prelude.{◌≡◌, false, not, ◌+◌, ◌*◌, ◌/◌, ◌≤◌, ◌<◌, length, is_some, IfSome};
 ghost use Rattle.std.specs.List.{list_any};
-ghost use Rattle.lists.specs.Lists.{up_to};
+ghost use Rattle.lists.specs.Ordered.{up_to};
 ghost use Rattle.decision_items.specs.Layout.{item_size, max_items};
 ghost use Rattle.std.specs.Ordering.{is_lt};
 ghost use Rattle.decision_items.specs.Items.{item_identity, lower_at, same_identity};

@@ -26,7 +26,7 @@ use Rattle.decision.specs.Sorted.{by_identity, sorted_outcome, sorted_arrays}
 use Rattle.decision.proofs.Laws.{listed-once}
 use Rattle.decision.proofs.Sorted.{same-items}
 use Rattle.decision.proofs.Passed.{few-items}
-use Rattle.lists.specs.Lists.{up_to}
+use Rattle.lists.specs.Ordered.{up_to}
 use Rattle.lists.proofs.Bools.{by}
 use Rattle.lists.proofs.Lists.{count-length}
 use Rattle.lists.proofs.Orders.{perm-length}

@@ -6,7 +6,8 @@ use mathlib.Core.Logic.{inl, inr}
 use mathlib.Core.Bool.{true≢false}
 use Rattle.decision_items.specs.Values as V
 use Rattle.std.specs.List.{filter}
-use Rattle.lists.specs.Lists.{foremost, up_to, count_from}
+use Rattle.lists.specs.Lists.{foremost}
+use Rattle.lists.specs.Ordered.{up_to, count_from}
 use Rattle.lists.proofs.Bools.{by}
 use Rattle.lists.proofs.Searches.{filter-hit, filter-miss}
 use Rattle.decision_rule.specs.First as F

@@ -10,7 +10,7 @@ use mathlib.Core.Bool.{true≢false}
 use lib.Dec.{eqb, ltb}
 use lib.Lanes.{mask_l}
 use Rattle.std.specs.List.{list_any}
-use Rattle.lists.specs.Lists.{count_from, up_to}
+use Rattle.lists.specs.Ordered.{count_from, up_to}
 use Rattle.lists.proofs.Bools.{by}
 use Rattle.lists.proofs.Searches.{up_more}
 use Rattle.std.specs.Prelude.{nat_lt}

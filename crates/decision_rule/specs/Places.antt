@@ -1,6 +1,6 @@
 -- No claim rests on these definitions: they say what sets of places are, as the bits of a number. Bit 0 is the lowest.
 use Rattle.std.specs.Prelude.{ℕ, ◌/◌, ◌%◌, ◌^◌, Bool, nat_eq, map}
-use Rattle.lists.specs.Lists.{up_to}
+use Rattle.lists.specs.Ordered.{up_to}
 use lib.Lanes.{mask_l}
 
 -- whether place i is in the set

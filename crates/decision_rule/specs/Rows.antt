@@ -1,7 +1,7 @@
 -- No claim rests on these definitions: they say what is known of each of the items of a list, and what is decided of them, as sets of places.
 use Rattle.std.specs.Prelude.{◌≡◌, ℕ, ◌<◌, Bool, not, ◌&&◌, List, length, slice_get, Option, Some}
 use Rattle.std.specs.List.{filter}
-use Rattle.lists.specs.Lists.{up_to}
+use Rattle.lists.specs.Ordered.{up_to}
 use Rattle.decision_items.specs.declared.item.Item.{Item}
 use Rattle.decision_rule.specs.Standing as S
 use Rattle.decision_rule.specs.declared.row.Row.{Row}

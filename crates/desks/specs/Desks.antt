@@ -23,12 +23,6 @@ may_convict Crew = false
 may_convict Analyst = false
 may_convict Manager = true
 
--- an analyst and a manager see the board as it would be after a conviction
-abbrev pub may_preview : Desk → Bool
-may_preview Crew = false
-may_preview Analyst = true
-may_preview Manager = true
-
 -- ---- a right
 
 abbrev pub right_of : (Desk → Bool) → Option Desk → Bool

@@ -3,6 +3,7 @@
 
 ghost use Rattle.std.specs.Prelude.{◌≡◌};
 ghost use Rattle.desks.specs.Desks as D;
+ghost use Rattle.desks.specs.Previewing as P;
 
 /// Who sits at a desk (docs/REFERENCE.md, 'Desks'). The number says who a caller says that he is.
 #[derive(Clone, Copy, PartialEq, Eq)]
@@ -40,7 +41,7 @@ impl Desk {
 
     /// Whether it may look at the board as it would be after a conviction.
     pub fn may_preview(self) -> bool
-        ensures { result ≡ D.may_preview self }
+        ensures { result ≡ P.may_preview self }
     {
         match self {
             Desk::Crew => false,

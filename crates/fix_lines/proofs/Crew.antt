@@ -16,7 +16,8 @@ use Rattle.fixes.specs.Fix.{Fix}
 use Rattle.fixes.specs.Shown.{Transmission}
 use Rattle.fix_lines.specs.Lines.{header, where_when, metres_text, height_text, fix_text, fix_line, chi_square_text, refused_line}
 use Rattle.fix_lines.specs.Text.{header_of, ranked_text, dominated_text, refused_text, text_of, text_from}
-use Rattle.fix_lines.specs.Crew.{crew_header, crew_text_of, crew_text_from, crew_line, crew_part, CrewFromFull}
+use Rattle.fix_lines.specs.Crew.{crew_header, crew_text_of, crew_text_from}
+use Rattle.fix_lines.specs.CrewFromFull.{crew_line, crew_part, CrewFromFull}
 use Rattle.arithmetic.specs.declared.standing.ChiSquare.{ChiSquare}
 use Rattle.arithmetic.specs.declared.standing.ChiSquare.TheVariants.{Measured, Unmeasured}
 

@@ -1,7 +1,7 @@
 //! What is claimed of the lines of a board.
 
 ghost use Rattle.fix_lines.specs.Claims.{NoneExactlyWhen};
-ghost use Rattle.fix_lines.specs.Crew.{CrewFromFull};
+ghost use Rattle.fix_lines.specs.CrewFromFull.{CrewFromFull};
 ghost use Rattle.fix_lines.specs.Worked.{LinesAsWritten};
 
 /// A line says `none` of a chi-square exactly where there is no number.

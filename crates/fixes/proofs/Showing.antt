@@ -14,7 +14,8 @@ use Rattle.record.specs.Fields.{tag_count}
 use Rattle.record.proofs.Laws.{subset-fewer, subset-irrefl}
 use Rattle.arithmetic.specs.Agree.{agrees_of}
 use Rattle.arithmetic.specs.declared.standing.ChiSquare.{ChiSquare}
-use Rattle.lists.specs.Lists.{insert, sort, count_from, up_to}
+use Rattle.lists.specs.Lists.{insert, sort}
+use Rattle.lists.specs.Ordered.{count_from, up_to}
 use Rattle.lists.proofs.Lists.{up_in, by-places}
 use Rattle.lists.proofs.Orders.{perm-mem}
 use Rattle.lists.proofs.Bools.{or, and_left}

@@ -9,7 +9,8 @@ use native.Mathlib.Omega.{arith}
 use native.Mathlib.Nat.{zero-add}
 use lib.ListN.{length, get_or}
 use Rattle.std.specs.List.{filter, list_any}
-use Rattle.lists.specs.Lists.{insert, sort, foremost, count_from, up_to}
+use Rattle.lists.specs.Lists.{insert, sort, foremost}
+use Rattle.lists.specs.Ordered.{count_from, up_to}
 use Rattle.lists.proofs.Bools.{by, or, clash, no_true, or_left, or_right}
 use Rattle.lists.proofs.Orders.{perm-mem}
 

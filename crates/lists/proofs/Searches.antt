@@ -8,7 +8,7 @@ use native.Mathlib.Nat.{sub-zero, add-zero, zero-add}
 use native.Mathlib.Numerals.{add-one}
 use lib.ListN.{length}
 use Rattle.std.specs.List.{filter, list_any}
-use Rattle.lists.specs.Lists.{count_from, up_to}
+use Rattle.lists.specs.Ordered.{count_from, up_to}
 use Rattle.lists.specs.Range.{filt}
 use Rattle.lists.proofs.Bools.{by}
 use Rattle.lists.proofs.Lists.{filter-few, count-length}

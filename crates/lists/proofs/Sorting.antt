@@ -7,7 +7,8 @@ use mathlib.Core.List.Memᴰ
 use mathlib.Core.List.Permᴰ
 use mathlib.Core.List.{List, [], ◌∷◌, map, flat_map, Memᴰ, Permᴰ}
 use Rattle.std.specs.List.{filter}
-use Rattle.lists.specs.Lists.{insert, sort, foremost, Ascending, none, next}
+use Rattle.lists.specs.Lists.{insert, sort, foremost}
+use Rattle.lists.specs.Ordered.{none, next, Ascending}
 use Rattle.lists.proofs.Bools.{by, or, clash, no_true}
 use Rattle.lists.proofs.Orders.{perm-mem}
 use Rattle.lists.proofs.Lists.{filter-in, sort-in, foremost-in, foremost-next, flat_in, map-from}

@@ -9,7 +9,8 @@ use lib.ListN.{length, get_or, set}
 use Rattle.std.specs.List.Sorted.{IsPermutation, IsSortedBy, SwapsInRange, apply_swaps}
 use Rattle.std.specs.List.{swap}
 use Rattle.std.proofs.lemmas.List.Edits.{length-swap}
-use Rattle.lists.specs.Lists.{insert, sort, Ascending}
+use Rattle.lists.specs.Lists.{insert, sort}
+use Rattle.lists.specs.Ordered.{Ascending}
 use Rattle.lists.proofs.Orders.{perm-mem}
 use Rattle.lists.proofs.Sorting.{Strict, strict-sub, sort-same, ascending-is, ascending-strict}
 

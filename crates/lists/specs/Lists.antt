@@ -1,7 +1,7 @@
--- What is said of a list by a test of its members or by an order between them.
+-- What is said of a list by an order between its members.
 -- Source: docs/REFERENCE.md, 'Register and board' and 'Agreement and decision', whose orders these are.
-use Rattle.std.specs.Prelude.{ℕ, zero, suc, ◌-◌, ◌≡◌, Bool, true, cond, length, drop}
-use mathlib.Core.List.{List, [], ◌∷◌, Memᴰ}
+use Rattle.std.specs.Prelude.{ℕ, ◌-◌, Bool, cond, length, drop}
+use mathlib.Core.List.{List, [], ◌∷◌}
 
 module _ {A : Type 0} where
   -- x put in behind those that come before it
@@ -22,17 +22,3 @@ module _ {A : Type 0} where
   -- the last n members, or all where there are fewer
   abbrev pub last_of : ℕ → List A → List A
   last_of n l = drop (length l - n) l
-
--- n numbers from k on
-unfoldable pub count_from : ℕ → ℕ → List ℕ
-count_from k zero = []
-count_from k (suc n) = k ∷ count_from (suc k) n
-
--- the indices of n items
-abbrev pub up_to : ℕ → List ℕ
-up_to n = count_from 0 n
-
--- each member comes before every later one
-pub data Ascending {A : Type 0} (before : A → A → Bool) : List A → Type 0 where
-  none : Ascending before []
-  next : {x : A} {l : List A} → ((y : A) → Memᴰ y l → before x y ≡ true) → Ascending before l → Ascending before (x ∷ l)

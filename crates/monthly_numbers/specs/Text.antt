@@ -3,7 +3,7 @@
 use Rattle.std.specs.Prelude.{ℕ, suc, ◌*◌, cond}
 use mathlib.Core.List.{List, ◌++◌, flat_map}
 use Rattle.octets.specs.Ascii.{ascii}
-use Rattle.lists.specs.Lists.{up_to}
+use Rattle.lists.specs.Ordered.{up_to}
 use Rattle.text.specs.Numbers.{decimal}
 use Rattle.engines.specs.Limits.{max_engine}
 use Rattle.register.specs.Register.{Register}

@@ -2,7 +2,7 @@
 use Rattle.std.proofs.Common.{◌≡◌, refl, sym, ap, ap₂, ◌∙◌, subst, arith, ℕ, zero, suc, ◌+◌, ◌*◌, ◌/◌, ◌%◌, ◌≤◌, ◌<◌, Bool, true, false, ltb, length}
 use mathlib.Core.List.Memᴰ
 use mathlib.Core.List.{List, [], ◌∷◌, map, map-map, Memᴰ}
-use Rattle.lists.specs.Lists.{count_from, up_to, Ascending, none, next}
+use Rattle.lists.specs.Ordered.{none, next, count_from, up_to, Ascending}
 use Rattle.std.specs.Prelude.{◌↔◌, slice_get, Some, None, is_some, unwrap_or, get_or, drop}
 use mathlib.Core.Bool.{true≢false}
 use Rattle.std.proofs.lemmas.List.{length-map}

@@ -5,7 +5,7 @@ use Rattle.std.specs.List.{list_any}
 use Rattle.std.proofs.Math.Seq.{take-append_seam, drop-append_seam}
 use Rattle.std.proofs.lemmas.List.{drop-drop}
 use mathlib.Core.List.{Memᴰ}
-use Rattle.lists.specs.Lists.{count_from, up_to}
+use Rattle.lists.specs.Ordered.{count_from, up_to}
 use Rattle.lists.proofs.Bools.{by, not-false-t}
 use Rattle.lists.proofs.Lists.{any-no}
 use Rattle.octets.specs.Masks.{bit}

@@ -3,7 +3,7 @@ use Rattle.std.proofs.Common.{◌≡◌, refl, sym, ap, ap₂, ◌∙◌, subst,
 use Rattle.std.proofs.lemmas.Nat.{div-mul-add, mod-mul-add}
 use mathlib.Core.List.Memᴰ
 use mathlib.Core.List.{List, [], ◌∷◌, ◌++◌, map, flat_map, map-append, Memᴰ}
-use Rattle.lists.specs.Lists.{count_from, up_to, Ascending, none, next}
+use Rattle.lists.specs.Ordered.{none, next, count_from, up_to, Ascending}
 use Rattle.lists.proofs.Bools.{or, or_left}
 use Rattle.lists.proofs.Lists.{map-from}
 use Rattle.lists.proofs.Sorting.{ascending-map}

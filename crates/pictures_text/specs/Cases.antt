@@ -2,7 +2,7 @@
 -- Source: docs/REFERENCE.md, 'All small pictures'.
 use Rattle.std.specs.Prelude.{ℕ, ◌≤◌, Bool, true, false}
 use mathlib.Core.List.{List, [], ◌∷◌, map, flat_map}
-use Rattle.lists.specs.Lists.{count_from}
+use Rattle.lists.specs.Ordered.{count_from}
 use Rattle.pictures_text.specs.declared.Member.{Member}
 use Rattle.pictures_text.specs.declared.Case.{Case}
 

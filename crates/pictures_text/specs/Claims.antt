@@ -1,7 +1,7 @@
 -- What is claimed of the cases (docs/REFERENCE.md, 'All small pictures'). The contracts of src/claims.rt name it; the proofs are in proofs/Claimed.
 use Rattle.std.specs.Prelude.{◌≡◌, ◌↔◌, ℕ, ◌+◌, false, length, slice_get, Some}
 use mathlib.Core.List.{map, Memᴰ}
-use Rattle.lists.specs.Lists.{Ascending, count_from}
+use Rattle.lists.specs.Ordered.{Ascending, count_from}
 use Rattle.decision.specs.Answer.{is_bad}
 use Rattle.pictures_text.specs.declared.Case.{Case}
 use Rattle.pictures_text.specs.Cases.{cases, IsCase}

@@ -6,7 +6,7 @@ use Rattle.std.proofs.lemmas.List.{get_or-map}
 use Rattle.std.proofs.lemmas.Grind.{same_number_lists}
 use Rattle.std.proofs.Math.ListN.{get_or-append}
 use Rattle.std.proofs.Math.Nat.{div-lt_iff_lt-mul, mul_comm, div-add-mod, mod-lt}
-use Rattle.lists.specs.Lists.{count_from, up_to}
+use Rattle.lists.specs.Ordered.{count_from, up_to}
 use Rattle.lists.proofs.Lists.{count-length}
 use Rattle.register_columns.specs.Transposed.{column, transposed}
 

@@ -2,7 +2,7 @@
 -- Source: docs/REFERENCE.md, 'Columns of a register'.
 use Rattle.std.specs.Prelude.{ℕ, ◌+◌, ◌*◌, get_or}
 use mathlib.Core.List.{List, map, flat_map}
-use Rattle.lists.specs.Lists.{up_to}
+use Rattle.lists.specs.Ordered.{up_to}
 
 -- byte j of each row, of rows of so many bytes
 abbrev pub column : ℕ → ℕ → List ℕ → ℕ → List ℕ

@@ -9,7 +9,8 @@ use Rattle.octets.proofs.Comparison.{same_refl}
 use Rattle.register.specs.Memory.{fresh}
 use Rattle.register.specs.Calls.{Call, none_full, elem, nub}
 use Rattle.register.proofs.Whole.{decoded, same-summaries, same-records}
-use Rattle.board.specs.Board.{board_of, board_in}
+use Rattle.board.specs.Board.{board_of}
+use Rattle.board.specs.Full.{board_in}
 use Rattle.orders.proofs.Rearranged.{same-remains}
 use Rattle.rooms_orders.specs.Tried.{board_after, listing_after, is_refused_as_full, with_text}
 use Rattle.rooms_orders.proofs.Held.{Seen, seen-none, seen-more, elem-here, elem-none}

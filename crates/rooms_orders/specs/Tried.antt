@@ -5,7 +5,7 @@ use Rattle.std.specs.Prelude.{ℕ, Bool, ◌≡◌, not, length, count_by, Vec, 
 use mathlib.Core.List.{List, [], ◌∷◌, ◌++◌, map, Memᴰ, Permᴰ}
 use Rattle.register.specs.Memory.{fresh, decode}
 use Rattle.register.specs.Calls.{Call, runs, none_full, elem, nub}
-use Rattle.board.specs.Board.{board_in}
+use Rattle.board.specs.Full.{board_in}
 use Rattle.track_memory.specs.Memory as T
 use Rattle.track_listing.specs.Listing.{listing_of}
 use Rattle.orders.specs.Claims.{track_bytes}

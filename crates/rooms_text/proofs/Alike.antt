@@ -8,7 +8,8 @@ use Rattle.models.specs.Limits.{summaries_size}
 use Rattle.signed_records.specs.Signed.{place_size}
 use Rattle.register.specs.Layout.{summary_count_at}
 use Rattle.register.specs.Memory.{decode, summaries_in, records_in}
-use Rattle.board.specs.Board.{board_of, board_in}
+use Rattle.board.specs.Board.{board_of}
+use Rattle.board.specs.Full.{board_in}
 use Rattle.rooms_text.specs.Boards.{boards_text}
 use Rattle.rooms_text.specs.Compared.{is_equal}
 use Rattle.rooms_text.specs.Claims.{AlikeInBoth}

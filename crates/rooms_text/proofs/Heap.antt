@@ -4,7 +4,7 @@ use Rattle.std.proofs.lemmas.List.{take_all, take-append-le}
 use mathlib.Core.List.{append-nil}
 use Rattle.octets.specs.Put.{Put}
 use Rattle.octets.proofs.Puts.{put_whole}
-use Rattle.lists.specs.Lists.{count_from, up_to}
+use Rattle.lists.specs.Ordered.{count_from, up_to}
 use Rattle.lists.proofs.Searches.{up_more}
 use Rattle.std.proofs.lemmas.Grind.{flat_map-append}
 

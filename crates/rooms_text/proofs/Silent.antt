@@ -3,7 +3,7 @@ use Rattle.std.proofs.Common.{◌≡◌, ◌∙◌, ap, sym, refl, ℕ, zero, su
 use borrow.Author.Tests.{eqb-false, eq-eqb}
 use mathlib.Core.Bool.{false≢true}
 use Rattle.std.specs.List.{list_all}
-use Rattle.lists.specs.Lists.{count_from}
+use Rattle.lists.specs.Ordered.{count_from}
 use Rattle.lists.proofs.Bools.{by, and_left}
 use Rattle.octets.specs.Ascii.{ascii}
 use Rattle.octets.specs.Bytes.{Bytes}

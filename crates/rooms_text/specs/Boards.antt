@@ -4,7 +4,7 @@ use Rattle.std.specs.Prelude.{ℕ, ◌+◌, ◌-◌, List, [], ◌++◌, ◌==�
 use Rattle.octets.specs.Ascii.{ascii}
 use Rattle.octets.specs.Order.{same}
 use Rattle.text.specs.Numbers.{decimal}
-use Rattle.lists.specs.Lists.{up_to}
+use Rattle.lists.specs.Ordered.{up_to}
 use Rattle.session_lines.specs.Numbers.{split_once}
 use Rattle.session_text.specs.Found.{behind_lines}
 use Rattle.rooms_text.specs.declared.lines.Room.{Room}

@@ -7,7 +7,7 @@ use Rattle.errors.specs.After.{after}
 use Rattle.register.specs.Memory.{well_formed, decode}
 use Rattle.register_join.specs.Join.{join_memory}
 use Rattle.register_join.specs.Lacks.{lacking}
-use Rattle.board.specs.Board.{board_in}
+use Rattle.board.specs.Full.{board_in}
 use Rattle.rooms_text.specs.declared.lines.Room.{Room}
 use Rattle.rooms_text.specs.Lacking.{lacking_text}
 use Rattle.rooms_text.specs.Boards.{boards_text}

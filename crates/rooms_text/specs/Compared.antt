@@ -6,7 +6,7 @@ use Rattle.octets.specs.Order.{same}
 use Rattle.register.specs.Layout.{summary_count_at}
 use Rattle.register.specs.Memory.{decode}
 use Rattle.register_join.specs.Lacks.{lacking}
-use Rattle.board.specs.Board.{board_in}
+use Rattle.board.specs.Full.{board_in}
 use Rattle.rooms_text.specs.declared.lines.Room.TheVariants as room
 use Rattle.rooms_text.specs.Lacking.{lacking_text}
 use Rattle.rooms_text.specs.Boards.{boards_text}

@@ -3,7 +3,7 @@
 -- Source: docs/REFERENCE.md, 'Two rooms'.
 use Rattle.std.specs.Prelude.{ℕ, suc, List, [], ◌++◌, flat_map, take, if◌then◌else◌}
 use Rattle.octets.specs.Masks.{bit}
-use Rattle.lists.specs.Lists.{up_to}
+use Rattle.lists.specs.Ordered.{up_to}
 use Rattle.engines.specs.Limits.{max_engine}
 use Rattle.record.specs.Layout.{record_size}
 use Rattle.signed_records.specs.Signed.{signers_in}

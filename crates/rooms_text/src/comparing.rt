@@ -6,7 +6,7 @@ ghost use Rattle.fix_lines.specs.Text.{board_size};
 ghost use Rattle.register.specs.Layout.{register_size};
 ghost use Rattle.register.specs.Memory.{well_formed, decode};
 ghost use Rattle.register_join.specs.Lacks.{lacking};
-ghost use Rattle.board.specs.Board.{board_in};
+ghost use Rattle.board.specs.Full.{board_in};
 ghost use Rattle.rooms_text.specs.Lacking.{lacking_text};
 ghost use Rattle.rooms_text.specs.Boards.{boards_text};
 ghost use Rattle.rooms_text.specs.Compared as C;

@@ -2,7 +2,8 @@
 use Rattle.std.proofs.Common.{ℕ, zero, suc, ◌+◌, ◌-◌, ◌*◌, ◌/◌, ◌%◌, ◌^◌, ◌≤◌, ◌<◌, ◌≡◌, refl, sym, ap, ◌∙◌, Bool, true, false, ◌&&◌, ◌||◌, List, [], ◌∷◌, ◌++◌, append_assoc, append-nil, arith, add-suc, le-ltb, ne_eqb, ltb, eqb, pos, negsuc, length, get_or, Some, option_map, option_and_then}
 use lib.ListN.{get_or-append}
 use Rattle.lists.proofs.Bools.{neither_left, neither_right, by}
-use Rattle.text.specs.Numbers.{digits, signed_decimal, decimal_value}
+use Rattle.text.specs.Numbers.{digits, signed_decimal}
+use Rattle.text.specs.Reading.{decimal_value}
 use Rattle.text.proofs.Shapes.{digits-one}
 use Rattle.text.proofs.Readback.{digits_value, digits-width, no-leading-zero, zero-text}
 use Rattle.session_lines.specs.Numbers.{is_digit, all_digits, digits_after, read_number, read_signed, negated}

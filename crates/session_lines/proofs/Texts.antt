@@ -1,6 +1,6 @@
 -- The definitions of values at the steps of the loops that read them.
 use Rattle.std.proofs.Common.{sym, ap, ◌/◌, ◌++◌, append_assoc, append-nil, suc, option_map, MatchOption, ◌≡◌, refl, ℕ, ◌+◌, ◌-◌, ◌*◌, ◌≤◌, ◌<◌, List, [], ◌∷◌, length, drop, get_or, Option, Some, None, ◌∙◌, arith, drop-cons, add-one, le-ltb, drop_of_length-le}
-use Rattle.text.specs.Numbers.{decimal_value}
+use Rattle.text.specs.Reading.{decimal_value}
 use Rattle.session_lines.specs.Numbers.{list_by, read_hex, hex_up_to, read_list, split_once, hex_byte, hex_bytes, all_digits, digits_after}
 
 pub value_grows : (a : ℕ) (t : List ℕ) → a ≤ decimal_value a t

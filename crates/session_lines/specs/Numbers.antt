@@ -2,7 +2,7 @@
 -- Source: docs/REFERENCE.md, 'Session'.
 use Rattle.std.specs.Prelude.{ℕ, zero, suc, ◌+◌, ◌-◌, ◌*◌, ◌/◌, Bool, true, cond, ◌&&◌, ◌||◌, List, [], ◌∷◌, ◌++◌, leb, length, get_or, take, drop, reverse, Option, Some, None, option_map, option_and_then, position, ◌==◌, nat_lt, if◌then◌else◌, codes, ℤ, pos, neg_ℤ}
 use Rattle.std.specs.Str.{bytes_eq}
-use Rattle.text.specs.Numbers.{decimal_value}
+use Rattle.text.specs.Reading.{decimal_value}
 use Rattle.record.specs.Layout.{max_tags, max_models, short_message, long_message}
 
 -- ---- parts of a text

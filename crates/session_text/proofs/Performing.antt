@@ -12,7 +12,8 @@ use Rattle.register.specs.Memory.{well_formed, decode, fresh}
 use Rattle.register.specs.Calls.{Call, runs}
 use Rattle.register.proofs.Further.{runs-formed}
 use Rattle.fix_lines.specs.Text.{board_size}
-use Rattle.board.specs.Board.{board_in, draw_for, draw_board}
+use Rattle.board.specs.Board.{draw_for, draw_board}
+use Rattle.board.specs.Full.{board_in}
 use Rattle.session_lines.specs.Session.{at_start, calls_from}
 use Rattle.session_text.specs.declared.refusals.Refusal.{Refusal}
 use Rattle.session_text.specs.Output.{calls_of, answers, printed, answers_then_board, text_by, output_of}

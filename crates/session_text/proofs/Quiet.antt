@@ -10,7 +10,7 @@ use Rattle.register.proofs.Kept.{decode-valid}
 use Rattle.register.proofs.History.{run}
 use Rattle.register.proofs.Whole.{decoded}
 use Rattle.desks.specs.declared.Desk.TheVariants.{Manager}
-use Rattle.board.specs.Board.{board_in}
+use Rattle.board.specs.Full.{board_in}
 use Rattle.board.proofs.Fitting.{long}
 use Rattle.board.proofs.Nothing.{no_bytes}
 use Rattle.session_lines.specs.declared.lines.BadLine.{BadLine}

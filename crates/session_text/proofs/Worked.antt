@@ -1,7 +1,8 @@
 -- Reasons of some sessions.
 use Rattle.std.proofs.Common.{refl}
 use Rattle.octets.specs.Ascii.{ascii}
-use Rattle.text.specs.Numbers.{digits, decimal_value, hex}
+use Rattle.text.specs.Numbers.{digits, hex}
+use Rattle.text.specs.Reading.{decimal_value}
 use Rattle.session_lines.specs.Numbers.{all_digits, digits_after, read_number}
 use Rattle.session_lines.specs.Lines.{cut, text, value}
 use Rattle.session_lines.specs.Operations.{kind_of, conviction_at, summary_at, operation_at}

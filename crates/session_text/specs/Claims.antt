@@ -8,7 +8,8 @@ use Rattle.register.specs.Calls.{Call, runs}
 use Rattle.desks.specs.declared.Desk.TheVariants.{Manager}
 use Rattle.desks.specs.Desks.{number_of}
 use Rattle.fix_lines.specs.Text.{board_size}
-use Rattle.board.specs.Board.{board_in, draw_board}
+use Rattle.board.specs.Board.{draw_board}
+use Rattle.board.specs.Full.{board_in}
 use Rattle.session_lines.specs.declared.lines.BadLine.{BadLine}
 use Rattle.session_lines.specs.Session.{session_of}
 use Rattle.session_lines.specs.Claims.{pass_line}

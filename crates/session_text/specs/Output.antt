@@ -7,7 +7,7 @@ use Rattle.octets.specs.Ascii.{ascii}
 use Rattle.register.specs.Memory.{decode, fresh}
 use Rattle.register.specs.Calls.{Call, called, runs}
 use Rattle.fix_lines.specs.Text.{board_size}
-use Rattle.board.specs.Board.{board_in}
+use Rattle.board.specs.Full.{board_in}
 use Rattle.session_lines.specs.Session.{session_of}
 use Rattle.session_text.specs.declared.refusals.Refusal.{Refusal}
 use Rattle.session_text.specs.declared.refusals.Refusal.TheVariants as refusal

@@ -10,7 +10,7 @@ ghost use Rattle.errors.specs.After.{after};
 ghost use Rattle.errors.specs.Errors.{answer_number};
 ghost use Rattle.register.specs.Memory.{fresh};
 ghost use Rattle.register.specs.Calls.{called, runs};
-ghost use Rattle.board.specs.Board.{board_in};
+ghost use Rattle.board.specs.Full.{board_in};
 ghost use Rattle.session_lines.specs.Gives.{call_of};
 ghost use Rattle.session_lines.specs.Session.{at_start, calls_from};
 ghost use Rattle.session_text.specs.Output as O;

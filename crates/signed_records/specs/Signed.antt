@@ -28,7 +28,3 @@ has_another_signer e p = not (eqb (without_bit (signers_in p) e) 0)
 -- a record that is one, with signers, none of them convicted
 abbrev pub place_formed : ℕ → List ℕ → Bool
 place_formed c p = well_formed (take record_size p) && (not (eqb (signers_in p) 0) && eqb (bit_and (signers_in p) c) 0)
-
--- bytes that begin with one, whatever follows
-abbrev pub begin_formed : ℕ → List ℕ → Bool
-begin_formed c p = place_formed c (take place_size p)

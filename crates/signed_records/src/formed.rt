@@ -6,7 +6,8 @@ ghost use Rattle.octets.specs.Order.{is_before};
 ghost use Rattle.record.specs.Layout.{record_size};
 ghost use Rattle.record.specs.Formed.{well_formed};
 ghost use Rattle.tables.specs.Places.{places, ascending, is_table};
-ghost use Rattle.signed_records.specs.Signed.{place_size, signers_in, place_formed, begin_formed};
+ghost use Rattle.signed_records.specs.Signed.{place_size, signers_in, place_formed};
+ghost use Rattle.signed_records.specs.Begins.{begin_formed};
 
 use crate::PLACE_SIZE;
 use engines::Signers;

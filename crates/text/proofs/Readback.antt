@@ -11,7 +11,8 @@ use lib.Signed.{mag}
 use lib.ListN.{length, get_or, length-append, get_or-append}
 use Rattle.lists.proofs.Bools.{by}
 use Rattle.octets.specs.Ascii.{ascii}
-use Rattle.text.specs.Numbers.{digits, signed_decimal, hex, hex_digit, decimal_value}
+use Rattle.text.specs.Numbers.{digits, signed_decimal, hex, hex_digit}
+use Rattle.text.specs.Reading.{decimal_value}
 use Rattle.text.specs.Heights.{metres}
 use Rattle.text.specs.Claims.{hex_value, hex_digit_value, DecimalReadsBack, NoLeadingZero, NoMinusZero, DecimalWidth, HexReadsBack, HeightNotMinusZero, HeightTexts}
 use Rattle.text.proofs.Shapes.{digits-one, metres-fits}

@@ -8,7 +8,8 @@ use borrow.Author.Tests.{ltb-true, ltb-false}
 use lib.Dec.{ltb}
 use lib.IntN.{ℤ, pos, negsuc, neg_ℤ, nat_abs, sub_ℕ, ◌+ℤ◌, ◌-ℤ◌, ◌*ℤ◌, neg_ℤ-neg_ℤ, neg_ℤ-+ℤ}
 use Rattle.lists.proofs.Bools.{by}
-use Rattle.text.specs.Heights.{distance, Even, NearestMetre, rounded_metres, metres}
+use Rattle.text.specs.Heights.{rounded_metres, metres}
+use Rattle.text.specs.Rounding.{distance, Even, NearestMetre}
 use Rattle.text.specs.Claims.{MetresAreNearest, OnlyHalvesMoved}
 
 -- ---- at a height from zero up

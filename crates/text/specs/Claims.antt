@@ -4,10 +4,11 @@ use Rattle.std.specs.Prelude.{ℕ, suc, Bool, true, false, eqb, Some, ◌++◌, 
 use Prim.Native.String.{String}
 use Rattle.std.specs.Int.Signed.{mag}
 use Rattle.octets.specs.Ascii.{ascii}
-use Rattle.text.specs.Numbers.{decimal, signed_decimal, hex, decimal_value}
-use Rattle.text.specs.Heights.{NearestMetre, metres}
+use Rattle.text.specs.Numbers.{decimal, signed_decimal, hex}
+use Rattle.text.specs.Reading.{decimal_value, stops, signed_at}
+use Rattle.text.specs.Heights.{metres}
+use Rattle.text.specs.Rounding.{NearestMetre}
 use Rattle.text.specs.Decimals.{lowest_digits, with_decimals, signed_with_decimals}
-use Rattle.text.specs.Reading.{stops, signed_at}
 
 -- the number that hex digits stand for, after those that stand for a
 abbrev pub hex_digit_value : ℕ → ℕ

@@ -4,3 +4,4 @@ pub mod Decimals
 pub mod Reading
 pub mod Claims
 pub mod Texts
+pub mod Rounding

@@ -23,10 +23,3 @@ hex_digit d = cond (ltb d 10) (48 + d) (87 + d)
 unfoldable pub hex : ℕ → ℕ → List ℕ
 hex zero n = []
 hex (suc k) n = hex k (n / 16) ++ (hex_digit (n % 16) ∷ [])
-
--- ---- what the text means
-
--- the number that decimal digits stand for, after those that stand for a
-unfoldable pub decimal_value : ℕ → List ℕ → ℕ
-decimal_value a [] = a
-decimal_value a (d ∷ t) = decimal_value (a * 10 + (d - 48)) t

@@ -71,3 +71,8 @@ signed_by None None = None
 
 unfoldable pub signed_at : ℕ → List ℕ → Read ℤ
 signed_at k t = signed_by (unsigned_at k t) (behind (45 ∷ []) t >>= unsigned_at k)
+
+-- the number that decimal digits stand for, after those that stand for a
+unfoldable pub decimal_value : ℕ → List ℕ → ℕ
+decimal_value a [] = a
+decimal_value a (d ∷ t) = decimal_value (a * 10 + (d - 48)) t

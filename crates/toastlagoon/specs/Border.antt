@@ -5,7 +5,7 @@ use Rattle.geometry.specs.declared.linalg.Covariance.{Covariance}
 use Rattle.arithmetic.specs.declared.standing.Claimed.{Claimed}
 use Rattle.arithmetic.specs.declared.standing.Measure.{Measure}
 use Rattle.arithmetic.specs.declared.standing.Agreement.{Agreement}
-use Rattle.arithmetic.specs.Agree.{agreement_number, measure_in}
+use Rattle.arithmetic.specs.Answers.{agreement_number, measure_in}
 use Rattle.record.specs.Value.{Value}
 use Rattle.errors.specs.After.{After, after}
 

@@ -12,7 +12,8 @@ use lib.Seq.{take-suc, take_all}
 use lib.Dec.{eqb}
 use borrow.Author.Tests.{eqb-true}
 use Rattle.std.specs.Prelude.{Option, Some, None, slice_get}
-use Rattle.lists.specs.Lists.{count_from, up_to, last_of, sort}
+use Rattle.lists.specs.Lists.{last_of, sort}
+use Rattle.lists.specs.Ordered.{count_from, up_to}
 use Rattle.std.specs.List.{list_all}
 use Rattle.lists.proofs.Bools.{or, and_left, and_right}
 use Rattle.lists.proofs.Lists.{count-length}

@@ -4,7 +4,8 @@ ghost use Rattle.std.specs.Prelude.{◌≡◌, [], ◌≤◌, ◌<◌, IsTrue, l
 ghost use Rattle.std.specs.List.{list_all};
 ghost use Rattle.arrayvec.specs.ArrayVec.{array_vec_len};
 ghost use Rattle.fixes.specs.Ages.{time_of, older};
-ghost use Rattle.lists.specs.Lists.{up_to, last_of};
+ghost use Rattle.lists.specs.Lists.{last_of};
+ghost use Rattle.lists.specs.Ordered.{up_to};
 ghost use Rattle.track_arrange.specs.Arranged.{max_transmissions};
 ghost use Rattle.track_arrange.specs.Claims.{InOrder};
 ghost use Rattle.track_arrange.specs.Leads.{before, put_behind, put_all_behind, leads_from, order_of, place_of, is_empty};

@@ -23,7 +23,8 @@ use Rattle.tables.proofs.Tables.{wide, flat-length, places-flat, length-places, 
 use Rattle.record.specs.Layout.{record_size}
 use Rattle.record.specs.Formed as R
 use Rattle.decision_items.proofs.Pairing.{taken}
-use Rattle.signed_records.specs.Signed.{place_size, place_formed, begin_formed}
+use Rattle.signed_records.specs.Signed.{place_size, place_formed}
+use Rattle.signed_records.specs.Begins.{begin_formed}
 use Rattle.signed_records.specs.Signed as H
 use Rattle.octets.proofs.Framing.{word_small}
 use Rattle.signed_records.proofs.Signatures.{signers-at, held_place}

@@ -19,7 +19,7 @@ use Rattle.tables.proofs.Tables.{wide, places-wide, length-places, table_is, fil
 use Rattle.models.specs.Summary.{summary_size}
 use Rattle.models.specs.Limits.{max_summaries, summaries_size}
 use Rattle.models.specs.Summaries.{summary_formed}
-use Rattle.signed_records.specs.Signed.{begin_formed}
+use Rattle.signed_records.specs.Begins.{begin_formed}
 use Rattle.octets.proofs.Framing.{cut, cut_word}
 use Rattle.track_transmission.specs.Layout.{transmission_size}
 use Rattle.track_transmission.specs.Held.{HeldTransmission}

@@ -15,7 +15,7 @@ use Rattle.tables.proofs.Tables.{wide, table-length, is-table-of, places-of-tabl
 use Rattle.models.specs.Summary.{summary_size}
 use Rattle.models.specs.Limits.{max_summaries, summaries_size}
 use Rattle.models.specs.Summaries.{summary_formed}
-use Rattle.signed_records.specs.Signed.{begin_formed}
+use Rattle.signed_records.specs.Begins.{begin_formed}
 use Rattle.octets.proofs.Framing.{word_small}
 use Rattle.track_transmission.specs.Layout.{transmission_size}
 use Rattle.track_transmission.specs.Held.{HeldTransmission}

@@ -2,7 +2,8 @@
 
 ghost use Rattle.std.specs.Prelude.{◌≡◌, ◌*◌, ◌≤◌, length};
 ghost use Rattle.std.specs.List.{list_all};
-ghost use Rattle.signed_records.specs.Signed.{place_size, begin_formed};
+ghost use Rattle.signed_records.specs.Signed.{place_size};
+ghost use Rattle.signed_records.specs.Begins.{begin_formed};
 ghost use Rattle.track_transmission.specs.Layout.{transmission_size};
 ghost use Rattle.track_transmission.specs.Bytes.{filled_by, transmission_formed};
 ghost use Rattle.track_memory.specs.Memory.{well_formed};

@@ -9,7 +9,7 @@ use Rattle.errors.specs.declared.Error.{Error}
 use Rattle.errors.proofs.Numbered.{never-zero}
 use Rattle.register.specs.Memory.{well_formed, decode}
 use Rattle.register.proofs.Opened.{other-size}
-use Rattle.desks.specs.Desks.{may_preview}
+use Rattle.desks.specs.Previewing.{may_preview}
 use Rattle.board.specs.Board.{draw_for}
 use Rattle.board.specs.Preview.{convict}
 use Rattle.board.proofs.Desks.{preview-for}

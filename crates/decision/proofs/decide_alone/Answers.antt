@@ -1,5 +1,5 @@
 use Rattle.std.proofs.Common.{◌≡◌, sym, ap, ◌∙◌, length, arith, ◌∷◌, ◌++◌, []}
-use Rattle.lists.specs.Lists.{up_to, count_from}
+use Rattle.lists.specs.Ordered.{up_to, count_from}
 use Rattle.lists.proofs.Lists.{count-length}
 use Rattle.lists.proofs.Searches.{up_more}
 use Rattle.decision.proofs.decide_alone.Goals as goal

@@ -1,5 +1,5 @@
 use Rattle.std.proofs.Common.{◌≡◌, ◌≤◌}
-use Rattle.lists.specs.Lists.{up_to}
+use Rattle.lists.specs.Ordered.{up_to}
 use Rattle.decision.proofs.decide_alone.Given as goal
 
 abbrev pub invariant-loop-i : goal.invariant-loop-i

@@ -1,6 +1,6 @@
 use Rattle.std.proofs.Common.{◌≡◌, ◌<◌, ◌+◌, ◌++◌, sym, ap, ◌∙◌, arith}
 use Rattle.decision.specs.Answer.{outcome}
-use Rattle.lists.specs.Lists.{count_from}
+use Rattle.lists.specs.Ordered.{count_from}
 use Rattle.pictures_text.specs.Items.{items_of}
 use Rattle.pictures_text.specs.Lines.{line_of}
 use Rattle.pictures_text.specs.Numbered.{case_at}

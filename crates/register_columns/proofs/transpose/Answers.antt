@@ -3,7 +3,7 @@ use mathlib.Core.List.{◌++◌, flat_map}
 use Rattle.std.proofs.lemmas.Slice.{take-put_mid}
 use Rattle.std.proofs.lemmas.List.{take_all}
 use Rattle.std.proofs.Math.Nat.{mul-le-mul_right}
-use Rattle.lists.specs.Lists.{count_from, up_to}
+use Rattle.lists.specs.Ordered.{count_from, up_to}
 use Rattle.register_columns.specs.Transposed.{column, transposed}
 use Rattle.register_columns.proofs.Turning.{column-long, column-more}
 use Rattle.register_columns.proofs.transpose.Goals as goal

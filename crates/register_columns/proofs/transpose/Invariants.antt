@@ -1,6 +1,6 @@
 use Rattle.std.proofs.Common.{◌≡◌, ◌*◌, take}
 use mathlib.Core.List.{flat_map}
-use Rattle.lists.specs.Lists.{up_to}
+use Rattle.lists.specs.Ordered.{up_to}
 use Rattle.register_columns.specs.Transposed.{column}
 use Rattle.register_columns.proofs.transpose.Given as goal
 

@@ -4,7 +4,7 @@ use Rattle.register.specs.Register.{Register}
 use Rattle.register.specs.Memory.{decode, fresh}
 use Rattle.register.specs.Calls.{runs}
 use Rattle.register.proofs.Further.{runs-formed}
-use Rattle.board.specs.Board.{board_in}
+use Rattle.board.specs.Full.{board_in}
 use Rattle.session_lines.specs.Session.{at_start, calls_from}
 use Rattle.session_text.specs.Output.{printed, answers_then_board}
 use Rattle.session_text.proofs.Ending.{put-behind}

@@ -2,7 +2,7 @@ use Rattle.std.proofs.Common.{arith}
 use Rattle.octets.specs.Ascii.{ascii}
 use Rattle.octets.specs.Put.{Put}
 use Rattle.octets.proofs.Puts.{put-put, put_as}
-use Rattle.board.specs.Board.{board_in}
+use Rattle.board.specs.Full.{board_in}
 use Rattle.session_text.proofs.Ending.{printed-none, printed-some}
 use Rattle.session_text.proofs.write_board.Goals as goal
 

@@ -1,6 +1,6 @@
 use mathlib.Core.Path.{refl, ap}
 use Rattle.arithmetic.specs.declared.standing.Measure.{Measure}
-use Rattle.arithmetic.specs.Agree.{agreement_number, measure_in}
+use Rattle.arithmetic.specs.Answers.{agreement_number, measure_in}
 use Rattle.errors.specs.After.{after}
 use Rattle.toastlagoon.specs.Border.{measure_or, agreement_out}
 use Rattle.toastlagoon.proofs.put_agreement.Goals as goal

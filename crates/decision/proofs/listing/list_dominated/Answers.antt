@@ -1,6 +1,6 @@
 use Rattle.std.proofs.Common.{◌≡◌, sym, ap, ◌∙◌, length, arith, ◌∷◌, ◌++◌, []}
 use Rattle.std.specs.List.{filter}
-use Rattle.lists.specs.Lists.{up_to, count_from}
+use Rattle.lists.specs.Ordered.{up_to, count_from}
 use Rattle.lists.proofs.Searches.{filter-hit, filter-miss, filter-up}
 use Rattle.decision_rule.specs.Standing as S
 use Rattle.decision_rule.specs.Rows.{is_dominated}

@@ -1,6 +1,7 @@
 use Rattle.std.proofs.Common.{◌≡◌, ◌-◌, sym, ap, ◌∙◌, arith, length}
 use Rattle.std.specs.List.{filter}
-use Rattle.lists.specs.Lists.{sort, count_from, insert}
+use Rattle.lists.specs.Lists.{sort, insert}
+use Rattle.lists.specs.Ordered.{count_from}
 use Rattle.decision_rule.specs.Standing as S
 use Rattle.decision_rule.specs.Listed.{relations}
 use Rattle.decision_rule.specs.Rows.{is_ranked}

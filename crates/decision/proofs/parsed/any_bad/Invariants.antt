@@ -1,7 +1,7 @@
 use Prim.Native.Nat.{◌-◌}
 use mathlib.Core.Path.{◌≡◌}
 use Rattle.std.specs.List.{list_any}
-use Rattle.lists.specs.Lists.{count_from, up_to}
+use Rattle.lists.specs.Ordered.{count_from, up_to}
 use Rattle.decision.specs.Answer.{bad_at}
 use Rattle.decision.proofs.parsed.any_bad.Given as goal
 

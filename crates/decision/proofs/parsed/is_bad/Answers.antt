@@ -5,7 +5,7 @@ use Prim.Native.Nat.{ℕ, ◌*◌, ◌/◌, ◌%◌, ◌<◌, ◌≤◌}
 use lib.ListN.{length}
 use borrow.Author.Tests.{eq-eqb, ne_eqb, lt-ltb, le-ltb}
 use Rattle.std.specs.List.{list_any}
-use Rattle.lists.specs.Lists.{up_to}
+use Rattle.lists.specs.Ordered.{up_to}
 use Rattle.decision_items.specs.Layout.{max_items, item_size}
 use Rattle.decision.specs.Answer.{bad_at, is_bad}
 use Rattle.decision.proofs.parsed.is_bad.Goals as goal

@@ -1,6 +1,6 @@
 use Rattle.std.proofs.Common.{ℕ, ◌≡◌, ap, ◌∙◌, arith, subst, lt-ltb}
 use mathlib.Core.List.{flat_map}
-use Rattle.lists.specs.Lists.{up_to}
+use Rattle.lists.specs.Ordered.{up_to}
 use mathlib.Core.Bool.{false≢true}
 use Rattle.text.specs.Texts.{append}
 use Rattle.monthly_numbers.specs.declared.numbers.Numbers.{Numbers}

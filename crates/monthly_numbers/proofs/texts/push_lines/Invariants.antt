@@ -1,6 +1,6 @@
 use Rattle.std.proofs.Common.{◌≡◌, ◌≤◌}
 use mathlib.Core.List.{flat_map}
-use Rattle.lists.specs.Lists.{up_to}
+use Rattle.lists.specs.Ordered.{up_to}
 use Rattle.text.specs.Texts.{append}
 use Rattle.monthly_numbers.specs.Text.{line}
 use Rattle.monthly_numbers.specs.Kept.{numbers_in}

@@ -1,7 +1,7 @@
 use Rattle.std.proofs.Common.{◌∙◌, ap, List, ℕ, map, arith}
 use Rattle.register.specs.Memory.{decode}
 use Rattle.register.proofs.Further.{runs-formed}
-use Rattle.board.specs.Board.{board_in}
+use Rattle.board.specs.Full.{board_in}
 use Rattle.session_lines.specs.Gives.{call_of}
 use Rattle.rooms_text.proofs.Heap.{front-put}
 use Rattle.rooms_orders.specs.Tried.{texts_of, with_text}

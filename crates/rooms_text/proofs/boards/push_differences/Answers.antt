@@ -1,5 +1,5 @@
 use Rattle.std.proofs.Common.{◌≡◌, ◌∙◌, ap, ap₂, ℕ, ◌+◌, ◌++◌, flat_map, max, arith}
-use Rattle.lists.specs.Lists.{up_to}
+use Rattle.lists.specs.Ordered.{up_to}
 use Rattle.rooms_text.specs.Boards.{line_count, difference, differences}
 use Rattle.rooms_text.proofs.Heap.{none-yet, one-more}
 use Rattle.rooms_text.proofs.boards.push_differences.Goals as goal

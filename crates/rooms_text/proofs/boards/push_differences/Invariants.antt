@@ -1,5 +1,5 @@
 use Rattle.std.proofs.Common.{◌≡◌, ◌++◌, ◌+◌, flat_map}
-use Rattle.lists.specs.Lists.{up_to}
+use Rattle.lists.specs.Ordered.{up_to}
 use Rattle.rooms_text.specs.Boards.{difference}
 use Rattle.rooms_text.proofs.boards.push_differences.Given as goal
 

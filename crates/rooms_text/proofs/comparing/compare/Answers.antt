@@ -2,7 +2,7 @@ use Rattle.std.proofs.Common.{◌≡◌, ◌∙◌, ap, ap₂, ℕ, Bool, List, 
 use Rattle.register.specs.Register.{Register}
 use Rattle.register.specs.Memory.{decode}
 use Rattle.register_join.specs.Lacks.{lacking}
-use Rattle.board.specs.Board.{board_in}
+use Rattle.board.specs.Full.{board_in}
 use Rattle.rooms_text.specs.declared.lines.Room.TheVariants as room
 use Rattle.rooms_text.specs.Lacking.{lacking_text}
 use Rattle.rooms_text.specs.Boards.{boards_text}

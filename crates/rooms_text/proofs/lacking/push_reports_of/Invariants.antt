@@ -1,5 +1,5 @@
 use Rattle.std.proofs.Common.{◌≡◌, ◌≤◌, ◌++◌, flat_map}
-use Rattle.lists.specs.Lists.{up_to}
+use Rattle.lists.specs.Ordered.{up_to}
 use Rattle.rooms_text.specs.Lines.{report_line}
 use Rattle.rooms_text.specs.Lacking.{if_in}
 use Rattle.rooms_text.proofs.lacking.push_reports_of.Given as goal

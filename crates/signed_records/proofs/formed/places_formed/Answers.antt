@@ -1,6 +1,7 @@
 use Rattle.std.proofs.Common.{◌+◌, ◌-◌, ◌*◌, ◌≡◌, refl, ap, ◌∙◌, not, take, drop}
 use Rattle.tables.proofs.Walks.{step-at}
-use Rattle.signed_records.specs.Signed.{place_size, place_formed, begin_formed}
+use Rattle.signed_records.specs.Signed.{place_size, place_formed}
+use Rattle.signed_records.specs.Begins.{begin_formed}
 use Rattle.tables.proofs.Testing.{passed-not, passed-next, passed-all, begin-lent}
 use Rattle.signed_records.proofs.formed.places_formed.Goals as goal
 use Rattle.signed_records.proofs.formed.places_formed.Goals.{After-place_formed}

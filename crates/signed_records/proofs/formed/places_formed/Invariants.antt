@@ -1,5 +1,5 @@
 use Prim.Native.Nat.{◌*◌}
-use Rattle.signed_records.specs.Signed.{begin_formed}
+use Rattle.signed_records.specs.Begins.{begin_formed}
 use Rattle.tables.proofs.Testing.{Passed}
 use Rattle.signed_records.proofs.formed.places_formed.Given as goal
 

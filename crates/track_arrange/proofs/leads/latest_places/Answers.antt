@@ -1,5 +1,5 @@
 use Rattle.std.proofs.Common.{◌≡◌, ◌+◌, ◌-◌, sym, ap, ◌∙◌, length, arith, ◌∷◌, ◌++◌, []}
-use Rattle.lists.specs.Lists.{count_from}
+use Rattle.lists.specs.Ordered.{count_from}
 use Rattle.lists.proofs.Lists.{count-length}
 use Rattle.track_arrange.proofs.Ascending.{counted-more, last-counted}
 use Rattle.track_arrange.proofs.leads.latest_places.Goals as goal

@@ -1,5 +1,5 @@
 use Rattle.std.proofs.Common.{◌≡◌, ◌≤◌, ◌-◌}
-use Rattle.lists.specs.Lists.{count_from}
+use Rattle.lists.specs.Ordered.{count_from}
 use Rattle.track_arrange.proofs.leads.latest_places.Given as goal
 
 abbrev pub invariant-loop-i : goal.invariant-loop-i

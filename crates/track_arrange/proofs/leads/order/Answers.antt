@@ -1,7 +1,8 @@
 use mathlib.Core.Path.{sym, ap, ◌∙◌, subst}
 use lib.ListN.{length}
 use Rattle.std.specs.List.{list_all}
-use Rattle.lists.specs.Lists.{up_to, last_of}
+use Rattle.lists.specs.Lists.{last_of}
+use Rattle.lists.specs.Ordered.{up_to}
 use Rattle.track_arrange.specs.Arranged.{max_transmissions}
 use Rattle.track_arrange.specs.Claims.{InOrder}
 use Rattle.track_arrange.specs.Leads.{is_empty}

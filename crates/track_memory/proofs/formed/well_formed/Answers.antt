@@ -10,7 +10,7 @@ use Rattle.tables.specs.Places.{places, is_table}
 use Rattle.models.specs.Summary.{summary_size}
 use Rattle.models.specs.Limits.{max_summaries}
 use Rattle.models.specs.Summaries.{summary_formed}
-use Rattle.signed_records.specs.Signed.{begin_formed}
+use Rattle.signed_records.specs.Begins.{begin_formed}
 use Rattle.track_transmission.specs.Layout.{transmission_size}
 use Rattle.track_transmission.specs.Bytes.{filled_by, transmission_formed}
 use Rattle.track_arrange.specs.Arranged.{max_transmissions}

@@ -1,6 +1,6 @@
 use Rattle.std.proofs.Common.{◌≡◌, length, ◌&&◌}
 use Rattle.std.specs.List.{list_any}
-use Rattle.lists.specs.Lists.{up_to}
+use Rattle.lists.specs.Ordered.{up_to}
 use Rattle.decision_rule.specs.Places.{set_of}
 use Rattle.decision_rule.specs.Listed.{relations}
 use Rattle.decision_rule.specs.Rows as R

@@ -1,6 +1,6 @@
 use Rattle.std.proofs.Common.{refl, sym, ap, ◌∙◌, length}
 use Rattle.std.specs.List.{list_any}
-use Rattle.lists.specs.Lists.{up_to}
+use Rattle.lists.specs.Ordered.{up_to}
 use Rattle.decision_rule.specs.Standing as S
 use Rattle.decision_rule.specs.Rows as R
 use Rattle.decision_rule.specs.Listed.{relations}

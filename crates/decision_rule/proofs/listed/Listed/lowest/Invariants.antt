@@ -1,7 +1,7 @@
 use Rattle.std.proofs.Common.{◌≡◌, ◌<◌, ◌/◌, ◌^◌, length}
 use Rattle.std.specs.Prelude.{IfSome}
 use Rattle.std.specs.List.{filter}
-use Rattle.lists.specs.Lists.{up_to}
+use Rattle.lists.specs.Ordered.{up_to}
 use Rattle.decision_rule.specs.Places.{has_place}
 use Rattle.decision_rule.specs.First.{foremost_of}
 use Rattle.decision_rule.specs.Listed as L
