@@ -7,8 +7,8 @@
  *     if (length == TL_MALFORMED_REGISTER || length == TL_OUTPUT_TOO_SMALL) return 1;
  *     fwrite(board, 1, length, stdout);
  *
- * The library is target/staticlib/libtoastlagoon.a, made by `build library`, for x86-64-v2 (a processor with POPCNT and SSE4.1, as
- * all since 2009 are); `package` makes a shared one of it. It allocates nothing, keeps nothing between calls, and of other
+ * The library is target/staticlib/libtoastlagoon.a, made by `build library`, for x86-64-v2 (a processor with POPCNT, SSSE3, SSE4.1
+ * and SSE4.2); `package` makes a shared one of it. It allocates nothing, keeps nothing between calls, and of other
  * libraries needs only the C library's memcpy, memmove, memset and memcmp.
  *
  * Every function takes any bytes and any numbers and is proved to return what docs/REFERENCE.md says of them
@@ -49,7 +49,8 @@ extern "C" {
 /* ---- version of this header and of the library that comes with it
  *
  * With major 0 every change of the minor number may change names, layouts, answers and texts: rooms that are to show the same board
- * have the same minor number. A change of the patch number adds names and changes nothing that was there. */
+ * have the same minor number. A change of the patch number adds names and changes nothing that was there, but that a number that is
+ * new as an answer gets its words in tl_answer_text. */
 
 #define TL_VERSION_MAJOR 0
 #define TL_VERSION_MINOR 12
@@ -72,11 +73,11 @@ uint32_t tl_version(void);
 #define TL_MALFORMED_RECORD 3
 #define TL_ENGINE_CONVICTED 4
 #define TL_FULL 5               /* not held yet, and there is no place left */
-#define TL_MODEL_DISPUTED 7     /* a track's summaries of a cited model disagree, or are of another spec */
+#define TL_MODEL_DISPUTED 7     /* the summaries of a cited model disagree, or are of another spec: in a track, or in the register of tl_register_inputs */
 #define TL_BAD_ITEMS 8          /* over 96 items, no whole number of items, a malformed item, or two of one identity */
 #define TL_BAD_SUMMARY 9        /* a model over 63, or inputs that are not of 32 bytes */
 #define TL_OUTPUT_TOO_SMALL 10  /* under TL_BOARD_SIZE bytes for a board or a preview, TL_LISTING_SIZE for a listing, TL_FIXES_SIZE for fixes,
-                                   TL_SESSION_SIZE for a session's answers */
+                                   TL_SESSION_SIZE for a session's answers, TL_REGISTER_SIZE for what is lacking */
 #define TL_BAD_LINE 11          /* a line of a session is not the one that is due; tl_session_reason says which */
 #define TL_SESSION_TOO_LONG 12  /* over TL_MAX_SESSION bytes */
 #define TL_SHELF_FULL 13        /* the fix has to wait, and TL_MAX_WAITING wait already */
@@ -91,7 +92,8 @@ uint32_t tl_version(void);
 #define TL_CONTESTED 21 /* a smaller fix disagrees with it, and it is kept among the refused */
 #define TL_DUPLICATE 22 /* its identity was held in the one transmission that it is tied to, and gained the signer */
 #define TL_DROPPED 23   /* it is not kept */
-#define TL_WAITING 24   /* a track has no summary of a model that the record cites: it waits on the shelf, and the track is as it was */
+#define TL_WAITING 24   /* there is no summary of a model that the record cites: in a track, where it waits on the shelf and the track is as it was, or in the
+                           register of tl_register_inputs */
 
 /* Outcomes of tl_agreement, and of nothing else. Answers above have the same numbers; tl_answer_name does not name these. */
 #define TL_INSIDE 0       /* the chi-square is at most the limit: the two agree */

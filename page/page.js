@@ -1,4 +1,4 @@
-// The page: two rooms, their boards beside today's merge, a map of each. What decides anything is in toastlagoon.wasm, which core.js calls.
+// The page: two rooms, their boards beside tally's merge, a map of each. What decides anything is in toastlagoon.wasm, which core.js calls.
 (async function () {
   "use strict";
   const T = Toastlagoon, { TL } = T, $ = (id) => document.getElementById(id);
@@ -227,11 +227,11 @@
     let sentence = `${what} ${equal ? "are equal, byte for byte" : `differ: ${whyDifferent()}`}`;
     if (equal && full) sentence += `, but ${whyDifferent()}`;
     else if (equal && lacking.length) sentence += `; but the rooms do not hold the same: ${whyDifferent()}`;
-    const lines = [`${count(north.shown.length, "byte")}${equal ? "" : ` and ${south.shown.length}`}. Today's merge shows ${north.merge.listing === south.merge.listing ? "the same in both" : "two different listings"}.`];
+    const lines = [`${count(north.shown.length, "byte")}${equal ? "" : ` and ${south.shown.length}`}. The merge of sky-commons/tally shows ${north.merge.listing === south.merge.listing ? "the same in both" : "two different listings"}.`];
     if (seen.length) {
       const all = [...seen.survey.values()], some = (what) => all.filter((found) => found[what]).length;
       lines.push(all.length < seen.numbers.length ? ` The other windows are being compared.`
-        : ` Of ${count(all.length, "window")} ${some("equal")} have equal boards, ${some("same")} hold the same in both rooms, ${some("full")} were full in one.`);
+        : ` Of ${count(all.length, "window")} ${some("equal")} have equal boards, ${some("same")} hold the same in both rooms, ${some("full")} were full in one room or both.`);
     }
     say(equal && !full ? "good" : "bad", `${sentence}.`, element("p", {}, ...lines), ...(seen.notice ? [element("p", { class: "full" }, seen.notice)] : []));
   }
@@ -299,7 +299,7 @@
     const list = room.parts.merge, { listing, waiting } = room.merge;
     list.replaceChildren(...listing.split("\n").slice(0, -1).map((line) => lineElement(line, "stays", "")));
     if (waiting) list.append(element("li", { class: "quiet" }, `${count(waiting, "fix waits", "fixes wait")} for a summary`));
-    finish(list, "", `Today's merge of ${room.name}`);
+    finish(list, "", `Tally's merge of ${room.name}`);
     mark(list, north.merge.listing === south.merge.listing);
   }
   function finish(list, empty, label) {
@@ -356,7 +356,7 @@
     const depth = ({ goes, fix }) => (goes ? 0 : 1 + ["dominated", "refused", "ranked"].indexOf(fix.role));
     return marks.sort((a, b) => depth(a) - depth(b));
   }
-  // The position that today's merge serves: the first fix of its last transmission.
+  // The position that tally's merge serves: the first fix of its last transmission.
   function servedBy(room) {
     const blocks = room.merge.listing.split(/^(?=transmission=)/m), line = blocks.length > 1 && blocks.at(-1).split("\n").find((text) => text.startsWith("role=ranked"));
     return line ? { line, lat: Number(/ lat=(-?\d+)/.exec(line)[1]), lon: Number(/ lon=(-?\d+)/.exec(line)[1]) } : null;
@@ -390,7 +390,7 @@
         const [[x1, y1], [x2, y2]] = [at(fix.values), at(fixes[fix.against].values)];
         map.append(svg("line", { class: "against", x1, y1, x2, y2 }));
       }
-    if (served) drawMark(map, at(served), served.line, "served", "today's merge", taken, svg("path", { class: "mark", d: "M0 -12L12 0L0 12L-12 0Z" }));
+    if (served) drawMark(map, at(served), served.line, "served", "tally's merge", taken, svg("path", { class: "mark", d: "M0 -12L12 0L0 12L-12 0Z" }));
     const first = firstOf(room);
     for (const mark of [...marks].reverse()) {
       const { line, fix, goes } = mark, shape = { ranked: svg("circle", { class: "mark", r: 6.5 }), dominated: svg("circle", { class: "mark", r: 5 }), refused: svg("path", { class: "mark", d: "M-5 -5l10 10m0 -10l-10 10" }) }[fix.role];
@@ -596,7 +596,7 @@
         if (mine !== counting) return;
         until = performance.now() + 40;
       }
-      room.parts.counted.textContent = `${count(found.orders, "order")} from seed ${seed}: ${count(found.boards, "board")}, ${count(found.listings, "listing")} of today's merge; full in ${found.full}.`;
+      room.parts.counted.textContent = `${count(found.orders, "order")} from seed ${seed}: ${count(found.boards, "board")}, ${count(found.listings, "listing")} of tally's merge; full in ${found.full}.`;
     }
   });
 
