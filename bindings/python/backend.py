@@ -10,7 +10,7 @@ import os
 import zipfile
 from pathlib import Path
 
-VERSION = "0.12.2"
+VERSION = "0.12.3"
 TAG = "py3-none-linux_x86_64"
 INFO = f"toastlagoon-{VERSION}.dist-info"
 HERE = Path(__file__).resolve().parent

@@ -12,7 +12,7 @@ abbrev pub minor : ℕ
 minor = 12
 
 abbrev pub patch : ℕ
-patch = 2
+patch = 3
 
 -- as one number, which grows with the version
 abbrev pub version_number : ℕ

@@ -8,7 +8,7 @@ ghost use Rattle.toastlagoon_names.specs.Names as N;
 pub mod claims;
 
 // The version as one number: a million for each major number, a thousand for each minor one.
-const VERSION: u32 = 12_002;
+const VERSION: u32 = 12_003;
 
 /// The version of the library.
 pub fn version() -> u32
@@ -21,7 +21,7 @@ pub fn version() -> u32
 pub fn version_text() -> &'static [u8]
     ensures { result.now ≡ N.version_text }
 {
-    b"0.12.2"
+    b"0.12.3"
 }
 
 /// What an answer says, in words.
