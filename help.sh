@@ -5,3 +5,7 @@ case ${1:-} in
         exit 0
         ;;
 esac
+# takes_none WORD..: for a script `run` in the folder $here of the repository $root that takes no words, refuses them.
+takes_none() {
+    [ $# = 0 ] || { echo "${here#"$root"/}/run: $1: it takes no word; --help says what it does" >&2; exit 2; }
+}

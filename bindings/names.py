@@ -62,8 +62,11 @@ def functions():
 
 def main():
     check = sys.argv[1:] == ["--check"]
+    if sys.argv[1:] in (["--help"], ["-h"]):
+        print(__doc__.strip())
+        return 0
     if sys.argv[1:] and not check:
-        print(__doc__)
+        print(f"bindings/names.py: {sys.argv[1]}: only --check is known; --help says what it does", file=sys.stderr)
         return 2
     wrong = []
     for path, text in ((RUST / "constants.rs", rust()), (PYTHON / "_constants.py", python())):

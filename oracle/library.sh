@@ -1,11 +1,8 @@
 # Sets library_flags: what rustc needs to link the static library, and a cfg for each function that it has. Sourced.
 library=${TOASTLAGOON_LIB:-$root/target/staticlib/libtoastlagoon.a}
 library_flags=""
-# Made where there is none and rt can make it.
-if [ ! -f "$library" ] && [ -z "${TOASTLAGOON_LIB:-}" ] && command -v rt >/dev/null; then
-    echo "making the static library (./build library)"
-    (cd "$root" && mkdir -p target && ./build library >target/staticlib.log 2>&1) || echo "it is not built; target/staticlib.log says why"
-fi
+# Made where rt can make it; one that is newer than its sources is kept.
+if [ -z "${TOASTLAGOON_LIB:-}" ] && command -v rt >/dev/null; then "$root/build" library || echo "the static library is not built"; fi
 if [ -f "$library" ]; then
     for name in tl_blake2s256 tl_root tl_horizontal_sigma tl_agreement tl_decide tl_decide_any; do
         if nm "$library" 2>/dev/null | grep -q " T $name\$"; then library_flags="$library_flags --cfg has_$name"; fi

@@ -4,7 +4,7 @@
     examples/csv/to_session.py FIXES.csv > FIXES.session
 
 README.md beside this file says what the columns are and how numbers are rounded. A file that breaks a rule gives no session: a sentence on
-standard error says which line and why, and the exit status is 1."""
+standard error says which line and why, and the exit status is 1. It is 2 at a wrong call, and 3 where the file cannot be read."""
 import csv
 import decimal
 import re
@@ -119,28 +119,34 @@ def session(rows):
         except Refused as why:
             raise Refused(f"line {line}: {why}") from None
     if not text:
-        raise Refused("there is no fix, and a session has at least one operation")
+        raise Refused("there is no fix")
     if len(text) > MOST_BYTES:
         raise Refused(f"the session would have {len(text)} bytes, and at most {MOST_BYTES} are read")
     return text
 
 
+def stop(status, why):
+    """Says why there is no session, and ends."""
+    sys.stderr.write(f"{why}\n")
+    sys.exit(status)
+
+
 def main():
     if len(sys.argv) != 2:
-        sys.exit(__doc__)
+        stop(2, "to_session.py: one file of fixes is to be named; --help says how it is called")
     path = sys.argv[1]
     try:
         with open(path, encoding="utf-8-sig", newline="") as file:
             rows = csv.reader(file, strict=True)
             text = session(rows)
     except csv.Error as why:
-        sys.exit(f"{path}: line {rows.line_num}: {why}")
+        stop(1, f"{path}: line {rows.line_num}: {why}")
     except UnicodeDecodeError:
-        sys.exit(f"{path}: it is not in UTF-8")
+        stop(1, f"{path}: it is not in UTF-8")
     except OSError as why:
-        sys.exit(f"{path}: {why.strerror}")
+        stop(3, f"{path}: {why.strerror}")
     except Refused as why:
-        sys.exit(f"{path}: {why}")
+        stop(1, f"{path}: {why}")
     sys.stdout.write(text)
 
 
