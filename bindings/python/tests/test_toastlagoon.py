@@ -1,8 +1,11 @@
 """Tests of the package toastlagoon: the worked sessions and the two rooms of examples/, and each call once. Needs only Python."""
 
+import copy
+import pickle
 import struct
 import subprocess
 import sys
+import threading
 import unittest
 from pathlib import Path
 
@@ -131,6 +134,83 @@ class Calls(unittest.TestCase):
             Register().report(2**32 + 1, record(1, 0))
         with self.assertRaises(ValueError):
             record(1, 0).identity(b"")
+
+    def test_what_is_no_number_and_no_bytes_is_a_type_error(self):
+        says = lambda **more: Record(Fields(**{**vars(fields((1, 2), 0)), **more}))  # noqa: E731
+        for call, words in (
+            (lambda: says(time=None), "time is a NoneType and must be an integer"),
+            (lambda: says(lat=0.5), "lat is a float and must be an integer"),
+            (lambda: says(message="8d"), "message is a str and must be bytes"),
+            (lambda: says(covariance=(1.0, "2", 3.0, 4.0, 5.0, 6.0)), "covariance is a str and must be a number"),
+            (lambda: Register().join(None), "other is a NoneType and must be a Register"),
+            (lambda: Register().report(1, b""), "record is a bytes and must be a Record"),
+            (lambda: blake2s256("abc"), "content is a str and must be bytes"),
+        ):
+            with self.assertRaises(TypeError) as caught:
+                call()
+            self.assertEqual(str(caught.exception), words)
+        for numbers in ((), (1.0, 2.0, 3.0), (1.0,) * 7):
+            with self.assertRaises(ValueError):
+                says(covariance=numbers)
+        with self.assertRaises(OverflowError):
+            decide([Item(record(1, 0), bytes(32), bytes(32), standing=-1)])
+
+        class Index:
+            def __index__(self):
+                return 481370000
+
+        self.assertEqual(says(lat=Index()).fields().lat, 481370000)
+
+    def test_values_are_pickled_and_copied(self):
+        register, track = Register(), Track()
+        register.report(1, record(2, STEP))
+        track.report(1, WAITING)
+        for again in (copy.copy, copy.deepcopy, lambda value: pickle.loads(pickle.dumps(value))):
+            other, moved = again(register), again(track)
+            self.assertEqual(other, register)
+            other.convict(Desk.MANAGER, 1)
+            self.assertEqual((register.convicted, len(register.records())), (0, 1))
+            self.assertEqual(moved.shelf.waiting(), track.shelf.waiting())
+            moved.convict(1)
+            self.assertEqual((track.convicted, len(track.shelf.waiting())), (0, 1))
+            self.assertEqual(again(record(2, STEP)), record(2, STEP))
+            error = again(Error(4))
+            self.assertEqual((error.kind, str(error)), (Kind.ENGINE_CONVICTED, "engine convicted"))
+        with self.assertRaises(TypeError):
+            pickle.dumps(track.shelf)
+
+    def test_lists_are_of_what_was_there_at_the_call(self):
+        register = Register()
+        for engine in range(8):
+            register.report(engine, record(2, engine * STEP))
+        seen = []
+        for held in register.records():
+            register.convict(Desk.MANAGER, held.signers.bit_length() - 1)
+            seen.append((held.record.fields().tags, held.signers))
+        self.assertEqual(sorted(seen), [((1, 2), 1 << engine) for engine in range(8)])
+
+    def test_threads_that_share_a_register_take_its_lock(self):
+        register, other, lock = Register(), Register(), threading.Lock()
+        for lat in range(40):
+            other.report(9, record(3, lat * STEP))
+
+        def report(engine):
+            for lat in range(10):
+                with lock:
+                    register.report(engine, record(2, lat * STEP))
+
+        def join():
+            for _ in range(20):
+                with lock:
+                    register.join(other)
+
+        threads = [threading.Thread(target=report, args=(engine,)) for engine in (1, 2, 3)] + [threading.Thread(target=join)]
+        for thread in threads:
+            thread.start()
+        for thread in threads:
+            thread.join()
+        self.assertEqual(len(register.records()), 50)
+        self.assertEqual(Register.from_bytes(register.as_bytes()), register)
 
     def test_registers(self):
         register = Register()

@@ -8,18 +8,28 @@
     register.report(2, record)
     print(register.board(Desk.MANAGER), end="")
 
-What each call does is in docs/REFERENCE.md of the library. A refused call raises Error and changes nothing; a number that does not fit the
-type that the library takes raises OverflowError before the call. Threads may call at once, but not with one register or track.
+What each call does is in docs/REFERENCE.md of the library. A refused call raises Error and changes nothing. Before the call OverflowError is
+raised for a number that does not fit the type that the library takes, TypeError for what is no number or no bytes, and ValueError for a wrong
+length.
+
+Threads: ctypes lets go of the interpreter's lock during a call, so two threads that use one register or one track at once really race.
+Give each register and each track a lock of its own. Different ones need none.
+
+Stack: a preview takes up to 144 KB of the calling thread's stack, a board, a map, the fixes and a call on a track up to 112 KB; a thread with
+a smaller one (threading.stack_size) ends the process with a segmentation fault.
+
+Floating point: call with the mode that a thread begins with, rounding to nearest, with denormals and nothing unmasked. Another one changes
+chi-squares, and so which fixes are refused.
 """
 
 import ctypes
 import enum
 import struct
 from dataclasses import dataclass
-from typing import Callable, Iterator, List, NamedTuple, Optional, Sequence, Tuple, Union
+from typing import Any, Callable, List, NamedTuple, Optional, Sequence, Tuple, Union
 
 from . import _constants as tl
-from ._library import array, library, number, numbers, zeros
+from ._library import array, content_of, library, number, numbers, part, real, zeros
 
 __all__ = [
     "Agreement", "Answer", "Claim", "Covariance", "Desk", "Effect", "Error", "Fault", "Fields", "Held", "Item", "Kind", "Outcome", "Record",
@@ -53,8 +63,11 @@ class Error(Exception):
     def __init__(self, answer: int) -> None:
         words = zeros(tl.TL_ANSWER_TEXT_SIZE)
         length = library.tl_answer_text(answer, words, len(words))
-        super().__init__(bytes(words[:length]).decode("ascii"))
+        super().__init__(part(words, 0, length).decode("ascii"))
         self.kind = Kind(answer)
+
+    def __reduce__(self) -> Tuple[Any, ...]:
+        return type(self), (int(self.kind),)
 
 
 def _done(answer: int) -> None:
@@ -68,7 +81,7 @@ def _written(size: int, least: int, call: Callable[..., int]) -> str:
     length = call(out, size)
     if 0 < length < least:
         raise Error(length)
-    return bytes(out[:length]).decode("ascii")
+    return part(out, 0, length).decode("ascii")
 
 
 def version() -> int:
@@ -79,13 +92,14 @@ def version() -> int:
 def blake2s256(content: bytes) -> bytes:
     """The BLAKE2s-256 hash (RFC 7693, no key) of any bytes."""
     out = zeros(tl.TL_HASH_SIZE)
-    library.tl_blake2s256(array(content), len(content), out)
+    given = content_of("content", content)
+    library.tl_blake2s256(array("content", given), len(given), out)
     return bytes(out)
 
 
 def root(x: float) -> float:
     """The square root, rounded to nearest. NaN for NaN and for a negative number."""
-    return float(library.tl_root(x))
+    return float(library.tl_root(real("x", x)))
 
 
 class Covariance(NamedTuple):
@@ -105,8 +119,17 @@ class Covariance(NamedTuple):
 
 
 def horizontal_sigma(covariance: Covariance) -> float:
-    """The horizontal deviation in metres of a covariance."""
-    return float(library.tl_horizontal_sigma(*covariance))
+    """The horizontal deviation in metres of a covariance; 0.0 where the sum of the two horizontal variances is NaN or not above zero, so a
+    circle of 0 m says that nothing is known."""
+    return float(library.tl_horizontal_sigma(*_covariance(covariance)))
+
+
+def _covariance(covariance: Sequence[float]) -> Tuple[float, ...]:
+    """Six numbers; ValueError where there are more or fewer."""
+    found = tuple(real("covariance", value) for value in covariance)
+    if len(found) != 6:
+        raise ValueError(f"covariance has {len(found)} numbers and must have 6: xx, xy, xz, yy, yz, zz")
+    return found
 
 
 @dataclass(frozen=True)
@@ -137,12 +160,12 @@ class Agreement:
 
 
 def _height(height: Optional[int]) -> Tuple[bool, int]:
-    return height is not None, number("height", height or 0, ctypes.c_int32)
+    return height is not None, number("height", 0 if height is None else height, ctypes.c_int32)
 
 
 def _claim(claim: Claim) -> Tuple[Union[int, float], ...]:
     place = number("lat", claim.lat, ctypes.c_int32), number("lon", claim.lon, ctypes.c_int32)
-    return (*place, *_height(claim.height), *claim.covariance)
+    return (*place, *_height(claim.height), *_covariance(claim.covariance))
 
 
 def agreement(smaller: Claim, larger: Claim) -> Agreement:
@@ -200,7 +223,8 @@ class Fault(enum.IntEnum):
     @classmethod
     def of(cls, content: bytes) -> Optional["Fault"]:
         """Why these bytes are no record; None where they are one."""
-        found = library.tl_record_fault(array(content), len(content))
+        given = content_of("content", content)
+        found = library.tl_record_fault(array("content", given), len(given))
         return None if found == tl.TL_FAULT_NONE else cls(found)
 
 
@@ -218,8 +242,8 @@ class Record:
         used, spec = number("used", fields.used, ctypes.c_uint32), number("spec", fields.spec, ctypes.c_uint16)
         lat, lon = number("lat", fields.lat, ctypes.c_int32), number("lon", fields.lon, ctypes.c_int32)
         time = number("time", fields.time, ctypes.c_uint64)
-        covariance = (ctypes.c_double * 6)(*fields.covariance)
-        message = array(fields.message), len(fields.message)
+        covariance = (ctypes.c_double * 6)(*_covariance(fields.covariance))
+        message = array("message", fields.message), len(fields.message)
         counted = tags, len(fields.tags), used, models, len(fields.models)
         _done(library.tl_record_write(time, lat, lon, *_height(fields.height), *message, *counted, spec, covariance, out))
         self._bytes = bytes(out)
@@ -244,7 +268,7 @@ class Record:
     def identity(self, inputs: bytes) -> bytes:
         """Its identity with these model inputs, as Register.inputs has them."""
         out = zeros(tl.TL_IDENTITY_SIZE)
-        _done(library.tl_record_identity(array(self._bytes), len(self._bytes), _hash("inputs", inputs), out))
+        _done(library.tl_record_identity(array("record", self._bytes), len(self._bytes), _hash("inputs", inputs), out))
         return bytes(out)
 
     def fields(self) -> Fields:
@@ -280,9 +304,10 @@ class Record:
 
 
 def _hash(name: str, content: bytes) -> object:
-    if len(content) != tl.TL_HASH_SIZE:
-        raise ValueError(f"{name} has {len(content)} bytes and not {tl.TL_HASH_SIZE}")
-    return array(content)
+    given = content_of(name, content)
+    if len(given) != tl.TL_HASH_SIZE:
+        raise ValueError(f"{name} has {len(given)} bytes and must have {tl.TL_HASH_SIZE}")
+    return array(name, given)
 
 
 class Desk(enum.IntEnum):
@@ -318,7 +343,20 @@ def _engine(engine: int) -> int:
 
 def _summary(engine: int, model: int, spec: int, inputs: bytes) -> Tuple[object, ...]:
     model, spec = number("model", model, ctypes.c_uint32), number("spec", spec, ctypes.c_uint16)
-    return _engine(engine), model, spec, array(inputs), len(inputs)
+    return _engine(engine), model, spec, array("inputs", inputs), len(inputs)
+
+
+def _record(record: object) -> Tuple[object, int]:
+    if not isinstance(record, Record):
+        raise TypeError(f"record is a {type(record).__name__} and must be a Record")
+    content = record.as_bytes()
+    return array("record", content), len(content)
+
+
+def _memory_of(name: str, other: object) -> Any:
+    if not isinstance(other, Register):
+        raise TypeError(f"{name} is a {type(other).__name__} and must be a Register")
+    return other._memory
 
 
 class Role(enum.IntEnum):
@@ -364,14 +402,14 @@ def _shown(content: bytes) -> Shown:
 
 
 def _session(session: Union[str, bytes]) -> bytes:
-    return session.encode() if isinstance(session, str) else session
+    return session.encode() if isinstance(session, str) else content_of("session", session)
 
 
 def session_reason(session: Union[str, bytes]) -> Optional[str]:
     """Why a session is refused, in a sentence that ends with a line feed; None where it is not refused."""
     content, out = _session(session), zeros(tl.TL_REASON_SIZE)
-    length = library.tl_session_reason(array(content), len(content), out)
-    return bytes(out[:length]).decode("ascii") or None
+    length = library.tl_session_reason(array("session", content), len(content), out)
+    return part(out, 0, length).decode("ascii") or None
 
 
 class Register:
@@ -386,12 +424,13 @@ class Register:
     @classmethod
     def from_bytes(cls, content: bytes) -> "Register":
         """A stored register: Kind.BAD_LENGTH where it has another length, Kind.MALFORMED where it is not well-formed."""
-        if len(content) != tl.TL_REGISTER_SIZE:
+        given = content_of("content", content)
+        if len(given) != tl.TL_REGISTER_SIZE:
             raise Error(tl.TL_BAD_LENGTH)
         register = cls()
-        register._memory[:] = content
+        register._memory = array("content", given)
         # Shown no room for a board, the library says so only of a register that is well-formed.
-        answer = library.tl_board(tl.TL_MANAGER, register._memory, len(content), zeros(1), 0)
+        answer = library.tl_board(tl.TL_MANAGER, register._memory, len(given), zeros(1), 0)
         if answer != tl.TL_OUTPUT_TOO_SMALL:
             raise Error(answer)
         return register
@@ -403,14 +442,22 @@ class Register:
     def copy(self) -> "Register":
         """Another register with the same bytes."""
         other = Register()
-        other._memory[:] = self._memory[:]
+        other._memory = array("content", memoryview(self._memory))
         return other
+
+    def __copy__(self) -> "Register":
+        return self.copy()
+
+    def __deepcopy__(self, memo: object) -> "Register":
+        return self.copy()
+
+    def __reduce__(self) -> Tuple[Any, ...]:
+        return Register.from_bytes, (self.as_bytes(),)
 
     def report(self, engine: int, record: Record) -> None:
         """Reports a record for an engine. One that cites a model without an agreed summary is held, and is on no board until it is
         agreed."""
-        content = record.as_bytes()
-        _done(library.tl_register_report(self._memory, len(self._memory), _engine(engine), array(content), len(content)))
+        _done(library.tl_register_report(self._memory, len(self._memory), _engine(engine), *_record(record)))
 
     def summary(self, engine: int, model: int, spec: int, inputs: bytes) -> None:
         """Puts in what an engine says of a model: its spec and the hash of its inputs."""
@@ -424,23 +471,22 @@ class Register:
         """Performs the operations of a session, a text of lines, as a manager: for each why it was refused, or None where it is done. Raises
         Kind.SESSION_TOO_LONG or Kind.BAD_LINE where the session is refused: then none is performed, and session_reason says why."""
         content, out = _session(session), zeros(tl.TL_SESSION_SIZE)
-        length = library.tl_register_session(self._memory, len(self._memory), array(content), len(content), out, len(out))
+        length = library.tl_register_session(self._memory, len(self._memory), array("session", content), len(content), out, len(out))
         if length % tl.TL_ANSWER_LINE_SIZE:
             raise Error(length)
         # The digit of a line stands before its line feed.
-        answers = [int(chr(digit)) for digit in out[tl.TL_ANSWER_LINE_SIZE - 2 : length : tl.TL_ANSWER_LINE_SIZE]]
+        answers = [int(chr(digit)) for digit in part(out, 0, length)[tl.TL_ANSWER_LINE_SIZE - 2 :: tl.TL_ANSWER_LINE_SIZE]]
         return [None if answer == tl.TL_OK else Kind(answer) for answer in answers]
 
     def join(self, other: "Register") -> None:
         """Joins what another register of the same aircraft and window holds. Kind.FULL where both together hold too much."""
-        theirs = array(other.as_bytes())
+        theirs = array("other", memoryview(_memory_of("other", other)))
         _done(library.tl_register_join(self._memory, len(self._memory), theirs, len(theirs)))
 
     def lacks(self, other: "Register") -> "Register":
         """What another register holds and this one does not: a register too, empty exactly where joining the other changes nothing."""
-        out = Register()
-        memories = self._memory, len(self._memory), other._memory, len(other._memory), out._memory, len(out._memory)
-        _done(library.tl_register_lacks(*memories))
+        out, theirs = Register(), _memory_of("other", other)
+        _done(library.tl_register_lacks(self._memory, len(self._memory), theirs, len(theirs), out._memory, len(out._memory)))
         return out
 
     def board(self, desk: Desk) -> str:
@@ -464,13 +510,13 @@ class Register:
         length = library.tl_register_fixes(self._memory, len(self._memory), out, len(out))
         if length == tl.TL_MALFORMED_REGISTER:
             raise Error(length)
-        return [_shown(bytes(out[at : at + tl.TL_SHOWN_SIZE])) for at in range(0, length, tl.TL_SHOWN_SIZE)]
+        return [_shown(part(out, at, at + tl.TL_SHOWN_SIZE)) for at in range(0, length, tl.TL_SHOWN_SIZE)]
 
     def inputs(self, record: Record) -> bytes:
         """The model inputs of a record by the summaries here. Kind.MODEL_MISSING and Kind.MODEL_DISPUTED say why one that is held is on
         no board."""
-        content, out = record.as_bytes(), zeros(tl.TL_INPUTS_SIZE)
-        _done(library.tl_register_inputs(self._memory, len(self._memory), array(content), len(content), out))
+        out = zeros(tl.TL_INPUTS_SIZE)
+        _done(library.tl_register_inputs(self._memory, len(self._memory), *_record(record), out))
         return bytes(out)
 
     def to_columns(self) -> bytes:
@@ -483,7 +529,8 @@ class Register:
     def from_columns(cls, columns: bytes) -> "Register":
         """A register from an archive."""
         out = zeros(tl.TL_REGISTER_SIZE)
-        _done(library.tl_register_uncolumns(array(columns), len(columns), out, len(out)))
+        given = content_of("columns", columns)
+        _done(library.tl_register_uncolumns(array("columns", given), len(given), out, len(out)))
         return cls.from_bytes(bytes(out))
 
     @property
@@ -491,19 +538,23 @@ class Register:
         """The convicted engines: bit n for engine n."""
         return int(struct.unpack_from("<I", self._memory, tl.TL_REGISTER_CONVICTED_AT)[0])
 
-    def records(self) -> Iterator[Held]:
-        """The records that it holds, in byte order."""
-        (count,) = struct.unpack_from("<H", self._memory, tl.TL_REGISTER_RECORD_COUNT_AT)
-        for i in range(count):
-            at = tl.TL_REGISTER_RECORDS_AT + i * tl.TL_HELD_SIZE
-            (signers,) = struct.unpack_from("<I", self._memory, at + tl.TL_HELD_SIGNERS_AT)
-            yield Held(Record._found(bytes(self._memory[at : at + tl.TL_RECORD_SIZE])), signers)
+    def records(self) -> List[Held]:
+        """The records that it holds now, in byte order."""
+        content = self.as_bytes()
+        (count,) = struct.unpack_from("<H", content, tl.TL_REGISTER_RECORD_COUNT_AT)
 
-    def summaries(self) -> Iterator[Summary]:
-        """The summaries that it holds, in byte order."""
-        (count,) = struct.unpack_from("<H", self._memory, tl.TL_REGISTER_SUMMARY_COUNT_AT)
-        for i in range(count):
-            yield Summary(*struct.unpack_from("<BBH32s", self._memory, tl.TL_REGISTER_SUMMARIES_AT + i * tl.TL_SUMMARY_SIZE))
+        def held(at: int) -> Held:
+            (signers,) = struct.unpack_from("<I", content, at + tl.TL_HELD_SIGNERS_AT)
+            return Held(Record._found(content[at : at + tl.TL_RECORD_SIZE]), signers)
+
+        return [held(tl.TL_REGISTER_RECORDS_AT + i * tl.TL_HELD_SIZE) for i in range(count)]
+
+    def summaries(self) -> List[Summary]:
+        """The summaries that it holds now, in byte order."""
+        content = self.as_bytes()
+        (count,) = struct.unpack_from("<H", content, tl.TL_REGISTER_SUMMARY_COUNT_AT)
+        places = (tl.TL_REGISTER_SUMMARIES_AT + i * tl.TL_SUMMARY_SIZE for i in range(count))
+        return [Summary(*struct.unpack_from("<BBH32s", content, at)) for at in places]
 
     def __eq__(self, other: object) -> bool:
         return isinstance(other, Register) and self.as_bytes() == other.as_bytes()
@@ -547,12 +598,26 @@ class Shelf:
         """Its bytes, to be stored with those of its track."""
         return bytes(self._memory)
 
-    def waiting(self) -> Iterator[Waiting]:
-        """The fixes that wait, in their order."""
-        for i in range(self._memory[tl.TL_SHELF_COUNT_AT]):
-            at = tl.TL_SHELF_PLACES_AT + i * tl.TL_WAITING_SIZE
-            record = bytes(self._memory[at + tl.TL_WAITING_RECORD_AT : at + tl.TL_WAITING_SIZE])
-            yield Waiting(self._memory[at + tl.TL_WAITING_MODEL_AT], self._memory[at + tl.TL_WAITING_ENGINE_AT], Record._found(record))
+    def waiting(self) -> List[Waiting]:
+        """The fixes that wait now, in their order."""
+        content = self.as_bytes()
+
+        def waits(at: int) -> Waiting:
+            record = Record._found(content[at + tl.TL_WAITING_RECORD_AT : at + tl.TL_WAITING_SIZE])
+            return Waiting(content[at + tl.TL_WAITING_MODEL_AT], content[at + tl.TL_WAITING_ENGINE_AT], record)
+
+        return [waits(tl.TL_SHELF_PLACES_AT + i * tl.TL_WAITING_SIZE) for i in range(content[tl.TL_SHELF_COUNT_AT])]
+
+    def __copy__(self) -> "Shelf":
+        other = Shelf()
+        other._memory = array("content", memoryview(self._memory))
+        return other
+
+    def __deepcopy__(self, memo: object) -> "Shelf":
+        return self.__copy__()
+
+    def __reduce__(self) -> str:
+        raise TypeError("a shelf is one only with its track: store both, and read them by Track.from_bytes")
 
 
 class Track:
@@ -571,11 +636,12 @@ class Track:
     @classmethod
     def from_bytes(cls, memory: bytes, shelf: bytes) -> "Track":
         """A stored track and its shelf; Kind.MALFORMED where the one is no track, or the other no shelf of it."""
-        if len(memory) != tl.TL_TRACK_SIZE or len(shelf) != tl.TL_SHELF_SIZE:
+        given, waiting = content_of("memory", memory), content_of("shelf", shelf)
+        if len(given) != tl.TL_TRACK_SIZE or len(waiting) != tl.TL_SHELF_SIZE:
             raise Error(tl.TL_MALFORMED_TRACK)
         track = cls()
-        track._memory[:] = memory
-        track.shelf._memory[:] = shelf
+        track._memory = array("memory", given)
+        track.shelf._memory = array("shelf", waiting)
         # An engine that there is not is refused, after a track or a shelf that is none.
         try:
             track.convict(tl.TL_MAX_ENGINE + 1)
@@ -583,6 +649,22 @@ class Track:
             if error.kind != Kind.ENGINE_OVER_31:
                 raise
         return track
+
+    def copy(self) -> "Track":
+        """Another track, with a shelf of its own, with the same bytes."""
+        other = Track()
+        other._memory = array("memory", memoryview(self._memory))
+        other.shelf = self.shelf.__copy__()
+        return other
+
+    def __copy__(self) -> "Track":
+        return self.copy()
+
+    def __deepcopy__(self, memo: object) -> "Track":
+        return self.copy()
+
+    def __reduce__(self) -> Tuple[Any, ...]:
+        return Track.from_bytes, (self.as_bytes(), self.shelf.as_bytes())
 
     def _both(self) -> Tuple[object, ...]:
         return self._memory, len(self._memory), self.shelf._memory, len(self.shelf._memory)
@@ -593,8 +675,7 @@ class Track:
 
     def report(self, engine: int, record: Record) -> Effect:
         """Reports a record for an engine."""
-        content = record.as_bytes()
-        answer = library.tl_track_report(*self._both(), _engine(engine), array(content), len(content))
+        answer = library.tl_track_report(*self._both(), _engine(engine), *_record(record))
         if answer not in list(Effect):
             raise Error(answer)
         return Effect(answer)
@@ -668,13 +749,15 @@ class Answer(NamedTuple):
 def _item(item: Item) -> bytes:
     _hash("inputs", item.inputs)
     _hash("identity", item.identity)
-    flags = struct.pack("<QBBB", item.standing, bool(item.consistent), bool(item.preferred), Verdict(item.verified))
+    standing = number("standing", item.standing, ctypes.c_uint64)
+    flags = struct.pack("<QBBB", standing, bool(item.consistent), bool(item.preferred), Verdict(item.verified))
     return item.record.as_bytes() + item.inputs + item.identity + flags
 
 
 def _decided(call: Callable[..., int], items: Sequence[Item]) -> Answer:
-    content, out = b"".join(map(_item, items)), zeros(tl.TL_ANSWER_SIZE)
-    _done(call(array(content), len(content), out))
+    content, memory = b"".join(map(_item, items)), zeros(tl.TL_ANSWER_SIZE)
+    _done(call(array("items", content), len(content), memory))
+    out = bytes(memory)
     indices = [tuple(out[at + 1 : at + 1 + out[at]]) for at in (tl.TL_RANKED_AT, tl.TL_DOMINATED_AT)]
     refusals = []
     for i in range(out[tl.TL_REFUSALS_AT]):

@@ -1,10 +1,11 @@
 """The shared library's functions, with the types of their arguments, and how bytes and numbers are passed."""
 
 import ctypes
+import operator
 import os
 from ctypes import c_bool, c_double, c_int32, c_size_t, c_uint8, c_uint16, c_uint32, c_uint64
 from pathlib import Path
-from typing import Any, Sequence, Type, Union
+from typing import Any, Sequence, SupportsIndex, Type
 
 from . import _constants as tl
 
@@ -79,9 +80,17 @@ def _loaded() -> ctypes.CDLL:
 library = _loaded()
 
 
-def array(content: Union[bytes, bytearray]) -> Any:
+def content_of(name: str, content: object) -> bytes:
+    """These bytes; TypeError where they are none."""
+    if not isinstance(content, (bytes, bytearray, memoryview)):
+        raise TypeError(f"{name} is a {type(content).__name__} and must be bytes")
+    return bytes(content)
+
+
+def array(name: str, content: object) -> Any:
     """A copy of bytes that a call can read; of none the length is 0, and there is a byte to point to."""
-    return (c_uint8 * max(1, len(content))).from_buffer_copy(bytes(content) or bytes(1))
+    given = content_of(name, content)
+    return (c_uint8 * max(1, len(given))).from_buffer_copy(given or bytes(1))
 
 
 def zeros(size: int) -> Any:
@@ -89,13 +98,36 @@ def zeros(size: int) -> Any:
     return (c_uint8 * size)()
 
 
-def number(name: str, value: int, kind: Type[Any]) -> int:
-    """The number, where the type has it: ctypes would cut it off."""
-    if not isinstance(value, int) or kind(value).value != value:
-        raise OverflowError(f"{name} is no {kind.__name__[2:]}: {value!r}")
-    return value
+def part(memory: Any, start: int, stop: int) -> bytes:
+    """A copy of some bytes of a call's memory."""
+    return memoryview(memory)[start:stop].tobytes()
 
 
-def numbers(name: str, values: Sequence[int], kind: Type[Any]) -> Any:
+# The least and the greatest number of each type.
+RANGES = {
+    kind: (0, 2**bits - 1) for kind, bits in ((c_uint8, 8), (c_uint16, 16), (c_uint32, 32), (c_uint64, 64))
+} | {c_int32: (-(2**31), 2**31 - 1)}  # fmt: skip
+
+
+def number(name: str, value: SupportsIndex, kind: Type[Any]) -> int:
+    """The number, where the type has it: ctypes would cut it off. TypeError where it is no integer, OverflowError where it does not fit."""
+    try:
+        found = operator.index(value)
+    except TypeError:
+        raise TypeError(f"{name} is a {type(value).__name__} and must be an integer") from None
+    least, most = RANGES[kind]
+    if not least <= found <= most:
+        raise OverflowError(f"{name} is {found} and must be from {least} to {most}")
+    return found
+
+
+def numbers(name: str, values: Sequence[SupportsIndex], kind: Type[Any]) -> Any:
     """Numbers that a call can read, as `array` has bytes."""
     return (kind * max(1, len(values)))(*[number(name, value, kind) for value in values])
+
+
+def real(name: str, value: object) -> float:
+    """A number as a float; TypeError where it is none."""
+    if not hasattr(value, "__float__") and not hasattr(value, "__index__"):
+        raise TypeError(f"{name} is a {type(value).__name__} and must be a number")
+    return float(value)  # type: ignore[arg-type]
