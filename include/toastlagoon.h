@@ -72,7 +72,7 @@ uint32_t tl_version(void);
 #define TL_ENGINE_OVER_31 2
 #define TL_MALFORMED_RECORD 3
 #define TL_ENGINE_CONVICTED 4
-#define TL_FULL 5               /* not held yet, and there is no place left */
+#define TL_FULL 5               /* not held yet, and there is no place left; of a join: both together hold more than there are places */
 #define TL_MODEL_DISPUTED 7     /* the summaries of a cited model disagree, or are of another spec: in a track, or in the register of tl_register_inputs */
 #define TL_BAD_ITEMS 8          /* over 96 items, no whole number of items, a malformed item, or two of one identity */
 #define TL_BAD_SUMMARY 9        /* a model over 63, or inputs that are not of 32 bytes */
