@@ -438,17 +438,19 @@ uint32_t tl_register_conviction(uint32_t desk, uint8_t *memory, size_t memory_le
 
 /* Joins what another register holds to a register of the same aircraft and window: the convicted engines of both, and of both the
  * summaries and the records, each record with the signers that it has in either, without what convicted engines said and signed.
- * Returns TL_OK, or the first that holds of TL_MALFORMED_REGISTER (either of the two), TL_FULL: together they hold more than
- * TL_MAX_RECORDS records or TL_MAX_SUMMARIES summaries. It makes no difference which of the two is joined to which, nor in which
- * order several are joined, nor how often. A refused join keeps the other's convictions back, which may be what would make room: a
- * register of the other's first 4 bytes and zeros has these alone, and joining that is never refused as full. The two do not
- * overlap. */
+ * Returns TL_OK, or the first that holds of TL_MALFORMED_REGISTER (either of the two), TL_FULL: together, without what either convicts,
+ * they hold more than TL_MAX_RECORDS records or TL_MAX_SUMMARIES summaries. It makes no difference which of the two is joined to
+ * which, nor, as long as no join is refused, in which order several are joined, nor how often. A refused join keeps the other's
+ * convictions back, which count for boards and make room for reports, summaries and joins of other registers: a register of the
+ * other's first 4 bytes and zeros has these alone, and joining that is never refused as full. The same join is refused again until
+ * another engine is convicted. The two do not overlap. */
 uint32_t tl_register_join(uint8_t *memory, size_t memory_len, const uint8_t *other, size_t other_len);
 
 /* Writes what another register holds and this one does not to the first TL_REGISTER_SIZE bytes of out. That is a register too: all
- * zeros exactly where joining the other changes nothing; and joining it to this one is joining the other. Returns TL_OK, or the
- * first that holds of TL_MALFORMED_REGISTER (either of the two), TL_OUTPUT_TOO_SMALL (under TL_REGISTER_SIZE bytes). Bytes past
- * it, and all bytes of a refused call, stay as found. Both registers are only read. */
+ * zeros exactly where joining the other is answered TL_OK and changes nothing; and joining it to this one, also later, is joining the
+ * other as it was. Returns TL_OK, or the first that holds of TL_MALFORMED_REGISTER (either of the two), TL_OUTPUT_TOO_SMALL (under
+ * TL_REGISTER_SIZE bytes). Bytes past it, and all bytes of a refused call, stay as found. Both registers are only read, and may be
+ * one memory. */
 uint32_t tl_register_lacks(const uint8_t *memory, size_t memory_len, const uint8_t *other, size_t other_len, uint8_t *out,
                            size_t out_len);
 

@@ -27,7 +27,7 @@ use Rattle.register.proofs.Acting.{act, convicted-by}
 use Rattle.register.specs.Claims.{signers_of}
 use Rattle.register_join.specs.Join.{overfull, joined, join_memory, united, is_of_free, has_free_signer, drop_signers}
 use Rattle.register_join.specs.Lacks.{calls_of, is_lacking, lacking, engines_in, conviction_calls, summary_calls, record_calls, only_convictions, lacks_memory}
-use Rattle.register_join.specs.Claims.{SameCalls, CallAndJoin, CallAfterJoin, Lacks, WhatIsLacking, ConvictionsPass, ConvictionsAlone}
+use Rattle.register_join.specs.Claims.{SameIfTaken, SameCalls, CallAndJoin, CallAfterJoin, Lacks, WhatIsLacking, convictions_alone, ConvictionsPass, ConvictionsAlone, ConvictionsMakeNoRoom}
 use Rattle.register.proofs.Valid.{Valid, decode-encode, formed-encode}
 use Rattle.register.proofs.History.{start, run, roomy, Sum, history}
 use Rattle.register_join.proofs.Stepping.{step}
@@ -42,6 +42,7 @@ use Rattle.register_join.proofs.JoinLaws.{empty, nothing-held, nothing-signed}
 use Rattle.register_join.proofs.JoinBytes.{join-of, taken, valid, loosely, back, nothing-new}
 use Rattle.register_join.proofs.JoinLists.{Has, of-sum, sum-of, has-both, has-as, has-same, fits-is, join-encoded, reports-both, summaries-both, convicts-both}
 use Rattle.register_join.proofs.Exchanging.{Stands, stands-call, stands-join, stands-same}
+use Rattle.register_join.proofs.Packets.{least, no-room}
 use Rattle.register_join.proofs.Calling.{AllBytes, places-bytes, has-calls, summaries-convict, records-convict}
 use Rattle.register_join.proofs.Lacked.{lacking-loose, lacking-convicted, lacking-holds, lacking-signers, lacking-joined, lacking-valid}
 
@@ -338,8 +339,41 @@ module _ (n m : List ℕ) (b : Bytes n) (a : Bytes m) (g : well_formed n ≡ tru
         ∙ ap encode (lacking-joined s (loosely m a h) t (loosely n b g))
         ∙ sym (ap (λ (x : After (List ℕ)). x.left) (taken n m z).is)
 
+  -- what else makes the same join has all that is lacking
+  least-of : (k : List ℕ) → Bytes k → (join_memory n m).answer ≡ 0 → join_memory k m ≡ join_memory n m → join_memory (encode delta) k ≡ after 0 k
+  least-of k d z e =
+      let w = taken n m z in
+      let u = taken k m (ap (λ (x : After (List ℕ)). x.answer) e ∙ z) in
+      let lt = loosely n b g in
+      let ls = loosely m a h in
+      let lk = loosely k d u.first in
+      let v = with-room (joined t s) (joined-loose t s lt ls) w.room in
+      let y = with-room (joined (decode k) s) (joined-loose (decode k) s lk ls) u.room in
+      let same : joined (decode k) s ≡ joined t s =
+      sym (decode-encode (joined (decode k) s) y)
+      ∙ ap decode (ap (λ (x : After (List ℕ)). x.left) (sym u.is ∙ e ∙ w.is))
+      ∙ decode-encode (joined t s) v in
+      join-of (encode delta) k (formed-encode delta delta-valid) u.first
+      ∙ rw (decode-encode delta delta-valid, least t s (decode k) lt ls lk same, valid-fits (decode k) (valid k d u.first), back k d u.first) refl
+
   pub lacks : Lacks n m
-  lacks = record { written = lacked-written; formed = formed-encode delta delta-valid; nothing_new = nothing-new-then; nothing_lacking = nothing-lacking; joined = joins-it; not_full = not-full; called = given-all }
+  lacks =
+      let o = decode-encode delta delta-valid in
+      let u = loosely n b g in
+      let v = loosely m a h in
+      record {
+        written = lacked-written;
+        formed = formed-encode delta delta-valid;
+        convicted = λ e. ap (λ (x : Register). bit x.convicted e) o ∙ lacking-convicted s v t u e;
+        summaries = λ p. ap (λ (x : Register). holds summary_size p x.summaries) o ∙ lacking-holds s v t u p;
+        signers = λ e r. ap (λ (x : Register). bit (signers_of r x) e) o ∙ grind (arith, lacking-signers s v t u e r);
+        nothing_new = nothing-new-then;
+        nothing_lacking = nothing-lacking;
+        joined = joins-it;
+        least = least-of;
+        not_full = not-full;
+        called = given-all;
+      }
 
 pub what-is-lacking : WhatIsLacking
 what-is-lacking = lacks
@@ -389,5 +423,25 @@ module _ (n m : List ℕ) (b : Bytes n) (a : Bytes m) (g : well_formed n ≡ tru
         ∙ rw (decode-encode (only_convictions (decode n)) only-valid, only-room) refl;
   }
 
-pub convictions-alone : ConvictionsAlone
-convictions-alone = convictions-pass
+  -- which make no room
+  makes-no-room : SameIfTaken (join_memory n (join_memory (convictions_alone n) m).left) (join_memory n m)
+  makes-no-room =
+      let o = formed-encode (only_convictions (decode n)) only-valid in
+      let x = decode-encode (only_convictions (decode n)) only-valid in
+      let l = loose (only_convictions (decode n)) only-valid in
+      let y = taken (convictions_alone n) m convictions-pass.taken in
+      let j = joined (only_convictions (decode n)) (decode m) in
+      let v = with-room j (joined-loose (only_convictions (decode n)) (decode m) l (loosely m a h)) only-room in
+      let k : (join_memory (convictions_alone n) m).left ≡ encode j = ap (λ (x : After (List ℕ)). x.left) y.is ∙ rw x refl in
+      let p = join-of n (encode j) g (formed-encode j v) in
+      let q = join-of n m g h in
+      rw (k, p, q, decode-encode j v, no-room (decode n) (decode m) (loosely n b g) (loosely m a h) l)
+      (by (overfull (joined (decode n) (decode m)))
+      (λ f. rw f (record { answer = refl; left = λ z. absurd (grind arith) }))
+      (λ f. rw f (record { answer = refl; left = λ z. refl })))
+
+pub convictions-pass-alone : ConvictionsAlone
+convictions-pass-alone = convictions-pass
+
+pub no-room-made : ConvictionsMakeNoRoom
+no-room-made = makes-no-room

@@ -97,10 +97,10 @@ regrouped o n m c b a x y =
 
 -- ---- with itself, and with a fresh register
 
-fresh-formed : well_formed fresh ≡ true
+pub fresh-formed : well_formed fresh ≡ true
 fresh-formed = ap well_formed (sym fresh-is) ∙ formed-encode start start-valid
 
-fresh-decoded : decode fresh ≡ start
+pub fresh-decoded : decode fresh ≡ start
 fresh-decoded = ap decode (sym fresh-is) ∙ decode-encode start start-valid
 
 pub nothing-new : Idempotent

@@ -6,10 +6,13 @@ pub mod JoinLists
 pub mod JoinBytes
 pub mod Stepping
 pub mod Exchanging
+pub mod Alike
 pub mod InOrder
 pub mod Calling
 pub mod Lacked
+pub mod Packets
 pub mod Delivered
+pub mod Claimed
 pub mod Walking
 pub mod Firsts
 pub mod Turns
