@@ -88,7 +88,9 @@ as-parts (x ∷ (y ∷ t)) l b =
 summaries-sum : (p : List ℕ) (ps : List (List ℕ)) → wide summary_size ps → AllBytes ps → elem p (summaries_of (summary_calls ps)) ≡ holds summary_size p ps
 unfolding elem summaries_of summary_calls holds
 summaries-sum p [] w b = refl
-summaries-sum p (q ∷ ps) w b = grind (arith, summaries-sum p ps, as-parts q w.0 b.0, take_all summary_size q)
+summaries-sum p (q ∷ ps) w b =
+    let parts : summaries_of (summary_calls (q ∷ ps)) ≡ q ∷ summaries_of (summary_calls ps) = ap (λ (x : List ℕ). x ∷ summaries_of (summary_calls ps)) (as-parts q w.0 b.0) in
+    ap (elem p) parts ∙ grind (arith, summaries-sum p ps w.1 b.1, w.0, take_all summary_size q)
 
 signers-convict : (q : List ℕ) (es : List ℕ) (e : ℕ) → convicts (signer_calls q es) e ≡ false
 unfolding convicts signer_calls
