@@ -12,3 +12,4 @@ pub mod Shortest
 pub mod Bursts
 pub mod Positions
 pub mod Worked
+pub mod Carried

@@ -15,6 +15,7 @@ ghost use Rattle.board.specs.Nothing.{NoBytesExactlyWhen};
 ghost use Rattle.board.specs.Shortest.{NoneShorter};
 ghost use Rattle.board.specs.Positions.{Positions};
 ghost use Rattle.board.specs.Worked.{BoardsWorked};
+ghost use Rattle.board.specs.Carried.{RegisterCarriedOver};
 
 /// Two control rooms that get the same reports over different links, in different orders, hold the same register and see the same board.
 pub fn whole_lists()
@@ -77,4 +78,9 @@ pub fn boards_worked()
 /// A board is empty, or has at least 112 bytes, and a crew's at least 81.
 pub fn no_board_is_shorter()
     ensures { NoneShorter }
+{}
+
+/// A register of before records had room for 24 tags, carried over, is a register, and shows the fixes that it showed.
+pub fn register_carried_over()
+    ensures { RegisterCarriedOver }
 {}

@@ -6,4 +6,4 @@ pub mod Sets
 pub mod Waiting
 pub mod Cited
 pub mod Summarized
-mod Carried
+pub mod Carried
