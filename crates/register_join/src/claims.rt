@@ -9,7 +9,7 @@ pub fn joins_of_lists()
     ensures run { JoinIsTheRun }
 {}
 
-/// The order of joins makes no difference, nor do repeats or fresh registers.
+/// As long as none is refused, the order of joins makes no difference, nor do repeats or fresh registers.
 pub fn joins_in_any_order()
     ensures commutative { Commutative }
     ensures associative { Associative }
@@ -29,8 +29,8 @@ pub fn exchanges()
     ensures convergence { Convergence }
 {}
 
-/// What a register lacks of another is exactly that, and a register, which is joined in the place of the other, late as well, and as calls leaves the join. And every
-/// register is what its own calls leave.
+/// What a register lacks of another is a register with exactly that. Joining it is joining the other, late as well; rooms that swap it hold the same; and its calls leave
+/// the join. And every register is what its own calls leave.
 pub fn what_is_lacking()
     ensures lacking { WhatIsLacking }
     ensures swapped { Swapped }
