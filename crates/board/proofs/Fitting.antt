@@ -25,7 +25,7 @@ use Rattle.desks.specs.declared.Desk.TheVariants.{Crew, Analyst, Manager}
 use Rattle.fix_lines.proofs.Crew.{crew-shorter}
 use Rattle.board.specs.Board.{board_of, crew_board_of, board_seen}
 use Rattle.board.specs.Full.{board_in}
-use Rattle.board.specs.Claims.{greatest_refusal}
+use Rattle.errors.specs.Errors.{greatest_refusal}
 use Rattle.board.specs.Latest.{latest_over}
 use Rattle.board.proofs.Standing.{standing}
 use Rattle.board.proofs.Shortest.{shortest}

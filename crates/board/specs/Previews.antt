@@ -5,6 +5,7 @@ use Rattle.octets.specs.Masks.{bit}
 use Rattle.tables.specs.Places.{holds}
 use Rattle.models.specs.Summary.{summary_size}
 use Rattle.errors.specs.After.{after, write_text}
+use Rattle.errors.specs.Errors.{greatest_refusal}
 use Rattle.desks.specs.declared.Desk.{Desk}
 use Rattle.desks.specs.declared.Desk.TheVariants.{Analyst, Manager}
 use Rattle.desks.specs.Desks.{number_of}
@@ -19,7 +20,7 @@ use Rattle.register.specs.Claims.{signers_of, SameRemains}
 use Rattle.board.specs.Board.{draw_board}
 use Rattle.board.specs.Preview.{convict, draw_preview}
 use Rattle.board.specs.Full.{board_in}
-use Rattle.board.specs.Claims.{board_over, greatest_refusal}
+use Rattle.board.specs.Claims.{board_over}
 
 -- ---- on any memory
 

@@ -6,6 +6,7 @@ use mathlib.Core.List.{List, Memᴰ}
 use Rattle.octets.specs.Bytes.{Bytes}
 use Rattle.record.specs.Fields.{latitude, longitude}
 use Rattle.errors.specs.After.{write_text}
+use Rattle.errors.specs.Errors.{greatest_refusal}
 use Rattle.fixes.specs.Fix.{Fix}
 use Rattle.fixes.specs.Shown.{Transmission}
 use Rattle.board_picture.specs.Picture.{picture, latest_of}
@@ -14,7 +15,6 @@ use Rattle.register.specs.Memory.{well_formed, decode, fresh}
 use Rattle.register.specs.Calls.{Call, runs, none_full, remaining}
 use Rattle.register.specs.Remains.{summaries_held, records_held}
 use Rattle.register.specs.Claims.{SameRemains}
-use Rattle.board.specs.Claims.{greatest_refusal}
 use Rattle.board_map.specs.Points.{Point, point_of, max_longitude, max_latitude, points_of}
 use Rattle.board_map.specs.Text.{point_text, map_text}
 use Rattle.board_map.specs.Reading.{point_at, read_map}

@@ -1,6 +1,6 @@
--- Whatever is refused has a number that is not 0.
+-- Whatever is refused has a number that is not 0, and none above the greatest.
 use Rattle.std.proofs.Common.{ℕ, ◌≡◌, arith}
-use Rattle.errors.specs.Errors.{error_number}
+use Rattle.errors.specs.Errors.{error_number, NoneGreater}
 use Rattle.errors.specs.declared.Error.{Error}
 use Rattle.errors.specs.declared.Error.TheVariants.{Malformed, NoEngine, NoRecord, Convicted, Full, ModelDisputed, NoSummary, SmallOutput, ShelfFull, SmallMap, UnknownDesk, NoRight, OtherLength}
 
@@ -18,3 +18,18 @@ never-zero SmallMap h = omega arith
 never-zero UnknownDesk h = omega arith
 never-zero NoRight h = omega arith
 never-zero OtherLength h = omega arith
+
+pub none-greater : NoneGreater
+none-greater Malformed = omega arith
+none-greater NoEngine = omega arith
+none-greater NoRecord = omega arith
+none-greater Convicted = omega arith
+none-greater Full = omega arith
+none-greater ShelfFull = omega arith
+none-greater ModelDisputed = omega arith
+none-greater NoSummary = omega arith
+none-greater SmallOutput = omega arith
+none-greater SmallMap = omega arith
+none-greater UnknownDesk = omega arith
+none-greater NoRight = omega arith
+none-greater OtherLength = omega arith

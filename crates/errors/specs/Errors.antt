@@ -1,5 +1,5 @@
 -- The numbers of what is refused (docs/REFERENCE.md, 'Answers').
-use Rattle.std.specs.Prelude.{ℕ, Result, Ok, Err}
+use Rattle.std.specs.Prelude.{ℕ, ◌≤◌, Result, Ok, Err}
 use Rattle.errors.specs.declared.Error.{Error}
 use Rattle.errors.specs.declared.Error.TheVariants.{Malformed, NoEngine, NoRecord, Convicted, Full, ModelDisputed, NoSummary, SmallOutput, ShelfFull, SmallMap, UnknownDesk, NoRight, OtherLength}
 
@@ -20,6 +20,13 @@ error_number SmallMap = 14
 error_number UnknownDesk = 15
 error_number NoRight = 16
 error_number OtherLength = 17
+
+-- the greatest number that a refusal has: a call that answers a length answers 0 or more than this, so no length is taken for a refusal
+abbrev pub greatest_refusal : ℕ
+greatest_refusal = 17
+
+abbrev pub NoneGreater : Type 0
+NoneGreater = (e : Error) → error_number e ≤ greatest_refusal
 
 -- 0: taken
 abbrev pub answer_number : Result (Unit {0}) Error → ℕ

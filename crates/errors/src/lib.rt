@@ -4,6 +4,8 @@
 ghost use Rattle.std.specs.Prelude.{◌≡◌};
 ghost use Rattle.errors.specs.Errors.{error_number, answer_number, value_or_number};
 
+pub mod claims;
+
 /// Why a call on a register or a track is not done (docs/REFERENCE.md, 'Answers').
 #[derive(Clone, Copy)]
 pub enum Error {
