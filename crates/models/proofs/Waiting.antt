@@ -1,5 +1,5 @@
--- For which model a record waits: one that it cites and that has no summary, where there is one. A record that counts waits for none.
-use Rattle.std.proofs.Common.{ℕ, Bool, ◌≡◌, ◌≤◌, ◌<◌, ◌+◌, true, false, List, [], ◌∷◌, ◌||◌, refl, sym, ap, ◌∙◌, arith, Option, Some, None, length, drop, get_or, add-one, drop-cons}
+-- For which model a record waits: the first that it cites of those without a summary, where there is one. A record that counts waits for none.
+use Rattle.std.proofs.Common.{ℕ, Bool, ◌≡◌, ◌≤◌, ◌<◌, ◌+◌, true, false, List, [], ◌∷◌, ◌++◌, ◌||◌, refl, sym, ap, ◌∙◌, arith, Option, Some, None, length, drop, get_or, add-one, drop-cons}
 use mathlib.Core.Logic.{◌↔◌}
 use lib.ListN.{drop_of_length-le}
 use Rattle.std.specs.List.{find, list_any}
@@ -8,7 +8,7 @@ use Rattle.record.specs.Fields.{models, spec}
 use Rattle.record.specs.Relations.{member}
 use Rattle.models.specs.Models.{State, missing, agreed, disputed, state_of, agreed_as, all_agreed, counts}
 use Rattle.models.specs.Missing.{is_missing, first_missing}
-use Rattle.models.specs.Claims.{WaitsExactlyWhere}
+use Rattle.models.specs.Claims.{FirstMissing, WaitsExactlyWhere}
 
 module _ (ps : List (List ℕ)) where
   abbrev lacks : ℕ → Bool
@@ -31,10 +31,32 @@ module _ (ps : List (List ℕ)) where
 
   -- ---- what is found
 
-  found : (ms : List ℕ) (m : ℕ) → find lacks ms ≡ Some m → (member m ms ≡ true) × (lacks m ≡ true)
+  here-first : (k m : ℕ) (ms : List ℕ) → k ≡ m → lacks k ≡ true → FirstMissing ps (k ∷ ms) m
+  here-first k m ms e l = record { before = []; behind = ms; parts = ap (λ (x : ℕ). x ∷ ms) e; none_before = refl; missing = sym (ap lacks e) ∙ l }
+
+  later : (k m : ℕ) (ms : List ℕ) → lacks k ≡ false → FirstMissing ps ms m → FirstMissing ps (k ∷ ms) m
+  later k m ms l f = record {
+    before = k ∷ f.before;
+    behind = f.behind;
+    parts = ap (λ (x : List ℕ). k ∷ x) f.parts;
+    none_before = ap (λ (b : Bool). b || list_any lacks f.before) l ∙ f.none_before;
+    missing = f.missing;
+  }
+
+  found : (ms : List ℕ) (m : ℕ) → find lacks ms ≡ Some m → FirstMissing ps ms m
+  found [] m e = absurd (let z : ⊥ = cc in z)
+  found (k ∷ ms) m e =
+      by (lacks k)
+      (λ h. here-first k m ms (let z : Some k ≡ Some m = sym (rw h refl) ∙ e in cc) h)
+      (λ h. later k m ms h (found ms m (sym (rw h refl) ∙ e)))
+
+  among : (m : ℕ) (before behind : List ℕ) → member m (before ++ (m ∷ behind)) ≡ true
   unfolding member
-  found [] m e = grind (arith, e)
-  found (k ∷ ms) m e = by (lacks k) (λ h. grind (arith, e, h)) (λ h. let r = found ms m (sym (rw h refl) ∙ e) in (grind (arith, r.0), r.1))
+  among m [] behind = grind arith
+  among m (k ∷ before) behind = grind (arith, among m before behind)
+
+  pub is_cited : (ms : List ℕ) (m : ℕ) → FirstMissing ps ms m → member m ms ≡ true
+  is_cited ms m f = rw f.parts (among m f.before f.behind)
 
   nothing : (ms : List ℕ) → find lacks ms ≡ None → list_any lacks ms ≡ false
   nothing [] e = refl
@@ -59,6 +81,6 @@ pub waits_exactly_where : WaitsExactlyWhere
 waits_exactly_where =
     record {
       none_missing = λ ps r. (nothing ps (models r), in-vain ps (models r));
-      for_missing = λ ps r. found ps (models r);
+      for_first = λ ps r. found ps (models r);
       counted = λ ps r. counts-waits-not ps (spec r) (models r);
     }

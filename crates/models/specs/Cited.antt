@@ -1,8 +1,7 @@
--- No claim rests on these definitions: they say what a look at a model that a record cites answers, and what one at all of them does.
+-- No claim rests on these definitions: they say what a look at a model that a record cites answers.
 use Rattle.std.specs.Prelude.{ℕ, cond, List, eqb, Option, Some, None}
 use Rattle.models.specs.Summary.{summary_inputs}
-use Rattle.models.specs.Models.{State, missing, agreed, disputed, counts}
-use Rattle.models.specs.Identity.{cited_inputs}
+use Rattle.models.specs.Models.{State, missing, agreed, disputed}
 use Rattle.models.specs.declared.summaries.Summary.{Summary}
 
 -- the inputs of a model in this state, if a record of spec s that cites it may count
@@ -15,7 +14,3 @@ model_cited s disputed = None
 abbrev pub inputs_found : Option Summary → Option (List ℕ)
 inputs_found (Some p) = Some (summary_inputs p.bytes.now)
 inputs_found None = None
-
--- the model inputs of a record that counts
-abbrev pub cited : List (List ℕ) → List ℕ → Option (List ℕ)
-cited ps r = cond (counts ps r) (Some (cited_inputs ps r)) None

@@ -3,7 +3,7 @@
 ghost use Rattle.models.specs.Carried.{IdentityCarriedOver};
 ghost use Rattle.models.specs.Claims.{WaitsExactlyWhere};
 
-/// A record waits for a model exactly where one that it cites has no summary, and then for one of those.
+/// A record waits for a model exactly where one that it cites has no summary, and then for the first of those.
 pub fn waits_exactly_where()
     ensures { WaitsExactlyWhere }
 {}

@@ -4,8 +4,7 @@ use Rattle.std.specs.Prelude.{ℕ, cond, List, Option, Some, None}
 use Rattle.errors.specs.After.{After, after}
 use Rattle.record.specs.Formed.{well_formed}
 use Rattle.models.specs.Missing.{first_missing}
-use Rattle.models.specs.Cited.{cited}
-use Rattle.models.specs.Identity.{set_hash, identity_from}
+use Rattle.models.specs.Identity.{cited, set_hash, identity_from}
 use Rattle.register.specs.Memory as M
 
 -- 3 where the bytes are no record

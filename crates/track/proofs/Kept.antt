@@ -10,7 +10,8 @@ use Rattle.record.specs.Layout.{max_model}
 use Rattle.models.specs.Summary.{summary_of}
 use Rattle.models.specs.Models.{state_of}
 use Rattle.models.specs.Missing.{is_missing}
-use Rattle.models.proofs.Waiting.{waits_exactly_where}
+use Rattle.record.specs.Fields.{models}
+use Rattle.models.proofs.Waiting.{is_cited, waits_exactly_where}
 use Rattle.engines.specs.Limits.{max_engine}
 use Rattle.models.proofs.Summarized.{summary-length}
 use Rattle.track_memory.specs.Track.{Track, Transition, refused, done}
@@ -37,8 +38,8 @@ report-valid e r b v =
     (λ h w c. (
       (λ m q k.
           let new : Waiting = record { model = m; engine = e; record_bytes = r } in
-          let at-m = waits_exactly_where.for_missing b.track.summaries r m q in
-          let is : may_wait b.track.convicted b.track.summaries new ≡ true = waits b.track.convicted b.track.summaries new w (le-leb e max_engine h) c at-m.0 at-m.1 in
+          let at-m = waits_exactly_where.for_first b.track.summaries r m q in
+          let is : may_wait b.track.convicted b.track.summaries new ≡ true = waits b.track.convicted b.track.summaries new w (le-leb e max_engine h) c (is_cited b.track.summaries (models r) m at-m) at-m.missing in
           record {
             track = v.track;
             few = rw (length-append b.shelf (new ∷ [])) (omega (arith, k));

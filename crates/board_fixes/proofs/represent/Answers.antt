@@ -1,5 +1,5 @@
 use Rattle.std.proofs.Common.{rules, ◌≡◌, refl, ap, ap₂, sym, ◌∙◌, subst}
-use Rattle.models.specs.Cited.{cited}
+use Rattle.models.specs.Identity.{cited}
 use Rattle.fixes.specs.Fix.{Fix}
 use Rattle.fixes.specs.Items.{AllFormed}
 use Rattle.board_fixes.specs.Fixes.{record_in, enter}
