@@ -47,4 +47,4 @@ module _ (cs ds : List Call) (f : none_full fresh cs ≡ true) (g : none_full fr
   }
 
 pub whole-lists : WholeLists
-whole-lists = record { holds_what_remains = whole; full_exactly_when = none-full; same_in_both_rooms = both-rooms }
+whole-lists = record { holds_what_remains = whole; holds_in_order = holds-in-order; full_exactly_when = none-full; same_in_both_rooms = both-rooms }

@@ -4,9 +4,10 @@ ghost use Rattle.std.specs.Prelude.{ℕ, ◌≡◌, ◌≤◌, ◌⊎◌, ◌<�
 ghost use Rattle.octets.specs.Bytes.{Bytes};
 ghost use Rattle.fix_lines.specs.Text.{board_size};
 ghost use Rattle.register.specs.Memory.{well_formed, decode};
+ghost use Rattle.errors.specs.Errors.{greatest_refusal};
 ghost use Rattle.desks.specs.declared.Desk.{Desk};
 ghost use Rattle.board.specs.Board.{board_seen};
-ghost use Rattle.board.specs.Claims.{WholeLists, greatest_refusal};
+ghost use Rattle.board.specs.Claims.{WholeLists};
 ghost use Rattle.board.specs.Previews.{RefusedInOrder, AnalystAsManager, ThenConvicted, ConvictedIsPresent, IdleIsPresent, ConvictionAtTheEnd, PreviewsInBothRooms};
 ghost use Rattle.board.specs.Crew.{CrewFollows, SameToCrews, BoardInOrder};
 ghost use Rattle.board.specs.Shows.{WhatIsShown};
@@ -17,7 +18,8 @@ ghost use Rattle.board.specs.Positions.{Positions};
 ghost use Rattle.board.specs.Worked.{BoardsWorked};
 ghost use Rattle.board.specs.Carried.{RegisterCarriedOver};
 
-/// Two control rooms that get the same reports over different links, in different orders, hold the same register and see the same board.
+/// Two control rooms in which nothing is refused as full, and of whose calls the same remains, hold the same register, but for the convicted set, and see the same
+/// board at each desk.
 pub fn whole_lists()
     ensures { WholeLists }
 {}

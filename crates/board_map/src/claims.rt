@@ -19,7 +19,7 @@ pub fn points_exactly()
     ensures { PointsExactly }
 {}
 
-/// Two control rooms of which the same remains get the same map.
+/// Two control rooms in which nothing is refused as full, and of whose calls the same remains, get the same map.
 pub fn maps_in_both_rooms()
     ensures { MapsInBothRooms }
 {}

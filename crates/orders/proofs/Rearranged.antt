@@ -2,9 +2,10 @@
 use Prim.Native.Nat.{ℕ, ◌+◌, ◌≤◌}
 use mathlib.Core.Path.{◌≡◌, refl, sym, ap, ◌∙◌}
 use mathlib.Core.Bool.{Bool, true, false, not, ◌&&◌, ◌||◌}
-use mathlib.Core.List.{List, [], ◌∷◌, reverse, reverse_aux, Permᴰ}
+use mathlib.Core.List.{List, [], ◌∷◌, Permᴰ}
 use native.Mathlib.Omega.{arith}
 use lib.ListN.{length}
+use Rattle.std.proofs.Common.{take, length-take}
 use borrow.Author.Tests.{le-leb}
 use lib.Dec.{leb}
 use Rattle.octets.specs.Order.{same}
@@ -14,7 +15,7 @@ use Rattle.lists.proofs.Lists.{any-perm, filter-perm, filter-few}
 use Rattle.models.specs.Summary.{summary_of}
 use Rattle.models.specs.Limits.{max_summaries}
 use Rattle.register.specs.Layout.{max_records}
-use Rattle.register.specs.Calls.{Call, report, summary, conviction, call_engine, is_sound, is_conviction_of, is_report_of, convicts, keep, remaining, reports, records_of, summaries_of, elem, nub, fits, always_fits}
+use Rattle.register.specs.Calls.{Call, report, summary, conviction, call_engine, is_sound, is_conviction_of, is_report_of, convicts, keep, remaining, reports, records_of, summaries_of, elem, nub, fits}
 use Rattle.register.specs.Claims.{SameRemains}
 use Rattle.register.proofs.Room.{none-full}
 use Rattle.orders.specs.Claims.{FewAlwaysFit}
@@ -89,14 +90,5 @@ few-fit cs h =
     (le-leb (length (nub (records_of (remaining cs)))) max_records (omega arith))
     (le-leb (length (nub (summaries_of (remaining cs)))) max_summaries (omega arith))
 
-few-always : (cs : List Call) → length cs ≤ max_records → always_fits cs ≡ true
-unfolding always_fits
-few-always [] h = refl
-few-always (c ∷ cs) h = and_both (fits (c ∷ cs)) (always_fits cs) (few-fit (c ∷ cs) h) (few-always cs (omega arith))
-
-length_back : (cs h : List Call) → length (reverse_aux cs h) ≤ length cs + length h
-length_back [] h = omega arith
-length_back (c ∷ cs) h = let r = length_back cs (c ∷ h) in omega arith
-
 pub few_always_fit : FewAlwaysFit
-few_always_fit cs h = let r = length_back cs [] in none-full cs ∙ few-always (reverse cs) (omega arith)
+few_always_fit cs h = (none-full cs).1 (λ n. few-fit (take n cs) (omega (arith, length-take n cs)))
