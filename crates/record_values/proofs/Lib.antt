@@ -1,4 +1,5 @@
 mod Room
 mod Counted
-mod ReadBack
+pub mod ReadBack
+mod Refused
 mod Failing
