@@ -5,3 +5,4 @@ pub mod Lengths
 pub mod Readback
 pub mod Exactly
 pub mod Rooms
+pub mod Refusing

@@ -18,6 +18,7 @@ use register::view::View;
 
 pub mod claims;
 mod points;
+pub mod refusals;
 mod texts;
 
 /// The least output that a map is written to: every map fits.

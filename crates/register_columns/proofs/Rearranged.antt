@@ -53,10 +53,4 @@ pub head_stays : HeadStays
 head_stays s k e h = head-stays s e k h
 
 pub refused-where-other : RefusedWhereOther
-refused-where-other f s found =
-    by (eqb (length s) register_size && eqb (length found) register_size)
-    (λ t. (rw t refl, λ z. absurd (zero-no (rw t at z))))
-    (λ t. (rw t refl, λ z. rw t refl))
-  where
-    zero-no : ◌≡◌ {A = ℕ} 0 17 → ⊥
-    zero-no z = omega arith
+refused-where-other f s found = by (eqb (length s) register_size && eqb (length found) register_size) (λ t. rw t refl) (λ t. rw t refl)

@@ -13,7 +13,7 @@ pub fn like_bytes_stand_together()
     ensures head { HeadStays }
 {}
 
-/// What is refused is refused with 17, exactly where a length is another, and then nothing is written.
+/// 17 is answered exactly where a length is another, and then nothing is written; else 0.
 pub fn refused_where_a_length_is_another()
     ensures { RefusedWhereOther }
 {}

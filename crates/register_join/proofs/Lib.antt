@@ -20,3 +20,4 @@ pub mod Filling
 pub mod LawfulKinds
 pub mod Encoded
 pub mod LackTurns
+pub mod Refusing

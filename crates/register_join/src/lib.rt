@@ -17,6 +17,7 @@ pub mod claims;
 pub mod lack;
 pub mod parts;
 pub mod records;
+pub mod refusals;
 pub mod summaries;
 pub mod together;
 pub mod walk;
