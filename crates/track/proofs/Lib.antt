@@ -11,3 +11,4 @@ pub mod Taking
 pub mod Trying
 pub mod Placed
 pub mod Early
+pub mod Sevens

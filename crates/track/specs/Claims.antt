@@ -1,15 +1,20 @@
 -- What is claimed of every track in memory with its shelf, and of every call on them (docs/REFERENCE.md, 'Track and listing'). Bytes are what a memory has. The
 -- contracts of src/claims.rt name it; the proofs are in proofs/Kept, proofs/Counted and proofs/Ordered.
-use Rattle.std.specs.Prelude.{◌≡◌, ℕ, ◌≤◌, true, false, List, length}
+use Rattle.std.specs.Prelude.{◌≡◌, ◌↔◌, ℕ, ◌≤◌, true, false, List, None, length, nat_lt}
 use mathlib.Core.List.{Memᴰ}
 use Rattle.octets.specs.Bytes.{Bytes}
+use Rattle.octets.specs.Masks.{bit}
+use Rattle.record.specs.Formed.{well_formed}
+use Rattle.models.specs.Models.{counts}
+use Rattle.models.specs.Missing.{first_missing}
+use Rattle.engines.specs.Limits.{max_engine}
 use Rattle.fixes.specs.Fix.{Fix}
 use Rattle.fixes.specs.Ages.{older}
 use Rattle.track_transmission.specs.Held.{HeldTransmission}
 use Rattle.track_arrange.specs.Claims.{InOrder}
 use Rattle.track_memory.specs.Track.{Track, Transition, refused}
 use Rattle.track_shelf.specs.Both.{Both, both_formed, decode_both, encode_both, on_both}
-use Rattle.track.specs.Track.{left_by}
+use Rattle.track.specs.Track.{track_report, left_by}
 use Rattle.track.specs.Served.{kept_of, served}
 use Rattle.track.specs.Calls.{Call, act, fresh, runs}
 
@@ -32,6 +37,12 @@ RefusalLeaves = (f : Both → Transition Both) (m w : List ℕ) (n : ℕ) → f 
 
 abbrev pub MalformedLeaves : Type 0
 MalformedLeaves = (f : Both → Transition Both) (m w : List ℕ) → both_formed m w ≡ false → (on_both f m w).left ≡ (m, w)
+
+-- a report is refused with 7 exactly where it is refused with no number before, each model that the record cites has a summary, and the record does not count
+abbrev pub SevenExactlyWhere : Type 0
+SevenExactlyWhere = (e : ℕ) (r : List ℕ) (b : Both)
+    → (track_report e r b ≡ refused 7)
+    ↔ ((nat_lt max_engine e ≡ false) × (well_formed r ≡ true) × (bit b.track.convicted e ≡ false) × (first_missing b.track.summaries r ≡ None) × (counts b.track.summaries r ≡ false))
 
 -- ---- the order of the transmissions, and the fix that is served
 

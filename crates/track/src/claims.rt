@@ -1,6 +1,6 @@
 //! What is claimed of every track with its shelf and of every call on them: each function's contract is the theorem.
 
-ghost use Rattle.track.specs.Claims.{EncodeDecode, LeavesTrack, HoldsLeft, RefusalLeaves, MalformedLeaves, StaysInOrder, ReachedInOrder, OneServed, LatestServed};
+ghost use Rattle.track.specs.Claims.{EncodeDecode, LeavesTrack, HoldsLeft, RefusalLeaves, MalformedLeaves, SevenExactlyWhere, StaysInOrder, ReachedInOrder, OneServed, LatestServed};
 ghost use Rattle.track.specs.Counting.{ReportCounts, WaitingCountsNone, SummaryCounts, RefusalCountsNone, ConvictionCountsNone};
 ghost use Rattle.track.specs.Shelved.{NoneWaitsInVain, SettlesNone, StaysTillThen, WaitsInOrder, EarlyAsLate};
 
@@ -15,6 +15,11 @@ pub fn tracks_are_their_bytes()
 pub fn refusals_leave_the_bytes()
     ensures refused { RefusalLeaves }
     ensures malformed { MalformedLeaves }
+{}
+
+/// A report is refused with 7 exactly where none of the record's models is missing and the record does not count.
+pub fn seven_exactly_where()
+    ensures { SevenExactlyWhere }
 {}
 
 /// `contested` grows by what enters a list of refused, at a report and where a fix that waited is tried, and by nothing else.
