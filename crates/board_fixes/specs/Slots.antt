@@ -1,4 +1,5 @@
--- No claim rests on this definition: it says how many fixes a board has at most.
+-- How many fixes a board has at most.
+-- Source: docs/REFERENCE.md, 'Register and board'.
 use Rattle.std.specs.Prelude.{ℕ}
 use Rattle.decision_items.specs.Layout.{max_items}
 

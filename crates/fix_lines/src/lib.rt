@@ -8,7 +8,8 @@ ghost use Rattle.text.specs.Numbers.{decimal, signed_decimal};
 ghost use Rattle.text.specs.Texts.{append};
 ghost use Rattle.fix_lines.specs.Lines as L;
 ghost use Rattle.fix_lines.specs.Crew.{crew_header};
-ghost use Rattle.fix_lines.specs.Standings.{standing_name, refusal_text, standing_line};
+ghost use Rattle.fix_lines.specs.Pieces.{standing_name, refusal_text};
+ghost use Rattle.fix_lines.specs.Standings.{standing_line};
 
 use arithmetic::standing::ChiSquare;
 use engines::Signers;
@@ -27,7 +28,7 @@ pub enum Standing {
 }
 
 // What became of a fix, in a word.
-#[tactic(auto, unfolding(crate::specs::Standings::standing_name, octets::specs::Ascii::ascii))]
+#[tactic(auto, unfolding(crate::specs::Pieces::standing_name, octets::specs::Ascii::ascii))]
 fn push_role(out: &mut Text, standing: Standing)
     ensures { out.new ≡ append out.old (ascii "role=" ++ standing_name standing) }
 {
@@ -108,7 +109,7 @@ fn push_chi_square(out: &mut Text, chi2: ChiSquare)
 }
 
 // What is said besides of a fix that is refused.
-#[tactic(auto, unfolding(crate::specs::Standings::refusal_text))]
+#[tactic(auto, unfolding(crate::specs::Pieces::refusal_text))]
 fn push_refusal(out: &mut Text, standing: Standing)
     ensures { out.new ≡ append out.old (refusal_text standing) }
 {

@@ -1,4 +1,5 @@
--- No claim rests on these definitions: they say what the code knows of a list of fixes.
+-- What is asked of a list of fixes: that a decision can take each, and that no two have one identity.
+-- Source: docs/REFERENCE.md, 'Register and board'.
 use Rattle.std.specs.Prelude.{ℕ, ◌<◌, ◌≡◌, true, length, get_or}
 use mathlib.Core.List.{List, [], Memᴰ}
 use Rattle.record.specs.Formed.{well_formed}

@@ -23,8 +23,8 @@ use Rattle.track_transmission.specs.Bytes.{filled_by, transmission_formed, trans
 use Rattle.track_transmission.proofs.Encoding as E
 use Rattle.track_arrange.specs.Arranged.{max_transmissions}
 use Rattle.track_memory.specs.Layout.{pair_size, zero_at, contested_at, transmissions_size, track_size}
-use Rattle.track_memory.specs.Track.{Track, Transition}
-use Rattle.track_memory.specs.Memory.{convicted_in, summary_count, transmission_count, contested_in, summary_table, transmission_table, summaries_in, transmission_places, well_formed, decode, encode, commit, on_memory}
+use Rattle.track_memory.specs.Track.{Track}
+use Rattle.track_memory.specs.Memory.{convicted_in, summary_count, transmission_count, contested_in, summary_table, transmission_table, summaries_in, transmission_places, well_formed, decode, encode}
 use Rattle.track_memory.proofs.Frames.{frame-length, read-convicted, read-summary-count, read-transmission-count, read-zero, read-contested, frame-summaries, frame-transmissions}
 use Rattle.track_memory.proofs.Blocks.{all_pass, of_map, filled_of, Held, block-formed}
 use Rattle.track_memory.proofs.Opened.{Opened, summaries-length, summaries-wide, summaries-ascend, transmissions-length, all_held}
@@ -149,11 +149,6 @@ module _ (s : Track) (v : Valid s) where
       (and_both a₂ (a₃ && (a₄ && (a₅ && (a₆ && a₇)))) h₂
       (and_both a₃ (a₄ && (a₅ && (a₆ && a₇))) h₃
       (and_both a₄ (a₅ && (a₆ && a₇)) (eq-eqb (get_or (encode s) zero_at 0) 0 zero-back) (and_both a₅ (a₆ && a₇) summary-table (and_both a₆ a₇ formed-summaries formed-transmissions)))))
-
-  -- an operation on its bytes is the operation on it
-  pub on-encode : (f : Track → Transition Track) → on_memory f (encode s) ≡ commit (encode s) (f s)
-  unfolding on_memory
-  on-encode f = rw (formed-encode, decode-encode) refl
 
 -- what bytes decode to is valid
 pub decode-valid : (m : List ℕ) → Opened m → Bytes m → Valid (decode m)

@@ -77,7 +77,3 @@ fresh = replicate L.track_size 0
 abbrev pub commit : List ℕ → Transition Track → After (List ℕ)
 commit m (refused n) = after n m
 commit m (done n s) = after n (encode s)
-
--- 1 for bytes that are no track
-unfoldable pub on_memory : (Track → Transition Track) → List ℕ → After (List ℕ)
-on_memory f m = cond (well_formed m) (commit m (f (decode m))) (after 1 m)

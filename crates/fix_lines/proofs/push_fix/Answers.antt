@@ -3,7 +3,7 @@ use Rattle.text.specs.Texts.{append}
 use Rattle.text.proofs.Appending.{append-then}
 use Rattle.octets.specs.Ascii.{ascii}
 use Rattle.fix_lines.specs.Lines.{fix_text}
-use Rattle.fix_lines.specs.Standings.{standing_name}
+use Rattle.fix_lines.specs.Pieces.{standing_name}
 use Rattle.fix_lines.proofs.push_fix.Goals as goal
 
 pub returns : goal.returns

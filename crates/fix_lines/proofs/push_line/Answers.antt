@@ -5,7 +5,8 @@ use Rattle.octets.specs.Ascii.{ascii}
 use Rattle.fix_lines.specs.declared.Standing.{Standing}
 use Rattle.fix_lines.specs.declared.Standing.TheVariants.{Ranked, Dominated, Refused}
 use Rattle.fix_lines.specs.Lines.{fix_text, fix_line, refused_line}
-use Rattle.fix_lines.specs.Standings.{standing_name, refusal_text, standing_line}
+use Rattle.fix_lines.specs.Pieces.{standing_name, refusal_text}
+use Rattle.fix_lines.specs.Standings.{standing_line}
 use Rattle.fix_lines.proofs.push_line.Goals as goal
 
 line-is : (s : Standing) (r : List ℕ) (signers : ℕ) → fix_text (standing_name s) r signers ++ (refusal_text s ++ ascii "\n") ≡ standing_line s r signers

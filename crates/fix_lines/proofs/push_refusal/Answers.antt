@@ -1,6 +1,6 @@
 use Rattle.std.proofs.Common.{sym, ⊎_elim}
 use Rattle.text.proofs.Appending.{append-nil}
-use Rattle.fix_lines.specs.Standings.{refusal_text}
+use Rattle.fix_lines.specs.Pieces.{refusal_text}
 use Rattle.fix_lines.proofs.push_refusal.Goals as goal
 
 pub returns-in-Ranked : goal.returns-in-Ranked
