@@ -1,4 +1,5 @@
--- No claim rests on this definition: it says what writing a number leaves of a slice.
+-- What writing a number leaves of bytes.
+-- Source: docs/REFERENCE.md, 'Words'.
 use Rattle.std.specs.Prelude.{ℕ, ◌+◌, List, ◌++◌, take, drop}
 use Rattle.octets.specs.Words.{word_bytes}
 
