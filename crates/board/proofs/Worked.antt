@@ -33,7 +33,7 @@ use Rattle.board.specs.Board.{board_of, crew_board_of}
 use Rattle.board.specs.Worked.{BoardsWorked}
 
 -- what a board is computed from
-of-boards : Unit {0}
+unfoldable pub of-boards : Unit {0}
 unfolding board_of crew_board_of shown text_from text_of crew_text_from crew_text_of crew_header picture transmissions_of reach fixes_of enter enter_all insert sort foremost flat_map records_link tied shares_tag any_in ascii header fix_line chi_square_text refused_line fix_text where_when height_text metres_text digits signed_decimal hex all_agreed state_from summaries_for cited_inputs set_hash identity_from inputs_in_order B.rotate_right B.iv B.sigma B.add_word B.turn_word B.half_mix B.mix_words B.mix_columns B.mix_diagonals B.round_by B.rounds B.start_state B.compress_block B.words_of B.pad_block B.first_state B.chain_blocks B.hash_words B.bytes_of_words B.blake2s256 subset all_in member same is_before bit_count tags_from claim_of word_bytes word limit_of geodetic_of matrix_of sum_under finitely length_under chi_square_of difference_of agreement_under agreement_of agrees_of chi_square_in degree radians_of factorial coefficient sine_series cosine_series sincos_of flattening eccentricity2 to_ecef enu_basis sub_of dot_of minus_each rows_below columns cholesky_of forwards forward backwards backward solve_of sum_to from_decimal isqrt digits_of root_of root_finite root_bits root count_leading_zeros of_bits to_bits round le lt eq of_int div mul add sub neg is_nan
 of-boards = tt
 

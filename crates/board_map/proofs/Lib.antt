@@ -6,3 +6,4 @@ pub mod Readback
 pub mod Exactly
 pub mod Rooms
 pub mod Refusing
+pub mod Worked

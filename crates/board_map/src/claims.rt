@@ -1,6 +1,7 @@
 //! What is claimed of maps: each function's contract is the theorem.
 
 ghost use Rattle.board_map.specs.Claims.{PointReadsBack, PointsReadBack, MapsReadBack, MapLength, PointsExactly, MapsInBothRooms};
+ghost use Rattle.board_map.specs.Worked.{MapsWorked};
 
 /// What is written of points is read back as these points, whole number by whole number; so is every map.
 pub fn maps_are_read_back()
@@ -22,4 +23,9 @@ pub fn points_exactly()
 /// Two control rooms in which nothing is refused as full, and of whose calls the same remains, get the same map.
 pub fn maps_in_both_rooms()
     ensures { MapsInBothRooms }
+{}
+
+/// Three maps, to the letter.
+pub fn maps_worked()
+    ensures { MapsWorked }
 {}
