@@ -13,3 +13,4 @@ pub mod Bursts
 pub mod Positions
 pub mod Worked
 pub mod Carried
+pub mod Held

@@ -35,7 +35,7 @@ use Rattle.board_values.proofs.Lines.{each-of, each-from, of-fixes}
 
 -- ---- whose a line is
 
-drop-in : {A : Type 0} (k : ℕ) (l : List A) (x : A) → Memᴰ x (drop k l) → Memᴰ x l
+pub drop-in : {A : Type 0} (k : ℕ) (l : List A) (x : A) → Memᴰ x (drop k l) → Memᴰ x l
 drop-in zero l x m = m
 drop-in (suc k) [] x m = m
 drop-in (suc k) (y ∷ l) x m = Memᴰ.tail (drop-in k l x m)
@@ -76,7 +76,7 @@ of-a-fix h fs y m =
 
 -- ---- how many bytes
 
-whole-entry : (e : Entry) → length e.identity ≡ hash_size → length (entry_bytes e) ≡ 49
+pub whole-entry : (e : Entry) → length e.identity ≡ hash_size → length (entry_bytes e) ≡ 49
 unfolding entry_bytes word_bytes
 whole-entry e h =
     let x = chi-square-length (chi_square_of e.standing) in
@@ -105,7 +105,7 @@ module _ (s : Register) (v : Valid s) where
       let f = few-shown (fixes_of s.summaries s.records) k.formed k.apart k.few in
       omega (arith, n, f)
 
-  whole-identity : (e : Entry) → Memᴰ e (entries s) → length e.identity ≡ hash_size
+  pub whole-identity : (e : Entry) → Memᴰ e (entries s) → length e.identity ≡ hash_size
   unfolding picture
   whole-identity e m =
       let k = standing s v in

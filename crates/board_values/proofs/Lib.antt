@@ -6,3 +6,5 @@ mod Lent
 mod Lines
 mod Counted
 mod Headers
+mod Whom
+mod Back

@@ -26,7 +26,7 @@ use Rattle.board_values.specs.Drawn.{latest_over, fixes_over}
 abbrev pub entries_in : Transmission → ℕ
 entries_in t = length t.ranked + (length t.dominated + length t.refused)
 
-of-length : (ps : List (List ℕ)) (number before : ℕ) (t : Transmission) → length (entries_of ps number before t) ≡ entries_in t
+pub of-length : (ps : List (List ℕ)) (number before : ℕ) (t : Transmission) → length (entries_of ps number before t) ≡ entries_in t
 of-length ps number before t = simp (length-append, length-map) refl
 
 pub from-length : (ps : List (List ℕ)) (number before : ℕ) (ts : List Transmission) → length (entries_from ps number before ts) ≡ total entries_in ts

@@ -16,6 +16,7 @@ use Rattle.models.specs.Models.{counts}
 use Rattle.fix_lines.specs.declared.Standing.TheVariants.{Ranked, Dominated, Refused}
 use Rattle.fix_lines.specs.Standings.{standing_line}
 use Rattle.board_fixes.specs.Fixes.{record_in, fix_of_place, unite, enter, enter_all, fixes_of}
+use Rattle.board.proofs.Held.{all-entered}
 use Rattle.board_picture.specs.Picture.{picture}
 use Rattle.register.specs.Register.{Register}
 use Rattle.board_values.specs.Entries.{place_of, fixes_shown, entries_of, entries_shown}
@@ -32,33 +33,10 @@ united : (ps : List (List ℕ)) (g f : Fix) → Stands ps g → Stands ps f → 
 united ps g f u v = by (is_before f.record_bytes g.record_bytes) (λ h. rw h v) (λ h. rw h u)
 
 module _ (ps : List (List ℕ)) where
-  abbrev All : List Fix → Type 0
-  All fs = (f : Fix) → Memᴰ f fs → Stands ps f
-
-  first-too : (f : Fix) (fs : List Fix) → Stands ps f → All fs → All (f ∷ fs)
-  first-too f fs h w y m = or (Memᴰ.cases_cons m) (λ e. subst (Stands ps) (sym e) h) (λ k. w y k)
-
-  entered : (f : Fix) (gs : List Fix) → Stands ps f → All gs → All (enter f gs)
-  unfolding enter
-  entered f [] h w = first-too f [] h w
-  entered f (g ∷ gs) h w =
-      let first = w g (Memᴰ.head refl) in
-      let others : All gs = λ y m. w y (Memᴰ.tail m) in
-      by (lower g f)
-      (λ u. rw u (first-too g (enter f gs) first (entered f gs h others)))
-      (λ u. by (lower f g)
-      (λ v. rw (u, v) (first-too f (g ∷ gs) h w))
-      (λ v. rw (u, v) (first-too (unite g f) gs (united ps g f first h) others)))
-
-  all-entered : (fs gs : List Fix) → All fs → All gs → All (enter_all fs gs)
-  unfolding enter_all
-  all-entered fs [] w h = w
-  all-entered fs (f ∷ gs) w h = all-entered (enter f fs) gs (entered f fs (h f (Memᴰ.head refl)) w) (λ y m. h y (Memᴰ.tail m))
-
-  stands : (ss : List (List ℕ)) → All (fixes_of ss ps)
+  stands : (ss : List (List ℕ)) → (f : Fix) → Memᴰ f (fixes_of ss ps) → Stands ps f
   unfolding fixes_of
   stands ss =
-      all-entered [] (map (fix_of_place ss) (filter (λ p. counts ss (record_in p)) ps)) (λ f k. absurd (Memᴰ.not-nil k))
+      all-entered (Stands ps) (united ps) [] (map (fix_of_place ss) (filter (λ p. counts ss (record_in p)) ps)) (λ f k. absurd (Memᴰ.not-nil k))
       (λ f k.
       let r = map-from (fix_of_place ss) (filter (λ p. counts ss (record_in p)) ps) f k in
       (r.0, (filter-in (λ p. counts ss (record_in p)) ps r.0 r.1).0, ap (λ (x : Fix). x.record_bytes) (sym r.2)))
@@ -75,7 +53,7 @@ found (q ∷ ps) r p m e =
 
 -- ---- lines of a board
 
-same-on : {A B : Type 0} (h k : A → B) (l : List A) → ((x : A) → Memᴰ x l → h x ≡ k x) → map h l ≡ map k l
+pub same-on : {A B : Type 0} (h k : A → B) (l : List A) → ((x : A) → Memᴰ x l → h x ≡ k x) → map h l ≡ map k l
 same-on h k [] w = refl
 same-on h k (x ∷ l) w = ap₂ (λ y ys. y ∷ ys) (w x (Memᴰ.head refl)) (same-on h k l (λ y m. w y (Memᴰ.tail m)))
 
@@ -90,7 +68,7 @@ module _ (s : Register) where
   abbrev there : Fix → List ℕ
   there f = record_in (get_or s.records (place_of s.records f.record_bytes) [])
 
-  there-is : (t : Transmission) (f : Fix) → Memᴰ t (on_board s) → Memᴰ f (fixes_shown t) → there f ≡ f.record_bytes
+  pub there-is : (t : Transmission) (f : Fix) → Memᴰ t (on_board s) → Memᴰ f (fixes_shown t) → there f ≡ f.record_bytes
   unfolding picture
   there-is t f m k =
       let p = stands s.records s.summaries f (fix-of (fixes_of s.summaries s.records) t f m k) in

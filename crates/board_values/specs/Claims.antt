@@ -1,9 +1,13 @@
 -- What is claimed of a board's fixes as values; src/claims.rt has a function whose contract each of these is.
 -- Source: docs/REFERENCE.md, 'Values'.
-use Rattle.std.specs.Prelude.{ℕ, suc, ◌*◌, ◌≤◌, ◌≡◌, true, max, List, [], ◌∷◌, ◌++◌, map, filter, flat_map, length, get_or, eqb}
+use Rattle.std.specs.Prelude.{ℕ, suc, ◌*◌, ◌<◌, ◌≤◌, ◌≡◌, true, false, max, List, [], ◌∷◌, ◌++◌, map, filter, flat_map, length, get_or, take, drop, eqb}
 use Rattle.octets.specs.Bytes.{Bytes}
 use Rattle.lists.specs.Ordered.{count_from}
+use Rattle.arithmetic.specs.Agree.{agreement_of, agrees_of, chi_square_in}
+use Rattle.arithmetic.specs.declared.standing.Agreement.{Agreement}
 use Rattle.arithmetic.specs.declared.standing.ChiSquare.{ChiSquare}
+use Rattle.record.specs.Relations.{subset}
+use Rattle.decision_items.specs.Claimed.{claim_of}
 use Rattle.decision_rule.specs.Outcome.{Refused as RefusedFix}
 use Rattle.fixes.specs.Fix.{Fix}
 use Rattle.fixes.specs.Shown.{Transmission}
@@ -19,6 +23,7 @@ use Rattle.register.specs.Register.{Register}
 use Rattle.register.specs.Memory.{well_formed, decode}
 use Rattle.board_values.specs.Entries.{Entry, place_of, fixes_shown, entries_shown}
 use Rattle.board_values.specs.Written.{entry_size, role_number, fixes_in}
+use Rattle.board_values.specs.Reading.{entry_read}
 
 abbrev pub entries : Register → List Entry
 entries s = entries_shown s.summaries s.records
@@ -97,3 +102,50 @@ lines_of number t = map ranked_text t.ranked ++ (map dominated_text t.dominated 
 pub record EntriesSayLines : Type 0 where
   pub named : (s : Register) → map (record_named s.records) (entries s) ≡ line_by_line (of_fixes (λ f. f.record_bytes)) 1 (on_board s)
   pub lines : (s : Register) → map (line_said s.records) (entries s) ≡ line_by_line lines_of 1 (on_board s)
+
+-- ---- whom a fix is refused against
+
+-- what an index past the end gives: no entry has the number 0
+abbrev pub no_entry : Entry
+no_entry = record { number = 0; standing = Ranked; place = 0; against = 0; signers = 0; identity = [] }
+
+abbrev pub entry_at : List Entry → ℕ → Entry
+entry_at es i = get_or es i no_entry
+
+-- the number and the identity of the entry that an entry names
+abbrev pub whom_of : List Entry → Entry → ℕ × List ℕ
+whom_of es e = ((entry_at es e.against).number, (entry_at es e.against).identity)
+
+-- of a line: the number of its transmission, and the identity of the fix against which it is refused, or else its own
+abbrev pub whoms : ℕ → Transmission → List (ℕ × List ℕ)
+whoms number t =
+    map (λ (f : Fix). (number, f.identity)) t.ranked
+    ++ (map (λ (f : Fix). (number, f.identity)) t.dominated
+    ++ map (λ (r : RefusedFix Fix ChiSquare). (number, r.against.identity)) t.refused)
+
+-- e is refused against k, by their records ps: k is a subset of e, they disagree, and the chi-square of e is that between the two
+pub record Opposed (ps : List (List ℕ)) (e k : Entry) : Type 0 where
+  pub a_subset : subset (record_named ps k) (record_named ps e) ≡ true
+  pub disagreeing : agrees_of (agreement_of (claim_of (record_named ps k)) (claim_of (record_named ps e))) ≡ false
+  pub measured : e.standing ≡ Refused (chi_square_in (agreement_of (claim_of (record_named ps k)) (claim_of (record_named ps e))))
+
+-- of the entries es of a register's board
+pub record NamesWhom (s : Register) (es : List Entry) : Type 0 where
+  -- each names an entry of its own transmission: that of the fix which the refusal names, or else its own
+  pub whom : map (whom_of es) es ≡ line_by_line whoms 1 (on_board s)
+  pub own : (i : ℕ) → i < length es → role_number (entry_at es i).standing < 2 → (entry_at es i).against ≡ i
+  pub opposed : (i : ℕ) → i < length es → role_number (entry_at es i).standing ≡ 2 → Opposed s.records (entry_at es i) (entry_at es (entry_at es i).against)
+
+abbrev pub EntriesNameWhom : Type 0
+EntriesNameWhom = (m : List ℕ) → Bytes m → well_formed m ≡ true → NamesWhom (decode m) (entries (decode m))
+
+-- ---- read back
+
+-- the bytes of entry i
+abbrev pub bytes_at : List ℕ → ℕ → List ℕ
+bytes_at b i = take entry_size (drop (i * entry_size) b)
+
+-- what is written of each entry says that entry, its chi-square bit for bit
+abbrev pub EntriesReadBack : Type 0
+EntriesReadBack = (m : List ℕ) → Bytes m → well_formed m ≡ true
+    → (i : ℕ) → i < length (entries (decode m)) → entry_read (bytes_at (fixes_in (decode m)) i) ≡ entry_at (entries (decode m)) i

@@ -1,6 +1,6 @@
 //! What is claimed of a board's fixes as values. Each function's contract is the claim; there is nothing to run.
 
-ghost use Rattle.board_values.specs.Claims.{EntriesAreLines, EntriesCounted, EntriesSayLines, EntriesSayBoard};
+ghost use Rattle.board_values.specs.Claims.{EntriesAreLines, EntriesCounted, EntriesSayLines, EntriesSayBoard, EntriesNameWhom, EntriesReadBack};
 
 /// There is an entry for each line of the board, in the order of the lines, with what the line says.
 pub fn entries_are_lines()
@@ -21,4 +21,15 @@ pub fn entries_say_lines()
 /// entries of that number are ranked, dominated and refused.
 pub fn entries_say_board()
     ensures { EntriesSayBoard }
+{}
+
+/// A refused fix names the entry of the fix against which it is refused: of the same transmission, a subset of it that disagrees. Any other names
+/// itself.
+pub fn entries_name_whom()
+    ensures { EntriesNameWhom }
+{}
+
+/// The 49 bytes of an entry are read back as the entry.
+pub fn entries_read_back()
+    ensures { EntriesReadBack }
 {}
