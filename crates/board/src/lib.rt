@@ -1,16 +1,18 @@
 //! The board of a register: what a control room sees, the same for every order in which reports came.
 #![tactic(auto)]
 
-ghost use Rattle.std.specs.Prelude.{◌≡◌, true, ◌≤◌, length};
+ghost use Rattle.std.specs.Prelude.{◌≡◌, true, ◌≤◌, ◌&&◌, eqb, leb, length, is_ok};
 ghost use Rattle.octets.specs.Put.{Put};
 ghost use Rattle.fixes.specs.Items.{AllFormed};
 ghost use Rattle.board_fixes.specs.Order.{identities_ascend};
 ghost use Rattle.fix_lines.specs.Text.{board_size};
 ghost use Rattle.errors.specs.After.{after};
 ghost use Rattle.errors.specs.Errors.{value_or_number};
+ghost use Rattle.register.specs.Memory.{well_formed};
 ghost use Rattle.desks.specs.Desks.{number_of};
+ghost use Rattle.desks.specs.Previewing.{may_preview};
 ghost use Rattle.board.specs.Board.{board_seen, draw_board};
-ghost use Rattle.board.specs.Preview.{draw_preview};
+ghost use Rattle.board.specs.Preview.{convict, draw_preview};
 ghost use Rattle.board.specs.Latest.{latest_over, text_for, drawn};
 
 use board_fixes::{Fix, Fixes, MAX_FIXES};
@@ -62,7 +64,8 @@ pub fn write(desk: Desk, register: &View<'_>, out: &mut [u8]) -> usize
 
 /// The board of a register for a desk: its length.
 pub fn draw(desk: Desk, register: &View<'_>, out: &mut [u8]) -> Result<u32, Error>
-    ensures { after (value_or_number result) out.new ≡ drawn desk register.now out.old }
+    ensures board { after (value_or_number result) out.new ≡ drawn desk register.now out.old }
+    ensures done { is_ok result ≡ leb board_size (length out.old) }
 {
     if out.len() < BOARD_SIZE {
         return Err(Error::SmallOutput);
@@ -72,7 +75,8 @@ pub fn draw(desk: Desk, register: &View<'_>, out: &mut [u8]) -> Result<u32, Erro
 
 /// The board of a register in any bytes, for a desk: its length.
 pub fn board(desk: Desk, memory: &[u8], out: &mut [u8]) -> Result<u32, Error>
-    ensures { after (value_or_number result) out.new ≡ draw_board (number_of desk) memory.now out.old }
+    ensures board { after (value_or_number result) out.new ≡ draw_board (number_of desk) memory.now out.old }
+    ensures done { is_ok result ≡ (well_formed memory.now && leb board_size (length out.old)) }
 {
     draw(desk, &View::parse(memory)?, out)
 }
@@ -80,7 +84,8 @@ pub fn board(desk: Desk, memory: &[u8], out: &mut [u8]) -> Result<u32, Error>
 /// The board of a register in any bytes as it would be if an engine were convicted, for a desk that may preview: its length. The engine is
 /// convicted on a copy, and the copy drawn, as a manager does it; the copy is well-formed then and is not tested again.
 pub fn preview(desk: Desk, memory: &[u8], engine: u32, out: &mut [u8]) -> Result<u32, Error>
-    ensures { after (value_or_number result) out.new ≡ draw_preview (number_of desk) engine memory.now out.old }
+    ensures preview { after (value_or_number result) out.new ≡ draw_preview (number_of desk) engine memory.now out.old }
+    ensures done { is_ok result ≡ (may_preview desk && (eqb (convict engine memory.now).answer 0 && leb board_size (length out.old))) }
 {
     if !desk.may_preview() {
         return Err(Error::NoRight);

@@ -1,12 +1,13 @@
 //! The map of a register: what a control room sees, as points that any program for maps can show.
 #![tactic(auto)]
 
-ghost use Rattle.std.specs.Prelude.{◌≡◌, true, ◌≤◌, length};
+ghost use Rattle.std.specs.Prelude.{◌≡◌, true, ◌≤◌, ◌&&◌, leb, length, is_ok};
 ghost use Rattle.octets.specs.Put.{Put};
 ghost use Rattle.fixes.specs.Items.{AllFormed};
 ghost use Rattle.board_fixes.specs.Order.{identities_ascend};
 ghost use Rattle.errors.specs.After.{after};
 ghost use Rattle.errors.specs.Errors.{value_or_number};
+ghost use Rattle.register.specs.Memory.{well_formed};
 ghost use Rattle.board_map.specs.Map.{map_size, map_in, draw_map};
 ghost use Rattle.board_map.specs.Written.{map_over};
 
@@ -60,7 +61,8 @@ pub fn write(register: &View<'_>, out: &mut [u8]) -> usize
 /// The map of a register in any bytes: its length. `Malformed` where they are no register, then `SmallMap` where `out` has less than
 /// `MAP_SIZE` bytes.
 pub fn map(memory: &[u8], out: &mut [u8]) -> Result<u32, Error>
-    ensures { after (value_or_number result) out.new ≡ draw_map memory.now out.old }
+    ensures map { after (value_or_number result) out.new ≡ draw_map memory.now out.old }
+    ensures done { is_ok result ≡ (well_formed memory.now && leb map_size (length out.old)) }
 {
     let register = View::parse(memory)?;
     if out.len() < MAP_SIZE {

@@ -1,12 +1,13 @@
 //! The fixes of a board as values: an entry for each line of the full board, in the order of the lines.
 #![tactic(auto)]
 
-ghost use Rattle.std.specs.Prelude.{◌≡◌, true, ◌≤◌, length};
+ghost use Rattle.std.specs.Prelude.{◌≡◌, true, ◌≤◌, ◌&&◌, leb, length, is_ok};
 ghost use Rattle.octets.specs.Put.{Put};
 ghost use Rattle.fixes.specs.Items.{AllFormed};
 ghost use Rattle.board_fixes.specs.Order.{identities_ascend};
 ghost use Rattle.errors.specs.After.{after};
 ghost use Rattle.errors.specs.Errors.{value_or_number};
+ghost use Rattle.register.specs.Memory.{well_formed};
 ghost use Rattle.board_values.specs.Written.{fixes_size, fixes_in, write_fixes};
 ghost use Rattle.board_values.specs.Drawn.{fixes_over};
 
@@ -59,7 +60,8 @@ pub fn write(register: &View<'_>, out: &mut [u8]) -> usize
 /// Writes the fixes of the board of a register in any bytes: how many bytes they have. `Malformed` where the bytes are no register, then
 /// `SmallOutput` where `out` has less than `FIXES_SIZE` bytes.
 pub fn fixes(memory: &[u8], out: &mut [u8]) -> Result<u32, Error>
-    ensures { after (value_or_number result) out.new ≡ write_fixes memory.now out.old }
+    ensures fixes { after (value_or_number result) out.new ≡ write_fixes memory.now out.old }
+    ensures done { is_ok result ≡ (well_formed memory.now && leb fixes_size (length out.old)) }
 {
     let register = View::parse(memory)?;
     if out.len() < FIXES_SIZE {

@@ -1,8 +1,10 @@
 //! A session performed on a register of the caller's, and why one is refused.
 
-ghost use Rattle.std.specs.Prelude.{◌≡◌};
+ghost use Rattle.std.specs.Prelude.{◌≡◌, ◌&&◌, leb, length, is_ok};
 ghost use Rattle.errors.specs.After.{after};
-ghost use Rattle.session_text.specs.Performed.{refusal_number, perform_session, write_reason};
+ghost use Rattle.register.specs.Memory.{well_formed};
+ghost use Rattle.session_text.specs.Output.{calls_of};
+ghost use Rattle.session_text.specs.Performed.{refusal_number, answers_size, perform_session, write_reason};
 ghost use Rattle.session_text.specs.Numbers.{unperformed_number, performed_number};
 
 use crate::reasons::REASON_SIZE;
@@ -61,7 +63,8 @@ pub fn performed_number(answer: Result<u32, Unperformed>) -> u32
 /// they have. Refused, in this order, as `Malformed` where the bytes are no register, as the session is, and as `SmallOutput` where `out` has less
 /// than `ANSWERS_SIZE` bytes; then neither changes.
 pub fn perform_on(memory: &mut [u8], input: &[u8], out: &mut [u8]) -> Result<u32, Unperformed>
-    ensures { after (performed_number result) (memory.new, out.new) ≡ perform_session input.now memory.old out.old }
+    ensures session { after (performed_number result) (memory.new, out.new) ≡ perform_session input.now memory.old out.old }
+    ensures done { is_ok result ≡ (well_formed memory.old && (is_ok (calls_of input.now) && leb answers_size (length out.old))) }
 {
     if let Err(error) = View::parse(memory) {
         return Err(Unperformed::Error(error));

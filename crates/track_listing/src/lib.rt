@@ -1,12 +1,13 @@
 //! The listing of a track: its transmissions in their order, as the lines of a board.
 #![tactic(auto)]
 
-ghost use Rattle.std.specs.Prelude.{◌≡◌, ◌≤◌, length, flat_map};
+ghost use Rattle.std.specs.Prelude.{◌≡◌, ◌≤◌, ◌&&◌, leb, length, flat_map, is_ok};
 ghost use Rattle.octets.specs.Put.{Put};
 ghost use Rattle.text.specs.Texts.{append};
 ghost use Rattle.errors.specs.After.{after};
 ghost use Rattle.errors.specs.Errors.{value_or_number};
-ghost use Rattle.fix_lines.specs.Text.{ranked_text};
+ghost use Rattle.fix_lines.specs.Text.{ranked_text, board_size};
+ghost use Rattle.track_memory.specs.Memory.{well_formed};
 ghost use Rattle.track_listing.specs.Listing as T;
 
 use errors::Error;
@@ -98,7 +99,8 @@ fn write(track: &View<'_>, out: &mut [u8]) -> usize
 
 /// The listing of a track in any bytes: its length.
 pub fn listing(memory: &[u8], out: &mut [u8]) -> Result<u32, Error>
-    ensures { after (value_or_number result) out.new ≡ T.list_track memory.now out.old }
+    ensures listing { after (value_or_number result) out.new ≡ T.list_track memory.now out.old }
+    ensures done { is_ok result ≡ (well_formed memory.now && leb board_size (length out.old)) }
 {
     let track = View::parse(memory)?;
     if out.len() < LISTING_SIZE {

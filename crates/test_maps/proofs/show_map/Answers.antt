@@ -13,7 +13,7 @@ slice_bounds-out-end g c =
     within _ c.args.memory.now _ _
     (search rules)
     c.map.auto.out
-    (c.value_or_number-answer.ensures ∙ ap (λ x. x.answer) c.map.ensures)
+    (c.value_or_number-answer.ensures ∙ ap (λ x. x.answer) c.map.ensures.map)
 
 pub slice_bounds-write_all-end : goal.slice_bounds-write_all-end
 slice_bounds-write_all-end g c =
@@ -21,5 +21,5 @@ slice_bounds-write_all-end g c =
     within _ c.args.memory.now _ _
     (search rules)
     c.map.auto.out
-    (c.value_or_number-answer.ensures ∙ ap (λ x. x.answer) c.map.ensures) in
+    (c.value_or_number-answer.ensures ∙ ap (λ x. x.answer) c.map.ensures.map) in
     sym (length-take-le _ _ fits)

@@ -10,7 +10,7 @@ slice_bounds-out-end g c =
     let o = c.output_buffer-out.result in
     let l : board_size ≡ length o = search rules in
     let k = c.listing.auto.out in
-    let f = listed-fits o c.listing.new.out c.value_or_number-answer.result (omega (arith, l)) k _ (ap (λ (n : ℕ). after n c.listing.new.out) c.value_or_number-answer.ensures ∙ c.listing.ensures) in
+    let f = listed-fits o c.listing.new.out c.value_or_number-answer.result (omega (arith, l)) k _ (ap (λ (n : ℕ). after n c.listing.new.out) c.value_or_number-answer.ensures ∙ c.listing.ensures.listing) in
     omega (arith, f, k)
 
 pub slice_bounds-write_all-end : goal.slice_bounds-write_all-end
@@ -18,5 +18,5 @@ slice_bounds-write_all-end g c =
     let o = c.output_buffer-out.result in
     let l : board_size ≡ length o = search rules in
     let k = c.listing.auto.out in
-    let f = listed-fits o c.listing.new.out c.value_or_number-answer.result (omega (arith, l)) k _ (ap (λ (n : ℕ). after n c.listing.new.out) c.value_or_number-answer.ensures ∙ c.listing.ensures) in
+    let f = listed-fits o c.listing.new.out c.value_or_number-answer.result (omega (arith, l)) k _ (ap (λ (n : ℕ). after n c.listing.new.out) c.value_or_number-answer.ensures ∙ c.listing.ensures.listing) in
     sym (length-take-le c.value_or_number-answer.result c.listing.new.out (omega (arith, f, k)))

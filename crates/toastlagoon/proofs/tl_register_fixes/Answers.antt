@@ -3,4 +3,4 @@ use Rattle.errors.specs.After.{after}
 use Rattle.toastlagoon.proofs.tl_register_fixes.Goals as goal
 
 pub returns : goal.returns
-returns c = ap (λ n. after n c.fixes.new.out) c.value_or_number.ensures ∙ c.fixes.ensures
+returns c = ap (λ n. after n c.fixes.new.out) c.value_or_number.ensures ∙ c.fixes.ensures.fixes
