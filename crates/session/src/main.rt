@@ -45,12 +45,9 @@ fn conduct(
     strict: bool,
 ) -> io::Result<u8> {
     let mut out = output_buffer();
-    let (size, refused) = match session_text::run(input, &mut out) {
-        Ok(size) => (size, None),
-        Err(refusal) => (refusal.write_line(&mut out), Some(refusal)),
-    };
-    rt.write_all(&out[..size])?;
-    let told = session_notices::told(rt.alloc(), input, refused)?;
+    let printed = session_text::print(input, &mut out);
+    rt.write_all(&out[..printed.len])?;
+    let told = session_notices::told(rt.alloc(), input, printed.refused)?;
     errors.write_all(told.text.as_slice())?;
     Ok(told.ending.status(strict))
 }

@@ -1,7 +1,7 @@
 //! A session: its bytes to the bytes that it prints, or why it is refused. All lines are read before any answer is written.
 #![tactic(auto)]
 
-ghost use Rattle.std.specs.Prelude.{◌≡◌, ◌+◌, ◌≤◌, length, IfOk, IfErr, OnErr};
+ghost use Rattle.std.specs.Prelude.{◌≡◌, ◌+◌, ◌≤◌, length};
 ghost use Rattle.std.specs.Result.{result_err};
 ghost use Rattle.octets.specs.Put.{Put};
 ghost use Rattle.text.specs.Texts.{append};
@@ -114,14 +114,30 @@ fn perform_all(input: &[u8], out: &mut [u8]) -> usize
     end + write_board(&View::of(&memory), &mut out[end..])
 }
 
-/// Performs a session on a fresh register. What it prints is then at the start of `out`, and the answer is its length. A session that is
-/// refused is not performed, and `out` stays as it was: the error says why, and what such a session prints `Refusal::write_line` writes.
-pub fn run(input: &[u8], out: &mut [u8; OUTPUT_SIZE]) -> Result<usize, Refusal>
-    ensures printed { IfOk result (λ n. (n ≤ O.output_size) × Put out.old 0 (O.output_of input.now) n out.new) }
-    ensures refused { result_err result ≡ result_err (O.calls_of input.now) }
-    ensures line { IfErr result (λ r. O.output_of input.now ≡ O.refusal_text r) }
-    ensures unchanged { OnErr result (out.new ≡ out.old) }
+/// What a session printed.
+#[derive(Clone, Copy)]
+pub struct Printed {
+    /// How many bytes.
+    pub len: usize,
+    /// Why the session is refused, where it is: then no operation of it is performed.
+    pub refused: Option<Refusal>,
+}
+
+/// Writes what any input prints to the start of `out`: the answers of its operations on a fresh register and then the board of it, or the line of
+/// its refusal alone.
+pub fn print(input: &[u8], out: &mut [u8; OUTPUT_SIZE]) -> Printed
+    ensures text { Put out.old 0 (O.output_of input.now) result.len out.new }
+    ensures fits { result.len ≤ O.output_size }
+    ensures refused { result.refused ≡ result_err (O.calls_of input.now) }
 {
-    check(input)?;
-    Ok(perform_all(input, out))
+    match check(input) {
+        Ok(()) => Printed {
+            len: perform_all(input, out),
+            refused: None,
+        },
+        Err(refusal) => Printed {
+            len: refusal.write_line(out),
+            refused: Some(refusal),
+        },
+    }
 }

@@ -34,8 +34,8 @@ impl Append for Refusal {
 }
 
 impl Refusal {
-    /// What a session prints that is refused so, at the start of `out`; the answer is its length.
-    pub fn write_line(self, out: &mut [u8; OUTPUT_SIZE]) -> usize
+    // What a session prints that is refused so, at the start of `out`; the answer is its length.
+    pub(crate) fn write_line(self, out: &mut [u8; OUTPUT_SIZE]) -> usize
         ensures { (result ≤ output_size) × Put out.old 0 (refusal_text self) result out.new }
     {
         text::write(out, &self)

@@ -46,11 +46,8 @@ fn rehearse(rt: &(impl Input + Print), size: usize) -> io::Result<()>
     let mut input = input_buffer();
     let n = read_session(rt, &mut input, size)?;
     let mut out = output_buffer();
-    let length = match session_text::run(&input[..n], &mut out) {
-        Ok(length) => length,
-        Err(refusal) => refusal.write_line(&mut out),
-    };
-    rt.write_all(&out[..length])
+    let printed = session_text::print(&input[..n], &mut out);
+    rt.write_all(&out[..printed.len])
 }
 
 fn announce(rt: &impl Print, number: u64) -> io::Result<()> {
