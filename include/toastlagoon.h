@@ -359,10 +359,10 @@ uint32_t tl_agreement(int32_t lat, int32_t lon, bool has_height, int32_t height,
 
 /* Writes the record that says this: transmit time in nanoseconds, latitude and longitude in 1e-7 degree, the height in millimetres
  * where has_height is set, the message, the tags, the mask of used tags, the models that it cites, its spec, and its covariance xx,
- * xy, xz, yy, yz, zz in m^2, of which each number's bits are kept. Lengths of tags are in tags and not in bytes; tags and covariance
- * are aligned as their type is. Returns TL_OK, or TL_MALFORMED_RECORD where no record says this: the message has neither
- * TL_SHORT_MESSAGE nor TL_LONG_MESSAGE bytes, there is no tag or over TL_MAX_TAGS, tags do not ascend strictly, a bit of used is set
- * at or above their number, there are over TL_MAX_CITED models, or one is over TL_MAX_MODEL. */
+ * xy, xz, yy, yz, zz in m^2, of which each number's bits are kept. Where has_height is not set, height is not looked at. Lengths of
+ * tags are in tags and not in bytes; tags and covariance are aligned as their type is. Returns TL_OK, or TL_MALFORMED_RECORD where no record says
+ * this: the message has neither TL_SHORT_MESSAGE nor TL_LONG_MESSAGE bytes, there is no tag or over TL_MAX_TAGS, tags do not ascend
+ * strictly, a bit of used is set at or above their number, there are over TL_MAX_CITED models, or one is over TL_MAX_MODEL. */
 uint32_t tl_record_write(uint64_t time, int32_t lat, int32_t lon, bool has_height, int32_t height, const uint8_t *message,
                          size_t message_len, const uint64_t *tags, size_t tags_len, uint32_t used, const uint8_t *models,
                          size_t models_len, uint16_t spec, const double covariance[6], uint8_t out[TL_RECORD_SIZE]);
@@ -496,8 +496,9 @@ uint32_t tl_register_fixes(const uint8_t *memory, size_t memory_len, uint8_t *ou
  * the program session prints. */
 uint32_t tl_register_session(uint8_t *memory, size_t memory_len, const uint8_t *input, size_t input_len, uint8_t *out, size_t out_len);
 
-/* Writes why a session is refused to the start of out, a sentence that ends with a line feed, and returns its length; 0 where the
- * session is not refused. It says of the first bad line its number, what is due there and what was found. Bytes past it stay as found. */
+/* Writes why a session is refused to the start of out, a sentence that ends with a line feed, and returns its length. It reads no
+ * register: 0 where the session itself is not refused, also where tl_register_session returned another refusal. It says of the first
+ * bad line its number, what is due there and what was found. Bytes past it stay as found. */
 uint32_t tl_session_reason(const uint8_t *input, size_t input_len, uint8_t out[TL_REASON_SIZE]);
 
 /* Writes the bytes of a register, or any other TL_REGISTER_SIZE bytes, so that like bytes of its places are together, for an archive
