@@ -70,6 +70,10 @@ DecisionsLawful = (s : List ℕ) → is_bad s ≡ false → Lawful s
 abbrev pub item_at : List ℕ → ℕ → List ℕ
 item_at s i = take item_size (drop (i * item_size) s)
 
+-- the items, first to last
+abbrev pub items_in : List ℕ → List (List ℕ)
+items_in s = map (item_at s) (up_to (item_count s))
+
 -- t has the items of s in another order, that at i at `to i`
 pub record Reordered (s t : List ℕ) (to : ℕ → ℕ) : Type 0 where
   pub places : Permᴰ (map to (up_to (item_count s))) (up_to (item_count t))
@@ -102,8 +106,8 @@ by_identities s o = record {
 -- Whoever gives the same items in another order gets the same identities, in the same order in each list, and the same of each refusal.
 abbrev pub OneDecision : Type 0
 OneDecision =
-    (s t : List ℕ) (to : ℕ → ℕ) → is_bad s ≡ false → is_bad t ≡ false → Reordered s t to
-    → by_identities t (sorted_outcome t) ≡ by_identities s (sorted_outcome s)
+    (s t : List ℕ) → is_bad s ≡ false → is_bad t ≡ false → Permᴰ (items_in s) (items_in t)
+    → by_identities s (sorted_outcome s) ≡ by_identities t (sorted_outcome t)
 
 -- It is no other decision than that of the items in the order given: only the dominated and the refused may stand in another order, which is that of their identities.
 pub record OnlyInOrder (s : List ℕ) : Type 0 where
