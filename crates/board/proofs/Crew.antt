@@ -1,19 +1,21 @@
 -- What a crew sees: it follows from the full board, and from its ranked lines; and a board's refusals in their order.
-use Rattle.std.proofs.Common.{ℕ, suc, ◌≡◌, refl, sym, ap, ap₂, ◌∙◌, cond, not, List, [], ◌∷◌, ◌++◌, map, ltb, eqb, length, lt-ltb, flat_map}
+use Rattle.std.proofs.Common.{ℕ, ◌≡◌, ◌==◌, refl, sym, ap, ◌∙◌, Bool, ◌||◌, cond, not, List, [], ◌∷◌, ◌++◌, map, ltb, eqb, length, lt-ltb}
+use mathlib.Core.List.{flat_map}
+use Rattle.std.specs.List.{filter, before_first, slice_split}
+use Rattle.octets.specs.Ascii.{ascii}
 use Rattle.lists.proofs.Bools.{by}
-use Rattle.fixes.specs.Fix.{Fix}
-use Rattle.fixes.specs.Shown.{Transmission}
 use Rattle.board_picture.specs.Picture.{picture, latest_of}
-use Rattle.fix_lines.specs.Text.{ranked_text, board_size}
-use Rattle.fix_lines.specs.Crew.{crew_header, crew_text_of, crew_text_from}
+use Rattle.fix_lines.specs.Text.{board_size}
+use Rattle.fix_lines.specs.CrewFromFull.{crew_line}
 use Rattle.fix_lines.proofs.Crew.{crew-from-full}
 use Rattle.errors.specs.After.{After, after, write_text}
 use Rattle.desks.specs.declared.Desk.TheVariants.{Crew}
 use Rattle.desks.proofs.Rights.{each-number, at-no-desk}
+use Rattle.register.specs.Register.{Register}
 use Rattle.register.specs.Memory.{well_formed, decode}
 use Rattle.board.specs.Board.{board_of, crew_board_of, board_seen, draw_for, draw_board}
 use Rattle.board.specs.Full.{board_in}
-use Rattle.board.specs.Crew.{CrewFollows, SameToCrews, BoardInOrder}
+use Rattle.board.specs.Crew.{is_header, is_ranked, without_counts, ranked_lines, CrewFollows, SameToCrews, BoardInOrder}
 
 pub crew-follows : CrewFollows
 unfolding board_of crew_board_of
@@ -21,28 +23,30 @@ crew-follows s = sym (crew-from-full (latest_of (picture s.summaries s.records))
 
 -- ---- from the ranked lines
 
--- lines one after another
+-- lines, each with its line feed
 abbrev joined : List (List ℕ) → List ℕ
-joined ls = flat_map (λ l. l) ls
+joined ls = flat_map (λ l. l ++ ascii "\n") ls
 
--- a header and these lines for each, the first with this number
-numbered : ℕ → List (List (List ℕ)) → List ℕ
-numbered n [] = []
-numbered n (ls ∷ more) = (crew_header n ++ joined ls) ++ numbered (suc n) more
+abbrev to_crews : List ℕ → Bool
+to_crews l = is_header l || is_ranked l
 
-lines-joined : (fs : List Fix) → flat_map ranked_text fs ≡ joined (map ranked_text fs)
+-- what a crew sees of lines is those that are kept of them
+lines-joined : (ls : List (List ℕ)) → flat_map crew_line ls ≡ joined (map without_counts (filter to_crews ls))
+unfolding mathlib.Core.List.flat_map
 lines-joined [] = refl
-lines-joined (f ∷ fs) = ap (λ (t : List ℕ). ranked_text f ++ t) (lines-joined fs)
+lines-joined (l ∷ ls) =
+    by (is_header l)
+    (λ h. rw (h, h) (ap (λ (t : List ℕ). (before_first (λ b. b == 32) l ++ ascii "\n") ++ t) (lines-joined ls)))
+    (λ h.
+      by (is_ranked l)
+      (λ r. rw (h, r, h) (ap (λ (t : List ℕ). (l ++ ascii "\n") ++ t) (lines-joined ls)))
+      (λ r. rw (h, r) (lines-joined ls)))
 
-text-numbered : (n : ℕ) (ts : List Transmission) → crew_text_from n ts ≡ numbered n (map (λ (t : Transmission). map ranked_text t.ranked) ts)
-unfolding crew_text_from crew_text_of numbered mathlib.Core.List.flat_map
-text-numbered n [] = refl
-text-numbered n (t ∷ ts) = ap₂ (λ (a b : List ℕ). (crew_header n ++ a) ++ b) (lines-joined t.ranked) (text-numbered (suc n) ts)
+seen : (u : Register) → board_seen Crew u ≡ joined (ranked_lines (board_in u))
+seen u = crew-follows u ∙ lines-joined (slice_split (λ b. b == 10) (board_in u))
 
 pub same-to-crews : SameToCrews
-unfolding crew_board_of
-same-to-crews s t e =
-    text-numbered 1 (latest_of (picture s.summaries s.records)) ∙ ap (numbered 1) e ∙ sym (text-numbered 1 (latest_of (picture t.summaries t.records)))
+same-to-crews s t e = seen s ∙ ap joined e ∙ sym (seen t)
 
 -- ---- refused in order
 
