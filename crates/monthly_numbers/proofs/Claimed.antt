@@ -1,5 +1,5 @@
 -- The claims, of a register in memory.
-use Rattle.std.proofs.Common.{ℕ, ◌≤◌, ◌≡◌, refl, true, List, arith, length, take}
+use Rattle.std.proofs.Common.{ℕ, ◌≤◌, ◌≡◌, true, List, arith, length, take}
 use Rattle.std.specs.List.{list_all}
 use Rattle.lists.proofs.Bools.{and_left}
 use Rattle.tables.proofs.Testing.{all-weaken}
@@ -12,7 +12,7 @@ use Rattle.register.specs.Memory.{well_formed, decode, convicted_in, records_in}
 use Rattle.register.proofs.Opened.{opened, records-length, records-ascend}
 use Rattle.monthly_numbers.specs.Endings.{ending}
 use Rattle.monthly_numbers.specs.Numbers.{signed_by}
-use Rattle.monthly_numbers.specs.Claims.{EndsExactlyWhere, EndsOnce, RepresentedOnce, AddUp, HeldByTheBits, LinesAreShort}
+use Rattle.monthly_numbers.specs.Claims.{EndsExactlyWhere, EndsOnce, RepresentedOnce, AddUp, EachSignedEnds, LinesAreShort}
 use Rattle.monthly_numbers.proofs.Ending.{exactly, once, by-one}
 use Rattle.monthly_numbers.proofs.Counting.{add-up}
 use Rattle.monthly_numbers.proofs.Lines.{line-short}
@@ -41,8 +41,8 @@ represented-once m w f h = by-one (decode m) (all-formed m w) (records-ascend m 
 pub adds-up : AddUp
 adds-up m w e = add-up (ending (decode m)) (signed_by (decode m) e)
 
-pub held-by-the-bits : HeldByTheBits
-held-by-the-bits m w e = refl
+pub each-signed-ends : EachSignedEnds
+each-signed-ends = adds-up
 
 pub lines-are-short : LinesAreShort
 lines-are-short m w e h = line-short (decode m) (few m w) e h

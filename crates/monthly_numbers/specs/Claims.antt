@@ -60,9 +60,10 @@ sum_of n = n.ranked + (n.dominated + (n.refused + (n.other + n.uncounted)))
 abbrev pub AddUp : Type 0
 AddUp = (m : List ℕ) → well_formed m ≡ true → (e : ℕ) → sum_of (numbers_of (decode m) e) ≡ (numbers_of (decode m) e).held
 
--- which is the number of places with the engine's bit
-abbrev pub HeldByTheBits : Type 0
-HeldByTheBits = (m : List ℕ) → well_formed m ≡ true → (e : ℕ) → (numbers_of (decode m) e).held ≡ length (filter (λ p. bit (signers_in p) e) (decode m).records)
+-- and so to the number of places with the engine's bit
+abbrev pub EachSignedEnds : Type 0
+EachSignedEnds =
+    (m : List ℕ) → well_formed m ≡ true → (e : ℕ) → sum_of (numbers_of (decode m) e) ≡ length (filter (λ p. bit (signers_in p) e) (decode m).records)
 
 -- ---- the text
 

@@ -1,7 +1,8 @@
--- What became of each record that a register holds (Endings), the numbers of an engine (Numbers), their text (Text), and what is claimed of them (Claims); for the
--- code what it keeps of a picture and of a held record (Kept).
+-- What became of each record that a register holds (Endings), the numbers of an engine (Numbers), their text (Text), what is claimed of them (Claims), and
+-- those of a small register to the letter (Worked); for the code what it keeps of a picture and of a held record (Kept).
 pub mod Endings
 pub mod Numbers
 pub mod Text
 pub mod Claims
+pub mod Worked
 pub mod Kept

@@ -1,4 +1,4 @@
--- All small pictures: the cases (Cases), in which order and with which numbers (Order), the items of each (Items), the text (Lines), and what is claimed (Claims);
+-- All small pictures: the cases (Cases), in which order and with which numbers (Order), the items of each (Items), the text (Lines), what is claimed (Claims), and three lines to the letter (Worked);
 -- for the code which case a number is (Numbered).
 pub mod Cases
 pub mod Order
@@ -6,3 +6,4 @@ pub mod Items
 pub mod Lines
 pub mod Numbered
 pub mod Claims
+pub mod Worked

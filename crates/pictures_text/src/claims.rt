@@ -1,6 +1,7 @@
 //! What is claimed of the cases: each function's contract is the theorem.
 
 ghost use Rattle.pictures_text.specs.Claims.{InOrder, InNumber, NoneBad};
+ghost use Rattle.pictures_text.specs.Worked.{LinesWorked};
 
 /// The list of cases is in order, and holds every case and nothing else.
 pub fn they_are_in_order()
@@ -15,4 +16,9 @@ pub fn they_are_numbered()
 /// No case's items are bad, so something is decided of each.
 pub fn no_items_are_bad()
     ensures { NoneBad }
+{}
+
+/// Three lines that were worked out by hand, to the letter.
+pub fn lines_worked()
+    ensures { LinesWorked }
 {}
