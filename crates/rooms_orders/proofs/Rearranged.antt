@@ -1,13 +1,19 @@
--- What a shuffle leaves is a rearrangement.
+-- What a shuffle leaves is a rearrangement, and it is the same shuffle of what the elements say.
 use Prim.Native.Nat.{ℕ, zero, suc, ◌<◌}
-use mathlib.Core.Path.{◌≡◌, refl, sym, subst, ◌∙◌}
-use mathlib.Core.List.{List, [], ◌∷◌, Permᴰ}
+use mathlib.Core.Path.{◌≡◌, refl, sym, ap, ap₂, subst, ◌∙◌}
+use mathlib.Core.List.{List, [], ◌∷◌, map, Permᴰ}
 use mathlib.Core.List.Permᴰ
 use native.Mathlib.Omega.{arith}
-use lib.ListN.{length, get_or, set}
+use lib.ListN.{length, get_or, set, get_or-map}
 use Rattle.std.proofs.lemmas.List.Edits.{length-swap}
 use Rattle.std.specs.List.{swap}
 use Rattle.std.specs.List.Sorted.{apply_swaps, SwapsInRange, IsPermutation}
+use Rattle.std.proofs.Common.{◌+◌, ◌-◌, ◌^◌, nat_lt}
+use Rattle.std.proofs.lemmas.List.{map-set, length-map}
+use Rattle.lists.proofs.Bools.{by}
+use Rattle.rand_core.specs.Stream.{Stream}
+use Rattle.rand.specs.Uniform.{usize_single}
+use Rattle.rand.specs.Shuffle.{Chooser, chooser_at, chooser_next, narrow_swaps, wide_swaps, shuffled}
 
 module _ {X : Type 0} where
   -- an element against the one at a place
@@ -42,3 +48,39 @@ module _ {X : Type 0} where
 
   pub rearranged : {l m : List X} → IsPermutation l m → Permᴰ l m
   rearranged {l} p = subst (Permᴰ l) (sym p.is) (moved l p.moves p.below).0
+
+-- ---- of what the elements say
+
+module _ {X Y : Type 0} (f : X → Y) where
+  swap-map : (l : List X) (i j : ℕ) → swap (map f l) i j ≡ map f (swap l i j)
+  swap-map [] i j = refl
+  swap-map (d ∷ l) i j =
+      let x = get_or (d ∷ l) j d in
+      let y = get_or (d ∷ l) i d in
+      ap₂ (λ (u v : Y). set (set (map f (d ∷ l)) i u) j v) (get_or-map f (d ∷ l) j d) (get_or-map f (d ∷ l) i d)
+      ∙ ap (λ (m : List Y). set m j (f y)) (sym (map-set f (d ∷ l) i x))
+      ∙ sym (map-set f (set (d ∷ l) i x) j y)
+
+  narrow-map : (l : List X) (c : Chooser) (s : Stream) (k : ℕ)
+      → narrow_swaps (map f l) c s k ≡ (map f (narrow_swaps l c s k).0, (narrow_swaps l c s k).1, (narrow_swaps l c s k).2)
+  unfolding narrow_swaps
+  narrow-map l c s zero = refl
+  narrow-map l c s (suc k) =
+      let p = narrow_swaps l c s k in
+      let d = chooser_next p.1 p.2 in
+      rw (narrow-map l c s k) (ap (λ (m : List Y). (m, d.1, d.2)) (swap-map p.0 p.1.n d.0))
+
+  wide-map : (l : List X) (start : ℕ) (s : Stream) (k : ℕ) → wide_swaps (map f l) start s k ≡ (map f (wide_swaps l start s k).0, (wide_swaps l start s k).1)
+  unfolding wide_swaps
+  wide-map l start s zero = refl
+  wide-map l start s (suc k) =
+      let p = wide_swaps l start s k in
+      let d = usize_single 0 (start + k + 1) p.1 in
+      rw (wide-map l start s k) (ap (λ (m : List Y). (m, d.1)) (swap-map p.0 (start + k) d.0))
+
+  pub shuffled-map : (l : List X) (start : ℕ) (s : Stream) → shuffled (map f l) start s ≡ (map f (shuffled l start s).0, (shuffled l start s).1)
+  shuffled-map l start s =
+      rw (length-map l f)
+      (by (nat_lt (length l) (2 ^ 32 - 1))
+      (λ h. rw h (ap (λ (p : List Y × Chooser × Stream). (p.0, p.2)) (narrow-map l (chooser_at start) s (length l - start))))
+      (λ h. rw h (wide-map l start s (length l - start))))

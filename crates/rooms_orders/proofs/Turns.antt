@@ -1,5 +1,5 @@
 -- Orders of a list of calls, one after another.
-use Rattle.std.proofs.Common.{◌≡◌, ◌∙◌, ap, ap₂, sym, refl, ℕ, ◌+◌, ◌<◌, Bool, true, false, not, if◌then◌else◌, cond, count_by, length, arith, subst}
+use Rattle.std.proofs.Common.{◌≡◌, ◌∙◌, ap, ap₂, sym, refl, ℕ, ◌+◌, ◌<◌, Bool, true, false, not, if◌then◌else◌, cond, count_by, length, arith, add-one, subst}
 use Rattle.std.proofs.lemmas.List.Sums.{sum_by-cons}
 use mathlib.Core.List.{List, [], ◌∷◌, map, Memᴰ, Permᴰ}
 use mathlib.Core.List.Permᴰ
@@ -12,7 +12,10 @@ use Rattle.register.proofs.Whole.{decoded, same-summaries, same-records}
 use Rattle.board.specs.Board.{board_of}
 use Rattle.board.specs.Full.{board_in}
 use Rattle.orders.proofs.Rearranged.{same-remains}
-use Rattle.rooms_orders.specs.Tried.{board_after, listing_after, is_refused_as_full, with_text}
+use Rattle.rand_core.specs.Stream.{Stream}
+use Rattle.rand.specs.Shuffle.{shuffled}
+use Rattle.rooms_orders.specs.Tried.{board_after, listing_after, is_refused_as_full, with_text, drawn_from, shuffled_times, orders_from, Tried}
+use Rattle.rooms_orders.specs.declared.trying.Outcome.{Outcome}
 use Rattle.rooms_orders.proofs.Held.{Seen, seen-none, seen-more, elem-here, elem-none}
 
 -- ---- how many of a list do not pass a test
@@ -53,45 +56,60 @@ module _ {X : Type 0} (q : X → Bool) (x : X) (xs : List X) where
 
 -- ---- so many orders
 
--- what is known after so many orders: the calls as they stand now, the boards and listings that are held, and how many orders have a call that is refused as full
-pub record SoFar (cs : List Call) (count : ℕ) (now : List Call) (boards listings : List (List ℕ)) (full : ℕ) : Type 0 where
-  pub orders : List (List Call)
-  pub as_many : length orders ≡ count
-  pub rearranged : (ds : List Call) → Memᴰ ds orders → Permᴰ cs ds
-  pub boards_held : Seen (map board_after orders) boards
-  pub listings_held : Seen (map listing_after orders) listings
-  pub counted : full ≡ count_by is_refused_as_full orders
-  pub now_rearranged : Permᴰ cs now
+times-more : (cs : List Call) (s : Stream) (n : ℕ) → shuffled_times cs s (n + 1) ≡ shuffled (shuffled_times cs s n).0 0 (shuffled_times cs s n).1
+unfolding shuffled_times
+times-more cs s n = rw (add-one n) refl
 
-pub start : (cs : List Call) (bs ls : List (List ℕ)) → bs ≡ [] → ls ≡ [] → SoFar cs 0 cs bs ls 0
-start cs bs ls b l = record {
-  orders = [];
+orders-more : (cs : List Call) (s : Stream) (n : ℕ) → orders_from cs s (n + 1) ≡ (shuffled_times cs s (n + 1)).0 ∷ orders_from cs s n
+unfolding orders_from
+orders-more cs s n = rw (add-one n) refl
+
+-- what is known after so many orders: the calls as they stand now with what is left to draw, the boards and listings that are held, and how many orders have a call
+-- that is refused as full
+pub record SoFar (cs : List Call) (s : Stream) (count : ℕ) (now : List Call × Stream) (boards listings : List (List ℕ)) (full : ℕ) : Type 0 where
+  pub drawn : now ≡ shuffled_times cs s count
+  pub now_rearranged : Permᴰ cs now.0
+  pub as_many : length (orders_from cs s count) ≡ count
+  pub rearranged : (ds : List Call) → Memᴰ ds (orders_from cs s count) → Permᴰ cs ds
+  pub boards_held : Seen (map board_after (orders_from cs s count)) boards
+  pub listings_held : Seen (map listing_after (orders_from cs s count)) listings
+  pub counted : full ≡ count_by is_refused_as_full (orders_from cs s count)
+
+pub start : (cs : List Call) (s : Stream) (bs ls : List (List ℕ)) → bs ≡ [] → ls ≡ [] → SoFar cs s 0 (cs, s) bs ls 0
+unfolding shuffled_times orders_from
+start cs s bs ls b l = record {
+  drawn = refl;
+  now_rearranged = Permᴰ.refl cs;
   as_many = refl;
   rearranged = λ ds m. elim m [ ];
   boards_held = rw b seen-none;
   listings_held = rw l seen-none;
   counted = refl;
-  now_rearranged = Permᴰ.refl cs;
 }
 
-module _ (cs : List Call) (n : ℕ) (now : List Call) (boards listings : List (List ℕ)) (full : ℕ) (s : SoFar cs n now boards listings full) where
-  pub turn : (ds : List Call) → Permᴰ now ds → (bs ls : List (List ℕ)) → bs ≡ with_text (board_after ds) boards → ls ≡ with_text (listing_after ds) listings
-      → (f : ℕ) → f ≡ full + (if none_full fresh ds then 0 else 1) → SoFar cs (n + 1) ds bs ls f
-  turn ds p bs ls b l f e =
-      let q = Permᴰ.trans s.now_rearranged p in
+module _ (cs : List Call) (s : Stream) (n : ℕ) (now : List Call × Stream) (boards listings : List (List ℕ)) (full : ℕ) (k : SoFar cs s n now boards listings full) where
+  pub turn : (ds : List Call) (t : Stream) → (ds, t) ≡ shuffled now.0 0 now.1 → Permᴰ now.0 ds
+      → (bs ls : List (List ℕ)) → bs ≡ with_text (board_after ds) boards → ls ≡ with_text (listing_after ds) listings
+      → (f : ℕ) → f ≡ full + (if none_full fresh ds then 0 else 1) → SoFar cs s (n + 1) (ds, t) bs ls f
+  turn ds t d p bs ls b l f e =
+      let q = Permᴰ.trans k.now_rearranged p in
+      let now_drawn : (ds, t) ≡ shuffled_times cs s (n + 1) =
+      d ∙ ap (λ (m : List Call × Stream). shuffled m.0 0 m.1) k.drawn ∙ sym (times-more cs s n) in
+      let os = orders_from cs s n in
+      let are : orders_from cs s (n + 1) ≡ ds ∷ os = orders-more cs s n ∙ ap (λ (m : List Call × Stream). m.0 ∷ os) (sym now_drawn) in
       record {
-        orders = ds ∷ s.orders;
-        as_many = let a = s.as_many in omega (arith, a);
-        rearranged = all q;
-        boards_held = seen-more (board_after ds) (map board_after s.orders) boards s.boards_held bs b;
-        listings_held = seen-more (listing_after ds) (map listing_after s.orders) listings s.listings_held ls l;
-        counted = e ∙ more (none_full fresh) ds s.orders full s.counted;
+        drawn = now_drawn;
         now_rearranged = q;
+        as_many = rw are (let a = k.as_many in omega (arith, a));
+        rearranged = rw are (all q);
+        boards_held = rw are (seen-more (board_after ds) (map board_after os) boards k.boards_held bs b);
+        listings_held = rw are (seen-more (listing_after ds) (map listing_after os) listings k.listings_held ls l);
+        counted = rw are (e ∙ more (none_full fresh) ds os full k.counted);
       }
     where
-      all : Permᴰ cs ds → (es : List Call) → Memᴰ es (ds ∷ s.orders) → Permᴰ cs es
+      all : Permᴰ cs ds → (es : List Call) → Memᴰ es (ds ∷ orders_from cs s n) → Permᴰ cs es
       all q es (Memᴰ.head h) = subst (Permᴰ cs) (sym h) q
-      all q es (Memᴰ.tail m) = s.rearranged es m
+      all q es (Memᴰ.tail m) = k.rearranged es m
 
 -- ---- one board
 
@@ -128,8 +146,22 @@ boards-one cs (ds ∷ os) p f h =
     ap length (one-text (board_after ds) os
     (λ es m. one-board es ds (Permᴰ.trans (Permᴰ.symm (p es (Memᴰ.tail m))) first) (free es (Memᴰ.tail m)) (free ds (Memᴰ.head refl))))
 
-pub one : (cs : List Call) (n : ℕ) (now : List Call) (boards listings : List (List ℕ)) (full : ℕ) (s : SoFar cs n now boards listings full) → full ≡ 0 → 0 < n
-    → length boards ≡ 1
-one cs n now boards listings full s f h =
-    let a = s.as_many in
-    s.boards_held.count ∙ boards-one cs s.orders s.rearranged (sym s.counted ∙ f) (omega (arith, a, h))
+pub one : (cs : List Call) (s : Stream) (n : ℕ) (now : List Call × Stream) (boards listings : List (List ℕ)) (full : ℕ)
+    → SoFar cs s n now boards listings full → full ≡ 0 → 0 < n → length boards ≡ 1
+one cs s n now boards listings full k f h =
+    let a = k.as_many in
+    k.boards_held.count ∙ boards-one cs (orders_from cs s n) k.rearranged (sym k.counted ∙ f) (omega (arith, a, h))
+
+-- what came of all of them
+pub tried : (cs : List Call) (seed n count : ℕ) (now : List Call × Stream) (boards listings : List (List ℕ)) (full : ℕ)
+    → SoFar cs (drawn_from seed) n now boards listings full → n ≡ count
+    → (o : Outcome) → o.boards ≡ length boards → o.listings ≡ length listings → o.full ≡ full → Tried cs count seed o
+tried cs seed n count now boards listings full k e o b l f =
+    subst (λ (m : ℕ). Tried cs m seed o) e
+    (record {
+      as_many = k.as_many;
+      rearranged = k.rearranged;
+      boards = b ∙ k.boards_held.count;
+      listings = l ∙ k.listings_held.count;
+      full = f ∙ k.counted;
+    })

@@ -53,7 +53,7 @@ pub fn try_orders(
     count: u32,
     seed: u64,
 ) -> Result<Outcome, AllocError>
-    ensures tried { IfOk result (Tried (map call_of calls.old) count) }
+    ensures tried { IfOk result (Tried (map call_of calls.old) count seed) }
     ensures one_board { IfOk result (λ o. 0 < count → o.full ≡ 0 → o.boards ≡ 1) }
 {
     let mut random = SplitMix64::seed_from_u64(seed);
