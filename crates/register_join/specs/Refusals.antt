@@ -1,5 +1,5 @@
 -- In which order a join, and what is lacking, are refused, and that a refusal leaves the bytes. The proofs are in proofs/Refusing.
--- Source: docs/REFERENCE.md, 'Join' and 'What is lacking'.
+-- Source: docs/REFERENCE.md, 'Join'.
 use Rattle.std.specs.Prelude.{ℕ, ◌≡◌, cond, not, ◌&&◌, List, ◌++◌, ltb, length, drop}
 use Rattle.errors.specs.After.{after}
 use Rattle.register.specs.Layout.{register_size}
