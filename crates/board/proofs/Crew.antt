@@ -38,9 +38,9 @@ lines-joined (l ∷ ls) =
     by (is_header l)
     (λ h. rw (h, h) (ap (λ (t : List ℕ). (before_first (λ b. b == 32) l ++ ascii "\n") ++ t) (lines-joined ls)))
     (λ h.
-      by (is_ranked l)
-      (λ r. rw (h, r, h) (ap (λ (t : List ℕ). (l ++ ascii "\n") ++ t) (lines-joined ls)))
-      (λ r. rw (h, r) (lines-joined ls)))
+    by (is_ranked l)
+    (λ r. rw (h, r, h) (ap (λ (t : List ℕ). (l ++ ascii "\n") ++ t) (lines-joined ls)))
+    (λ r. rw (h, r) (lines-joined ls)))
 
 seen : (u : Register) → board_seen Crew u ≡ joined (ranked_lines (board_in u))
 seen u = crew-follows u ∙ lines-joined (slice_split (λ b. b == 10) (board_in u))
