@@ -418,7 +418,7 @@
         throw why;
       }
     });
-    if (!calls.length) throw new Refused("there is no fix, and a session has at least one operation");
+    if (!calls.length) throw new Refused("there is no fix");
     return calls;
   }
 
